@@ -1,0 +1,18 @@
+/// Want of memory, where it is the only way in which a call can fail.
+#[derive(Clone, Copy, Debug, PartialEq, Eq)]
+pub struct OutOfMemory;
+
+/// How an attempt of a system call ended.
+#[derive(Clone, Copy, Debug, PartialEq, Eq)]
+pub enum CallEnd {
+    /// The call is done: carry is clear.
+    Done,
+    /// The call is refused with this number: carry is set and B is the number.
+    Error(u8),
+    /// The call waits, and is attempted again when its process is next chosen.
+    Wait,
+    /// The process has ended.
+    Ended,
+    /// Memory is wanting, and the run ends.
+    NoMemory,
+}

@@ -1,0 +1,8 @@
+//! What every layer speaks of: process numbers, registers, the clock packet, names, and the
+//! memory that a program can reach.
+#![tactic(auto)]
+
+pub mod call;
+pub mod memory;
+pub mod name;
+pub mod registers;

@@ -1,0 +1,63 @@
+ghost use Rattle.std.specs.Prelude.{◌≡◌, ℕ, Option, Some, IsSome, is_some, IsTrue, ◌↔◌, length};
+ghost use Rattle.os9_base.specs.Cells.{put_cell, store_cells, FitsIn, Holds};
+
+/// The bus of a processor: bytes at addresses, of which some are named.
+///
+/// `cells` is all that a program can see of it: the byte at an address, or nothing where the
+/// address is not named. `same_beside` says that whatever else the value holds is as it was.
+pub trait Bus {
+    ghost cells: { Self → ℕ → Option ℕ };
+
+    ghost same_beside: { Self → Self → Type 0 };
+
+    /// Is this address named?
+    fn named(&self, at: u16) -> bool
+        ensures { result ≡ is_some (cells self.now at) };
+
+    /// The byte at a named address.
+    fn get(&self, at: u16) -> u8
+        requires { IsSome (cells self.now at) }
+        ensures { cells self.now at ≡ Some result };
+
+    /// Makes the byte at a named address this one, and leaves every other byte, and which
+    /// addresses are named.
+    fn put(&mut self, at: u16, byte: u8)
+        requires { IsSome (cells self.old at) }
+        ensures changed { cells self.new ≡ put_cell (cells self.old) at byte }
+        ensures beside { same_beside self.old self.new };
+
+    ghost same_beside_self: { (bus : Self) → same_beside bus bus };
+
+    ghost same_beside_then: { (first then last : Self) →
+        same_beside first then → same_beside then last → same_beside first last };
+}
+
+/// The memory of a process as a system call uses it: ranges of addresses that never wrap.
+///
+/// The ghost members are those of [`Bus`].
+pub trait UserMem {
+    ghost cells: { Self → ℕ → Option ℕ };
+
+    ghost same_beside: { Self → Self → Type 0 };
+
+    /// Do the `len` bytes from `at` on lie at named addresses up to `FFFF`?
+    fn fits(&self, at: u16, len: u16) -> bool
+        ensures { IsTrue result ↔ FitsIn (cells self.now) at len };
+
+    /// Fills `into` with the bytes from `at` on.
+    fn load(&self, at: u16, into: &mut [u8])
+        requires { FitsIn (cells self.now) at (length into.old) }
+        ensures { Holds (cells self.now) at into.new };
+
+    /// Makes the bytes from `at` on those of `from`, and leaves every other byte, and which
+    /// addresses are named.
+    fn store(&mut self, at: u16, from: &[u8])
+        requires { FitsIn (cells self.old) at (length from.now) }
+        ensures changed { cells self.new ≡ store_cells (cells self.old) at from.now }
+        ensures beside { same_beside self.old self.new };
+
+    ghost same_beside_self: { (memory : Self) → same_beside memory memory };
+
+    ghost same_beside_then: { (first then last : Self) →
+        same_beside first then → same_beside then last → same_beside first last };
+}

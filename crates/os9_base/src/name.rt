@@ -1,0 +1,3 @@
+/// A name.
+#[derive(Clone, Copy, Debug, PartialEq, Eq)]
+pub struct BadName;
