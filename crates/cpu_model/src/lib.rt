@@ -1,0 +1,4 @@
+//! The MC6809 as definitions: its opcode map, its addressing modes, its flags and its arithmetic.
+#![tactic(auto)]
+
+pub mod flags;
