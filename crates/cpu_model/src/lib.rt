@@ -2,3 +2,7 @@
 #![tactic(auto)]
 
 pub mod flags;
+pub mod indexing;
+pub mod instruction;
+pub mod rows;
+pub mod stop;
