@@ -1,10 +1,10 @@
 -- How bytes are read as an instruction.
-use Rattle.std.specs.Prelude.{ℕ, ◌+◌, ◌*◌, ◌%◌, ◌==◌, Bool, Option, Some, None, MatchOption, Result, Ok, Err, List, [], ◌∷◌, if◌then◌else◌}
+use Rattle.std.specs.Prelude.{ℕ, ◌+◌, ◌*◌, ◌==◌, Option, Some, None, Result, Ok, Err, List, [], ◌∷◌, if◌then◌else◌}
 use Rattle.cpu_model.specs.declared.rows.Row.{Row}
 use Rattle.cpu_model.specs.declared.rows.Mode.{Mode}
-use Rattle.cpu_model.specs.declared.rows.Mode.TheVariants.{Inherent, Immediate8, Immediate16, Direct, Indexed, Extended, Relative8, Relative16, Pair}
+use Rattle.cpu_model.specs.declared.rows.Mode.TheVariants.{Immediate8, Immediate16, Direct, Indexed, Extended, Relative8, Relative16, Pair}
 use Rattle.cpu_model.specs.declared.indexing.Form.{Form}
-use Rattle.cpu_model.specs.declared.indexing.Form.TheVariants.{Offset5, Increment1, Increment2, Decrement1, Decrement2, NoOffset, OffsetB, OffsetA, Offset8, Offset16, OffsetD, FromPc8, FromPc16, Absolute}
+use Rattle.cpu_model.specs.declared.indexing.Form.TheVariants.{Offset8, Offset16, FromPc8, FromPc16, Absolute}
 use Rattle.cpu_model.specs.declared.indexing.Indexing.{Indexing}
 use Rattle.cpu_model.specs.declared.instruction.Page.{Page}
 use Rattle.cpu_model.specs.declared.instruction.Page.TheVariants.{Base, Ten, Eleven}

@@ -25,6 +25,21 @@ pub enum IndexRegister {
     S,
 }
 
+/// A register as EXG, TFR, pushes and pulls name it.
+#[derive(Clone, Copy, Debug, PartialEq, Eq)]
+pub enum Register {
+    D,
+    X,
+    Y,
+    U,
+    S,
+    Pc,
+    A,
+    B,
+    Cc,
+    Dp,
+}
+
 /// The hardware stack, whose pointer is S, or the user stack, whose pointer is U.
 #[derive(Clone, Copy, Debug, PartialEq, Eq)]
 pub enum Stack {
