@@ -14,3 +14,65 @@ mod arithmetic;
 mod condition;
 mod logic;
 mod shift;
+
+#[cfg(test)]
+mod tests {
+    use super::*;
+
+    const CLEAR: Flags = Flags {
+        h: false,
+        n: false,
+        z: false,
+        v: false,
+        c: false,
+    };
+
+    #[test]
+    fn arithmetic_flags(rt: HostRuntime) {
+        assert_eq!(rt;
+            neg8(0x80, CLEAR),
+            (
+                0x80,
+                Flags {
+                    n: true,
+                    v: true,
+                    c: true,
+                    ..CLEAR
+                }
+            )
+        );
+        assert_eq!(rt;
+            add8(0x7F, 0x01, false, CLEAR),
+            (
+                0x80,
+                Flags {
+                    h: true,
+                    n: true,
+                    v: true,
+                    ..CLEAR
+                }
+            )
+        );
+        let (sum, flags) = add8(0x99, 0x01, false, CLEAR);
+        let (adjusted, flags) = daa(sum, flags);
+        assert_eq!(rt;
+            (adjusted, flags.n, flags.z, flags.c),
+            (0x00, false, true, true)
+        );
+        assert_eq!(rt;
+            sub8(0x00, 0x01, false, CLEAR),
+            (
+                0xFF,
+                Flags {
+                    n: true,
+                    c: true,
+                    ..CLEAR
+                }
+            )
+        );
+        assert_eq!(rt;
+            sub8(0x80, 0x01, false, CLEAR),
+            (0x7F, Flags { v: true, ..CLEAR })
+        );
+    }
+}
