@@ -52,14 +52,12 @@ pub fn com8(a: u8, f: Flags) -> (u8, Flags)
     ensures flags { result.1 ≡ model.com8_flags a f }
 {
     let complement = 0xFF - a;
-    (
-        complement,
-        Flags {
-            v: false,
-            c: true,
-            ..result8_flags(complement, f)
-        },
-    )
+    let flags = Flags {
+        v: false,
+        c: true,
+        ..result8_flags(complement, f)
+    };
+    (complement, flags)
 }
 
 /// CLR: zero.
@@ -67,16 +65,14 @@ pub fn clr8(f: Flags) -> (u8, Flags)
     ensures value { result.0 ≡ 0 }
     ensures flags { result.1 ≡ model.clr_flags f }
 {
-    (
-        0,
-        Flags {
-            n: false,
-            z: true,
-            v: false,
-            c: false,
-            ..f
-        },
-    )
+    let flags = Flags {
+        n: false,
+        z: true,
+        v: false,
+        c: false,
+        ..f
+    };
+    (0, flags)
 }
 
 /// LEAX and LEAY: the flags of the address.
