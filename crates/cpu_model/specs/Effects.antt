@@ -15,11 +15,14 @@ use Rattle.cpu_model.specs.declared.rows.Stack.{Stack}
 use Rattle.cpu_model.specs.declared.rows.Stack.TheVariants.{System}
 use Rattle.cpu_model.specs.declared.rows.Register.{Register}
 use Rattle.cpu_model.specs.declared.rows.Register.TheVariants.{X, Y, Pc, A, B, Cc, Dp}
+use Rattle.cpu_model.specs.declared.operand.Place.{Place}
+use Rattle.cpu_model.specs.declared.operand.ByteOperand.{ByteOperand}
+use Rattle.cpu_model.specs.declared.operand.WordOperand.{WordOperand}
 use Rattle.cpu_model.specs.Arithmetic.{adjusted8, product, extended}
 use Rattle.cpu_model.specs.Flags.{has_bit, flags_of, logic8_flags, logic16_flags, daa_flags, sex_flags, mul_flags, lea_flags}
 use Rattle.cpu_model.specs.Registers.{wrapped, with_d, accumulator, with_accumulator, word_register, with_word_register, stack_pointer, with_stack_pointer, with_flags, register_coded, register, with_register, other_pointer}
 use Rattle.cpu_model.specs.Operations.{unary_value, unary_flags, binary_value, binary_flags, word_value, word_flags, holds}
-use Rattle.cpu_model.specs.Places.{Place, place, Operand, word_at}
+use Rattle.cpu_model.specs.Places.{place, word_at}
 
 -- the registers afterwards, and the bytes that are written, in order, each with its address
 pub record Effect : Type 0 where
@@ -63,12 +66,12 @@ unary_on r u acc =
 
 -- ---- registers and operands
 
-abbrev pub binary_on : Binary → Accumulator → Operand → Regs
+abbrev pub binary_on : Binary → Accumulator → ByteOperand → Regs
 binary_on op acc x =
     let f = flags_of x.regs.cc in let a = accumulator x.regs acc in
     with_flags (with_accumulator x.regs acc (binary_value op a x.value f)) (binary_flags op a x.value f)
 
-abbrev pub word_on : WordBinary → WordRegister → Operand → Regs
+abbrev pub word_on : WordBinary → WordRegister → WordOperand → Regs
 word_on op reg x =
     let f = flags_of x.regs.cc in let a = word_register x.regs reg in
     with_flags (with_word_register x.regs reg (word_value op a x.value)) (word_flags op a x.value f)

@@ -10,7 +10,7 @@ use Rattle.cpu_model.specs.declared.rows.WordBinary.TheVariants as word
 use Rattle.cpu_model.specs.declared.rows.Condition.{Condition}
 use Rattle.cpu_model.specs.declared.rows.Condition.TheVariants.{Always, Never, Higher, LowerOrSame, CarryClear, CarrySet, NotEqual, Equal, OverflowClear, OverflowSet, Plus, Minus, GreaterOrEqual, Less, Greater, LessOrEqual}
 use Rattle.cpu_model.specs.Arithmetic.{sum8, sum16, difference8, difference16, negative8, complement8, next8, previous8, left8, right8}
-use Rattle.cpu_model.specs.Flags.{has_bit, exclusive_or, add8_flags, add16_flags, sub8_flags, sub16_flags, logic8_flags, logic16_flags, neg8_flags, com8_flags, right8_flags, left8_flags, inc8_flags, dec8_flags, clr_flags}
+use Rattle.cpu_model.specs.Flags.{is_negative8, exclusive_or, add8_flags, add16_flags, sub8_flags, sub16_flags, logic8_flags, logic16_flags, neg8_flags, com8_flags, right8_flags, left8_flags, inc8_flags, dec8_flags, clr_flags}
 
 -- ---- one byte
 
@@ -20,7 +20,7 @@ unary_value Neg a f = negative8 a
 unary_value Com a f = complement8 a
 unary_value Lsr a f = right8 a false
 unary_value Ror a f = right8 a f.c
-unary_value Asr a f = right8 a (has_bit 128 a)
+unary_value Asr a f = right8 a (is_negative8 a)
 unary_value Asl a f = left8 a false
 unary_value Rol a f = left8 a f.c
 unary_value Dec a f = previous8 a
@@ -33,7 +33,7 @@ unary_flags Neg a f = neg8_flags a f
 unary_flags Com a f = com8_flags a f
 unary_flags Lsr a f = right8_flags a false f
 unary_flags Ror a f = right8_flags a f.c f
-unary_flags Asr a f = right8_flags a (has_bit 128 a) f
+unary_flags Asr a f = right8_flags a (is_negative8 a) f
 unary_flags Asl a f = left8_flags a false f
 unary_flags Rol a f = left8_flags a f.c f
 unary_flags Dec a f = dec8_flags a f

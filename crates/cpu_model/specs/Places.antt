@@ -10,6 +10,9 @@ use Rattle.cpu_model.specs.declared.indexing.Indexing.{Indexing}
 use Rattle.cpu_model.specs.declared.instruction.Tail.{Tail}
 use Rattle.cpu_model.specs.declared.instruction.Tail.TheVariants.{Byte, Word}
 use Rattle.cpu_model.specs.declared.instruction.Instr.{Instr}
+use Rattle.cpu_model.specs.declared.operand.Place.{Place}
+use Rattle.cpu_model.specs.declared.operand.ByteOperand.{ByteOperand}
+use Rattle.cpu_model.specs.declared.operand.WordOperand.{WordOperand}
 use Rattle.cpu_model.specs.Arithmetic.{extended}
 use Rattle.cpu_model.specs.Registers.{wrapped, d_of, index_register, with_index_register}
 use Rattle.cpu_model.specs.Table.{postbyte}
@@ -34,11 +37,6 @@ word_at cells at =
     option_and_then (λ high. option_map (λ low. high * 256 + low) (cells (wrapped (at + 1)))) (cells at)
 
 -- ---- addresses
-
--- an address, and the registers when it has been formed
-pub record Place : Type 0 where
-  pub at : ℕ
-  pub regs : Regs
 
 abbrev pub place : ℕ → Regs → Place
 place at r = record { at = at; regs = r }
@@ -98,26 +96,18 @@ target_of r _ tail = wrapped (r.pc + tail_word tail)
 
 -- ---- operands
 
--- a value, and the registers when its address has been formed
-pub record Operand : Type 0 where
-  pub value : ℕ
-  pub regs : Regs
+abbrev pub byte_operand_at : (ℕ → Option ℕ) → Place → Option ByteOperand
+byte_operand_at cells p = option_map (λ value. record { value = value; regs = p.regs }) (cells p.at)
 
-abbrev pub operand : ℕ → Regs → Operand
-operand value r = record { value = value; regs = r }
-
-abbrev pub byte_operand_at : (ℕ → Option ℕ) → Place → Option Operand
-byte_operand_at cells p = option_map (λ value. operand value p.regs) (cells p.at)
-
-abbrev pub word_operand_at : (ℕ → Option ℕ) → Place → Option Operand
-word_operand_at cells p = option_map (λ value. operand value p.regs) (word_at cells p.at)
+abbrev pub word_operand_at : (ℕ → Option ℕ) → Place → Option WordOperand
+word_operand_at cells p = option_map (λ value. record { value = value; regs = p.regs }) (word_at cells p.at)
 
 -- the byte after the opcode, or at the operand's address
-unfoldable pub byte_operand : (ℕ → Option ℕ) → Regs → Mode → Instr → Option Operand
-byte_operand cells r Immediate8 i = Some (operand (tail_byte i.tail) r)
+unfoldable pub byte_operand : (ℕ → Option ℕ) → Regs → Mode → Instr → Option ByteOperand
+byte_operand cells r Immediate8 i = Some (record { value = tail_byte i.tail; regs = r })
 byte_operand cells r mode i = option_and_then (λ p. byte_operand_at cells p) (place_of cells r mode i)
 
 -- the word after the opcode, or at the operand's address
-unfoldable pub word_operand : (ℕ → Option ℕ) → Regs → Mode → Instr → Option Operand
-word_operand cells r Immediate16 i = Some (operand (tail_word i.tail) r)
+unfoldable pub word_operand : (ℕ → Option ℕ) → Regs → Mode → Instr → Option WordOperand
+word_operand cells r Immediate16 i = Some (record { value = tail_word i.tail; regs = r })
 word_operand cells r mode i = option_and_then (λ p. word_operand_at cells p) (place_of cells r mode i)

@@ -4,5 +4,6 @@
 pub mod flags;
 pub mod indexing;
 pub mod instruction;
+pub mod operand;
 pub mod rows;
 pub mod stop;
