@@ -1,5 +1,5 @@
 -- Files and output streams, as a host tells of them.
-use Rattle.std.specs.Prelude.{◌≡◌, ℕ, ◌⊎◌, ⊤, Option, Some, None, option_map, unwrap_or, Result, Ok, Err, List, [], ◌++◌, take}
+use Rattle.std.specs.Prelude.{◌≡◌, ℕ, ◌⊎◌, ⊤, Option, Some, None, unwrap_or, Result, Ok, Err, List, [], take}
 use Rattle.os9_outer.specs.declared.host.HostFault.{HostFault}
 use Rattle.os9_outer.specs.declared.host.HostFault.TheVariants.{Failed, OutOfMemory}
 
@@ -28,14 +28,6 @@ abbrev pub WhereTold : ((List ℕ → Option (List ℕ)) → (List ℕ → Optio
 WhereTold fact None now = now ≡ None
 WhereTold fact (Some before) None = ⊥
 WhereTold fact (Some before) (Some now) = fact before now
-
--- the bytes of an output stream with these at the end; what is not told stays untold
-abbrev pub appended : Option (List ℕ) → List ℕ → Option (List ℕ)
-appended stream bytes = option_map (λ before. before ++ bytes) stream
-
--- the stream gained the first of these bytes, all, some or none of them
-abbrev pub GainsPrefix : Option (List ℕ) → List ℕ → Option (List ℕ) → Type 0
-GainsPrefix before bytes now = (count : ℕ) × (now ≡ appended before (take count bytes))
 
 -- the file is as it was, or holds the first of these bytes, all, some or none of them
 abbrev pub KeepsOrHoldsPrefix : Option (List ℕ) → List ℕ → Option (List ℕ) → Type 0

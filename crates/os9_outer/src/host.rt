@@ -1,6 +1,7 @@
 ghost use Rattle.std.specs.Prelude.{◌≡◌, ◌≢◌, ℕ, ◌≤◌, Bool, true, false, Option, Some, None, IfSome, IfOk, OnOk, List};
 ghost use Rattle.os9_base.specs.Count.{Rose};
-ghost use Rattle.os9_outer.specs.Host.{contents_of, OnFailed, UnlessFailed, WhereTold, appended, GainsPrefix, KeepsOrHoldsPrefix};
+ghost use Rattle.os9_outer.specs.Host.{contents_of, OnFailed, UnlessFailed, WhereTold, KeepsOrHoldsPrefix};
+ghost use Rattle.os9_outer.specs.Stream.{appended, GainsPrefix};
 
 /// Why a call of a [`Host`] was not done.
 #[derive(Clone, Copy, Debug, PartialEq, Eq)]

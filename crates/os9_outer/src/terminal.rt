@@ -1,5 +1,6 @@
 ghost use Rattle.std.specs.Prelude.{◌≡◌, ℕ, ◌<◌, ◌≤◌, Option, IfSome, option_map, IfOk, IfErr, OnOk, OnErr, List, [], ◌∷◌, ◌++◌, length};
 ghost use Rattle.os9_base.specs.Count.{Rose};
+ghost use Rattle.os9_outer.specs.Stream.{appended, emptied};
 ghost use Rattle.os9_outer.specs.Terminal.{due_byte, keys_after, OnFault, UnlessFault};
 ghost use Rattle.os9_outer.specs.declared.terminal.Key.{Key};
 
@@ -57,8 +58,8 @@ pub trait CharDriver: Drop {
 
     /// Puts a byte. After a refusal nothing was put.
     fn put(&mut self, byte: u8) -> Result<(), PutFault>
-        ensures appended { OnOk result
-            (bytes_put self.new ≡ option_map (λ bytes. bytes ++ byte ∷ []) (bytes_put self.old)) }
+        ensures put_last { OnOk result
+            (bytes_put self.new ≡ appended (bytes_put self.old) (byte ∷ [])) }
         ensures put_kept { OnErr result (bytes_put self.new ≡ bytes_put self.old) }
         ensures fault_counted { OnFault result (Rose (term_faults self.old) (term_faults self.new)) }
         ensures faults_kept { UnlessFault result (term_faults self.new ≡ term_faults self.old) }
@@ -68,7 +69,7 @@ pub trait CharDriver: Drop {
     /// Hands over the bytes put since the last call of this, and leaves none.
     fn take(&mut self) -> Vec<u8>
         ensures handed_over { IfSome (bytes_put self.old) (λ bytes. result.items ≡ bytes) }
-        ensures none_left { bytes_put self.new ≡ option_map (λ bytes. []) (bytes_put self.old) }
+        ensures none_left { bytes_put self.new ≡ emptied (bytes_put self.old) }
         ensures keys_kept { keys_left self.new ≡ keys_left self.old }
         ensures faults_kept { term_faults self.new ≡ term_faults self.old };
 }
