@@ -1,0 +1,4 @@
+pub mod Drive
+pub mod Host
+pub mod Stream
+pub mod Terminal

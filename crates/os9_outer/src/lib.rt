@@ -1,0 +1,11 @@
+//! The outside of the machine: files and output streams, drives and terminals, as traits whose
+//! clauses say what each call may do, and the implementations that the product and its tests use.
+#![tactic(auto)]
+
+pub mod drive;
+pub mod host;
+mod pending;
+mod slot;
+pub mod sure_drive;
+pub mod sure_tty;
+pub mod terminal;
