@@ -3,3 +3,4 @@
 #![tactic(auto)]
 
 pub mod group;
+pub mod module;
