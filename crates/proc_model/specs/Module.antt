@@ -1,5 +1,6 @@
 -- Modules (System Programmer's Manual, "Memory module structure"; the table of the header's fields).
-use Rattle.std.specs.Prelude.{◌≡◌, ℕ, ◌+◌, ◌-◌, ◌*◌, ◌/◌, ◌==◌, ◌&&◌, nat_lt, nat_le, bit_xor, Bool, Option, Some, None, is_some, List, length, take, slice_index, slice_range, fold, if◌then◌else◌}
+use Rattle.std.specs.Prelude.{◌≡◌, ℕ, ◌+◌, ◌-◌, ◌*◌, ◌/◌, ◌==◌, ◌&&◌, nat_lt, nat_le, bit_xor, Bool, Option, Some, None, is_some, List, length, take, drop, slice_index, slice_range, fold, if◌then◌else◌}
+use Rattle.byteorder.specs.Endian.{big_number}
 use Rattle.os9_base.specs.Name.{stored_name}
 use Rattle.proc_model.specs.Crc.{crc_of}
 use Rattle.proc_model.specs.declared.module.ModuleFault.{ModuleFault}
@@ -7,7 +8,7 @@ use Rattle.proc_model.specs.declared.module.ModuleFault.TheVariants.{BadSync, Ba
 
 -- the word at a place, high byte first
 abbrev pub word_at : List ℕ → ℕ → ℕ
-word_at bytes at = slice_index bytes at * 256 + slice_index bytes (at + 1)
+word_at bytes at = big_number 2 (drop at bytes)
 
 -- the whole size, CRC included
 abbrev pub module_size : List ℕ → ℕ
@@ -75,7 +76,7 @@ keeps_parity_rule bytes = fold bit_xor 0 (take 9 bytes) == 255
 
 -- the number that the CRC's three bytes are
 abbrev pub crc_field : List ℕ → ℕ
-crc_field bytes = slice_index bytes (crc_offset bytes) * 65536 + word_at bytes (crc_offset bytes + 1)
+crc_field bytes = big_number 3 (drop (crc_offset bytes) bytes)
 
 -- the CRC rule: the last three bytes are the CRC of those before them
 abbrev pub keeps_crc_rule : List ℕ → Bool
