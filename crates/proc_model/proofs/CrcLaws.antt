@@ -1,6 +1,6 @@
 -- The division is linear over exclusive or.
 use Rattle.std.proofs.Common.{◌≡◌, ℕ, zero, suc, ◌+◌, ◌*◌, ◌/◌, ◌%◌, ◌^◌, ◌<◌, ◌==◌, if◌then◌else◌, bit_xor, List, [], ◌∷◌, ◌++◌, refl, sym, ap, add-zero, zero-add, zero-mul, lit<, true, map, replicate, get_or, false, ◌∙◌, arith}
-use Rattle.std.specs.Int.Bits.{xor_assoc, xor_self, xor_zero_l, xor_zero_r}
+use Rattle.std.specs.Int.Bits.{xor_assoc, xor_self, xor_zero_r}
 use Rattle.std.specs.Int.{bit_at}
 use Rattle.std.proofs.lemmas.Nat.Bits.{bit_at-lt}
 use Rattle.std.proofs.lemmas.Nat.{xor_comm, xor_lt, xor_shr, xor_mod, xor_block}
@@ -62,9 +62,9 @@ divided_once_linear a b x y a_fits b_fits x_bit y_bit =
     divided_once_xor (bit_xor a b) (bit_xor x y) (xor_lt 24 a b a_fits b_fits) (xor_lt 1 x y x_bit y_bit)
     ∙ ap (λ (m : ℕ). bit_xor m (subtracted (bit_xor (bit_xor a b / 2 ^ 23) (bit_xor x y)))) (double_xor a b)
     ∙ ap (λ (d : ℕ). bit_xor (bit_xor (a * 2 % 2 ^ 24) (b * 2 % 2 ^ 24)) (subtracted d))
-        (ap (λ (t : ℕ). bit_xor t (bit_xor x y)) (xor_shr a b 23) ∙ xor_middle (a / 2 ^ 23) (b / 2 ^ 23) x y)
+    (ap (λ (t : ℕ). bit_xor t (bit_xor x y)) (xor_shr a b 23) ∙ xor_middle (a / 2 ^ 23) (b / 2 ^ 23) x y)
     ∙ ap (bit_xor (bit_xor (a * 2 % 2 ^ 24) (b * 2 % 2 ^ 24)))
-        (subtracted_xor (bit_xor (a / 2 ^ 23) x) (bit_xor (b / 2 ^ 23) y) (xor_lt 1 (a / 2 ^ 23) x (omega arith) x_bit) (xor_lt 1 (b / 2 ^ 23) y (omega arith) y_bit))
+    (subtracted_xor (bit_xor (a / 2 ^ 23) x) (bit_xor (b / 2 ^ 23) y) (xor_lt 1 (a / 2 ^ 23) x (omega arith) x_bit) (xor_lt 1 (b / 2 ^ 23) y (omega arith) y_bit))
     ∙ xor_middle (a * 2 % 2 ^ 24) (b * 2 % 2 ^ 24) (subtracted (bit_xor (a / 2 ^ 23) x)) (subtracted (bit_xor (b / 2 ^ 23) y))
     ∙ sym (ap (λ (m : ℕ). bit_xor m (divided_once b y)) (divided_once_xor a x a_fits x_bit) ∙ ap (bit_xor (bit_xor (a * 2 % 2 ^ 24) (subtracted (bit_xor (a / 2 ^ 23) x)))) (divided_once_xor b y b_fits y_bit))
 
@@ -96,9 +96,23 @@ bits_of_xor : (a b : ℕ) → bits_of (bit_xor a b) ≡ xor_bits (bits_of a) (bi
 bits_of_xor a b = simp bit_at_exclusive
 
 are_bits : (a b : ℕ) → AreBits (bits_of a) (bits_of b)
-are_bits a b =
-    (bit_at-lt a 7, bit_at-lt b 7, (bit_at-lt a 6, bit_at-lt b 6, (bit_at-lt a 5, bit_at-lt b 5, (bit_at-lt a 4, bit_at-lt b 4,
-    (bit_at-lt a 3, bit_at-lt b 3, (bit_at-lt a 2, bit_at-lt b 2, (bit_at-lt a 1, bit_at-lt b 1, (bit_at-lt a 0, bit_at-lt b 0, tt))))))))
+are_bits a b = (
+  bit_at-lt a 7,
+  bit_at-lt b 7,
+  (
+    bit_at-lt a 6,
+    bit_at-lt b 6,
+    (
+      bit_at-lt a 5,
+      bit_at-lt b 5,
+      (
+        bit_at-lt a 4,
+        bit_at-lt b 4,
+        (bit_at-lt a 3, bit_at-lt b 3, (bit_at-lt a 2, bit_at-lt b 2, (bit_at-lt a 1, bit_at-lt b 1, (bit_at-lt a 0, bit_at-lt b 0, tt)))),
+      ),
+    ),
+  ),
+)
 
 -- the division of a byte is linear
 pub byte_linear : (a b x y : ℕ) → a < 2 ^ 24 → b < 2 ^ 24 → divided (bit_xor a b) (bits_of (bit_xor x y)) ≡ bit_xor (divided a (bits_of x)) (divided b (bits_of y))
@@ -170,14 +184,14 @@ byte_by_table register byte p q =
     let high_fits : high < 2 ^ 8 = omega arith in
     let cancelled : bit_xor top byte ≡ high = xor_assoc high byte byte ∙ ap (bit_xor high) (xor_self byte) ∙ xor_zero_r high in
     let parts : bit_xor low (bit_xor (top * 65536) (byte * 65536)) ≡ register =
-        ap (bit_xor low) (high_xor top byte ∙ ap (λ (x : ℕ). x * 65536) cancelled) ∙ low_high low high (omega arith) ∙ (let whole : high * 65536 + low ≡ register = omega arith in whole)
+    ap (bit_xor low) (high_xor top byte ∙ ap (λ (x : ℕ). x * 65536) cancelled) ∙ low_high low high (omega arith) ∙ (let whole : high * 65536 + low ≡ register = omega arith in whole)
     in
     let top_fits : top * 65536 < 2 ^ 24 = (let fits : top < 2 ^ 8 = xor_lt 8 high byte high_fits q in omega arith) in
     ap (λ (r : ℕ). divided r (bits_of byte)) (sym parts)
     ∙ byte_linear low (bit_xor (top * 65536) (byte * 65536)) 0 byte (omega arith) (xor_lt 24 (top * 65536) (byte * 65536) top_fits (omega arith))
     ∙ ap (λ (x : ℕ). bit_xor x (divided (bit_xor (top * 65536) (byte * 65536)) (bits_of byte))) (shifts low (omega arith) ∙ (let moved : low * 256 ≡ register * 256 % 2 ^ 24 = omega arith in moved))
     ∙ ap (bit_xor (register * 256 % 2 ^ 24))
-        (byte_linear (top * 65536) (byte * 65536) 0 byte top_fits (omega arith) ∙ ap (bit_xor (table_word top)) (vanishes byte q) ∙ xor_zero_r (table_word top))
+    (byte_linear (top * 65536) (byte * 65536) 0 byte top_fits (omega arith) ∙ ap (bit_xor (table_word top)) (vanishes byte q) ∙ xor_zero_r (table_word top))
 
 -- a division may be cut anywhere between two bytes
 pub crc_register-append : (register : ℕ) (xs ys : List ℕ) → crc_register register (xs ++ ys) ≡ crc_register (crc_register register xs) ys
