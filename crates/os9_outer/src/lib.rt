@@ -3,7 +3,9 @@
 #![tactic(auto)]
 
 pub mod drive;
+mod failure;
 pub mod host;
+pub mod mem_host;
 mod pending;
 mod slot;
 pub mod sure_drive;
