@@ -7,6 +7,7 @@ mod failure;
 pub mod host;
 pub mod mem_host;
 mod pending;
+pub mod real_host;
 mod slot;
 pub mod sure_drive;
 pub mod sure_tty;
