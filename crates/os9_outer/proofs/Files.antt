@@ -7,8 +7,8 @@ use Rattle.std.proofs.lemmas.List.Folds.{find_at, find-set, find_past, find-appe
 use Rattle.std.proofs.lemmas.List.Quantifiers.{position-Some}
 use Rattle.std.proofs.lemmas.Option.{slice_get_past, slice_get_read}
 use Rattle.std.proofs.lemmas.Slice.Eq.{bytes_eq-Decides}
-use Rattle.os9_outer.specs.declared.mem_host.HostFile.{HostFile}
-use Rattle.os9_outer.specs.MemHost.{is_named, file_named}
+use Rattle.os9_outer.specs.declared.host_file.HostFile.{HostFile}
+use Rattle.os9_outer.specs.HostFile.{is_named, file_named}
 
 position_or_len-Some : {X : Type 0} (p : X → Bool) (xs : List X) (i : ℕ) → position p xs ≡ Some i → i ≡ position_or_len p xs
 position_or_len-Some p xs i e = grind (arith, nat_tests)
@@ -51,6 +51,13 @@ pub file_named-set_other : (files : List HostFile) (name other : List ℕ) (i : 
 file_named-set_other files name other i old new here was same differs =
     ap (option_map (λ f. f.bytes.items))
     (find_past (is_named other) files i new old (ap (is_named other) (sym here) ∙ is_named-other name other old was differs) (is_named-other name other new same differs))
+
+-- nothing is read under a name that has no place
+pub file_named-absent : (files : List HostFile) (name : List ℕ) → position (is_named name) files ≡ None → file_named files name ≡ None
+file_named-absent files name none =
+    let absent : find (is_named name) files ≡ None =
+    find_at (is_named name) files ∙ slice_get_past files _ (position_or_len-None (is_named name) files none) in
+    ap (option_map (λ f. f.bytes.items)) absent
 
 pub file_named-push : (files : List HostFile) (name : List ℕ) (new : HostFile) → position (is_named name) files ≡ None → string_bytes new.name ≡ name → file_named (files ++ new ∷ []) name ≡ Some new.bytes.items
 file_named-push files name new none same =

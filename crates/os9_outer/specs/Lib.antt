@@ -1,5 +1,5 @@
 pub mod Drive
 pub mod Host
-pub mod MemHost
+pub mod HostFile
 pub mod Stream
 pub mod Terminal

@@ -1,16 +1,10 @@
 ghost use Rattle.std.specs.Prelude.{◌≡◌, ◌≢◌, ℕ, ◌+◌, ◌-◌, ◌^◌, ◌≤◌, min, Bool, false, Option, Some, None, option_map, OnOk, OnErr, IfOk, IsOkUnless, List, [], position, string_bytes};
-ghost use Rattle.os9_outer.specs.MemHost.{file_named, is_named as is_named_lem};
+ghost use Rattle.os9_outer.specs.HostFile.{file_named};
 
 use crate::failure::Failure;
 use crate::host::{Host, HostFault};
-use std::alloc::{AllocError, Global};
-
-/// A file of a [`MemHost`].
-#[derive(Debug, Drop)]
-pub struct HostFile {
-    pub name: String,
-    pub bytes: Vec<u8>,
-}
+use crate::host_file::{HostFile, bytes_of, copied, put_file};
+use std::alloc::Global;
 
 /// A host in memory for tests, whose calls fail as it was planned. It tells all that it has.
 ///
@@ -103,9 +97,8 @@ impl Host for MemHost {
 
     fn read_file(&mut self, name: &str) -> Result<Vec<u8>, HostFault> {
         if !self.fails_next() {
-            if let Some(place) = place_of(&self.files, name) {
-                let file = &self.files[place];
-                return copied(self.alloc(), &file.bytes);
+            if let Some(bytes) = bytes_of(&self.files, name) {
+                return copied(self.alloc(), bytes);
             }
         }
         let failure = Failure::of_read(self.alloc(), name)?;
@@ -141,37 +134,4 @@ impl Host for MemHost {
             .extend_from_slice(bytes)
             .map_err(|_| HostFault::OutOfMemory)
     }
-}
-
-// The place of the first file of this name.
-fn place_of(files: &[HostFile], name: &str) -> Option<usize>
-    ensures { result ≡ position (is_named_lem name.now) files.now }
-{
-    files.iter().position(|file| file.name.as_str() == name)
-}
-
-// Makes these the bytes of the first file of this name, or of a new one.
-fn put_file(files: &mut Vec<HostFile>, name: &str, bytes: &[u8]) -> Result<(), AllocError>
-    ensures written { OnOk result (file_named files.new.items name.now ≡ Some bytes.now) }
-    ensures kept { OnErr result (files.new.items ≡ files.old.items) }
-    ensures others_kept { (other : List ℕ) → other ≢ name.now →
-        file_named files.new.items other ≡ file_named files.old.items other }
-{
-    let alloc = *files.allocator();
-    let bytes = Vec::from_slice(alloc, bytes)?;
-    match place_of(files, name) {
-        Some(place) => files[place].bytes = bytes,
-        None => {
-            let name = String::from_str(alloc, name)?;
-            files.push(HostFile { name, bytes })?;
-        }
-    }
-    Ok(())
-}
-
-fn copied(alloc: Global, bytes: &[u8]) -> Result<Vec<u8>, HostFault>
-    ensures copy { IfOk result (λ copy. copy.items ≡ bytes.now) }
-    ensures only_memory { IsOkUnless result HostFault.OutOfMemory }
-{
-    Vec::from_slice(alloc, bytes).map_err(|_| HostFault::OutOfMemory)
 }

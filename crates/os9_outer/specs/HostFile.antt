@@ -1,6 +1,6 @@
 -- Files that are kept as a list.
 use Rattle.std.specs.Prelude.{ℕ, Bool, Option, option_map, find, string_bytes, bytes_eq, List}
-use Rattle.os9_outer.specs.declared.mem_host.HostFile.{HostFile}
+use Rattle.os9_outer.specs.declared.host_file.HostFile.{HostFile}
 
 -- the file has this name
 abbrev pub is_named : List ℕ → HostFile → Bool

@@ -1,10 +1,10 @@
 -- The file is put in the first place of its name, or at the end where there is none.
 use Rattle.std.proofs.Common.{sym, ap, ◌∙◌, Some}
 use Rattle.os9_outer.proofs.Files.{name-at_position, file_named-set, file_named-set_other, file_named-push, file_named-push_other}
-use Rattle.os9_outer.specs.declared.mem_host.HostFile.{HostFile}
-use Rattle.os9_outer.specs.MemHost.{file_named, is_named}
+use Rattle.os9_outer.specs.declared.host_file.HostFile.{HostFile}
+use Rattle.os9_outer.specs.HostFile.{file_named, is_named}
 use Rattle.std.proofs.Common.{position}
-use Rattle.os9_outer.proofs.mem_host.put_file.Goals as goal
+use Rattle.os9_outer.proofs.host_file.put_file.Goals as goal
 
 pub returns-in-Some-clause-written : goal.returns-in-Some-clause-written
 returns-in-Some-clause-written c =
