@@ -5,6 +5,7 @@ pub use cpu_model::instruction::{DecodeFault, Instr, Page, Tail};
 pub use table::{postbyte, row};
 
 mod base_page;
+mod decode;
 mod eleven_page;
 mod postbytes;
 mod table;
