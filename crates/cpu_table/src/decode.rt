@@ -1,0 +1,227 @@
+ghost use Rattle.std.specs.Prelude.{◌≡◌, ◌≤◌, None, Some, [], ◌∷◌};
+ghost use Rattle.cpu_model.specs.Reading as model;
+ghost use Rattle.cpu_model.specs.Table as tables;
+
+use crate::table::{postbyte, row};
+use cpu_model::indexing::{Form, Indexing};
+use cpu_model::instruction::{DecodeFault, Instr, Page, Tail};
+use cpu_model::rows::{Mode, Row};
+
+/// What is known of an instruction before its operand bytes, and how many bytes that takes.
+#[derive(Clone, Copy)]
+struct Head {
+    page: Page,
+    opcode: u8,
+    post: Option<u8>,
+    length: u8,
+}
+
+/// The instruction with no operand bytes.
+fn with_none(head: Head) -> Result<(Instr, u8), DecodeFault>
+    ensures { result ≡ model.read_tail head.page head.opcode head.post head.length model.none [] }
+{
+    let Head {
+        page,
+        opcode,
+        post,
+        length,
+    } = head;
+    Ok((
+        Instr {
+            page,
+            opcode,
+            post,
+            tail: Tail::Empty,
+        },
+        length,
+    ))
+}
+
+/// The instruction with one operand byte, the first of `rest`.
+fn with_byte(head: Head, rest: &[u8]) -> Result<(Instr, u8), DecodeFault>
+    requires { head.length ≤ 3 }
+    ensures { result ≡ model.read_tail head.page head.opcode head.post head.length model.byte rest.now }
+{
+    let Head {
+        page,
+        opcode,
+        post,
+        length,
+    } = head;
+    match rest {
+        [byte, ..] => Ok((
+            Instr {
+                page,
+                opcode,
+                post,
+                tail: Tail::Byte(*byte),
+            },
+            length + 1,
+        )),
+        _ => Err(DecodeFault::Short),
+    }
+}
+
+/// The instruction with two operand bytes, the first of `rest`.
+fn with_word(head: Head, rest: &[u8]) -> Result<(Instr, u8), DecodeFault>
+    requires { head.length ≤ 3 }
+    ensures { result ≡ model.read_tail head.page head.opcode head.post head.length model.word rest.now }
+{
+    let Head {
+        page,
+        opcode,
+        post,
+        length,
+    } = head;
+    match rest {
+        [high, low, ..] => {
+            let word = u16::from_be_bytes([*high, *low]);
+            Ok((
+                Instr {
+                    page,
+                    opcode,
+                    post,
+                    tail: Tail::Word(word),
+                },
+                length + 2,
+            ))
+        }
+        _ => Err(DecodeFault::Short),
+    }
+}
+
+/// The instruction whose operand bytes, the first of `rest`, are those that its postbyte's form has.
+fn with_form(head: Head, form: Form, rest: &[u8]) -> Result<(Instr, u8), DecodeFault>
+    requires { head.length ≤ 3 }
+    ensures { result ≡ model.read_tail head.page head.opcode head.post head.length (model.extent_of_form form) rest.now }
+{
+    match form {
+        Form::Offset8 | Form::FromPc8 => with_byte(head, rest),
+        Form::Offset16 | Form::FromPc16 | Form::Absolute => with_word(head, rest),
+        _ => with_none(head),
+    }
+}
+
+/// The postbyte as it is given: bits 6 and 5 do not matter where the offset counts from PC.
+fn plain_postbyte(form: Form, post: u8) -> u8
+    ensures { result ≡ tables.plain_postbyte form post }
+{
+    match form {
+        Form::FromPc8 | Form::FromPc16 => 0x80 + (post & 0x1F),
+        _ => post,
+    }
+}
+
+/// The instruction of an indexed mode, whose postbyte is the first of `rest`.
+fn with_postbyte(
+    page: Page,
+    opcode: u8,
+    length: u8,
+    rest: &[u8],
+) -> Result<(Instr, u8), DecodeFault>
+    requires { length ≤ 2 }
+    ensures { result ≡ model.read_indexed page opcode length rest.now }
+{
+    match rest {
+        [post, after @ ..] => match postbyte(*post) {
+            Some(Indexing(form, _, _)) => {
+                let post = Some(plain_postbyte(form, *post));
+                with_form(
+                    Head {
+                        page,
+                        opcode,
+                        post,
+                        length: length + 1,
+                    },
+                    form,
+                    after,
+                )
+            }
+            None => Err(DecodeFault::NotDocumented),
+        },
+        _ => Err(DecodeFault::Short),
+    }
+}
+
+/// Do both halves of this byte name registers, and of one size?
+fn is_pair(post: u8) -> bool
+    ensures { result ≡ tables.is_pair post }
+{
+    let (source, target) = (post >> 4, post & 0x0F);
+    source <= 5 && target <= 5 || (8..=11).contains(&source) && (8..=11).contains(&target)
+}
+
+/// The instruction on two registers, which the first byte of `rest` names.
+fn with_pair(page: Page, opcode: u8, length: u8, rest: &[u8]) -> Result<(Instr, u8), DecodeFault>
+    requires { length ≤ 2 }
+    ensures { result ≡ model.read_pair page opcode length rest.now }
+{
+    match rest {
+        [pair, ..] if is_pair(*pair) => with_byte(
+            Head {
+                page,
+                opcode,
+                post: None,
+                length,
+            },
+            rest,
+        ),
+        [_, ..] => Err(DecodeFault::NotDocumented),
+        _ => Err(DecodeFault::Short),
+    }
+}
+
+/// The instruction of this mode, whose bytes after the opcode are the first of `rest`.
+fn with_operand(
+    page: Page,
+    opcode: u8,
+    length: u8,
+    mode: Mode,
+    rest: &[u8],
+) -> Result<(Instr, u8), DecodeFault>
+    requires { length ≤ 2 }
+    ensures { result ≡ model.read_operand page opcode length mode rest.now }
+{
+    let head = Head {
+        page,
+        opcode,
+        post: None,
+        length,
+    };
+    match mode {
+        Mode::Inherent => with_none(head),
+        Mode::Immediate8 | Mode::Direct | Mode::Relative8 => with_byte(head, rest),
+        Mode::Immediate16 | Mode::Extended | Mode::Relative16 => with_word(head, rest),
+        Mode::Indexed => with_postbyte(page, opcode, length, rest),
+        Mode::Pair => with_pair(page, opcode, length, rest),
+    }
+}
+
+/// The instruction whose opcode, of this page, is the first of `bytes`, with `length` bytes up to
+/// and with it.
+fn from_opcode(page: Page, length: u8, bytes: &[u8]) -> Result<(Instr, u8), DecodeFault>
+    requires { length ≤ 2 }
+    ensures { result ≡ model.read_opcode page length bytes.now }
+{
+    match bytes {
+        [opcode, rest @ ..] => match row(page, *opcode) {
+            Some(Row(_, mode)) => with_operand(page, *opcode, length, mode, rest),
+            None => Err(DecodeFault::NotDocumented),
+        },
+        _ => Err(DecodeFault::Short),
+    }
+}
+
+#[tactic(auto, unfolding(cpu_model::specs::Reading::reading))]
+pub fn decode(bytes: &[u8]) -> Result<(Instr, u8), DecodeFault>
+    ensures value { result ≡ model.reading bytes.now }
+{
+    match bytes {
+        [first, rest @ ..] => match *first {
+            0x10 => from_opcode(Page::Ten, 2, rest),
+            0x11 => from_opcode(Page::Eleven, 2, rest),
+            _ => from_opcode(Page::Base, 1, bytes),
+        },
+        [] => Err(DecodeFault::Short),
+    }
+}
