@@ -101,6 +101,9 @@ lea index.Y p = with_flags (record p.regs { y = p.at }) (lea_flags p.at (flags_o
 lea index.U p = record p.regs { u = p.at }
 lea index.S p = record p.regs { s = p.at }
 
+abbrev pub jump : Place → Effect
+jump p = changes (record p.regs { pc = p.at })
+
 abbrev pub branch : Regs → Condition → ℕ → Regs
 branch r condition target = if holds condition (flags_of r.cc) then record r { pc = target } else r
 
