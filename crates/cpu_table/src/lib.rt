@@ -33,18 +33,27 @@ mod tests {
     };
 
     #[test]
-    fn decode_rows(rt: HostRuntime) {
-        assert_eq!(rt; decode(&[0x10, 0x8E, 0x00, 0x50]), Ok((LDY_80, 4)));
-        assert_eq!(rt; decode(&[0x1F, 0x89]), Ok((TFR_A_B, 2)));
-        assert_eq!(rt; decode(&[0x10]), Err(DecodeFault::Short));
-        assert_eq!(rt; decode(&[0x87]), Err(DecodeFault::NotDocumented));
-        assert_eq!(rt; decode(&[0xA6, 0x90]), Err(DecodeFault::NotDocumented));
-        assert_eq!(rt; decode(&[0xA6, 0x8F]), Err(DecodeFault::NotDocumented));
-        assert_eq!(rt; decode(&[0x1F, 0x81]), Err(DecodeFault::NotDocumented));
+    fn decode(rt: HostRuntime) {
+        assert_eq!(rt; crate::decode(&[0x10, 0x8E, 0x00, 0x50]), Ok((LDY_80, 4)));
+        assert_eq!(rt; crate::decode(&[0x1F, 0x89]), Ok((TFR_A_B, 2)));
+        assert_eq!(rt; crate::decode(&[0x10]), Err(DecodeFault::Short));
+        assert_eq!(rt; crate::decode(&[0x87]), Err(DecodeFault::NotDocumented));
+        assert_eq!(rt;
+            crate::decode(&[0xA6, 0x90]),
+            Err(DecodeFault::NotDocumented)
+        );
+        assert_eq!(rt;
+            crate::decode(&[0xA6, 0x8F]),
+            Err(DecodeFault::NotDocumented)
+        );
+        assert_eq!(rt;
+            crate::decode(&[0x1F, 0x81]),
+            Err(DecodeFault::NotDocumented)
+        );
     }
 
     #[test]
-    fn spell_rows(rt: HostRuntime) {
+    fn spelled_load(rt: HostRuntime) {
         let spelled = spell(&LDY_80);
         assert_eq!(rt; spelled.bytes, [0x10, 0x8E, 0x00, 0x50, 0x00]);
         assert_eq!(rt; spelled.len, 4);
