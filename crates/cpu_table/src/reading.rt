@@ -1,6 +1,8 @@
-ghost use Rattle.std.specs.Prelude.{◌≡◌, ◌≤◌, None, Some, [], ◌∷◌};
+ghost use Rattle.std.specs.Prelude.{◌≡◌, ◌↔◌, ℕ, ◌≤◌, IfOk, [], ◌∷◌};
 ghost use Rattle.cpu_model.specs.Reading as model;
 ghost use Rattle.cpu_model.specs.Table as tables;
+ghost use Rattle.cpu_model.specs.declared.instruction.Instr.{Instr};
+ghost use Rattle.cpu_table.specs.Spelling.{BeginsWith, IsPlain, IsBegun, IsSpelled};
 
 use crate::table::{postbyte, row};
 use cpu_model::indexing::{Form, Indexing};
@@ -212,9 +214,10 @@ fn from_opcode(page: Page, length: u8, bytes: &[u8]) -> Result<(Instr, u8), Deco
     }
 }
 
+/// What the bytes begin with, by its prefix.
 #[tactic(auto, unfolding(cpu_model::specs::Reading::reading))]
-pub fn decode(bytes: &[u8]) -> Result<(Instr, u8), DecodeFault>
-    ensures value { result ≡ model.reading bytes.now }
+fn from_prefix(bytes: &[u8]) -> Result<(Instr, u8), DecodeFault>
+    ensures { result ≡ model.reading bytes.now }
 {
     match bytes {
         [first, rest @ ..] => match *first {
@@ -224,4 +227,23 @@ pub fn decode(bytes: &[u8]) -> Result<(Instr, u8), DecodeFault>
         },
         [] => Err(DecodeFault::Short),
     }
+}
+
+/// The instruction at the front of these bytes, and the number of its bytes (MC6809 programming
+/// manual, appendix B). Of SWI2 that is 2: a code byte behind it is not its own.
+///
+/// `Short` where the bytes are the beginning of a longer spelling, and `NotDocumented` where
+/// nothing documented is spelled so, whatever follows.
+pub fn decode(bytes: &[u8]) -> Result<(Instr, u8), DecodeFault>
+    ensures value { result ≡ model.reading bytes.now }
+
+    // What is answered is documented and spelled so, and whatever is spelled so is answered.
+    ensures found { IfOk result (λ found. BeginsWith bytes.now found.0 found.1) }
+    ensures plain { IfOk result (λ found. IsPlain found.0) }
+    ensures only { (i : Instr) (count : ℕ) → BeginsWith bytes.now i count → result ≡ Ok (i, count) }
+
+    ensures short { (result ≡ Err DecodeFault.Short) ↔ IsBegun bytes.now }
+    ensures not_documented { (result ≡ Err DecodeFault.NotDocumented) ↔ (¬ IsBegun bytes.now × ¬ IsSpelled bytes.now) }
+{
+    from_prefix(bytes)
 }
