@@ -109,6 +109,13 @@ pub(crate) fn lea(to: IndexRegister, p: Place) -> Regs
     }
 }
 
+/// JMP.
+pub(crate) fn jump(p: Place) -> Change
+    ensures { effect result ≡ model.jump p }
+{
+    changes(Regs { pc: p.at, ..p.regs })
+}
+
 /// BRA to BLE, and LBRA to LBLE.
 pub(crate) fn branch(r: Regs, condition: Condition, target: u16) -> Regs
     ensures { result ≡ model.branch r condition target }

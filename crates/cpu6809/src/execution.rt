@@ -6,8 +6,8 @@ ghost use Rattle.cpu6809.specs.Writes.{effect};
 use crate::change::Change;
 use crate::commit::commit;
 use crate::effect::{
-    abx, andcc, binary_on, branch, changes, daa, exchange, lea, mul, orcc, sex, store, store_word,
-    transfer, unary_effect, unary_on, word_on,
+    abx, andcc, binary_on, branch, changes, daa, exchange, jump, lea, mul, orcc, sex, store,
+    store_word, transfer, unary_effect, unary_on, word_on,
 };
 use crate::place::{byte_at, byte_operand, place_of, tail_byte, target_of, word_operand};
 use crate::stack::{enter, pull, push, return_from_interrupt, return_from_subroutine};
@@ -28,20 +28,6 @@ fn unary_effect_at<B: Bus>(b: &B, operation: Unary, p: Place) -> Option<Change>
 {
     let value = byte_at(b, p.at)?;
     Some(unary_effect(operation, p, value))
-}
-
-/// JSR.
-fn enter_at(p: Place) -> Change
-    ensures { effect result ≡ changed.enters p.regs p.at }
-{
-    enter(p.regs, p.at)
-}
-
-/// JMP.
-fn jump(p: Place) -> Change
-    ensures { effect result ≡ changed.jump p }
-{
-    changes(Regs { pc: p.at, ..p.regs })
 }
 
 /// The effect of an operation, or None where a cell that it reads is not named.
@@ -65,7 +51,10 @@ fn effect_of<B: Bus>(b: &B, r: Regs, i: Instr, mode: Mode, operation: Operation)
         Operation::Store(from) => Some(store(from, place_of(b, r, mode, i)?)),
         Operation::StoreWord(from) => Some(store_word(from, place_of(b, r, mode, i)?)),
         Operation::Jmp => Some(jump(place_of(b, r, mode, i)?)),
-        Operation::Jsr => Some(enter_at(place_of(b, r, mode, i)?)),
+        Operation::Jsr => {
+            let p = place_of(b, r, mode, i)?;
+            Some(enter(p.regs, p.at))
+        }
         Operation::Branch(condition) => {
             Some(changes(branch(r, condition, target_of(r, mode, i.tail))))
         }
