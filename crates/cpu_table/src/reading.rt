@@ -1,4 +1,4 @@
-ghost use Rattle.std.specs.Prelude.{◌≡◌, ◌↔◌, ℕ, ◌≤◌, IfOk, [], ◌∷◌};
+ghost use Rattle.std.specs.Prelude.{◌≡◌, ◌↔◌, ℕ, ◌≤◌, None, IfOk, []};
 ghost use Rattle.cpu_model.specs.Reading as model;
 ghost use Rattle.cpu_model.specs.Table as tables;
 ghost use Rattle.cpu_model.specs.declared.instruction.Instr.{Instr};
@@ -18,25 +18,25 @@ struct Head {
     length: u8,
 }
 
+impl Head {
+    /// The instruction with these operand bytes.
+    fn instruction(self, tail: Tail) -> Instr
+        ensures { result ≡ record { page = self.page; opcode = self.opcode; post = self.post; tail = tail } }
+    {
+        Instr {
+            page: self.page,
+            opcode: self.opcode,
+            post: self.post,
+            tail,
+        }
+    }
+}
+
 /// The instruction with no operand bytes.
 fn with_none(head: Head) -> Result<(Instr, u8), DecodeFault>
     ensures { result ≡ model.read_tail head.page head.opcode head.post head.length model.none [] }
 {
-    let Head {
-        page,
-        opcode,
-        post,
-        length,
-    } = head;
-    Ok((
-        Instr {
-            page,
-            opcode,
-            post,
-            tail: Tail::Empty,
-        },
-        length,
-    ))
+    Ok((head.instruction(Tail::Empty), head.length))
 }
 
 /// The instruction with one operand byte, the first of `rest`.
@@ -44,23 +44,9 @@ fn with_byte(head: Head, rest: &[u8]) -> Result<(Instr, u8), DecodeFault>
     requires { head.length ≤ 3 }
     ensures { result ≡ model.read_tail head.page head.opcode head.post head.length model.byte rest.now }
 {
-    let Head {
-        page,
-        opcode,
-        post,
-        length,
-    } = head;
     match rest {
-        [byte, ..] => Ok((
-            Instr {
-                page,
-                opcode,
-                post,
-                tail: Tail::Byte(*byte),
-            },
-            length + 1,
-        )),
-        _ => Err(DecodeFault::Short),
+        [byte, ..] => Ok((head.instruction(Tail::Byte(*byte)), head.length + 1)),
+        [] => Err(DecodeFault::Short),
     }
 }
 
@@ -69,24 +55,10 @@ fn with_word(head: Head, rest: &[u8]) -> Result<(Instr, u8), DecodeFault>
     requires { head.length ≤ 3 }
     ensures { result ≡ model.read_tail head.page head.opcode head.post head.length model.word rest.now }
 {
-    let Head {
-        page,
-        opcode,
-        post,
-        length,
-    } = head;
     match rest {
         [high, low, ..] => {
             let word = u16::from_be_bytes([*high, *low]);
-            Ok((
-                Instr {
-                    page,
-                    opcode,
-                    post,
-                    tail: Tail::Word(word),
-                },
-                length + 2,
-            ))
+            Ok((head.instruction(Tail::Word(word)), head.length + 2))
         }
         _ => Err(DecodeFault::Short),
     }
@@ -115,25 +87,20 @@ fn plain_postbyte(form: Form, post: u8) -> u8
 }
 
 /// The instruction of an indexed mode, whose postbyte is the first of `rest`.
-fn with_postbyte(
-    page: Page,
-    opcode: u8,
-    length: u8,
-    rest: &[u8],
-) -> Result<(Instr, u8), DecodeFault>
-    requires { length ≤ 2 }
-    ensures { result ≡ model.read_indexed page opcode length rest.now }
+fn with_postbyte(head: Head, rest: &[u8]) -> Result<(Instr, u8), DecodeFault>
+    requires { head.length ≤ 2 }
+    ensures { result ≡ model.read_indexed head.page head.opcode head.length rest.now }
 {
     match rest {
         [post, after @ ..] => match postbyte(*post) {
             Some(Indexing(form, _, _)) => {
                 let post = Some(plain_postbyte(form, *post));
+                let length = head.length + 1;
                 with_form(
                     Head {
-                        page,
-                        opcode,
                         post,
-                        length: length + 1,
+                        length,
+                        ..head
                     },
                     form,
                     after,
@@ -141,7 +108,7 @@ fn with_postbyte(
             }
             None => Err(DecodeFault::NotDocumented),
         },
-        _ => Err(DecodeFault::Short),
+        [] => Err(DecodeFault::Short),
     }
 }
 
@@ -154,48 +121,30 @@ fn is_pair(post: u8) -> bool
 }
 
 /// The instruction on two registers, which the first byte of `rest` names.
-fn with_pair(page: Page, opcode: u8, length: u8, rest: &[u8]) -> Result<(Instr, u8), DecodeFault>
-    requires { length ≤ 2 }
-    ensures { result ≡ model.read_pair page opcode length rest.now }
+fn with_pair(head: Head, rest: &[u8]) -> Result<(Instr, u8), DecodeFault>
+    requires no_postbyte { head.post ≡ None }
+    requires short { head.length ≤ 2 }
+    ensures { result ≡ model.read_pair head.page head.opcode head.length rest.now }
 {
     match rest {
-        [pair, ..] if is_pair(*pair) => with_byte(
-            Head {
-                page,
-                opcode,
-                post: None,
-                length,
-            },
-            rest,
-        ),
+        [pair, ..] if is_pair(*pair) => with_byte(head, rest),
         [_, ..] => Err(DecodeFault::NotDocumented),
-        _ => Err(DecodeFault::Short),
+        [] => Err(DecodeFault::Short),
     }
 }
 
 /// The instruction of this mode, whose bytes after the opcode are the first of `rest`.
-fn with_operand(
-    page: Page,
-    opcode: u8,
-    length: u8,
-    mode: Mode,
-    rest: &[u8],
-) -> Result<(Instr, u8), DecodeFault>
-    requires { length ≤ 2 }
-    ensures { result ≡ model.read_operand page opcode length mode rest.now }
+fn with_operand(head: Head, mode: Mode, rest: &[u8]) -> Result<(Instr, u8), DecodeFault>
+    requires no_postbyte { head.post ≡ None }
+    requires short { head.length ≤ 2 }
+    ensures { result ≡ model.read_operand head.page head.opcode head.length mode rest.now }
 {
-    let head = Head {
-        page,
-        opcode,
-        post: None,
-        length,
-    };
     match mode {
         Mode::Inherent => with_none(head),
         Mode::Immediate8 | Mode::Direct | Mode::Relative8 => with_byte(head, rest),
         Mode::Immediate16 | Mode::Extended | Mode::Relative16 => with_word(head, rest),
-        Mode::Indexed => with_postbyte(page, opcode, length, rest),
-        Mode::Pair => with_pair(page, opcode, length, rest),
+        Mode::Indexed => with_postbyte(head, rest),
+        Mode::Pair => with_pair(head, rest),
     }
 }
 
@@ -207,10 +156,18 @@ fn from_opcode(page: Page, length: u8, bytes: &[u8]) -> Result<(Instr, u8), Deco
 {
     match bytes {
         [opcode, rest @ ..] => match row(page, *opcode) {
-            Some(Row(_, mode)) => with_operand(page, *opcode, length, mode, rest),
+            Some(Row(_, mode)) => {
+                let head = Head {
+                    page,
+                    opcode: *opcode,
+                    post: None,
+                    length,
+                };
+                with_operand(head, mode, rest)
+            }
             None => Err(DecodeFault::NotDocumented),
         },
-        _ => Err(DecodeFault::Short),
+        [] => Err(DecodeFault::Short),
     }
 }
 
@@ -220,12 +177,12 @@ fn from_prefix(bytes: &[u8]) -> Result<(Instr, u8), DecodeFault>
     ensures { result ≡ model.reading bytes.now }
 {
     match bytes {
+        [] => Err(DecodeFault::Short),
         [first, rest @ ..] => match *first {
             0x10 => from_opcode(Page::Ten, 2, rest),
             0x11 => from_opcode(Page::Eleven, 2, rest),
             _ => from_opcode(Page::Base, 1, bytes),
         },
-        [] => Err(DecodeFault::Short),
     }
 }
 
