@@ -122,8 +122,8 @@ part mask weight bytes = if has_bit weight mask then bytes else []
 unfoldable pub frame : Regs → Stack → ℕ → List ℕ
 frame r stack mask =
     part mask 1 (r.cc ∷ []) ++ part mask 2 (r.a ∷ []) ++ part mask 4 (r.b ∷ []) ++ part mask 8 (r.dp ∷ [])
-        ++ part mask 16 (word_bytes r.x) ++ part mask 32 (word_bytes r.y)
-        ++ part mask 64 (word_bytes (register r (other_pointer stack))) ++ part mask 128 (word_bytes r.pc)
+    ++ part mask 16 (word_bytes r.x) ++ part mask 32 (word_bytes r.y)
+    ++ part mask 64 (word_bytes (register r (other_pointer stack))) ++ part mask 128 (word_bytes r.pc)
 
 abbrev pub push : Regs → Stack → ℕ → Effect
 push r stack mask =
