@@ -1,0 +1,2 @@
+pub mod CrcLaws
+mod Worked

@@ -1,0 +1,6 @@
+//! What modules, the module list and processes are: the definitions that the crates above cite,
+//! and the types that these definitions speak of.
+#![tactic(auto)]
+
+pub mod group;
+pub mod module;
