@@ -7,9 +7,9 @@ use Rattle.device_table.specs.Screens.{Screen, ChangesOne}
 
 pub ChangesOne-set : {Driver : Type 0} (screen : Driver → Screen) (change : Screen → Screen → Type 0) (drivers : List Driver) (n : ℕ) (old new : Driver) → n < length drivers → old ≡ get_or drivers n old → change (screen old) (screen new) → ChangesOne change n (map screen drivers) (map screen (slice_set drivers n new))
 ChangesOne-set screen change drivers n old new inside here changed = (
-    screen old,
-    screen new,
-    slice_get-map screen drivers n ∙ ap (option_map screen) (slice_get_read drivers (length drivers) n old refl inside here),
-    map-set screen drivers n new,
-    changed,
-  )
+  screen old,
+  screen new,
+  slice_get-map screen drivers n ∙ ap (option_map screen) (slice_get_read drivers (length drivers) n old refl inside here),
+  map-set screen drivers n new,
+  changed,
+)
