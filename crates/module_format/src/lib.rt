@@ -2,3 +2,4 @@
 #![tactic(auto)]
 
 pub mod crc;
+pub mod header;
