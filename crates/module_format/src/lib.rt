@@ -2,4 +2,5 @@
 #![tactic(auto)]
 
 pub mod crc;
+pub mod file;
 pub mod header;

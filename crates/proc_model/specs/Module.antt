@@ -1,5 +1,6 @@
 -- Modules (System Programmer's Manual, "Memory module structure"; the table of the header's fields).
-use Rattle.std.specs.Prelude.{◌≡◌, ℕ, ◌+◌, ◌-◌, ◌/◌, ◌==◌, ◌&&◌, nat_lt, nat_le, bit_xor, Bool, Option, Some, None, is_some, unwrap_or, List, [], length, take, drop, slice_index, slice_range, take_while, fold, if◌then◌else◌}
+use Rattle.std.specs.Prelude.{◌≡◌, ℕ, ◌+◌, ◌-◌, ◌/◌, ◌==◌, ◌&&◌, not, nat_lt, nat_le, bit_xor, Bool, Option, Some, None, is_some, unwrap_or, List, [], length, take, drop, slice_index, slice_range, fold, if◌then◌else◌}
+use Rattle.std.specs.List.{position_or_len}
 use Rattle.std.specs.Option.{option_map_or}
 use Rattle.byteorder.specs.Endian.{big_number}
 use Rattle.os9_base.specs.Name.{stored_name}
@@ -116,7 +117,7 @@ info_at at bytes = record {
 
 -- the first place from this one on where a byte other than zero stands, or the end
 abbrev pub next_place : List ℕ → ℕ → ℕ
-next_place file from = from + length (take_while (λ byte. byte == 0) (drop from file))
+next_place file from = from + position_or_len (λ byte. not (byte == 0)) (drop from file)
 
 -- what begins at a place of a file
 abbrev pub step_at : List ℕ → ℕ → ModuleStep
