@@ -18,18 +18,18 @@ pub next_place_is : (bytes : List ℕ) (from at : ℕ) → from ≤ at → at �
 next_place_is bytes from at after within zeros other =
     let behind : from + (at - from) ≡ at = omega arith in
     let e : position_or_len (λ (byte : ℕ). not (byte == 0)) (drop from bytes) ≡ at - from =
-        position_or_len_is (λ (byte : ℕ). not (byte == 0)) (drop from bytes) (at - from) 0 (simp length-drop (omega arith))
-            (λ k h. simp get_or-drop (ap not (eq-eqb (get_or bytes (from + k) 0) 0 (zeros (from + k) (omega arith) (omega arith)))))
-            (λ h.
-                let inside : at < length bytes = omega (arith, simp length-drop at h) in
-                simp get_or-drop (ap (λ (k : ℕ). not (get_or bytes k 0 == 0)) behind ∙ ap not (ne_eqb (get_or bytes at 0) 0 (other inside))))
+    position_or_len_is (λ (byte : ℕ). not (byte == 0)) (drop from bytes) (at - from) 0 (simp length-drop (omega arith))
+    (λ k h. simp get_or-drop (ap not (eq-eqb (get_or bytes (from + k) 0) 0 (zeros (from + k) (omega arith) (omega arith)))))
+    (λ h.
+    let inside : at < length bytes = omega (arith, simp length-drop at h) in
+    simp get_or-drop (ap (λ (k : ℕ). not (get_or bytes k 0 == 0)) behind ∙ ap not (ne_eqb (get_or bytes at 0) 0 (other inside))))
     in omega (arith, e)
 
 -- only zeros are left
 pub all_zeros : (bytes : List ℕ) (from : ℕ) → ((k : ℕ) → from ≤ k → k < length bytes → get_or bytes k 0 ≡ 0) → All (λ byte. byte ≡ 0) (drop from bytes)
 all_zeros bytes from zeros =
     All-from_get_or (λ (byte : ℕ). byte ≡ 0) (drop from bytes) 0
-        (λ i h. simp get_or-drop (zeros (from + i) (omega arith) (omega (arith, simp length-drop at h))))
+    (λ i h. simp get_or-drop (zeros (from + i) (omega arith) (omega (arith, simp length-drop at h))))
 
 -- another byte is left
 pub not_all_zeros : (bytes : List ℕ) (from at : ℕ) → from ≤ at → at < length bytes → get_or bytes at 0 ≢ 0 → All (λ byte. byte ≡ 0) (drop from bytes) → ⊥
@@ -43,7 +43,7 @@ before_end : (file : List ℕ) (from at : ℕ) → at ≡ next_place file from �
 before_end file from at place within =
     ap (step_at file) (sym place)
     ∙ ap (λ (b : Bool). if b then End else option_map_or (λ fault. Fault at fault) (module_fault (drop at file)) (Module (info_at at (drop at file))))
-        (ne_eqb at (length file) (λ e. omega arith))
+    (ne_eqb at (length file) (λ e. omega arith))
 
 -- a module is next
 pub module_next : (file : List ℕ) (from at : ℕ) (info : ModuleInfo) → at ≡ next_place file from → at < length file

@@ -6,7 +6,7 @@ use Rattle.module_format.proofs.file.next_module.Goals as goal
 pub returns-in-Ok-clause-step : goal.returns-in-Ok-clause-step
 returns-in-Ok-clause-step c =
     module_next c.args.bytes.now c.args.from c.next_place-at.result c.in-Ok.info c.next_place-at.ensures.place (omega arith)
-        (rw rest_is at c.in-Ok.ensures.fault) (rw rest_is at c.in-Ok.ensures.fields)
+    (rw rest_is at c.in-Ok.ensures.fault) (rw rest_is at c.in-Ok.ensures.fields)
 
 pub returns-in-Ok-clause-end : goal.returns-in-Ok-clause-end
 returns-in-Ok-clause-end c =
@@ -23,7 +23,7 @@ returns-in-Ok-clause-module c =
 pub returns-in-Err-clause-step : goal.returns-in-Err-clause-step
 returns-in-Err-clause-step c =
     fault_next c.args.bytes.now c.args.from c.next_place-at.result c.in-Err.fault c.next_place-at.ensures.place (omega arith)
-        (rw rest_is at c.in-Err.ensures.fault)
+    (rw rest_is at c.in-Err.ensures.fault)
 
 pub returns-in-Err-clause-end : goal.returns-in-Err-clause-end
 returns-in-Err-clause-end c =
