@@ -1,5 +1,5 @@
 -- Where the next module of a file begins.
-use Rattle.std.proofs.Common.{◌≡◌, ◌≢◌, ℕ, ◌+◌, ◌-◌, ◌<◌, ◌≤◌, ◌==◌, Bool, true, false, not, Option, Some, None, if◌then◌else◌, List, length, drop, get_or, All, refl, sym, ap, subst, ◌∙◌, arith, length-drop, take, take_all}
+use Rattle.std.proofs.Common.{◌≡◌, ◌≢◌, ℕ, ◌+◌, ◌-◌, ◌<◌, ◌≤◌, ◌==◌, Bool, not, Option, Some, None, if◌then◌else◌, List, length, drop, get_or, All, sym, ap, ◌∙◌, arith, length-drop, take, take_all}
 use Rattle.std.specs.List.{position_or_len}
 use Rattle.std.proofs.lemmas.List.{get_or-drop}
 use Rattle.std.proofs.lemmas.List.Elements.{All-from_get_or, All-get_or}
@@ -9,7 +9,6 @@ use Rattle.std.specs.Option.{option_map_or}
 use Rattle.proc_model.specs.Module.{next_place, step_at, step_from, module_fault, info_at}
 use Rattle.proc_model.specs.declared.module.ModuleFault.{ModuleFault}
 use Rattle.proc_model.specs.declared.module.ModuleInfo.{ModuleInfo}
-use Rattle.proc_model.specs.declared.module.ModuleStep.{ModuleStep}
 use Rattle.proc_model.specs.declared.module.ModuleStep.TheVariants.{Module, End, Fault}
 
 -- a place before which only zeros stand, and at which none does

@@ -1,5 +1,6 @@
 ghost use Rattle.std.specs.Prelude.{◌≡◌, ◌+◌, ◌<◌, ◌≤◌, ◌&&◌, length, take, true, is_some, IfOk, IfSome, Option, Some};
 ghost use Rattle.std.specs.Result.{result_err};
+ghost use Rattle.proc_model.specs.Crc.{crc_register};
 ghost use Rattle.proc_model.specs.Module.{word_at, module_size, module_name, module_entry, is_program as is_program_lem, header_length as header_length_lem, program_word as program_word_lem, has_sync, has_size, has_name, crc_offset, keeps_header_rule, keeps_parity_rule, keeps_crc_rule, module_fault, info_at, IsModule};
 
 use crate::crc::crc24;
@@ -29,6 +30,8 @@ pub fn read_module(bytes: &[u8]) -> Result<ModuleInfo, ModuleFault>
     ensures within { IfOk result (λ info. info.size ≤ length bytes.now) }
     ensures entry { IfOk result (λ info. info.entry + 3 < info.size) }
     ensures module { IfOk result (λ info. IsModule (take info.size bytes.now)) }
+    // The usual test of a CRC: over the whole module the register ends at one constant.
+    ensures residue { IfOk result (λ info. crc_register 0xFFFFFF (take info.size bytes.now) ≡ 0x800FE3) }
 {
     let info = read_header(bytes).ok_or(ModuleFault::BadSync)?;
     if !has_parity(bytes) {

@@ -1,10 +1,12 @@
 -- What is read of a module depends on its own bytes alone.
-use Rattle.std.proofs.Common.{◌≡◌, ℕ, ◌+◌, ◌-◌, ◌/◌, ◌≤◌, ◌==◌, ◌&&◌, nat_lt, nat_le, bit_xor, if◌then◌else◌, Bool, true, false, Option, Some, None, inl, inr, is_some, List, length, take, drop, slice_range, fold, get_or, refl, sym, ap, ◌∙◌, arith, length-take-le}
-use Rattle.std.proofs.lemmas.List.{get_or-take, drop-take, take-take}
-use Rattle.std.proofs.lemmas.Bool.{cases_lt, and_parts, and_from, leb-true, le-leb}
+use Rattle.std.proofs.Common.{◌≡◌, ℕ, ◌∷◌, [], ◌++◌, lit<, ◌+◌, ◌-◌, ◌/◌, ◌<◌, ◌≤◌, ◌==◌, ◌&&◌, nat_lt, nat_le, bit_xor, if◌then◌else◌, Bool, true, false, Option, Some, None, inl, inr, is_some, List, length, take, drop, slice_range, fold, get_or, refl, sym, ap, ◌∙◌, arith, length-take-le, length-drop}
+use Rattle.std.proofs.lemmas.List.{get_or-take, get_or-drop, drop-take, take-take}
+use Rattle.std.proofs.Math.Seq.{take-add}
+use Rattle.std.proofs.lemmas.Bool.{cases_lt, eqb-true, and_parts, and_from, leb-true, le-leb}
 use Rattle.byteorder.specs.Endian.{big_number}
 use Rattle.os9_base.specs.Name.{stored_name}
-use Rattle.proc_model.specs.Crc.{crc_of}
+use Rattle.proc_model.specs.Crc.{crc_of, crc_register}
+use Rattle.proc_model.proofs.CrcLaws.{residue, crc_register-append, crc_register_lt}
 use Rattle.proc_model.specs.Module.{word_at, module_size, name_offset, module_kind, is_program, header_length, program_word, module_entry, crc_offset, module_name, has_sync, has_size, has_name, has_entry, keeps_header_rule, keeps_parity_rule, crc_field, keeps_crc_rule, module_fault, IsModule}
 use Rattle.proc_model.specs.declared.module.ModuleFault.TheVariants.{BadSync, BadParity, BadCrc}
 
@@ -152,3 +154,31 @@ IsModule-take bytes h =
           ∙ ap (λ (b : Bool). if b then (if keeps_crc_rule m then None else Some BadCrc) else Some BadParity) parity
           ∙ ap (λ (b : Bool). if b then None else Some BadCrc) crc;
     }
+
+three_first : (xs : List ℕ) → 3 ≤ length xs → take 3 xs ≡ get_or xs 0 0 ∷ get_or xs 1 0 ∷ get_or xs 2 0 ∷ []
+three_first [] h = absurd (omega arith)
+three_first (x ∷ []) h = absurd (omega arith)
+three_first (x ∷ y ∷ []) h = absurd (omega arith)
+three_first (x ∷ y ∷ z ∷ xs) h = refl
+
+-- over a whole module with its CRC the register holds 800FE3
+pub residue_of_module : (bytes : List ℕ) → ((i : ℕ) → get_or bytes i 0 < 256) → module_fault bytes ≡ None → crc_register 0xFFFFFF (take (module_size bytes) bytes) ≡ 0x800FE3
+residue_of_module bytes are_bytes h =
+    let kept = keeps_all (keeps_header_rule bytes) (keeps_parity_rule bytes) (keeps_crc_rule bytes) h in
+    let entered = and_parts (has_sync bytes && has_size bytes && has_name bytes) (has_entry bytes) kept.0 in
+    let named = and_parts (has_sync bytes && has_size bytes) (has_name bytes) entered.0 in
+    let sized = and_parts (has_sync bytes) (has_size bytes) named.0 in
+    let n = module_size bytes in
+    let k = crc_offset bytes in
+    let fits : Fits n bytes = fits_from bytes sized.1 in
+    let tail = drop k bytes in
+    let whole : n ≡ k + 3 = omega (arith, fits.least) in
+    let body = crc_register 0xFFFFFF (take k bytes) in
+    let is_byte : (i : ℕ) → get_or tail i 0 < 256 = λ i. rw (get_or-drop k bytes i 0) (are_bytes (k + i)) in
+    let right : crc_field bytes ≡ crc_of (take k bytes) = eqb-true (crc_field bytes) (crc_of (take k bytes)) kept.2 in
+    let split : take n bytes ≡ take k bytes ++ (get_or tail 0 0 ∷ get_or tail 1 0 ∷ get_or tail 2 0 ∷ []) =
+    ap (λ (m : ℕ). take m bytes) whole ∙ take-add k 3 bytes ∙ ap (λ (end : List ℕ). take k bytes ++ end) (three_first tail (omega (arith, length-drop k bytes, fits.within))) in
+    ap (crc_register 0xFFFFFF) split
+    ∙ crc_register-append 0xFFFFFF (take k bytes) (get_or tail 0 0 ∷ get_or tail 1 0 ∷ get_or tail 2 0 ∷ [])
+    ∙ residue body (get_or tail 0 0) (get_or tail 1 0) (get_or tail 2 0) (crc_register_lt 0xFFFFFF (take k bytes) (lit< tt))
+    (is_byte 0) (is_byte 1) (is_byte 2) (omega (arith, right))

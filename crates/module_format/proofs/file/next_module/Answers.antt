@@ -1,4 +1,4 @@
-use Rattle.std.proofs.Common.{◌≡◌, ℕ, ◌+◌, ◌-◌, take, drop, length, ap, subst, sym, arith, rules}
+use Rattle.std.proofs.Common.{◌≡◌, ℕ, ◌+◌, ◌-◌, take, drop, subst, sym, arith}
 use Rattle.proc_model.specs.Module.{IsModule}
 use Rattle.module_format.proofs.Places.{module_next, fault_next, not_all_zeros, rest_is}
 use Rattle.module_format.proofs.file.next_module.Goals as goal

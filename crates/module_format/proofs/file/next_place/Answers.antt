@@ -1,4 +1,4 @@
-use Rattle.std.proofs.Common.{arith, rules}
+use Rattle.std.proofs.Common.{arith}
 use Rattle.module_format.proofs.Places.{next_place_is}
 use Rattle.module_format.proofs.file.next_place.Goals as goal
 
