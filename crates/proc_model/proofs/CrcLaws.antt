@@ -1,9 +1,9 @@
 -- The division is linear over exclusive or.
-use Rattle.std.proofs.Common.{◌≡◌, ℕ, zero, suc, ◌+◌, ◌*◌, ◌/◌, ◌%◌, ◌^◌, ◌<◌, ◌==◌, if◌then◌else◌, bit_xor, List, [], ◌∷◌, ◌++◌, refl, sym, ap, add-zero, zero-add, zero-mul, lit<, true, map, replicate, get_or, false, ◌∙◌, arith}
-use Rattle.std.specs.Int.Bits.{xor_assoc, xor_self, xor_zero_r}
+use Rattle.std.proofs.Common.{◌≡◌, ℕ, zero, suc, ◌+◌, ◌-◌, ◌*◌, ◌/◌, ◌%◌, ◌^◌, ◌<◌, ◌==◌, if◌then◌else◌, bit_and, bit_xor, List, [], ◌∷◌, ◌++◌, refl, sym, ap, add-zero, zero-add, zero-mul, lit<, true, map, replicate, get_or, false, ◌∙◌, arith}
+use Rattle.std.specs.Int.Bits.{xor_assoc, xor_self, xor_add_and, xor_zero_r}
 use Rattle.std.specs.Int.{bit_at}
 use Rattle.std.proofs.lemmas.Nat.Bits.{bit_at-lt}
-use Rattle.std.proofs.lemmas.Nat.{xor_comm, xor_lt, xor_shr, xor_mod, xor_block}
+use Rattle.std.proofs.lemmas.Nat.{and_comm, and_mask, xor_comm, xor_lt, xor_shr, xor_mod, xor_block}
 use Rattle.std.specs.List.{range_with_len, flat_map}
 use Rattle.std.proofs.lemmas.Grind.{flat_map-append, fold-append}
 use Rattle.std.proofs.lemmas.List.{get_or-replicate}
@@ -201,3 +201,45 @@ crc_register-append register xs ys =
 pub crc_register_lt : (register : ℕ) (bytes : List ℕ) → register < 2 ^ 24 → crc_register register bytes < 2 ^ 24
 crc_register_lt register [] p = p
 crc_register_lt register (byte ∷ bytes) p = crc_register_lt (divided register (bits_of byte)) bytes (byte_lt register byte p)
+
+-- a message that is the register's own bits leaves nothing of them but what lies below
+own_byte : (register byte : ℕ) → byte < 256 → register / 65536 ≡ byte → divided register (bits_of byte) ≡ register % 65536 * 256
+own_byte register byte q top =
+    let low = register % 65536 in
+    let parts : bit_xor low (byte * 65536) ≡ register = low_high low byte (omega arith) ∙ (let whole : byte * 65536 + low ≡ register = omega arith in whole) in
+    ap (λ (r : ℕ). divided r (bits_of byte)) (sym parts)
+    ∙ byte_linear low (byte * 65536) 0 byte (omega arith) (omega arith)
+    ∙ ap (λ (x : ℕ). bit_xor x (divided (byte * 65536) (bits_of byte))) (shifts low (omega arith))
+    ∙ ap (bit_xor (low * 256)) (vanishes byte q)
+    ∙ xor_zero_r (low * 256)
+
+apart : (a b byte : ℕ) → a < 2 ^ 24 → b < 2 ^ 24 → byte < 256 → b / 65536 ≡ byte
+    → divided (bit_xor a b) (bits_of byte) ≡ bit_xor (divided a (bits_of 0)) (b % 65536 * 256)
+apart a b byte p q r top = byte_linear a b 0 byte p q ∙ ap (bit_xor (divided a (bits_of 0))) (own_byte b byte r top)
+
+complement : (c : ℕ) → c < 2 ^ 24 → bit_xor (2 ^ 24 - 1) c ≡ 2 ^ 24 - 1 - c
+complement c p =
+    let same : bit_and (2 ^ 24 - 1) c ≡ c = and_comm (2 ^ 24 - 1) c ∙ and_mask c 24 ∙ (let small : c % 2 ^ 24 ≡ c = omega arith in small) in
+    omega (arith, same, xor_add_and (2 ^ 24 - 1) c)
+
+three_zeros : divided (divided (divided 0xFFFFFF (bits_of 0)) (bits_of 0)) (bits_of 0) ≡ 0x800FE3
+unfolding divided_once
+three_zeros = refl
+
+-- a register that meets its own complement holds 800FE3
+pub residue : (register x y z : ℕ) → register < 2 ^ 24 → x < 256 → y < 256 → z < 256
+    → x * 65536 + y * 256 + z ≡ 0xFFFFFF - register → crc_register register (x ∷ y ∷ z ∷ []) ≡ 0x800FE3
+residue register x y z p x_fits y_fits z_fits own =
+    let c = x * 65536 + y * 256 + z in
+    let first : ℕ = divided 0xFFFFFF (bits_of 0) in
+    let second : ℕ = divided first (bits_of 0) in
+    let d = c % 65536 * 256 in
+    let e = d % 65536 * 256 in
+    let met : register ≡ bit_xor 0xFFFFFF c = omega (arith, complement c (omega arith)) in
+    ap (λ (r : ℕ). divided (divided (divided r (bits_of x)) (bits_of y)) (bits_of z)) met
+    ∙ ap (λ (r : ℕ). divided (divided r (bits_of y)) (bits_of z)) (apart 0xFFFFFF c x (lit< tt) (omega arith) x_fits (omega arith))
+    ∙ ap (λ (r : ℕ). divided r (bits_of z)) (apart first d y (byte_lt 0xFFFFFF 0 (lit< tt)) (omega arith) y_fits (omega arith))
+    ∙ apart second e z (byte_lt first 0 (byte_lt 0xFFFFFF 0 (lit< tt))) (omega arith) z_fits (omega arith)
+    ∙ ap (bit_xor (divided second (bits_of 0))) (let gone : e % 65536 * 256 ≡ 0 = omega arith in gone)
+    ∙ xor_zero_r (divided second (bits_of 0))
+    ∙ three_zeros

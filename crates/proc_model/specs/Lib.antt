@@ -1,2 +1,4 @@
 pub mod Crc
+pub mod Group
 pub mod Module
+pub mod ModuleList

@@ -1,10 +1,15 @@
 -- Modules (System Programmer's Manual, "Memory module structure"; the table of the header's fields).
-use Rattle.std.specs.Prelude.{◌≡◌, ℕ, ◌+◌, ◌-◌, ◌/◌, ◌==◌, ◌&&◌, nat_lt, nat_le, bit_xor, Bool, Option, Some, None, is_some, List, length, take, drop, slice_index, slice_range, fold, if◌then◌else◌}
+use Rattle.std.specs.Prelude.{◌≡◌, ℕ, ◌+◌, ◌-◌, ◌/◌, ◌==◌, ◌&&◌, not, nat_lt, nat_le, bit_xor, Bool, Option, Some, None, is_some, unwrap_or, List, [], length, take, drop, slice_index, slice_range, fold, if◌then◌else◌}
+use Rattle.std.specs.List.{position_or_len}
+use Rattle.std.specs.Option.{option_map_or}
 use Rattle.byteorder.specs.Endian.{big_number}
 use Rattle.os9_base.specs.Name.{stored_name}
 use Rattle.proc_model.specs.Crc.{crc_of}
 use Rattle.proc_model.specs.declared.module.ModuleFault.{ModuleFault}
 use Rattle.proc_model.specs.declared.module.ModuleFault.TheVariants.{BadSync, BadParity, BadCrc}
+use Rattle.proc_model.specs.declared.module.ModuleInfo.{ModuleInfo}
+use Rattle.proc_model.specs.declared.module.ModuleStep.{ModuleStep}
+use Rattle.proc_model.specs.declared.module.ModuleStep.TheVariants.{Module, End, Fault}
 
 -- the word at a place, high byte first
 abbrev pub word_at : List ℕ → ℕ → ℕ
@@ -34,13 +39,17 @@ is_program bytes = module_kind bytes / 16 == 1
 abbrev pub header_length : List ℕ → ℕ
 header_length bytes = if is_program bytes then 13 else 9
 
+-- the word at a place of a program's header; 0 for another type
+abbrev pub program_word : List ℕ → ℕ → ℕ
+program_word bytes at = if is_program bytes then word_at bytes at else 0
+
 -- where the program begins; 0 for another type
 abbrev pub module_entry : List ℕ → ℕ
-module_entry bytes = if is_program bytes then word_at bytes 9 else 0
+module_entry bytes = program_word bytes 9
 
--- how much data memory the program needs; 0 for another type
+-- how many bytes of data memory the program needs; 0 for another type
 abbrev pub module_storage : List ℕ → ℕ
-module_storage bytes = if is_program bytes then word_at bytes 11 else 0
+module_storage bytes = program_word bytes 11
 
 -- where the CRC begins
 abbrev pub crc_offset : List ℕ → ℕ
@@ -93,3 +102,36 @@ module_fault bytes =
 pub record IsModule (bytes : List ℕ) : Type 0 where
   pub whole : module_size bytes ≡ length bytes
   pub accepted : module_fault bytes ≡ None
+
+-- what the header at the front of the bytes says, where they stand at this place of their file
+abbrev pub info_at : ℕ → List ℕ → ModuleInfo
+info_at at bytes = record {
+  name = unwrap_or (module_name bytes) [];
+  at = at;
+  size = module_size bytes;
+  kind = module_kind bytes;
+  attr = module_attributes bytes;
+  entry = module_entry bytes;
+  storage = module_storage bytes;
+}
+
+-- the first place from this one on where a byte other than zero stands, or the end
+abbrev pub next_place : List ℕ → ℕ → ℕ
+next_place file from = from + position_or_len (λ byte. not (byte == 0)) (drop from file)
+
+-- what begins at a place of a file
+abbrev pub step_at : List ℕ → ℕ → ModuleStep
+step_at file at =
+    if at == length file
+    then End
+    else option_map_or (λ fault. Fault at fault) (module_fault (drop at file)) (Module (info_at at (drop at file)))
+
+-- what stands next in a file from a place on, with zero bytes passed over
+abbrev pub step_from : List ℕ → ℕ → ModuleStep
+step_from file from = step_at file (next_place file from)
+
+-- a fact of the module that was found, if one was
+abbrev pub IfModule : ModuleStep → (ModuleInfo → Type 0) → Type 0
+IfModule (Module info) P = P info
+IfModule End P = Unit {0}
+IfModule (Fault at fault) P = Unit {0}

@@ -1,3 +1,5 @@
+use os9_base::name::Name;
+
 /// The rules that a module can break, in the order in which they are tested.
 #[derive(Clone, Copy, Debug, PartialEq, Eq)]
 pub enum ModuleFault {
@@ -7,4 +9,33 @@ pub enum ModuleFault {
     BadParity,
     /// The CRC rule, error 232.
     BadCrc,
+}
+
+/// What a module's header says (System Programmer's Manual, "Memory module structure").
+#[derive(Clone, Copy, Debug)]
+pub struct ModuleInfo {
+    pub name: Name,
+    /// The place of the module's first byte in its file, and so in the group that holds the file.
+    pub at: u32,
+    /// The whole size in bytes, CRC included.
+    pub size: u16,
+    /// The type in the high half and the language in the low half.
+    pub kind: u8,
+    /// The attributes in the high half and the revision in the low half.
+    pub attr: u8,
+    /// Where the program begins, from the module's first byte on; 0 for a type other than 1.
+    pub entry: u16,
+    /// How many bytes of data memory the program needs; 0 for a type other than 1.
+    pub storage: u16,
+}
+
+/// What stands next in a file of modules.
+#[derive(Clone, Copy, Debug)]
+pub enum ModuleStep {
+    /// A module.
+    Module(ModuleInfo),
+    /// Only zero bytes are left.
+    End,
+    /// Bytes that are refused: where they begin, and the first rule that they break.
+    Fault(u32, ModuleFault),
 }

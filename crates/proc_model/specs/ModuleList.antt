@@ -1,0 +1,113 @@
+-- The module directory (Level Two manual, "Module directory"; F$Link, F$Load, F$UnLink, F$UnLoad).
+-- It is a list by number: place n has the entry of number n, or nothing.
+use Rattle.std.specs.Prelude.{ℕ, ◌+◌, ◌-◌, ◌/◌, ◌%◌, ◌==◌, ◌&&◌, ◌||◌, not, nat_eq, nat_lt, nat_le, Bool, false, Option, Some, None, is_none, option_and_then, List, map, position, count_by, slice_get, slice_set, if◌then◌else◌}
+use Rattle.std.specs.List.{list_any}
+use Rattle.std.specs.Cmp.Lexicographic.{pointwise}
+use Rattle.std.specs.Str.{bytes_eq}
+use Rattle.os9_base.specs.Name.{lower}
+use Rattle.proc_model.specs.declared.module.ModuleInfo.{ModuleInfo}
+
+-- an entry: what the module's header says, with `at` its place in the group; the blocks of the group, in order; the number of links; and whether the group is the boot file's
+pub record ModuleEntry : Type 0 where
+  pub info : ModuleInfo
+  pub group : List ℕ
+  pub links : ℕ
+  pub is_boot : Bool
+
+-- the entry of a number, if there is one
+abbrev pub entry_at : List (Option ModuleEntry) → ℕ → Option ModuleEntry
+entry_at entries number = option_and_then (λ entry. entry) (slice_get entries number)
+
+-- there is an entry, and it passes the test
+abbrev pub passes : (ModuleEntry → Bool) → Option ModuleEntry → Bool
+passes test None = false
+passes test (Some entry) = test entry
+
+-- some entry passes the test
+abbrev pub some_entry : (ModuleEntry → Bool) → List (Option ModuleEntry) → Bool
+some_entry test entries = list_any (passes test) entries
+
+-- two names agree, case ignored, as a test
+abbrev pub names_agree : List ℕ → List ℕ → Bool
+names_agree a b = bytes_eq (map lower a) (map lower b)
+
+-- a module's revision: the low half of its attributes
+abbrev pub revision_of : ModuleInfo → ℕ
+revision_of info = info.attr % 16
+
+-- two modules have the same name and the same type, the language left aside
+abbrev pub are_namesakes : ModuleInfo → ModuleInfo → Bool
+are_namesakes a b = names_agree a.name b.name && (a.kind / 16 == b.kind / 16)
+
+-- a module is known where an entry of its name and type has its revision or a greater one
+abbrev pub is_known : List (Option ModuleEntry) → ModuleInfo → Bool
+is_known entries info =
+    some_entry (λ entry. are_namesakes info entry.info && nat_le (revision_of info) (revision_of entry.info)) entries
+
+-- a module is shadowed where an entry of its name and type has a greater revision
+abbrev pub is_shadowed : List (Option ModuleEntry) → ModuleInfo → Bool
+is_shadowed entries info =
+    some_entry (λ entry. are_namesakes info entry.info && nat_lt (revision_of info) (revision_of entry.info)) entries
+
+-- a half of a byte is the one that is wanted, where 0 wants any
+abbrev pub half_matches : ℕ → ℕ → Bool
+half_matches wanted half = (wanted == 0) || (wanted == half)
+
+-- a type and language are those that are wanted
+abbrev pub kind_matches : ℕ → ℕ → Bool
+kind_matches wanted kind = half_matches (wanted / 16) (kind / 16) && half_matches (wanted % 16) (kind % 16)
+
+-- the least number whose entry has the name and matches the type and language, among those that are not shadowed
+abbrev pub found : List (Option ModuleEntry) → List ℕ → ℕ → Option ℕ
+found entries name kind =
+    position (passes (λ entry. names_agree name entry.info.name && kind_matches kind entry.info.kind && not (is_shadowed entries entry.info))) entries
+
+-- how many more entries there may be
+abbrev pub room_of : List (Option ModuleEntry) → ℕ
+room_of entries = count_by is_none entries
+
+-- the least number that no entry has
+abbrev pub free_number : List (Option ModuleEntry) → Option ℕ
+free_number entries = position is_none entries
+
+-- a new entry; the boot file's modules are linked once
+abbrev pub new_entry : ModuleInfo → List ℕ → Bool → ModuleEntry
+new_entry info group is_boot = record { info = info; group = group; links = if is_boot then 1 else 0; is_boot = is_boot }
+
+-- the list with this entry at a number
+abbrev pub with_entry : List (Option ModuleEntry) → ℕ → ModuleEntry → List (Option ModuleEntry)
+with_entry entries number entry = slice_set entries number (Some entry)
+
+-- an entry with one link more, and with one link less, or none
+abbrev pub linked : ModuleEntry → ModuleEntry
+linked entry = record entry { links = entry.links + 1 }
+
+abbrev pub unlinked : ModuleEntry → ModuleEntry
+unlinked entry = record entry { links = entry.links - 1 }
+
+-- an entry is of the group of these blocks
+abbrev pub is_of_group : List ℕ → ModuleEntry → Bool
+is_of_group group entry = pointwise nat_eq group entry.group
+
+-- an entry of the group has a link
+abbrev pub is_in_use : List (Option ModuleEntry) → List ℕ → Bool
+is_in_use entries group = some_entry (λ entry. is_of_group group entry && nat_lt 0 entry.links) entries
+
+-- the list without the entries of a group
+abbrev pub without_group : List (Option ModuleEntry) → List ℕ → List (Option ModuleEntry)
+without_group entries group = map (λ place. if passes (is_of_group group) place then None else place) entries
+
+-- the list with one link less of the entry of this number
+abbrev pub with_unlinked : List (Option ModuleEntry) → ℕ → ModuleEntry → List (Option ModuleEntry)
+with_unlinked entries number entry = with_entry entries number (unlinked entry)
+
+-- the group of the entry of this number leaves memory with this link: it is not the boot file's, and none of its entries has a link then
+abbrev pub is_leaving : List (Option ModuleEntry) → ℕ → ModuleEntry → Bool
+is_leaving entries number entry = not entry.is_boot && not (is_in_use (with_unlinked entries number entry) entry.group)
+
+-- the list after a link of the entry of this number is given up
+abbrev pub after_unlink : List (Option ModuleEntry) → ℕ → ModuleEntry → List (Option ModuleEntry)
+after_unlink entries number entry =
+    if is_leaving entries number entry
+    then without_group (with_unlinked entries number entry) entry.group
+    else with_unlinked entries number entry
