@@ -1,6 +1,6 @@
 -- A region of blocks, each with a count of its namings. This project's own; the counts are those of
 -- the block map of the Level Two manual (F$AllRAM, F$DelRAM), kept for each user of a block.
-use Rattle.std.specs.Prelude.{◌≡◌, ℕ, ◌+◌, ◌-◌, ◌<◌, ◌≤◌, ◌==◌, List, [], ◌++◌, length, take, drop, replicate, count_by, All, slice_index, slice_index_or, slice_set}
+use Rattle.std.specs.Prelude.{◌≡◌, ℕ, ◌+◌, ◌-◌, ◌<◌, ◌≤◌, ◌==◌, nat_lt, Bool, List, [], ◌++◌, length, take, drop, replicate, count_by, All, slice_index, slice_index_or, slice_set}
 
 -- the blocks of a pool: how often each is named, and the bytes of each
 pub record Blocks : Type 0 where
@@ -21,6 +21,10 @@ count_of pool block = slice_index pool.counts block
 -- a block that something names
 abbrev pub IsLive : Blocks → ℕ → Type 0
 IsLive pool block = 0 < count_of pool block
+
+-- the test of it
+abbrev pub is_live : Blocks → ℕ → Bool
+is_live pool block = nat_lt 0 (count_of pool block)
 
 -- a block of the pool that nothing names
 abbrev pub IsFree : Blocks → ℕ → Type 0

@@ -37,7 +37,7 @@ impl Model for Pool {
 }
 
 impl Pool {
-    ghost use Rattle.block_pool.specs.Blocks.{Blocks, IsPool, count_of, IsLive, IsFree, block_bytes, free_count, with_bytes, taken, shared, given, overwritten};
+    ghost use Rattle.block_pool.specs.Blocks.{Blocks, IsPool, count_of, IsLive, is_live, IsFree, block_bytes, free_count, with_bytes, taken, shared, given, overwritten};
 
     /// A pool of 8 to 256 blocks that nothing names. Only this call takes memory.
     pub fn new(alloc: Global, blocks: u16) -> Result<Pool, OutOfMemory>
@@ -109,6 +109,16 @@ impl Pool {
         ensures shape { IsPool self.now }
     {
         self.counts[id.0 as usize]
+    }
+
+    /// Is this a block of the pool that something names?
+    pub fn is_live(&self, id: BlockId) -> bool
+        ensures live { result ≡ is_live self.now id.0 }
+        ensures shape { IsPool self.now }
+    {
+        self.counts
+            .get(id.0 as usize)
+            .is_some_and(|count| *count > 0)
     }
 
     /// How many blocks nothing names.
