@@ -1,5 +1,5 @@
 -- What is read and written through a map.
-use Rattle.std.proofs.Common.{◌≡◌, ◌≢◌, ℕ, ◌+◌, ◌*◌, ◌/◌, ◌%◌, ◌<◌, ◌≤◌, ◌==◌, ◌++◌, Bool, true, false, Option, Some, None, IsSome, is_some, List, [], ◌∷◌, length, get_or, set, take, drop, All, nat_lt, cond, slice_get, arith, rules, sym, ap, ◌∙◌, subst, refl, zero, suc, inl, inr, option_and_then, add-one}
+use Rattle.std.proofs.Common.{◌≡◌, ◌≢◌, ℕ, ◌+◌, ◌*◌, ◌/◌, ◌%◌, ◌<◌, ◌≤◌, ◌==◌, ◌++◌, Bool, true, false, Option, Some, None, IsSome, is_some, List, [], ◌∷◌, length, get_or, set, take, drop, All, nat_lt, cond, slice_get, arith, rules, sym, ap, ◌∙◌, subst, refl, zero, suc, inl, inr, option_and_then, add-one, IsSomeAnd, ◌-◌}
 use Rattle.std.proofs.Math.Path.{fun_ext}
 use Rattle.std.proofs.lemmas.List.{get_or_past, set_split, set_past, get_or-set_same, get_or-set_other, length-set}
 use Rattle.std.proofs.lemmas.Option.{slice_get-get_or, slice_get_past}
@@ -8,7 +8,7 @@ use Rattle.os9_base.specs.Cells.{put_cell}
 use Rattle.block_pool.specs.Blocks.{Blocks, IsPool, IsLive, is_live, count_of, block_bytes, with_bytes, overwritten}
 use Rattle.proc_model.specs.declared.group.BlockId.{BlockId}
 use Rattle.block_map.specs.Slots.{Slots, IsMap, place_of}
-use Rattle.block_map.specs.Window.{live_byte, cells_of}
+use Rattle.block_map.specs.Window.{live_byte, cells_of, AllSlotsLive}
 
 -- a live block has 8,192 bytes
 pub length-block_bytes : (pool : Blocks) (block : ℕ) → IsPool pool → IsLive pool block → length (block_bytes pool block) ≡ 8192
@@ -118,3 +118,24 @@ cells_of-put slots pool at byte id shape here there =
           different (omega arith)))
           ∙ sym (cond-false (address == at) (Some byte) (cells_of slots pool address) (ne_eqb address at different))
     ])
+
+-- a slot that names a live block has a byte at each place, and one that has a byte names a live block
+byte_of_live : (pool : Blocks) (at : ℕ) (place : Option BlockId) → IsPool pool → at < 8192 → IsSomeAnd place (λ id. IsLive pool id.0) → IsSome (option_and_then (live_byte pool at) place)
+byte_of_live pool at None shape within live = absurd live
+byte_of_live pool at (Some id) shape within live = sym (is_some-live_byte pool at id shape within) ∙ lt-ltb 0 (count_of pool id.0) live
+
+live_of_byte : (pool : Blocks) (at : ℕ) (place : Option BlockId) → IsSome (option_and_then (live_byte pool at) place) → IsSomeAnd place (λ id. IsLive pool id.0)
+live_of_byte pool at None there = absurd (false≢true there)
+live_of_byte pool at (Some id) there = (live_byte-Some pool at id there).0
+
+-- where each slot of a range of addresses names a live block, each address is named
+pub named_of_slots : (slots : Slots BlockId) (pool : Blocks) (at len : ℕ) → IsPool pool → AllSlotsLive slots pool (at / 8192) ((at + (len - 1)) / 8192) → (k : ℕ) → k < len → IsSome (cells_of slots pool (at + k))
+named_of_slots slots pool at len shape live k within =
+    byte_of_live pool ((at + k) % 8192) (place_of slots ((at + k) / 8192)) shape (omega arith) (live ((at + k) / 8192) (omega arith) (omega arith))
+
+-- and the other way round
+pub slots_of_named : (slots : Slots BlockId) (pool : Blocks) (at len : ℕ) → 0 < len → ((k : ℕ) → k < len → IsSome (cells_of slots pool (at + k))) → AllSlotsLive slots pool (at / 8192) ((at + (len - 1)) / 8192)
+slots_of_named slots pool at len some named slot low high =
+    let k = slot * 8192 - at in
+    let here : (at + k) / 8192 ≡ slot = omega arith in
+    subst (λ (s : ℕ). IsSomeAnd (place_of slots s) (λ id. IsLive pool id.0)) here (live_of_byte pool ((at + k) % 8192) (place_of slots ((at + k) / 8192)) (named k (omega arith)))

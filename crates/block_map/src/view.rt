@@ -1,4 +1,5 @@
-ghost use Rattle.std.specs.Prelude.{◌≡◌, ◌/◌, ◌%◌};
+ghost use Rattle.std.specs.Prelude.{◌≡◌, ◌/◌, ◌%◌, ◌<◌, ◌≤◌, ◌↔◌, IsTrue};
+ghost use Rattle.std.specs.Bool.{OnTrue};
 
 use crate::map::Map;
 use block_pool::pool::Pool;
@@ -11,22 +12,16 @@ pub struct View<'a> {
 }
 
 impl Bus for View<'_> {
-    ghost use Rattle.std.specs.Prelude.{◌≡◌};
-    ghost use Rattle.std.specs.Prelude.{refl};
-    ghost use Rattle.std.proofs.Common.{◌∙◌, ap};
-    ghost use Rattle.block_map.specs.Window.{cells_of, SameBeyond, SameBeyond-self, SameBeyond-then};
+    ghost use Rattle.block_map.specs.Window.{cells_of};
+    ghost use Rattle.block_map.specs.Beside.{SameBeside, SameBeside-self, SameBeside-then};
 
     ghost cells = { λ view. cells_of view.map.now view.pool.now };
 
-    ghost same_beside = { λ before after. record {
-      map : after.map ≡ before.map;
-      pool : after.pool.ghost_name ≡ before.pool.ghost_name;
-      beyond : SameBeyond before.map.now before.pool.now after.pool.now;
-    } };
+    ghost same_beside = { SameBeside };
 
-    ghost same_beside_self = { λ view. record { map = refl; pool = refl; beyond = SameBeyond-self view.map.now view.pool.now } };
+    ghost same_beside_self = { SameBeside-self };
 
-    ghost same_beside_then = { λ first middle last one two. record { map = two.map ∙ one.map; pool = two.pool ∙ one.pool; beyond = SameBeyond-then first.map.now middle.map.now first.pool.now middle.pool.now last.pool.now (ap (λ m. m.now) one.map) one.beyond two.beyond } };
+    ghost same_beside_then = { SameBeside-then };
 
     fn named(&self, at: u16) -> bool {
         match self.map.place(slot_of(at)) {
@@ -61,59 +56,60 @@ impl Map {
 }
 
 impl UserMem for View<'_> {
-    ghost use Rattle.std.specs.Prelude.{◌≡◌, refl};
-    ghost use Rattle.std.proofs.Common.{◌∙◌, ap};
-    ghost use Rattle.block_map.specs.Window.{cells_of, SameBeyond, SameBeyond-self, SameBeyond-then};
+    ghost use Rattle.block_map.specs.Window.{cells_of};
+    ghost use Rattle.block_map.specs.Beside.{SameBeside, SameBeside-self, SameBeside-then};
 
     ghost cells = { λ view. cells_of view.map.now view.pool.now };
 
-    ghost same_beside = {
-        λ before after. record {
-            map : after.map ≡ before.map;
-            pool : after.pool.ghost_name ≡ before.pool.ghost_name;
-            beyond : SameBeyond before.map.now before.pool.now after.pool.now
-        }
-    };
+    ghost same_beside = { SameBeside };
 
-    ghost same_beside_self = {
-        λ view. record { map = refl; pool = refl; beyond = SameBeyond-self view.map.now view.pool.now }
-    };
+    ghost same_beside_self = { SameBeside-self };
 
-    ghost same_beside_then = {
-        λ first middle last one two. record {
-            map = two.map ∙ one.map;
-            pool = two.pool ∙ one.pool;
-            beyond = SameBeyond-then first.map.now middle.map.now first.pool.now middle.pool.now last.pool.now (ap (λ m. m.now) one.map) one.beyond two.beyond
-        }
-    };
+    ghost same_beside_then = { SameBeside-then };
 
     fn fits(&self, at: u16, len: u16) -> bool {
-        len == 0 || u32::from(at) + u32::from(len) <= 0x1_0000 && self.names_all(slot_of(at), slot_of(at + (len - 1)))
+        len == 0 || u32::from(at) + u32::from(len) <= 0x1_0000 && self.are_slots_live(slot_of(at), slot_of(at + (len - 1)))
     }
 
     fn load(&self, at: u16, into: &mut [u8]) {
-        for k in 0..into.len() {
-            into[k] = self.get(at + k as u16);
+        for (k, byte) in into.iter_mut().enumerate() {
+            *byte = self.get(at + k as u16);
         }
     }
 
     fn store(&mut self, at: u16, from: &[u8]) {
-        for k in 0..from.len() {
-            self.put(at + k as u16, from[k]);
+        for (k, byte) in from.iter().enumerate() {
+            self.put(at + k as u16, *byte);
         }
     }
 }
 
 impl View<'_> {
-    // Do all slots from `first` to `last` name a live block?
-    fn names_all(&self, first: u8, last: u8) -> bool
+    ghost use Rattle.block_map.specs.Slots.{IsMap, place_of};
+    ghost use Rattle.block_pool.specs.Blocks.{IsPool, IsLive};
+    ghost use Rattle.block_map.specs.Window.{IsSlotLive, AllSlotsLive};
+
+    // Does the slot name a live block?
+    fn is_slot_live(&self, slot: u8) -> bool
+        requires { slot < 8 }
+        ensures live { IsTrue result ↔ IsSlotLive self.now.map.now self.now.pool.now slot }
+        ensures named { OnTrue result (IsPool self.now.pool.now) }
+    {
+        match self.map.place(slot) {
+            Some(id) => self.pool.is_live(id),
+            None => false,
+        }
+    }
+
+    // Does each slot from `first` to `last` name a live block?
+    fn are_slots_live(&self, first: u8, last: u8) -> bool
         requires { last < 8 }
-        ensures { IsTrue result ↔ AllSlotsNamed self.now.map.now self.now.pool.now first last }
+        ensures live { IsTrue result ↔ AllSlotsLive self.now.map.now self.now.pool.now first last }
+        ensures named { OnTrue result (first ≤ last → IsPool self.now.pool.now) }
     {
         for slot in first..=last {
-            match self.map.place(slot) {
-                Some(id) if self.pool.is_live(id) => {}
-                _ => return false,
+            if !self.is_slot_live(slot) {
+                return false;
             }
         }
         true
