@@ -6,6 +6,7 @@ use block_pool::pool::Pool;
 use os9_base::memory::{Bus, UserMem};
 
 /// The bytes that a process sees: those of the blocks that its map names.
+#[derive(Drop)]
 pub struct View<'a> {
     pub map: &'a Map,
     pub pool: &'a mut Pool,
@@ -129,3 +130,6 @@ fn offset_in_block(at: u16) -> u16
 {
     at % 8192
 }
+
+#[cfg(test)]
+mod tests;
