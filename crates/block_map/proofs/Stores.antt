@@ -1,9 +1,9 @@
 -- Bytes that are stored one after another, and slots that hold a range of addresses.
-use Rattle.std.proofs.Common.{◌≡◌, ◌≢◌, ℕ, ◌+◌, ◌-◌, ◌*◌, ◌/◌, ◌%◌, ◌<◌, ◌≤◌, ◌==◌, ◌&&◌, Bool, true, false, Option, Some, None, IsSome, List, [], ◌∷◌, length, get_or, take, nat_le, nat_lt, cond, slice_get, arith, rules, sym, ap, ◌∙◌, subst, refl, inl, inr, option_and_then}
+use Rattle.std.proofs.Common.{◌≡◌, ℕ, ◌+◌, ◌-◌, ◌<◌, ◌≤◌, ◌==◌, true, false, Option, Some, List, length, get_or, take, nat_le, nat_lt, slice_get, arith, sym, ap, ◌∙◌, inl, inr}
 use Rattle.std.proofs.Math.Path.{fun_ext}
 use Rattle.std.proofs.lemmas.List.{length-take-le, get_or-take}
 use Rattle.std.proofs.lemmas.Option.{slice_get-get_or}
-use Rattle.std.proofs.lemmas.Bool.{cond-true, cond-false, cases_eq, cases_lt, eq-eqb, ne_eqb, lt-ltb, le-ltb, le-leb, lt-leb, and_from, and_left, and_right, cases_Bool}
+use Rattle.std.proofs.lemmas.Bool.{cond-true, cond-false, cases_eq, cases_lt, eq-eqb, ne_eqb, lt-ltb, le-ltb, le-leb, lt-leb, and_from, and_left, and_right}
 use Rattle.os9_base.specs.Cells.{put_cell, store_cells, is_in_range}
 
 -- an address of the range
@@ -37,23 +37,23 @@ stored_more cells at bytes k within =
     let few = length-take-le k bytes (omega arith) in
     let more = length-take-le (k + 1) bytes (omega arith) in
     fun_ext (λ address.
-        let before = store_cells cells at (take k bytes) address in
-        elim (cases_eq address (at + k)) [
-            inl here ↦
-                cond-true (address == at + k) (Some (get_or bytes k 0)) before (eq-eqb address (at + k) here)
-                ∙ ap (λ byte. Some byte) (sym (get_or-take (k + 1) bytes k 0 (omega arith)) ∙ ap (λ place. get_or (take (k + 1) bytes) place 0) (omega arith))
-                ∙ sym (stored-in cells at (take (k + 1) bytes) address (omega arith) (omega arith))
-            | inr elsewhere ↦
-                cond-false (address == at + k) (Some (get_or bytes k 0)) before (ne_eqb address (at + k) elsewhere)
-                ∙ elim (cases_lt address at) [
-                    inl low ↦ stored-before cells at (take k bytes) address low ∙ sym (stored-before cells at (take (k + 1) bytes) address low)
-                    | inr high ↦
-                        elim (cases_lt address (at + k)) [
-                            inl inside ↦
-                                stored-in cells at (take k bytes) address high (omega arith)
-                                ∙ ap (λ byte. Some byte) (get_or-take k bytes (address - at) 0 (omega arith) ∙ sym (get_or-take (k + 1) bytes (address - at) 0 (omega arith)))
-                                ∙ sym (stored-in cells at (take (k + 1) bytes) address high (omega arith))
-                            | inr past ↦ stored-past cells at (take k bytes) address (omega arith) ∙ sym (stored-past cells at (take (k + 1) bytes) address (omega arith))
-                        ]
+    let before = store_cells cells at (take k bytes) address in
+    elim (cases_eq address (at + k)) [
+      | inl here ↦
+          cond-true (address == at + k) (Some (get_or bytes k 0)) before (eq-eqb address (at + k) here)
+          ∙ ap (λ byte. Some byte) (sym (get_or-take (k + 1) bytes k 0 (omega arith)) ∙ ap (λ place. get_or (take (k + 1) bytes) place 0) (omega arith))
+          ∙ sym (stored-in cells at (take (k + 1) bytes) address (omega arith) (omega arith))
+      | inr elsewhere ↦
+          cond-false (address == at + k) (Some (get_or bytes k 0)) before (ne_eqb address (at + k) elsewhere)
+          ∙ elim (cases_lt address at) [
+            | inl low ↦ stored-before cells at (take k bytes) address low ∙ sym (stored-before cells at (take (k + 1) bytes) address low)
+            | inr high ↦
+                elim (cases_lt address (at + k)) [
+                  | inl inside ↦
+                      stored-in cells at (take k bytes) address high (omega arith)
+                      ∙ ap (λ byte. Some byte) (get_or-take k bytes (address - at) 0 (omega arith) ∙ sym (get_or-take (k + 1) bytes (address - at) 0 (omega arith)))
+                      ∙ sym (stored-in cells at (take (k + 1) bytes) address high (omega arith))
+                  | inr past ↦ stored-past cells at (take k bytes) address (omega arith) ∙ sym (stored-past cells at (take (k + 1) bytes) address (omega arith))
                 ]
-        ])
+          ]
+    ])

@@ -1,5 +1,5 @@
 -- What is read and written through a map.
-use Rattle.std.proofs.Common.{◌≡◌, ◌≢◌, ℕ, ◌+◌, ◌*◌, ◌/◌, ◌%◌, ◌<◌, ◌≤◌, ◌==◌, ◌++◌, Bool, true, false, Option, Some, None, IsSome, is_some, List, [], ◌∷◌, length, get_or, set, take, drop, All, nat_lt, cond, slice_get, arith, rules, sym, ap, ◌∙◌, subst, refl, zero, suc, inl, inr, option_and_then, add-one, IsSomeAnd, ◌-◌}
+use Rattle.std.proofs.Common.{◌≡◌, ◌≢◌, ℕ, ◌+◌, ◌*◌, ◌/◌, ◌%◌, ◌<◌, ◌==◌, Option, Some, None, IsSome, is_some, List, [], ◌∷◌, length, get_or, set, cond, slice_get, arith, sym, ap, ◌∙◌, subst, refl, zero, suc, inl, inr, option_and_then, add-one, IsSomeAnd, ◌-◌}
 use Rattle.std.proofs.Math.Path.{fun_ext}
 use Rattle.std.proofs.lemmas.List.{get_or_past, set_split, set_past, get_or-set_same, get_or-set_other, length-set}
 use Rattle.std.proofs.lemmas.Option.{slice_get-get_or, slice_get_past}
@@ -8,6 +8,7 @@ use Rattle.os9_base.specs.Cells.{put_cell}
 use Rattle.block_pool.specs.Blocks.{Blocks, IsPool, IsLive, is_live, count_of, block_bytes, with_bytes, overwritten}
 use Rattle.proc_model.specs.declared.group.BlockId.{BlockId}
 use Rattle.block_map.specs.Slots.{Slots, IsMap, place_of}
+use Rattle.block_map.proofs.Places.{same_id}
 use Rattle.block_map.specs.Window.{live_byte, cells_of, AllSlotsLive}
 
 -- a live block has 8,192 bytes
@@ -113,8 +114,8 @@ cells_of-put slots pool at byte id shape here there =
           (λ other named.
           live_byte-other pool id other offset byte (address % 8192)
           (λ same_block same_offset.
-          let same_id : other ≡ id = ap (λ (n : ℕ). let made : BlockId = record { 0 = n } in made) same_block in
-          let same_slot = shape.once (address / 8192) (at / 8192) id (named ∙ ap (λ (b : BlockId). Some b) same_id) here in
+          let same : other ≡ id = same_id other id same_block in
+          let same_slot = shape.once (address / 8192) (at / 8192) id (named ∙ ap (λ (b : BlockId). Some b) same) here in
           different (omega arith)))
           ∙ sym (cond-false (address == at) (Some byte) (cells_of slots pool address) (ne_eqb address at different))
     ])

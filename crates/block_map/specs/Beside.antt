@@ -15,7 +15,7 @@ SameBeside-self view = record { map = refl; pool = refl; beyond = SameBeyond-sel
 
 pub SameBeside-then : (first middle last : View) → SameBeside first middle → SameBeside middle last → SameBeside first last
 SameBeside-then first middle last one two = record {
-    map = two.map ∙ one.map;
-    pool = two.pool ∙ one.pool;
-    beyond = SameBeyond-then first.map.now middle.map.now first.pool.now middle.pool.now last.pool.now (ap (λ m. m.now) one.map) one.beyond two.beyond
+  map = two.map ∙ one.map;
+  pool = two.pool ∙ one.pool;
+  beyond = SameBeyond-then first.map.now middle.map.now first.pool.now middle.pool.now last.pool.now (ap (λ m. m.now) one.map) one.beyond two.beyond;
 }

@@ -1,6 +1,6 @@
 -- The map of a process: the eight slots of 8,192 bytes that it sees (Level Two manual, the DAT image
 -- of a process). What stands in a slot is a block's number or, in the machine, an object's.
-use Rattle.std.specs.Prelude.{◌≡◌, ◌≢◌, ℕ, ◌+◌, ◌-◌, ◌<◌, ◌≤◌, Option, Some, None, List, ◌++◌, length, take, drop, replicate, map, slice_index_or, slice_range, slice_set}
+use Rattle.std.specs.Prelude.{◌≡◌, ℕ, ◌+◌, ◌-◌, ◌<◌, ◌≤◌, Option, Some, None, List, ◌++◌, length, take, drop, replicate, map, slice_index_or, slice_range, slice_set}
 use Rattle.std.specs.List.{filter_map}
 
 -- the eight places, the length of the low area, which begins at slot 0, and for each slot the length
@@ -46,13 +46,21 @@ IsHighestFreeRun slots len first = IsFreeRun slots first len × ((higher : ℕ) 
 abbrev pub put_places : {Block : Type 0} → List (Option Block) → ℕ → List (Option Block) → List (Option Block)
 put_places places first new = take first places ++ (new ++ drop (first + length new) places)
 
--- the blocks that the slots of a range name, in order
+-- the blocks that places name, in order
+abbrev pub named_in : {Block : Type 0} → List (Option Block) → List Block
+named_in places = filter_map (λ place. place) places
+
+-- the blocks that the slots from one up to another name
 abbrev pub named_from : {Block : Type 0} → Slots Block → ℕ → ℕ → List Block
-named_from slots first end = filter_map (λ place. place) (slice_range slots.places first end)
+named_from slots first end = named_in (slice_range slots.places first end)
+
+-- places that name these blocks
+abbrev pub naming : {Block : Type 0} → List Block → List (Option Block)
+naming blocks = map (λ block. Some block) blocks
 
 -- the map with these blocks in the slots that follow the low area, which has them too then
 abbrev pub with_low : {Block : Type 0} → Slots Block → List Block → Slots Block
-with_low slots blocks = record slots { places = put_places slots.places slots.low (map (λ block. Some block) blocks); low = slots.low + length blocks }
+with_low slots blocks = record slots { places = put_places slots.places slots.low (naming blocks); low = slots.low + length blocks }
 
 -- the map of whose low area the first so many slots are kept
 abbrev pub cut_low_to : {Block : Type 0} → Slots Block → ℕ → Slots Block
@@ -60,7 +68,7 @@ cut_low_to slots len = record slots { places = put_places slots.places len (repl
 
 -- the map with a group of these blocks from one slot on
 abbrev pub with_group : {Block : Type 0} → Slots Block → ℕ → List Block → Slots Block
-with_group slots first blocks = record slots { places = put_places slots.places first (map (λ block. Some block) blocks); groups = slice_set slots.groups first (Some (length blocks)) }
+with_group slots first blocks = record slots { places = put_places slots.places first (naming blocks); groups = slice_set slots.groups first (Some (length blocks)) }
 
 -- the map without the group of this length that begins at a slot
 abbrev pub without_group : {Block : Type 0} → Slots Block → ℕ → ℕ → Slots Block

@@ -1,5 +1,5 @@
 -- The bytes that a process sees through its map.
-use Rattle.std.specs.Prelude.{◌≡◌, ℕ, ◌+◌, ◌*◌, ◌/◌, ◌%◌, ◌≤◌, IsSomeAnd, Option, Some, None, option_and_then, length, if◌then◌else◌, slice_get}
+use Rattle.std.specs.Prelude.{◌≡◌, ℕ, ◌/◌, ◌%◌, ◌≤◌, IsSomeAnd, Option, None, option_and_then, length, if◌then◌else◌, slice_get}
 use Rattle.std.proofs.Common.{◌∙◌, subst, sym, refl}
 use Rattle.block_pool.specs.Blocks.{Blocks, IsLive, is_live, block_bytes}
 use Rattle.proc_model.specs.declared.group.BlockId.{BlockId}

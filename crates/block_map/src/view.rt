@@ -69,7 +69,9 @@ impl UserMem for View<'_> {
     ghost same_beside_then = { SameBeside-then };
 
     fn fits(&self, at: u16, len: u16) -> bool {
-        len == 0 || u32::from(at) + u32::from(len) <= 0x1_0000 && self.are_slots_live(slot_of(at), slot_of(at + (len - 1)))
+        len == 0
+            || u32::from(at) + u32::from(len) <= 0x1_0000
+                && self.are_slots_live(slot_of(at), slot_of(at + (len - 1)))
     }
 
     fn load(&self, at: u16, into: &mut [u8]) {

@@ -1,4 +1,4 @@
-use Rattle.std.proofs.Common.{arith, ap, ◌∙◌, ◌/◌, ◌%◌, is_some, option_and_then}
+use Rattle.std.proofs.Common.{arith, ap, ◌∙◌, ◌%◌, is_some, option_and_then}
 use Rattle.block_map.specs.Slots.{place_of}
 use Rattle.block_map.specs.Window.{live_byte}
 use Rattle.block_map.proofs.Windows.{is_some-live_byte}

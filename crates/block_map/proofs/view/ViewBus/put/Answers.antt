@@ -1,4 +1,4 @@
-use Rattle.std.proofs.Common.{◌≡◌, ◌/◌, ◌%◌, ◌∷◌, [], sym, ap, ◌∙◌, Some}
+use Rattle.std.proofs.Common.{◌≡◌, ◌/◌, ◌∷◌, [], sym, ap, ◌∙◌, Some}
 use Rattle.block_pool.specs.Blocks.{block_bytes, with_bytes, overwritten}
 use Rattle.block_map.specs.Slots.{place_of}
 use Rattle.block_map.specs.Window.{cells_of}

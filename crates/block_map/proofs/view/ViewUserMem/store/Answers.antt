@@ -23,6 +23,6 @@ loop-k-preserved c =
     let k = c.loop-k.k in
     let bytes = c.args.from.now in
     record {
-        stored = c.put.ensures.changed ∙ ap (λ cells. put_cell cells (at + k) (get_or bytes k 0)) c.loop-k.invariant.stored ∙ stored_more (cells_of first.map.now first.pool.now) at bytes k c.loop-k-test.true;
-        beside = SameBeside-then first c.loop-k.self c.put.new.self c.loop-k.invariant.beside c.put.ensures.beside
+      stored = c.put.ensures.changed ∙ ap (λ cells. put_cell cells (at + k) (get_or bytes k 0)) c.loop-k.invariant.stored ∙ stored_more (cells_of first.map.now first.pool.now) at bytes k c.loop-k-test.true;
+      beside = SameBeside-then first c.loop-k.self c.put.new.self c.loop-k.invariant.beside c.put.ensures.beside;
     }

@@ -6,6 +6,6 @@ use Rattle.block_map.proofs.view.ViewUserMem.store.Given as goal
 
 abbrev pub invariant-loop-k : goal.invariant-loop-k
 invariant-loop-k l = record {
-    stored : cells_of l.self.map.now l.self.pool.now ≡ store_cells (cells_of l.initial.self.map.now l.initial.self.pool.now) l.at (take l.k l.from);
-    beside : SameBeside l.initial.self l.self
+  stored : cells_of l.self.map.now l.self.pool.now ≡ store_cells (cells_of l.initial.self.map.now l.initial.self.pool.now) l.at (take l.k l.from);
+  beside : SameBeside l.initial.self l.self;
 }
