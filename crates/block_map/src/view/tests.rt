@@ -21,3 +21,20 @@ fn write_through(map: &Map, pool: &mut Pool, at: u16, byte: u8)
     let mut view = map.view(pool);
     write_one(&mut view, at, byte);
 }
+
+use std::test::Fail;
+
+#[test]
+fn new_low_area(rt: HostRuntime) -> Result<(), Fail> {
+    let mut pool = Pool::new(rt.alloc(), 8)?;
+    let mut map = Map::empty();
+    assert_eq!(rt; map.map_low(&mut pool, 2), Ok(()));
+    assert_eq!(rt; pool.free_blocks(), 6);
+    let mut view = map.view(&mut pool);
+    assert!(rt; view.fits(0x1fff, 2));
+    assert!(rt; !view.fits(0x3fff, 2));
+    view.store(0x1fff, &[1, 2]);
+    assert!(rt; view.named(0x2000));
+    assert_eq!(rt; view.get(0x2000), 2);
+    Ok(())
+}
