@@ -121,11 +121,11 @@ cells_of-put slots pool at byte id shape here there =
     ])
 
 -- a slot that names a live block has a byte at each place, and one that has a byte names a live block
-byte_of_live : (pool : Blocks) (at : ℕ) (place : Option BlockId) → IsPool pool → at < 8192 → IsSomeAnd place (λ id. IsLive pool id.0) → IsSome (option_and_then (live_byte pool at) place)
+pub byte_of_live : (pool : Blocks) (at : ℕ) (place : Option BlockId) → IsPool pool → at < 8192 → IsSomeAnd place (λ id. IsLive pool id.0) → IsSome (option_and_then (live_byte pool at) place)
 byte_of_live pool at None shape within live = absurd live
 byte_of_live pool at (Some id) shape within live = sym (is_some-live_byte pool at id shape within) ∙ lt-ltb 0 (count_of pool id.0) live
 
-live_of_byte : (pool : Blocks) (at : ℕ) (place : Option BlockId) → IsSome (option_and_then (live_byte pool at) place) → IsSomeAnd place (λ id. IsLive pool id.0)
+pub live_of_byte : (pool : Blocks) (at : ℕ) (place : Option BlockId) → IsSome (option_and_then (live_byte pool at) place) → IsSomeAnd place (λ id. IsLive pool id.0)
 live_of_byte pool at None there = absurd (false≢true there)
 live_of_byte pool at (Some id) there = (live_byte-Some pool at id there).0
 

@@ -25,10 +25,7 @@ impl Bus for View<'_> {
     ghost same_beside_then = { SameBeside-then };
 
     fn named(&self, at: u16) -> bool {
-        match self.map.place(slot_of(at)) {
-            Some(id) => self.pool.is_live(id),
-            None => false,
-        }
+        self.is_slot_live(slot_of(at))
     }
 
     fn get(&self, at: u16) -> u8 {
@@ -96,7 +93,7 @@ impl View<'_> {
     fn is_slot_live(&self, slot: u8) -> bool
         requires { slot < 8 }
         ensures live { IsTrue result ↔ IsSlotLive self.now.map.now self.now.pool.now slot }
-        ensures named { OnTrue result (IsPool self.now.pool.now) }
+        ensures shape { OnTrue result (IsPool self.now.pool.now) }
     {
         match self.map.place(slot) {
             Some(id) => self.pool.is_live(id),
@@ -108,7 +105,7 @@ impl View<'_> {
     fn are_slots_live(&self, first: u8, last: u8) -> bool
         requires { last < 8 }
         ensures live { IsTrue result ↔ AllSlotsLive self.now.map.now self.now.pool.now first last }
-        ensures named { OnTrue result (first ≤ last → IsPool self.now.pool.now) }
+        ensures shape { OnTrue result (first ≤ last → IsPool self.now.pool.now) }
     {
         for slot in first..=last {
             if !self.is_slot_live(slot) {
