@@ -1,5 +1,5 @@
 -- The memory that a program can reach.
-use Rattle.std.specs.Prelude.{◌≡◌, ℕ, ◌+◌, ◌-◌, ◌<◌, ◌≤◌, ◌==◌, ◌&&◌, nat_lt, nat_le, Bool, Option, Some, None, IsSome, List, length, slice_get, if◌then◌else◌}
+use Rattle.std.specs.Prelude.{◌≡◌, ℕ, ◌+◌, ◌-◌, ◌<◌, ◌≤◌, ◌==◌, ◌&&◌, nat_lt, nat_le, Bool, Option, Some, IsSome, List, length, slice_get, if◌then◌else◌}
 
 -- the byte at each address, or nothing where the address is not named
 abbrev pub Cells : Type 0

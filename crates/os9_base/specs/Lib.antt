@@ -1,3 +1,4 @@
 pub mod Cells
 pub mod Count
 pub mod Name
+pub mod NameFields

@@ -1,5 +1,5 @@
 -- Names, as path lists, module headers and directory entries have them.
-use Rattle.std.specs.Prelude.{◌≡◌, ℕ, ◌+◌, ◌-◌, ◌<◌, ◌≤◌, ◌==◌, ◌&&◌, ◌||◌, not, nat_le, Bool, true, Option, Some, None, option_map, option_and_then, List, [], ◌∷◌, length, map, All, if◌then◌else◌}
+use Rattle.std.specs.Prelude.{◌≡◌, ℕ, ◌+◌, ◌-◌, ◌≤◌, ◌==◌, ◌&&◌, ◌||◌, ◌%◌, not, nat_le, nat_lt, Bool, true, Option, Some, None, option_map, option_and_then, List, [], ◌∷◌, ◌++◌, replicate, length, map, take, All, if◌then◌else◌}
 
 -- a letter, a digit, `_` or `.` (System Programmer's Manual, F$PrsNam)
 abbrev pub is_name_character : ℕ → Bool
@@ -10,34 +10,31 @@ is_name_character c =
 abbrev pub is_stored_character : ℕ → Bool
 is_stored_character c = nat_le 33 c && nat_le c 126 && not (c == 47)
 
--- a byte with bit 7, and a test of its other bits
-abbrev pub is_last : (ℕ → Bool) → ℕ → Bool
-is_last test byte = nat_le 128 byte && test (byte - 128)
+-- the low seven bits of a byte; bit 7 marks the last character of a name
+abbrev pub low_bits : ℕ → ℕ
+low_bits byte = byte % 128
 
--- the longest run of name characters at the front; a byte with bit 7 ends it and belongs to it
+-- the longest run of name characters at the front; one that has bit 7 ends it
 abbrev pub name_run : List ℕ → List ℕ
 name_run [] = []
 name_run (byte ∷ bytes) =
-    if is_name_character byte then byte ∷ name_run bytes else (if is_last is_name_character byte then (byte - 128) ∷ [] else [])
+    if is_name_character (low_bits byte) then low_bits byte ∷ (if nat_lt byte 128 then name_run bytes else []) else []
 
--- a name has 1 to 29 characters
-abbrev pub has_name_length : List ℕ → Bool
-has_name_length name = nat_le 1 (length name) && nat_le (length name) 29
-
-abbrev pub if_name : List ℕ → Option (List ℕ)
-if_name name = if has_name_length name then Some name else None
-
--- the name that a path list or a call gives at its front
-abbrev pub parsed_name : List ℕ → Option (List ℕ)
-parsed_name bytes = if_name (name_run bytes)
-
--- the characters up to and with the first byte that has bit 7, all of them stored characters
+-- the characters up to and with the first one that has bit 7, where all of them are stored characters
 abbrev pub marked_run : List ℕ → Option (List ℕ)
 marked_run [] = None
 marked_run (byte ∷ bytes) =
-    if is_stored_character byte then option_map (λ run. byte ∷ run) (marked_run bytes) else (if is_last is_stored_character byte then Some ((byte - 128) ∷ []) else None)
+    if is_stored_character (low_bits byte) then (if nat_lt byte 128 then option_map (λ run. byte ∷ run) (marked_run bytes) else Some (low_bits byte ∷ [])) else None
 
--- the name that a module header or a directory entry has at this place
+-- a list of 1 to 29 characters is a name, another one is none
+abbrev pub if_name : List ℕ → Option (List ℕ)
+if_name run = if nat_le 1 (length run) && nat_le (length run) 29 then Some run else None
+
+-- the name that a path list or a call gives at its front (System Programmer's Manual, F$PrsNam)
+abbrev pub parsed_name : List ℕ → Option (List ℕ)
+parsed_name bytes = if_name (name_run bytes)
+
+-- the name that a module header or a directory entry has there (System Programmer's Manual, module header and RBF directory)
 abbrev pub stored_name : List ℕ → Option (List ℕ)
 stored_name bytes = option_and_then if_name (marked_run bytes)
 
@@ -54,3 +51,13 @@ pub record IsName (name : List ℕ) : Type 0 where
   pub not_empty : 1 ≤ length name
   pub short : length name ≤ 29
   pub characters : All (λ c. is_stored_character c ≡ true) name
+
+-- a name in a field of 29 bytes, zeros after it
+abbrev pub padded : List ℕ → List ℕ
+padded name = name ++ replicate (29 - length name) 0
+
+-- the first so many bytes are a stored name up to and with its last character
+pub record EndsName (bytes : List ℕ) (len : ℕ) : Type 0 where
+  pub in_bytes : len ≤ length bytes
+  pub is_name : IsName (map low_bits (take len bytes))
+  pub stored : stored_name bytes ≡ Some (map low_bits (take len bytes))

@@ -1,5 +1,5 @@
 -- Modules (System Programmer's Manual, "Memory module structure"; the table of the header's fields).
-use Rattle.std.specs.Prelude.{◌≡◌, ℕ, ◌+◌, ◌-◌, ◌*◌, ◌/◌, ◌==◌, ◌&&◌, nat_lt, nat_le, bit_xor, Bool, Option, Some, None, is_some, List, length, take, drop, slice_index, slice_range, fold, if◌then◌else◌}
+use Rattle.std.specs.Prelude.{◌≡◌, ℕ, ◌+◌, ◌-◌, ◌/◌, ◌==◌, ◌&&◌, nat_lt, nat_le, bit_xor, Bool, Option, Some, None, is_some, List, length, take, drop, slice_index, slice_range, fold, if◌then◌else◌}
 use Rattle.byteorder.specs.Endian.{big_number}
 use Rattle.os9_base.specs.Name.{stored_name}
 use Rattle.proc_model.specs.Crc.{crc_of}

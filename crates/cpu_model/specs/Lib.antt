@@ -1,0 +1,13 @@
+pub mod Arithmetic
+pub mod BasePage
+pub mod Effects
+pub mod ElevenPage
+pub mod Flags
+pub mod Line
+pub mod Operations
+pub mod Places
+pub mod Reading
+pub mod Registers
+pub mod Step
+pub mod Table
+pub mod TenPage

@@ -1,0 +1,34 @@
+/// The part of the opcode map that an opcode stands in: no prefix, `10` or `11`.
+#[derive(Clone, Copy, Debug, PartialEq, Eq)]
+pub enum Page {
+    Base,
+    Ten,
+    Eleven,
+}
+
+/// The operand bytes after an opcode and its postbyte; a word has its high byte first.
+#[derive(Clone, Copy, Debug, PartialEq, Eq)]
+pub enum Tail {
+    Empty,
+    Byte(u8),
+    Word(u16),
+}
+
+/// An instruction by its parts: `post` is the postbyte of an indexed form, and None in every
+/// other form.
+#[derive(Clone, Copy, Debug, PartialEq, Eq)]
+pub struct Instr {
+    pub page: Page,
+    pub opcode: u8,
+    pub post: Option<u8>,
+    pub tail: Tail,
+}
+
+/// Why bytes are no instruction.
+#[derive(Clone, Copy, Debug, PartialEq, Eq)]
+pub enum DecodeFault {
+    /// No documented instruction is spelled so.
+    NotDocumented,
+    /// The bytes are the beginning of one.
+    Short,
+}

@@ -1,0 +1,5 @@
+//! The devices of the machine by name: drives, terminals and the pipe.
+#![tactic(auto)]
+
+pub mod devices;
+pub mod put;

@@ -1,0 +1,6 @@
+pub mod Call
+pub mod Event
+pub mod Objects
+pub mod Run
+pub mod Start
+pub mod State

@@ -1,0 +1,34 @@
+-- Files and output streams, as a host tells of them.
+use Rattle.std.specs.Prelude.{◌≡◌, ℕ, ◌⊎◌, ⊤, Option, Some, None, unwrap_or, Result, Ok, Err, List, [], take}
+use Rattle.os9_outer.specs.declared.host.HostFault.{HostFault}
+use Rattle.os9_outer.specs.declared.host.HostFault.TheVariants.{Failed, OutOfMemory}
+
+-- the bytes under each name, or nothing where there is no file of that name
+abbrev pub Files : Type 0
+Files = List ℕ → Option (List ℕ)
+
+-- what is read under a name: its bytes, or none where there is no such file
+abbrev pub contents_of : (List ℕ → Option (List ℕ)) → List ℕ → List ℕ
+contents_of files name = unwrap_or (files name) []
+
+-- the fact holds where the call answered `Failed`
+abbrev pub OnFailed : {T : Type 0} → Result T HostFault → Type 0 → Type 0
+OnFailed (Ok _) fact = ⊤
+OnFailed (Err Failed) fact = fact
+OnFailed (Err OutOfMemory) fact = ⊤
+
+-- the fact holds where the call answered anything but `Failed`
+abbrev pub UnlessFailed : {T : Type 0} → Result T HostFault → Type 0 → Type 0
+UnlessFailed (Ok _) fact = fact
+UnlessFailed (Err Failed) fact = ⊤
+UnlessFailed (Err OutOfMemory) fact = fact
+
+-- the fact holds of the files before and after, where they are told; what is not told stays untold
+abbrev pub WhereTold : ((List ℕ → Option (List ℕ)) → (List ℕ → Option (List ℕ)) → Type 0) → Option (List ℕ → Option (List ℕ)) → Option (List ℕ → Option (List ℕ)) → Type 0
+WhereTold fact None now = now ≡ None
+WhereTold fact (Some before) None = ⊥
+WhereTold fact (Some before) (Some now) = fact before now
+
+-- the file is as it was, or holds the first of these bytes, all, some or none of them
+abbrev pub KeepsOrHoldsPrefix : Option (List ℕ) → List ℕ → Option (List ℕ) → Type 0
+KeepsOrHoldsPrefix before bytes now = (now ≡ before) ⊎ ((count : ℕ) × (now ≡ Some (take count bytes)))

@@ -1,0 +1,14 @@
+-- Bytes that are written to a stream or put on a terminal, where they are told.
+use Rattle.std.specs.Prelude.{◌≡◌, ℕ, Option, option_map, List, [], ◌++◌, take}
+
+-- the stream with these bytes at its end; what is not told stays untold
+abbrev pub appended : Option (List ℕ) → List ℕ → Option (List ℕ)
+appended stream bytes = option_map (λ before. before ++ bytes) stream
+
+-- the stream without any bytes; what is not told stays untold
+abbrev pub emptied : Option (List ℕ) → Option (List ℕ)
+emptied stream = option_map (λ before. []) stream
+
+-- the stream gained the first of these bytes: all, some or none of them
+abbrev pub GainsPrefix : Option (List ℕ) → List ℕ → Option (List ℕ) → Type 0
+GainsPrefix before bytes now = (count : ℕ) × (now ≡ appended before (take count bytes))

@@ -1,0 +1,92 @@
+ghost use Rattle.std.specs.Prelude.{◌≡◌, ℕ, ◌+◌, ◌-◌, ◌^◌, ◌<◌, ◌≤◌, min, Option, Some, None, IsSome, option_map, IfErr, OnOk, OnErr, List};
+ghost use Rattle.os9_base.specs.Count.{Rose};
+ghost use Rattle.os9_outer.specs.Drive.{fault_number, sectors_of, sector_at, with_sector};
+ghost use Rattle.os9_outer.specs.declared.drive.DriveFault.{DriveFault};
+
+/// A drive's fault (System Programmer's Manual, error codes).
+#[derive(Clone, Copy, Debug, PartialEq, Eq)]
+pub enum DriveFault {
+    WriteProtect,
+    ReadFault,
+    WriteFault,
+    NotReady,
+    SeekFault,
+}
+
+impl DriveFault {
+    /// The error number that a call which met this fault answers: 242 or 244 to 247.
+    pub fn number(&self) -> u8
+        ensures { result ≡ fault_number self.now }
+    {
+        match self {
+            DriveFault::WriteProtect => 242,
+            DriveFault::ReadFault => 244,
+            DriveFault::WriteFault => 245,
+            DriveFault::NotReady => 246,
+            DriveFault::SeekFault => 247,
+        }
+    }
+}
+
+/// A drive with sectors of 256 bytes, which may have an image in it (this project's own).
+///
+/// `media` is the image's bytes, or nothing where no image is in. `drive_faults` counts the faults
+/// and never falls, `last_fault` is the last one that was answered, and `drive_calls` counts the
+/// reads and writes. Both counts are of 64 bits and stand still at their last value.
+pub trait BlockDriver: Drop {
+    ghost media: { Self → Option (List ℕ) };
+
+    ghost drive_faults: { Self → ℕ };
+
+    ghost last_fault: { Self → Option DriveFault };
+
+    ghost drive_calls: { Self → ℕ };
+
+    /// Puts an image in. It is handed back exactly where one is in already.
+    fn insert(&mut self, image: Vec<u8>) -> Result<(), Vec<u8>>
+        ensures inserted { OnOk result (media self.new ≡ Some image.items) }
+        ensures was_empty { OnOk result (media self.old ≡ None) }
+        ensures was_full { OnErr result (IsSome (media self.old)) }
+        ensures handed_back { IfErr result (λ back. back.items ≡ image.items) }
+        ensures media_kept { OnErr result (media self.new ≡ media self.old) }
+        ensures faults_kept { drive_faults self.new ≡ drive_faults self.old }
+        ensures last_kept { last_fault self.new ≡ last_fault self.old }
+        ensures calls_kept { drive_calls self.new ≡ drive_calls self.old };
+
+    /// Takes the image out. The answer is None exactly where none is in.
+    fn eject(&mut self) -> Option<Vec<u8>>
+        ensures handed_over { option_map (λ image. image.items) result ≡ media self.old }
+        ensures none_left { media self.new ≡ None }
+        ensures faults_kept { drive_faults self.new ≡ drive_faults self.old }
+        ensures last_kept { last_fault self.new ≡ last_fault self.old }
+        ensures calls_kept { drive_calls self.new ≡ drive_calls self.old };
+
+    /// The number of whole sectors, at most 4,294,967,295; 0 where no image is in.
+    fn sectors(&self) -> u32
+        ensures { result ≡ sectors_of (media self.now) };
+
+    /// Fills `into` with the sector `lsn`. A fault leaves the buffer as it was.
+    fn read(&mut self, lsn: u32, into: &mut [u8; 256]) -> Result<(), DriveFault>
+        requires { lsn < sectors_of (media self.old) }
+        ensures filled { OnOk result (into.new ≡ sector_at (media self.old) lsn) }
+        ensures buffer_kept { OnErr result (into.new ≡ into.old) }
+        ensures media_kept { media self.new ≡ media self.old }
+        ensures fault_counted { OnErr result (Rose (drive_faults self.old) (drive_faults self.new)) }
+        ensures fault_is_last { IfErr result (λ fault. last_fault self.new ≡ Some fault) }
+        ensures faults_kept { OnOk result (drive_faults self.new ≡ drive_faults self.old) }
+        ensures last_kept { OnOk result (last_fault self.new ≡ last_fault self.old) }
+        ensures never_falls { drive_faults self.old ≤ drive_faults self.new }
+        ensures call_counted { drive_calls self.new ≡ min (drive_calls self.old + 1) (2 ^ 64 - 1) };
+
+    /// Makes these the bytes of the sector `lsn`. A fault leaves the media as it was.
+    fn write(&mut self, lsn: u32, from: &[u8; 256]) -> Result<(), DriveFault>
+        requires { lsn < sectors_of (media self.old) }
+        ensures written { OnOk result (media self.new ≡ with_sector (media self.old) lsn from.now) }
+        ensures media_kept { OnErr result (media self.new ≡ media self.old) }
+        ensures fault_counted { OnErr result (Rose (drive_faults self.old) (drive_faults self.new)) }
+        ensures fault_is_last { IfErr result (λ fault. last_fault self.new ≡ Some fault) }
+        ensures faults_kept { OnOk result (drive_faults self.new ≡ drive_faults self.old) }
+        ensures last_kept { OnOk result (last_fault self.new ≡ last_fault self.old) }
+        ensures never_falls { drive_faults self.old ≤ drive_faults self.new }
+        ensures call_counted { drive_calls self.new ≡ min (drive_calls self.old + 1) (2 ^ 64 - 1) };
+}

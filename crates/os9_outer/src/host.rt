@@ -1,0 +1,123 @@
+ghost use Rattle.std.specs.Prelude.{◌≡◌, ◌≢◌, ℕ, ◌≤◌, Bool, true, false, Option, Some, None, IfSome, IfOk, OnOk, List};
+ghost use Rattle.os9_base.specs.Count.{Rose};
+ghost use Rattle.os9_outer.specs.Host.{contents_of, OnFailed, UnlessFailed, WhereTold, KeepsOrHoldsPrefix};
+ghost use Rattle.os9_outer.specs.Stream.{appended, GainsPrefix};
+
+/// Why a call of a [`Host`] was not done.
+#[derive(Clone, Copy, Debug, PartialEq, Eq)]
+pub enum HostFault {
+    /// The file or the stream failed. The host counts it.
+    Failed,
+    /// Memory is wanting.
+    OutOfMemory,
+}
+
+/// Files by name, an output stream and an error stream (this project's own).
+///
+/// A host may tell what its files hold (`file_map`) and what its streams were given (`bytes_out`,
+/// `bytes_err`), or leave them untold, as a real one does. It always counts its faults, those of
+/// the error stream apart, and tells the name of the last failed call, which is none where that
+/// was a write to the output stream, and whether that call read a file.
+pub trait Host {
+    ghost file_map: { Self → Option (List ℕ → Option (List ℕ)) };
+
+    ghost bytes_out: { Self → Option (List ℕ) };
+
+    ghost bytes_err: { Self → Option (List ℕ) };
+
+    ghost host_faults: { Self → ℕ };
+
+    ghost err_stream_faults: { Self → ℕ };
+
+    ghost failed_name: { Self → Option (List ℕ) };
+
+    ghost failed_in_read: { Self → Bool };
+
+    /// The bytes of the file of this name.
+    ///
+    /// `Failed` comes only with a count. A host that tells its files may answer the empty list
+    /// for a name that it does not hold.
+    fn read_file(&mut self, name: &str) -> Result<Vec<u8>, HostFault>
+        ensures contents { IfOk result (λ bytes.
+            IfSome (file_map self.old) (λ files. bytes.items ≡ contents_of files name.now)) }
+
+        ensures fault_counted { OnFailed result (Rose (host_faults self.old) (host_faults self.new)) }
+        ensures fault_named { OnFailed result (failed_name self.new ≡ Some name.now) }
+        ensures fault_in_read { OnFailed result (failed_in_read self.new ≡ true) }
+        ensures count_kept { UnlessFailed result (host_faults self.new ≡ host_faults self.old) }
+        ensures name_kept { UnlessFailed result (failed_name self.new ≡ failed_name self.old) }
+        ensures read_kept { UnlessFailed result (failed_in_read self.new ≡ failed_in_read self.old) }
+        ensures never_falls { host_faults self.old ≤ host_faults self.new }
+        ensures err_count_kept { err_stream_faults self.new ≡ err_stream_faults self.old }
+
+        ensures files_kept { file_map self.new ≡ file_map self.old }
+        ensures out_kept { bytes_out self.new ≡ bytes_out self.old }
+        ensures err_kept { bytes_err self.new ≡ bytes_err self.old };
+
+    /// Makes these the bytes of the file of this name.
+    ///
+    /// `Failed` comes only with a count. After a refusal the file may hold a part of the bytes.
+    fn write_file(&mut self, name: &str, bytes: &[u8]) -> Result<(), HostFault>
+        ensures written { OnOk result
+            (WhereTold (λ before now. now name.now ≡ Some bytes.now)
+            (file_map self.old) (file_map self.new)) }
+        ensures prefix_written { WhereTold (λ before now.
+            KeepsOrHoldsPrefix (before name.now) bytes.now (now name.now))
+            (file_map self.old) (file_map self.new) }
+        ensures others_kept { WhereTold (λ before now.
+            (other : List ℕ) → other ≢ name.now → now other ≡ before other)
+            (file_map self.old) (file_map self.new) }
+
+        ensures fault_counted { OnFailed result (Rose (host_faults self.old) (host_faults self.new)) }
+        ensures fault_named { OnFailed result (failed_name self.new ≡ Some name.now) }
+        ensures fault_in_write { OnFailed result (failed_in_read self.new ≡ false) }
+        ensures count_kept { UnlessFailed result (host_faults self.new ≡ host_faults self.old) }
+        ensures name_kept { UnlessFailed result (failed_name self.new ≡ failed_name self.old) }
+        ensures read_kept { UnlessFailed result (failed_in_read self.new ≡ failed_in_read self.old) }
+        ensures never_falls { host_faults self.old ≤ host_faults self.new }
+        ensures err_count_kept { err_stream_faults self.new ≡ err_stream_faults self.old }
+
+        ensures out_kept { bytes_out self.new ≡ bytes_out self.old }
+        ensures err_kept { bytes_err self.new ≡ bytes_err self.old };
+
+    /// Writes these bytes to the output stream.
+    ///
+    /// `Failed` comes only with a count. After a refusal a part of the bytes may be out.
+    fn out(&mut self, bytes: &[u8]) -> Result<(), HostFault>
+        ensures gained { OnOk result
+            (bytes_out self.new ≡ appended (bytes_out self.old) bytes.now) }
+        ensures prefix_gained { GainsPrefix (bytes_out self.old) bytes.now (bytes_out self.new) }
+
+        ensures fault_counted { OnFailed result (Rose (host_faults self.old) (host_faults self.new)) }
+        ensures fault_unnamed { OnFailed result (failed_name self.new ≡ None) }
+        ensures fault_in_out { OnFailed result (failed_in_read self.new ≡ false) }
+        ensures count_kept { UnlessFailed result (host_faults self.new ≡ host_faults self.old) }
+        ensures name_kept { UnlessFailed result (failed_name self.new ≡ failed_name self.old) }
+        ensures read_kept { UnlessFailed result (failed_in_read self.new ≡ failed_in_read self.old) }
+        ensures never_falls { host_faults self.old ≤ host_faults self.new }
+        ensures err_count_kept { err_stream_faults self.new ≡ err_stream_faults self.old }
+
+        ensures files_kept { file_map self.new ≡ file_map self.old }
+        ensures err_kept { bytes_err self.new ≡ bytes_err self.old };
+
+    /// Writes these bytes to the error stream.
+    ///
+    /// `Failed` comes only with a count of the error stream's own, and leaves what is told of the
+    /// last failed call. After a refusal a part of the bytes may be out.
+    fn err(&mut self, bytes: &[u8]) -> Result<(), HostFault>
+        ensures gained { OnOk result
+            (bytes_err self.new ≡ appended (bytes_err self.old) bytes.now) }
+        ensures prefix_gained { GainsPrefix (bytes_err self.old) bytes.now (bytes_err self.new) }
+
+        ensures fault_counted { OnFailed result
+            (Rose (err_stream_faults self.old) (err_stream_faults self.new)) }
+        ensures err_count_kept { UnlessFailed result
+            (err_stream_faults self.new ≡ err_stream_faults self.old) }
+        ensures never_falls { err_stream_faults self.old ≤ err_stream_faults self.new }
+
+        ensures count_kept { host_faults self.new ≡ host_faults self.old }
+        ensures name_kept { failed_name self.new ≡ failed_name self.old }
+        ensures read_kept { failed_in_read self.new ≡ failed_in_read self.old }
+        ensures files_kept { file_map self.new ≡ file_map self.old }
+        ensures out_kept { bytes_out self.new ≡ bytes_out self.old };
+}
