@@ -1,5 +1,5 @@
--- The map of a process: the eight slots of 8,192 bytes that it sees (Level Two manual, the DAT image
--- of a process). What stands in a slot is a block's number or, in the machine, an object's.
+-- The map of a process: the eight slots of 8,192 bytes that it sees (Level Two manual, "Memory
+-- management"). What stands in a slot is a block of the pool or, in the machine, an object.
 use Rattle.std.specs.Prelude.{◌≡◌, ℕ, ◌+◌, ◌-◌, ◌<◌, ◌≤◌, Option, Some, None, List, ◌++◌, length, take, drop, replicate, map, slice_index_or, slice_range, slice_set}
 use Rattle.std.specs.List.{filter_map}
 

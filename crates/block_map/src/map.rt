@@ -21,7 +21,8 @@ pub enum MapFault {
     NoBlock,
 }
 
-/// What a process sees of the pool: eight places, the low area from slot 0 on, and the groups.
+/// What a process sees of the pool: eight places, the low area from slot 0 on, and where groups
+/// begin. No block stands in two places.
 #[derive(Drop)]
 pub struct Map {
     places: [Option<BlockId>; SLOTS],
@@ -64,6 +65,9 @@ impl Map {
     }
 
     /// Puts `n` new blocks in the slots that follow the low area, which has them too then.
+    ///
+    /// `NoSlot` where fewer than `n` slots follow or one of them names a block, else `NoBlock` where
+    /// fewer than `n` blocks are free. After a refusal nothing has changed.
     pub fn map_low(&mut self, pool: &mut Pool, n: u8) -> Result<(), MapFault>
         requires { NamesLive self.old pool.old }
 
@@ -88,7 +92,8 @@ impl Map {
         Ok(())
     }
 
-    /// Keeps the first `n` slots of the low area, and gives the blocks of its other slots back.
+    /// Keeps the first `n` slots of the low area, and gives the blocks of its other slots back. A low
+    /// area of no more than `n` slots stays.
     pub fn cut_low(&mut self, pool: &mut Pool, n: u8)
         requires { NamesLive self.old pool.old }
 
@@ -105,6 +110,8 @@ impl Map {
 
     /// Names the blocks of a group, in order, in the highest run of free slots of its length, and
     /// answers the first slot of the run.
+    ///
+    /// `NoSlot` where there is no such run, and nothing has changed then. It is never `NoBlock`.
     pub fn map_group(&mut self, pool: &mut Pool, g: &Group) -> Result<u8, MapFault>
         requires some { 1 ≤ g.now.len }
         requires different { AllPairs (λ a b. a ≢ b) (group_blocks g.now) }
@@ -132,7 +139,7 @@ impl Map {
         Ok(slot)
     }
 
-    /// Gives back the group that begins at the slot.
+    /// Gives back the blocks of the group that begins at the slot, and frees its slots.
     pub fn unmap(&mut self, pool: &mut Pool, slot: u8)
         requires begins { IsSome (group_of self.old slot) }
         requires live { NamesLive self.old pool.old }

@@ -5,7 +5,8 @@ use crate::map::Map;
 use block_pool::pool::Pool;
 use os9_base::memory::{Bus, UserMem};
 
-/// The bytes that a process sees: those of the blocks that its map names.
+/// The bytes that a process sees: those of the blocks that its map names. A slot counts as named
+/// where its block is live in the pool.
 #[derive(Drop)]
 pub struct View<'a> {
     pub map: &'a Map,

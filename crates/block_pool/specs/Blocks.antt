@@ -1,5 +1,5 @@
--- A region of blocks, each with a count of its namings. This project's own; the counts are those of
--- the block map of the Level Two manual (F$AllRAM, F$DelRAM), kept for each user of a block.
+-- A region of blocks of 8,192 bytes, each with a count of its namings. This project's own: the real
+-- system's block map (Level Two manual, "Memory management") marks a block as used or not.
 use Rattle.std.specs.Prelude.{◌≡◌, ℕ, ◌+◌, ◌-◌, ◌<◌, ◌≤◌, ◌==◌, nat_lt, Bool, List, [], ◌++◌, length, take, drop, replicate, count_by, All, slice_index, slice_index_or, slice_set}
 
 -- the blocks of a pool: how often each is named, and the bytes of each

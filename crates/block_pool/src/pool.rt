@@ -10,7 +10,8 @@ use std::marker::Model;
 /// How many bytes a block has.
 pub const BLOCK_LEN: usize = 8192;
 
-/// Counted blocks of 8,192 bytes.
+/// One region of blocks of 8,192 bytes, each with a count of what names it, and a list of those
+/// that nothing names.
 #[derive(Drop)]
 pub struct Pool {
     counts: Vec<u16>,
