@@ -1,13 +1,7 @@
-// A library with one function.
+//! The allocation map of an RBF volume: which clusters are free, and which one a file takes next.
 #![tactic(auto)]
 
-ghost use Rattle.std.specs.Prelude.{◌≡◌};
-ghost use Rattle.rbf_map.specs.Echo.{echo_of};
+pub use map::RbfMap;
 
-// The `ensures` clause is the contract: what `echo` returns is `echo_of` of its argument, a definition
-// in `specs/Echo.antt`, which a caller's clause can cite too.
-pub fn echo(x: usize) -> usize
-    ensures { result ≡ echo_of x }
-{
-    x
-}
+mod bits;
+mod map;
