@@ -1,12 +1,12 @@
 -- The rules of a well formed volume, each with the sector that a breach of it is shown at.
-use Rattle.std.specs.Prelude.{◌≡◌, ◌≢◌, ◌⊎◌, ◌↔◌, ℕ, ◌*◌, ◌/◌, ◌<◌, ◌≤◌, ◌==◌, ◌&&◌, Bool, true, false, not, List, [], length, drop, get_or, Option, Some, None, All, AllPairs, Contains, if◌then◌else◌}
+use Rattle.std.specs.Prelude.{◌≡◌, ◌≢◌, ◌⊎◌, ◌↔◌, ℕ, ◌*◌, ◌/◌, ◌<◌, ◌≤◌, ◌&&◌, true, false, not, List, [], length, drop, get_or, Some, None, Contains, if◌then◌else◌}
 use Rattle.std.specs.List.{list_any}
-use Rattle.os9_base.specs.Name.{SameName}
-use Rattle.rbf_model.specs.Fields.{size_field, segments_field, entry_at, name_field, descriptor_field}
-use Rattle.rbf_model.specs.Geometry.{Geometry, geometry, HasMap, HasHeader, IsNumber, is_within, sector}
-use Rattle.rbf_model.specs.File.{DiskFile, file_at, is_directory, is_directory_size, is_searched, has_room}
+use Rattle.rbf_model.specs.Fields.{size_field, segments_field, entry_at, descriptor_field}
+use Rattle.rbf_model.specs.Geometry.{LieWithin, Geometry, geometry, HasMap, HasHeader, IsNumber, is_within, sector}
+use Rattle.rbf_model.specs.Segments.{AreDistinct, has}
+use Rattle.rbf_model.specs.File.{file_at, is_directory, is_directory_size, is_searched, has_room}
 use Rattle.rbf_model.specs.Space.{is_whole, is_marked, owned, owns, has_cluster}
-use Rattle.rbf_model.specs.Tree.{HasEntry, Reached, Links, HasDots, IsProper, HasNames, HasDifferentNames}
+use Rattle.rbf_model.specs.Tree.{HasEntry, Reached, Links, HasDots, HasNames, HasDifferentNames}
 use Rattle.rbf_model.specs.Volume.{DiskVolume}
 
 -- the bytes of each directory that can be searched: one that cannot has no entries for any rule
@@ -62,10 +62,10 @@ pub record IsFault (image : List ℕ) (rule lsn : ℕ) : Type 0 where
 -- no rule is broken
 pub record Keeps (g : Geometry) (disk : ℕ → List ℕ) : Type 0 where
   pub numbers : (d i : ℕ) → Reaches g disk d → HasEntry (searched g disk d) i → IsNumber g (descriptor_field (entry_at (searched g disk d) i))
-  pub segments : (n : ℕ) → Reaches g disk n → All (λ segment. is_within g segment ≡ true) (segments_field (disk n))
+  pub segments : (n : ℕ) → Reaches g disk n → LieWithin g (segments_field (disk n))
   pub map : HasMap g
   pub marks : (n s : ℕ) → Reaches g disk n → owns g n (file_at disk n) s ≡ true → is_marked disk (s / g.cluster) ≡ true
-  pub once : (n : ℕ) → Reaches g disk n → AllPairs (λ s t. s ≢ t) (owned g n (file_at disk n))
+  pub once : (n : ℕ) → Reaches g disk n → AreDistinct (owned g n (file_at disk n))
   pub apart : (n m c : ℕ) → Reaches g disk n → Reaches g disk m → has_cluster g n (file_at disk n) c ≡ true → has_cluster g m (file_at disk m) c ≡ true → n ≡ m
   pub room : (n : ℕ) → Reaches g disk n → has_room (segments_field (disk n)) (size_field (disk n)) ≡ true
   pub root : is_directory (file_at disk g.root) ≡ true
@@ -75,10 +75,6 @@ pub record Keeps (g : Geometry) (disk : ℕ → List ℕ) : Type 0 where
   pub different : (d : ℕ) → Reaches g disk d → HasDifferentNames (searched g disk d)
   pub named_once : (d e i j n : ℕ) → Links g (searched g disk) d i n → Links g (searched g disk) e j n → (d ≡ e) × (i ≡ j)
   pub root_free : (d i : ℕ) → Links g (searched g disk) d i g.root → ⊥
-
--- the list has the number
-abbrev pub has : List ℕ → ℕ → Bool
-has found n = list_any (λ m. m == n) found
 
 -- the list has exactly the descriptors that are reached
 abbrev pub IsFound : Geometry → (ℕ → List ℕ) → List ℕ → Type 0
@@ -92,3 +88,8 @@ volume_of g disk found rest = record {
   lost = λ c. is_whole g c && is_marked disk c && not (list_any (λ n. has_cluster g n (file_at disk n) c) found);
   rest = rest;
 }
+
+-- the volume of an image whose reached descriptors are found
+abbrev pub image_volume : List ℕ → List ℕ → DiskVolume
+image_volume image numbers =
+    volume_of (geometry (sector image 0)) (sector image) numbers (drop (256 * (geometry (sector image 0)).total) image)

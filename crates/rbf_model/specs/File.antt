@@ -24,17 +24,21 @@ is_directory file = bit_at file.attributes 7 == 1
 abbrev pub bytes_of : (ℕ → List ℕ) → List (ℕ × ℕ) → List ℕ
 bytes_of disk segments = flat_map disk (sectors_of segments)
 
--- the file whose descriptor is in sector n: its contents are the first bytes of its sectors, as many as its size
-abbrev pub file_at : (ℕ → List ℕ) → ℕ → DiskFile
-file_at disk n = record {
-  attributes = attributes_field (disk n);
-  owner = owner_field (disk n);
-  modified = modified_field (disk n);
-  links = links_field (disk n);
-  created = created_field (disk n);
-  segments = segments_field (disk n);
-  contents = take (size_field (disk n)) (bytes_of disk (segments_field (disk n)));
+-- the file that a descriptor stands for on a disk: its contents are the first bytes of its sectors, as many as its size
+abbrev pub file_from : (ℕ → List ℕ) → List ℕ → DiskFile
+file_from disk descriptor = record {
+  attributes = attributes_field descriptor;
+  owner = owner_field descriptor;
+  modified = modified_field descriptor;
+  links = links_field descriptor;
+  created = created_field descriptor;
+  segments = segments_field descriptor;
+  contents = take (size_field descriptor) (bytes_of disk (segments_field descriptor));
 }
+
+-- the file whose descriptor is in sector n
+abbrev pub file_at : (ℕ → List ℕ) → ℕ → DiskFile
+file_at disk n = file_from disk (disk n)
 
 -- a size of bytes that the sectors of a segment list hold
 abbrev pub has_room : List (ℕ × ℕ) → ℕ → Bool

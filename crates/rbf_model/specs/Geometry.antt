@@ -1,5 +1,5 @@
 -- What sector 0 says of the whole volume.
-use Rattle.std.specs.Prelude.{◌≡◌, ℕ, ◌+◌, ◌*◌, ◌/◌, ◌<◌, ◌≤◌, ◌==◌, ◌&&◌, ◌||◌, nat_le, Bool, true, List, length, take, drop}
+use Rattle.std.specs.Prelude.{◌≡◌, ℕ, ◌+◌, ◌*◌, ◌/◌, ◌<◌, ◌≤◌, ◌==◌, ◌&&◌, ◌||◌, nat_le, Bool, true, List, length, take, drop, All}
 use Rattle.rbf_model.specs.Fields.{total_field, map_bytes_field, cluster_field, root_field}
 
 -- the size of the volume, of its map and of its clusters, and where its root is
@@ -49,9 +49,17 @@ pub record IsNumber (g : Geometry) (n : ℕ) : Type 0 where
 abbrev pub is_within : Geometry → ℕ × ℕ → Bool
 is_within g segment = nat_le 1 segment.0 && nat_le (segment.0 + segment.1) g.total
 
+-- and so does each of a list
+abbrev pub LieWithin : Geometry → List (ℕ × ℕ) → Type 0
+LieWithin g segments = All (λ segment. is_within g segment ≡ true) segments
+
 -- A disk gives the 256 bytes of each sector by its number, the LSN. That of an image:
 abbrev pub sector : List ℕ → ℕ → List ℕ
 sector image n = take 256 (drop (256 * n) image)
+
+-- every sector of the volume has 256 bytes
+abbrev pub IsDisk : Geometry → (ℕ → List ℕ) → Type 0
+IsDisk g disk = (n : ℕ) → n < g.total → length (disk n) ≡ 256
 
 -- an image that holds the volume that its sector 0 speaks of
 pub record HasHeader (image : List ℕ) : Type 0 where

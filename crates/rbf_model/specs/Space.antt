@@ -1,9 +1,9 @@
 -- Clusters: which are marked, and which of them a file has.
-use Rattle.std.specs.Prelude.{◌≡◌, ◌≢◌, ◌↔◌, ℕ, ◌+◌, ◌-◌, ◌*◌, ◌/◌, ◌%◌, ◌≤◌, ◌==◌, ◌&&◌, nat_le, Bool, true, false, List, [], ◌∷◌, ◌++◌, slice_index, Option, Some, All, AllPairs, if◌then◌else◌}
+use Rattle.std.specs.Prelude.{◌≡◌, ◌↔◌, ℕ, ◌+◌, ◌-◌, ◌*◌, ◌/◌, ◌%◌, ◌==◌, nat_le, Bool, true, false, List, [], ◌∷◌, ◌++◌, slice_index, Option, Some, if◌then◌else◌}
 use Rattle.std.specs.List.{range_with_len, list_any}
 use Rattle.std.specs.Int.{bit_at}
-use Rattle.rbf_model.specs.Geometry.{Geometry, map_sectors, is_within}
-use Rattle.rbf_model.specs.Segments.{sectors_of}
+use Rattle.rbf_model.specs.Geometry.{LieWithin, Geometry, map_sectors}
+use Rattle.rbf_model.specs.Segments.{AreDistinct, sectors_of, has}
 use Rattle.rbf_model.specs.File.{DiskFile}
 
 -- Cluster c is the sectors from c k up to (c + 1) k. It is whole where they are all below the total.
@@ -32,7 +32,7 @@ owned g n file = (if n == g.root then system_sectors g else []) ++ n ∷ sectors
 
 -- the sector is one of the owner's
 unfoldable pub owns : Geometry → ℕ → DiskFile → ℕ → Bool
-owns g n file s = list_any (λ t. t == s) (owned g n file)
+owns g n file s = has (owned g n file) s
 
 -- the cluster holds a sector of the owner
 unfoldable pub has_cluster : Geometry → ℕ → DiskFile → ℕ → Bool
@@ -50,9 +50,9 @@ pub record IsLost (g : Geometry) (marked : ℕ → Bool) (files : ℕ → Option
 
 -- The segments of each file are within the volume, and every cluster is used by one owner at most, and marked where it is used.
 pub record IsMapped (g : Geometry) (marked : ℕ → Bool) (files : ℕ → Option DiskFile) (lost : ℕ → Bool) : Type 0 where
-  pub within : (n : ℕ) (file : DiskFile) → files n ≡ Some file → All (λ segment. is_within g segment ≡ true) file.segments
+  pub within : (n : ℕ) (file : DiskFile) → files n ≡ Some file → LieWithin g file.segments
   pub marks : (n : ℕ) (file : DiskFile) (c : ℕ) → files n ≡ Some file → has_cluster g n file c ≡ true → marked c ≡ true
-  pub once : (n : ℕ) (file : DiskFile) → files n ≡ Some file → AllPairs (λ s t. s ≢ t) (owned g n file)
+  pub once : (n : ℕ) (file : DiskFile) → files n ≡ Some file → AreDistinct (owned g n file)
   pub apart : (n m : ℕ) (one other : DiskFile) (c : ℕ) →
       files n ≡ Some one → files m ≡ Some other → has_cluster g n one c ≡ true → has_cluster g m other c ≡ true → n ≡ m
   pub lost_are : (c : ℕ) → (lost c ≡ true) ↔ IsLost g marked files c

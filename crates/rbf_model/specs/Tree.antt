@@ -1,5 +1,5 @@
 -- Directories, and the tree that their entries make. `dirs` gives the bytes of each directory by the number of its descriptor, and no bytes for a number that is no directory's.
-use Rattle.std.specs.Prelude.{◌≡◌, ◌≢◌, ℕ, ◌+◌, ◌*◌, ◌≤◌, Bool, true, List, [], ◌∷◌, length, Option, Some}
+use Rattle.std.specs.Prelude.{◌≡◌, ◌≢◌, ℕ, ◌+◌, ◌*◌, ◌≤◌, true, List, [], ◌∷◌, length, Some}
 use Rattle.os9_base.specs.Name.{SameName}
 use Rattle.rbf_model.specs.Fields.{entry_at, is_used, name_field, descriptor_field}
 use Rattle.rbf_model.specs.Geometry.{Geometry, IsNumber}
@@ -16,11 +16,15 @@ pub record HasEntry (contents : List ℕ) (i : ℕ) : Type 0 where
   pub within : 32 * (i + 1) ≤ length contents
   pub used : is_used (entry_at contents i) ≡ true
 
--- directory d names descriptor n in place i, after the first two
-pub record Names (dirs : ℕ → List ℕ) (d i n : ℕ) : Type 0 where
+-- the directory names descriptor n in place i, after the first two
+pub record NamesIn (contents : List ℕ) (i n : ℕ) : Type 0 where
   pub after : 2 ≤ i
-  pub entry : HasEntry (dirs d) i
-  pub descriptor : descriptor_field (entry_at (dirs d) i) ≡ n
+  pub entry : HasEntry contents i
+  pub descriptor : descriptor_field (entry_at contents i) ≡ n
+
+-- directory d does
+abbrev pub Names : (ℕ → List ℕ) → ℕ → ℕ → ℕ → Type 0
+Names dirs d i n = NamesIn (dirs d) i n
 
 -- the files that are reached: the root, and each number of the volume that a reached directory names
 pub data Reached (g : Geometry) (dirs : ℕ → List ℕ) : ℕ → Type 0 where

@@ -1,10 +1,11 @@
 -- What an image stands for.
-use Rattle.std.specs.Prelude.{◌≡◌, ◌↔◌, ℕ, ◌*◌, ◌≤◌, Bool, true, List, [], length, drop, Option, Some, None, IsSome, if◌then◌else◌}
+use Rattle.std.specs.Prelude.{◌≡◌, ◌↔◌, ℕ, ◌*◌, ◌&&◌, Bool, true, false, not, List, [], length, drop, filter, Option, Some, None, IsSome, is_some, if◌then◌else◌}
+use Rattle.std.specs.List.{range_with_len, list_all}
 use Rattle.rbf_model.specs.Fields.{size_field}
-use Rattle.rbf_model.specs.Geometry.{Geometry, geometry, IsGeometry, IsNumber, HasHeader, sector}
+use Rattle.rbf_model.specs.Geometry.{Geometry, geometry, IsGeometry, IsDisk, IsNumber, HasHeader, sector}
 use Rattle.rbf_model.specs.File.{DiskFile, file_at, is_directory, is_directory_size, has_room}
-use Rattle.rbf_model.specs.Space.{IsMapped, is_marked}
-use Rattle.rbf_model.specs.Tree.{Names, Reached, Links, HasDots, HasNames, HasDifferentNames}
+use Rattle.rbf_model.specs.Space.{IsMapped, is_marked, is_whole, has_cluster, cluster_count}
+use Rattle.rbf_model.specs.Tree.{Names, Reached, HasDots, HasNames, HasDifferentNames}
 
 -- a volume: the bytes of sector 0, the file of each descriptor number, whether each cluster is lost, and the bytes past the total
 pub record DiskVolume : Type 0 where
@@ -43,6 +44,7 @@ pub record IsTree (g : Geometry) (files : ℕ → Option DiskFile) : Type 0 wher
 -- a disk stands for a volume
 pub record Sound (g : Geometry) (disk : ℕ → List ℕ) (v : DiskVolume) : Type 0 where
   pub shape : IsGeometry g
+  pub sectors : IsDisk g disk
   pub shows : Shows disk v
   pub mapped : IsMapped g (is_marked disk) v.files v.lost
   pub tree : IsTree g v.files
@@ -52,3 +54,23 @@ pub record Vol (image : List ℕ) (v : DiskVolume) : Type 0 where
   pub header : HasHeader image
   pub sound : Sound (geometry (sector image 0)) (sector image) v
   pub rest : v.rest ≡ drop (256 * (geometry (sector image 0)).total) image
+
+-- the cluster is one of the file's, if there is one
+abbrev pub in_file : Geometry → ℕ → Option DiskFile → ℕ → Bool
+in_file g n None c = false
+in_file g n (Some file) c = has_cluster g n file c
+
+-- a cluster is free where it is whole, is not lost, and is in no file; the root's file has the system's clusters
+unfoldable pub is_free : Geometry → DiskVolume → ℕ → Bool
+is_free g v c = is_whole g c && not (v.lost c) && list_all (λ n. not (in_file g n (v.files n) c)) (range_with_len 0 g.total)
+
+-- the descriptor numbers of the files, by rising number
+abbrev pub file_numbers : Geometry → DiskVolume → List ℕ
+file_numbers g v = filter (λ n. is_some (v.files n)) (range_with_len 0 g.total)
+
+-- the free and the lost clusters, by rising number
+abbrev pub free_clusters : Geometry → DiskVolume → List ℕ
+free_clusters g v = filter (is_free g v) (range_with_len 0 (cluster_count g))
+
+abbrev pub lost_clusters : Geometry → DiskVolume → List ℕ
+lost_clusters g v = filter v.lost (range_with_len 0 (cluster_count g))
