@@ -9,3 +9,6 @@ pub mod Built
 pub mod Breaks
 pub mod Free
 pub mod Images
+pub mod Change
+pub mod Entries
+pub mod Leaf

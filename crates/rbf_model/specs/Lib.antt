@@ -6,3 +6,4 @@ pub mod Space
 pub mod Tree
 pub mod Volume
 pub mod Faults
+pub mod Writes
