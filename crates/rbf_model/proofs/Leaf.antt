@@ -11,6 +11,7 @@ use Rattle.rbf_model.specs.Volume.{IsTree, directories, listing}
 use Rattle.rbf_model.specs.Writes.{put_file, ChangesEntry, IsNewDirectory, IsNewEntry}
 use Rattle.rbf_model.proofs.Lists.{some_is, some_of}
 use Rattle.rbf_model.proofs.Keeps.{no_entry}
+use Rattle.rbf_model.proofs.Named.{by_place, names_to}
 use Rattle.rbf_model.proofs.Change.{put_file_here, put_file_beside, put_file_cases}
 use Rattle.rbf_model.proofs.Entries.{entry_kept, entry_back, names_kept, names_back, listing_directory, listing_file, no_third_entry}
 
@@ -59,15 +60,10 @@ module _ (g : Geometry) (files : ℕ → Option DiskFile) (tree : IsTree g files
   is_beside : (m : ℕ) → m ≢ n → m ≢ d → directories news m ≡ directories files m
   is_beside m not_n not_d = ap listing (file_beside m not_n not_d)
 
-  -- each is the new file, its directory, or one of the others
-  by_place : {X : Type 0} (m : ℕ) → (m ≡ n → X) → (m ≡ d → X) → (m ≢ n → m ≢ d → X) → X
-  by_place m here above beside =
-      ⊎_elim here (λ not_n. ⊎_elim above (λ not_d. beside not_n not_d) (cases_eq m d)) (cases_eq m n)
-
   -- the names that were there are kept
   keep : (e j m : ℕ) → NamesIn (directories files e) j m → NamesIn (directories news e) j m
   keep e j m names =
-      by_place e
+      by_place n d e
       (λ here. absurd (no_entry (directories files e) j (ap (directories files) here ∙ was_here) names.entry))
       (λ above.
         let was = subst (λ c. NamesIn c j m) (ap (directories files) above ∙ was_above) names in
@@ -82,7 +78,7 @@ module _ (g : Geometry) (files : ℕ → Option DiskFile) (tree : IsTree g files
   -- and no other
   only : (e j m : ℕ) → NamesIn (directories news e) j m → (NamesIn (directories files e) j m) ⊎ ((e ≡ d) × (j ≡ i) × (m ≡ n))
   only e j m names =
-      by_place e
+      by_place n d e
       (λ here. absurd (no_third_entry file n d j made names.after (subst (λ c. HasEntry c j) (ap (directories news) here ∙ is_here) names.entry)))
       (λ above.
         let now = subst (λ c. NamesIn c j m) (ap (directories news) above ∙ is_above) names in
@@ -91,17 +87,6 @@ module _ (g : Geometry) (files : ℕ → Option DiskFile) (tree : IsTree g files
         (λ differ. inl (subst (λ c. NamesIn c j m) (sym (ap (directories files) above ∙ was_above)) (names_back old.contents dir.contents i j m change differ now)))
         (cases_eq j i))
       (λ not_n not_d. inl (subst (λ c. NamesIn c j m) (is_beside e not_n not_d) names))
-
-  -- what names something is a file, and so is what it names
-  names_from : (e j m : ℕ) → NamesIn (directories files e) j m → Reached g (directories files) e
-  names_from e j m names = at (files e) refl
-    where
-      at : (o : Option DiskFile) → files e ≡ o → Reached g (directories files) e
-      at None h = absurd (no_entry (directories files e) j (ap listing h) names.entry)
-      at (Some f) h = (tree.reached e).0 (some_is (files e) f h)
-
-  names_to : (e j m : ℕ) → NamesIn (directories files e) j m → IsSome (files m)
-  names_to e j m names = (tree.reached m).1 (named (names_from e j m names) names (tree.numbers e j m names))
 
   grows : {m : ℕ} → Reached g (directories files) m → Reached g (directories news) m
   grows r = reached_grows g (directories files) (directories news) keep r
@@ -118,7 +103,7 @@ module _ (g : Geometry) (files : ℕ → Option DiskFile) (tree : IsTree g files
 
   some_after : (m : ℕ) → IsSome (files m) → IsSome (news m)
   some_after m some =
-      by_place m
+      by_place n d m
       (λ here. some_is (news m) file (ap news here ∙ file_here))
       (λ above. some_is (news m) dir (ap news above ∙ file_above))
       (λ not_n not_d. subst IsSome (sym (file_beside m not_n not_d)) some)
@@ -126,7 +111,7 @@ module _ (g : Geometry) (files : ℕ → Option DiskFile) (tree : IsTree g files
   reached_some : {m : ℕ} → Reached g (directories news) m → IsSome (news m)
   reached_some root = some_after g.root ((tree.reached g.root).1 root)
   reached_some (named {d = e} {i = j} {n = m} r names num) =
-      ⊎_elim (λ was. some_after m (names_to e j m was)) (λ is_new. some_is (news m) file (ap news is_new.2 ∙ file_here)) (only e j m names)
+      ⊎_elim (λ was. some_after m (names_to g files tree e j m was)) (λ is_new. some_is (news m) file (ap news is_new.2 ∙ file_here)) (only e j m names)
 
   link_grows : (p j m : ℕ) → Links g (directories files) p j m → Links g (directories news) p j m
   link_grows p j m link = record { from = grows link.from; names = keep p j m link.names }
@@ -166,7 +151,7 @@ module _ (g : Geometry) (files : ℕ → Option DiskFile) (tree : IsTree g files
 
   dots_after : (m : ℕ) (one : DiskFile) → news m ≡ Some one → is_directory one ≡ true → HasDots g (directories news) m
   dots_after m one h is_dir =
-      by_place m
+      by_place n d m
       (λ here. subst (HasDots g (directories news)) (sym here) (dots_here (subst (λ f. is_directory f ≡ true) (same_Some one file (sym h ∙ ap news here ∙ file_here)) is_dir)))
       (λ above. subst (HasDots g (directories news)) (sym above) dots_above)
       (λ not_n not_d.
@@ -184,7 +169,7 @@ module _ (g : Geometry) (files : ℕ → Option DiskFile) (tree : IsTree g files
 
   names_after : (m : ℕ) → HasNames (directories news m)
   names_after m =
-      by_place m
+      by_place n d m
       (λ here. λ j low has. absurd (no_third_entry file n d j made low (subst (λ c. HasEntry c j) (ap (directories news) here ∙ is_here) has)))
       (λ above. subst HasNames (sym (ap (directories news) above ∙ is_above)) names_above)
       (λ not_n not_d. subst HasNames (sym (is_beside m not_n not_d)) (tree.names m))
@@ -211,14 +196,14 @@ module _ (g : Geometry) (files : ℕ → Option DiskFile) (tree : IsTree g files
 
   different_after : (m : ℕ) → HasDifferentNames (directories news m)
   different_after m =
-      by_place m
+      by_place n d m
       (λ here. λ j k one other low low2 has has2 a b same. absurd (no_third_entry file n d j made low (subst (λ c. HasEntry c j) (ap (directories news) here ∙ is_here) has)))
       (λ above. subst HasDifferentNames (sym (ap (directories news) above ∙ is_above)) different_above)
       (λ not_n not_d. subst HasDifferentNames (sym (is_beside m not_n not_d)) (tree.different m))
 
   sizes_after : (m : ℕ) (one : DiskFile) → news m ≡ Some one → is_directory one ≡ true → is_directory_size (length one.contents) ≡ true
   sizes_after m one h is_dir =
-      by_place m
+      by_place n d m
       (λ here.
         let same = same_Some one file (sym h ∙ ap news here ∙ file_here) in
         subst (λ f. is_directory_size (length f.contents) ≡ true) (sym same)
@@ -228,13 +213,13 @@ module _ (g : Geometry) (files : ℕ → Option DiskFile) (tree : IsTree g files
 
   root_after : (one : DiskFile) → news g.root ≡ Some one → is_directory one ≡ true
   root_after one h =
-      by_place g.root
+      by_place n d g.root
       (λ here. absurd (root_not_n (sym here)))
       (λ above. subst (λ f. is_directory f ≡ true) (sym (same_Some one dir (sym h ∙ ap news above ∙ file_above))) new_dir)
       (λ not_n not_d. tree.root one (sym (file_beside g.root not_n not_d) ∙ h))
 
   not_named_before : (e j : ℕ) → NamesIn (directories files e) j n → ⊥
-  not_named_before e j names = false≢true (subst IsSome absent (names_to e j n names))
+  not_named_before e j names = false≢true (subst IsSome absent (names_to g files tree e j n names))
 
   once_after : (e k j l m : ℕ) → NamesIn (directories news e) j m → NamesIn (directories news k) l m → (e ≡ k) × (j ≡ l)
   once_after e k j l m one other =

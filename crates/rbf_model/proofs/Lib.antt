@@ -11,4 +11,7 @@ pub mod Free
 pub mod Images
 pub mod Change
 pub mod Entries
+pub mod Named
 pub mod Leaf
+pub mod Fall
+pub mod Kept
