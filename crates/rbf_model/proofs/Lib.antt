@@ -1,0 +1,17 @@
+pub mod Lists
+pub mod Segments
+pub mod Space
+pub mod Tree
+pub mod Files
+pub mod Keeps
+pub mod Unique
+pub mod Built
+pub mod Breaks
+pub mod Free
+pub mod Images
+pub mod Change
+pub mod Entries
+pub mod Named
+pub mod Leaf
+pub mod Fall
+pub mod Kept
