@@ -1,13 +1,12 @@
-// A library with one function.
+//! The sectors of an RBF volume as records: the identification sector, file descriptors and
+//! directory entries.
 #![tactic(auto)]
 
-ghost use Rattle.std.specs.Prelude.{◌≡◌};
-ghost use Rattle.rbf_sector.specs.Echo.{echo_of};
+pub use entry::{Entry, read_entry, write_entry};
+pub use fd::{Fd, read_fd, write_fd};
+pub use ident::{Ident, read_ident};
 
-// The `ensures` clause is the contract: what `echo` returns is `echo_of` of its argument, a definition
-// in `specs/Echo.antt`, which a caller's clause can cite too.
-pub fn echo(x: usize) -> usize
-    ensures { result ≡ echo_of x }
-{
-    x
-}
+mod entry;
+mod fd;
+mod ident;
+mod parts;
