@@ -15,3 +15,6 @@ pub mod Named
 pub mod Leaf
 pub mod Fall
 pub mod Kept
+pub mod Pieces
+pub mod Bytes
+pub mod Owners
