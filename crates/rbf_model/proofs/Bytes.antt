@@ -1,5 +1,6 @@
 -- A disk with other bytes in one sector.
 use Rattle.std.proofs.Common.{◌≡◌, ◌≢◌, ◌⊎◌, ℕ, zero, suc, ◌+◌, ◌-◌, ◌*◌, ◌/◌, ◌%◌, ◌<◌, ◌≤◌, ◌==◌, ◌||◌, Bool, true, false, List, [], ◌∷◌, ◌++◌, length, take, drop, get_or, Option, Some, refl, sym, ap, ◌∙◌, subst, inl, inr, ⊎_elim, arith, append_assoc, length-append, eqb-true, eq-eqb}
+use mathlib.Core.Path.{fun_ext}
 use Rattle.std.specs.Prelude.{flat_map, slice_index}
 use Rattle.std.specs.Int.{bit_at}
 use Rattle.std.proofs.lemmas.Bool.{cond-true, cond-false, false_from_ne_true, or_parts, or_left, or_right, or_cases, false≢true, both_ways, cases_eq}
@@ -71,6 +72,17 @@ distinct_rest x xs h = λ i j d low high. h (suc i) (suc j) d (omega arith) (ome
 pub distinct_first : (x : ℕ) (xs : List ℕ) → AreDistinct (x ∷ xs) → has xs x ≡ false
 distinct_first x xs h =
     false_from_ne_true (has xs x) (λ found. let w = place_of xs x found in h 0 (suc w.0) x (omega arith) (let p = w.1 in omega arith) (sym w.2))
+
+-- the second of two lists
+pub distinct_second : (xs ys : List ℕ) → AreDistinct (xs ++ ys) → AreDistinct ys
+distinct_second xs ys h = λ i j d low high. 
+    let one = get_or-append-add xs ys i d in
+    let other = get_or-append-add xs ys j d in
+    λ same. h (length xs + i) (length xs + j) d (omega arith) (omega (arith, length-append xs ys)) (one ∙ same ∙ sym other)
+
+-- a sector with its own bytes
+pub put_same : (disk : ℕ → List ℕ) (s : ℕ) → put disk s (disk s) ≡ disk
+put_same disk s = fun_ext (λ n. ⊎_elim (λ same. ap (put disk s (disk s)) same ∙ put_here disk s (disk s) ∙ ap disk (sym same)) (λ differ. put_beside disk s (disk s) n differ) (cases_eq n s))
 
 -- two lists that have no number in common
 pub distinct_parts : (xs ys : List ℕ) (s : ℕ) → AreDistinct (xs ++ ys) → has xs s ≡ true → has ys s ≡ true → ⊥

@@ -18,3 +18,7 @@ pub mod Kept
 pub mod Pieces
 pub mod Bytes
 pub mod Owners
+pub mod Shown
+pub mod Map
+pub mod Data
+pub mod Described

@@ -58,6 +58,25 @@ take_put_at whole bytes at size low high fits =
           ∙ ap (λ k. drop k (take size whole)) (sym end))
         (cases_lt size (at + length bytes))
 
+-- two pieces that agree as far as a front goes
+pub front_same : (whole one other : List ℕ) (at size : ℕ) → at ≤ length whole → length one ≡ length other → take (size - at) one ≡ take (size - at) other
+  → take size (put_at whole at one) ≡ take size (put_at whole at other)
+front_same whole one other at size fits same agree =
+    split one ∙ ap (λ f. (take size (take at whole) ++ f) ++ take (size - (at + length one)) (drop (at + length one) whole)) agree
+    ∙ ap (λ k. (take size (take at whole) ++ take (size - at) other) ++ take (size - (at + k)) (drop (at + k) whole)) same
+    ∙ sym (split other)
+  where
+    front : length (take at whole) ≡ at
+    front = length-take-le at whole fits
+
+    split : (bytes : List ℕ) → take size (put_at whole at bytes) ≡ (take size (take at whole) ++ take (size - at) bytes) ++ take (size - (at + length bytes)) (drop (at + length bytes) whole)
+    split bytes =
+        let piece : length (take at whole ++ bytes) ≡ at + length bytes = length-append (take at whole) bytes ∙ ap (λ k. k + length bytes) front in
+        take_append size (take at whole ++ bytes) (drop (at + length bytes) whole)
+        ∙ ap (λ k. take size (take at whole ++ bytes) ++ take (size - k) (drop (at + length bytes) whole)) piece
+        ∙ ap (λ f. f ++ take (size - (at + length bytes)) (drop (at + length bytes) whole))
+          (take_append size (take at whole) bytes ∙ ap (λ k. take size (take at whole) ++ take (size - k) bytes) front)
+
 -- a piece in the second of two lists
 pub put_at_append : (xs ys bytes : List ℕ) (at : ℕ) → put_at (xs ++ ys) (length xs + at) bytes ≡ xs ++ put_at ys at bytes
 put_at_append xs ys bytes at =

@@ -7,3 +7,4 @@ pub mod Tree
 pub mod Volume
 pub mod Faults
 pub mod Writes
+pub mod Laws

@@ -1,0 +1,2 @@
+-- Writes of descriptors.
+use Rattle.std.proofs.Common.{◌≡◌, ℕ}
