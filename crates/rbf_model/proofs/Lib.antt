@@ -22,3 +22,5 @@ pub mod Shown
 pub mod Map
 pub mod Data
 pub mod Described
+pub mod Ready
+pub mod Entered

@@ -18,17 +18,21 @@ pub record IsShown (disk : ℕ → List ℕ) (n : ℕ) (file : DiskFile) : Type 
   pub same : file ≡ file_at disk n
   pub room : has_room file.segments (size_field (disk n)) ≡ true
 
+-- a write to no sector of a file leaves it
+pub shown_at : (disk : ℕ → List ℕ) (n : ℕ) (file : DiskFile) (s : ℕ) (bytes : List ℕ) → IsShown disk n file → has (own_sectors n file) s ≡ false → IsShown (put disk s bytes) n file
+shown_at disk n file s bytes is none =
+    let e = is.same in
+    let none_at = subst (λ f. has (own_sectors n f) s ≡ false) e none in
+    let parts = not_has_first n (sectors_of (segments_field (disk n))) s none_at in
+    record {
+      same = e ∙ sym (file_at_beside disk s bytes n none_at);
+      room = subst (λ d. has_room file.segments (size_field d) ≡ true) (sym (put_beside disk s bytes n parts.0)) is.room
+    }
+
 module _ (g : Geometry) (disk : ℕ → List ℕ) (v : DiskVolume) (sound : Sound g disk v) where
-  -- a write to no sector of a file leaves it
   pub shown_beside : (n : ℕ) (file : DiskFile) (s : ℕ) (bytes : List ℕ) → v.files n ≡ Some file → has (own_sectors n file) s ≡ false → IsShown (put disk s bytes) n file
   shown_beside n file s bytes is none =
-      let e = sound.shows.shown n file is in
-      let none_at = subst (λ f. has (own_sectors n f) s ≡ false) e none in
-      let parts = not_has_first n (sectors_of (segments_field (disk n))) s none_at in
-      record {
-        same = e ∙ sym (file_at_beside disk s bytes n none_at);
-        room = subst (λ d. has_room file.segments (size_field d) ≡ true) (sym (put_beside disk s bytes n parts.0)) (sound.shows.room n file is)
-      }
+      shown_at disk n file s bytes (record { same = sound.shows.shown n file is; room = sound.shows.room n file is }) none
 
   pub ident_beside : (s : ℕ) (bytes : List ℕ) → 1 ≤ s → v.ident ≡ put disk s bytes 0
   ident_beside s bytes low =
