@@ -117,12 +117,12 @@ module _ (g : Geometry) (disk : ℕ → List ℕ) (v : DiskVolume) (sound : Soun
   size_are : length file.contents ≡ size_field (disk n)
   size_are = ap length contents_are ∙ size_is g disk v sound n file sector.is
 
-  room_at : (news : DiskFile) → news.segments ≡ file.segments → has_room news.segments (size_field (put disk s bytes n)) ≡ true
+  pub room_at : (news : DiskFile) → news.segments ≡ file.segments → has_room news.segments (size_field (put disk s bytes n)) ≡ true
   room_at news same =
       subst (λ x. has_room x (size_field (put disk s bytes n)) ≡ true) (sym same)
       (subst (λ d. has_room file.segments (size_field d) ≡ true) (sym (put_beside disk s bytes n not_descriptor)) (sound.shows.room n file sector.is))
 
-  past_map : map_sectors g < s
+  pub past_map : map_sectors g < s
   past_map = own_after g disk v sound n file s sector.is own_sector
 
   -- the sector is no other file's

@@ -24,3 +24,5 @@ pub mod Data
 pub mod Described
 pub mod Ready
 pub mod Entered
+pub mod Appended
+pub mod Left
