@@ -26,3 +26,4 @@ pub mod Ready
 pub mod Entered
 pub mod Appended
 pub mod Left
+pub mod Lifted

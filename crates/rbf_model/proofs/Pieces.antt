@@ -2,6 +2,7 @@
 use Rattle.std.proofs.Common.{◌≡◌, ◌≢◌, ℕ, zero, suc, ◌+◌, ◌-◌, ◌*◌, ◌<◌, ◌≤◌, min, List, [], ◌∷◌, ◌++◌, length, take, drop, refl, sym, ap, ◌∙◌, subst, inl, inr, ⊎_elim, arith, append_assoc, append-nil, length-append, length-take, length-drop}
 use Rattle.std.proofs.lemmas.Bool.{cases_lt, cases_order}
 use Rattle.std.proofs.lemmas.List.{take-append-le, take_all, take-take, take_at, drop_at, drop_all, drop-take, drop-drop, drop-append-le, take-append-drop, length-take-le}
+use Rattle.std.proofs.Math.Nat.{mul-le-mul_left}
 use Rattle.std.proofs.Math.Seq.{take-append-add, drop-append-add}
 use Rattle.rbf_model.specs.Fields.{entry_at}
 use Rattle.rbf_model.specs.Writes.{put_at, ChangesEntry}
@@ -87,51 +88,73 @@ put_at_append xs ys bytes at =
     ∙ ap (λ f. f ++ drop (at + length bytes) ys) (append_assoc xs (take at ys) bytes)
     ∙ append_assoc xs (take at ys ++ bytes) (drop (at + length bytes) ys)
 
--- an entry that lies in the first of two lists
-entry_in_front : (front rest : List ℕ) (j : ℕ) → 32 * (j + 1) ≤ length front → entry_at (front ++ rest) j ≡ entry_at front j
-entry_in_front front rest j fits =
-    ap (take 32) (drop-append-le (32 * j) front rest (omega arith))
-    ∙ take-append-le 32 (drop (32 * j) front) rest (omega (arith, length-drop (32 * j) front))
+-- The pieces of a width that a list is cut into.
+abbrev pub piece_at : ℕ → List ℕ → ℕ → List ℕ
+piece_at w contents i = take w (drop (w * i) contents)
 
-entry_past : (contents : List ℕ) (j : ℕ) → length contents ≤ 32 * j → entry_at contents j ≡ []
-entry_past contents j past = ap (take 32) (drop_all (32 * j) contents past)
+-- a piece that lies in the first of two lists
+piece_in_front : (w : ℕ) (front rest : List ℕ) (j : ℕ) → w * (j + 1) ≤ length front → piece_at w (front ++ rest) j ≡ piece_at w front j
+piece_in_front w front rest j fits =
+    ap (take w) (drop-append-le (w * j) front rest (omega arith))
+    ∙ take-append-le w (drop (w * j) front) rest (omega (arith, length-drop (w * j) front))
+
+piece_past : (w : ℕ) (contents : List ℕ) (j : ℕ) → length contents ≤ w * j → piece_at w contents j ≡ []
+piece_past w contents j past = ap (take w) (drop_all (w * j) contents past) ∙ take_nil w
+  where
+    take_nil : (k : ℕ) → take {A = ℕ} k [] ≡ []
+    take_nil zero = refl
+    take_nil (suc k) = refl
+
+-- a list of which one piece is another
+module _ (w : ℕ) (contents piece : List ℕ) (i : ℕ) (whole : length piece ≡ w) (fits : w * (i + 1) ≤ length contents) where
+  front_length : length (take (w * i) contents) ≡ w * i
+  front_length = length-take-le (w * i) contents (omega arith)
+
+  pub length_piece : length (put_at contents (w * i) piece) ≡ length contents
+  length_piece = length-put_at contents piece (w * i) (omega arith)
+
+  pub piece_put : piece_at w (put_at contents (w * i) piece) i ≡ piece
+  piece_put =
+      ap (λ c. take w (drop (w * i) c)) (append_assoc (take (w * i) contents) piece (drop (w * i + length piece) contents))
+      ∙ ap (take w) (drop_at (take (w * i) contents) (piece ++ drop (w * i + length piece) contents) (w * i) front_length)
+      ∙ take_at piece (drop (w * i + length piece) contents) w whole
+
+  pub piece_before : (j : ℕ) → j < i → piece_at w (put_at contents (w * i) piece) j ≡ piece_at w contents j
+  piece_before j low =
+      let place : w * (j + 1) ≤ w * i = mul-le-mul_left w (omega arith) in
+      ap (λ c. piece_at w c j) (append_assoc (take (w * i) contents) piece (drop (w * i + length piece) contents))
+      ∙ piece_in_front w (take (w * i) contents) (piece ++ drop (w * i + length piece) contents) j (omega (arith, front_length))
+      ∙ sym (piece_in_front w (take (w * i) contents) (drop (w * i) contents) j (omega (arith, front_length)))
+      ∙ ap (λ c. piece_at w c j) (take-append-drop (w * i) contents)
+
+  -- what is left of the list past the piece
+  pub drop_past_piece : (n : ℕ) → w * i + w ≤ n → drop n (put_at contents (w * i) piece) ≡ drop n contents
+  drop_past_piece n past =
+      let front : length (take (w * i) contents ++ piece) ≡ w * i + w = length-append (take (w * i) contents) piece ∙ omega (arith, front_length) in
+      let there : w * i + length piece + (n - length (take (w * i) contents ++ piece)) ≡ n = omega arith in
+      drop_append n (take (w * i) contents ++ piece) (drop (w * i + length piece) contents) (omega arith)
+      ∙ drop-drop (n - length (take (w * i) contents ++ piece)) (w * i + length piece) contents ∙ ap (λ k. drop k contents) there
+
+  pub piece_behind : (j : ℕ) → i < j → piece_at w (put_at contents (w * i) piece) j ≡ piece_at w contents j
+  piece_behind j high =
+      let place : w * (i + 1) ≤ w * j = mul-le-mul_left w (omega arith) in
+      ap (take w) (drop_past_piece (w * j) (omega arith))
+
+  pub piece_beside : (j : ℕ) → j ≢ i → piece_at w (put_at contents (w * i) piece) j ≡ piece_at w contents j
+  piece_beside j differ =
+      ⊎_elim (λ same. absurd (differ same)) (λ apart. ⊎_elim (λ low. piece_before j low) (λ high. piece_behind j high) apart) (cases_order j i)
 
 module _ (contents entry : List ℕ) (i : ℕ) (whole : length entry ≡ 32) (fits : 32 * (i + 1) ≤ length contents) where
-  front_length : length (take (32 * i) contents) ≡ 32 * i
-  front_length = length-take-le (32 * i) contents (omega arith)
-
-  length_here : length (put_at contents (32 * i) entry) ≡ length contents
-  length_here = length-put_at contents entry (32 * i) (omega arith)
-
   -- the entry that was put
   pub entry_put : entry_at (put_at contents (32 * i) entry) i ≡ entry
-  entry_put =
-      ap (λ c. take 32 (drop (32 * i) c)) (append_assoc (take (32 * i) contents) entry (drop (32 * i + length entry) contents))
-      ∙ ap (take 32) (drop_at (take (32 * i) contents) (entry ++ drop (32 * i + length entry) contents) (32 * i) front_length)
-      ∙ take_at entry (drop (32 * i + length entry) contents) 32 whole
-
-  before : (j : ℕ) → j < i → entry_at (put_at contents (32 * i) entry) j ≡ entry_at contents j
-  before j low =
-      ap (λ c. entry_at c j) (append_assoc (take (32 * i) contents) entry (drop (32 * i + length entry) contents))
-      ∙ entry_in_front (take (32 * i) contents) (entry ++ drop (32 * i + length entry) contents) j (omega (arith, front_length))
-      ∙ sym (entry_in_front (take (32 * i) contents) (drop (32 * i) contents) j (omega (arith, front_length)))
-      ∙ ap (λ c. entry_at c j) (take-append-drop (32 * i) contents)
-
-  behind : (j : ℕ) → i < j → entry_at (put_at contents (32 * i) entry) j ≡ entry_at contents j
-  behind j high =
-      let piece : length (take (32 * i) contents ++ entry) ≡ 32 * i + 32 = length-append (take (32 * i) contents) entry ∙ omega (arith, front_length) in
-      let there : 32 * i + length entry + (32 * j - length (take (32 * i) contents ++ entry)) ≡ 32 * j = omega arith in
-      ap (take 32)
-        (drop_append (32 * j) (take (32 * i) contents ++ entry) (drop (32 * i + length entry) contents) (omega arith)
-          ∙ drop-drop (32 * j - length (take (32 * i) contents ++ entry)) (32 * i + length entry) contents ∙ ap (λ k. drop k contents) there)
+  entry_put = piece_put 32 contents entry i whole fits
 
   -- no other entry has changed
   pub changes_put : ChangesEntry contents (put_at contents (32 * i) entry) i
   changes_put = record {
-    beside = λ j differ.
-      ⊎_elim (λ same. absurd (differ same)) (λ apart. ⊎_elim (λ low. before j low) (λ high. behind j high) apart) (cases_order j i);
-    kept = λ j differ h. omega (arith, length_here);
-    no_more = λ j differ h. omega (arith, length_here)
+    beside = λ j differ. piece_beside 32 contents entry i whole fits j differ;
+    kept = λ j differ h. omega (arith, length_piece 32 contents entry i whole fits);
+    no_more = λ j differ h. omega (arith, length_piece 32 contents entry i whole fits)
   }
 
 module _ (contents entry : List ℕ) (i : ℕ) (whole : length entry ≡ 32) (end : length contents ≡ 32 * i) where
@@ -144,8 +167,8 @@ module _ (contents entry : List ℕ) (i : ℕ) (whole : length entry ≡ 32) (en
     beside = λ j differ.
       ⊎_elim (λ same. absurd (differ same))
       (λ apart. ⊎_elim
-        (λ low. entry_in_front contents entry j (omega arith))
-        (λ high. entry_past (contents ++ entry) j (omega (arith, length-append contents entry)) ∙ sym (entry_past contents j (omega arith)))
+        (λ low. piece_in_front 32 contents entry j (omega arith))
+        (λ high. piece_past 32 (contents ++ entry) j (omega (arith, length-append contents entry)) ∙ sym (piece_past 32 contents j (omega arith)))
         apart)
       (cases_order j i);
     kept = λ j differ h. omega (arith, length-append contents entry);
