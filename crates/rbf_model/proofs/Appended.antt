@@ -1,11 +1,11 @@
 -- A write of a directory's descriptor with which a file comes into the volume.
-use Rattle.std.proofs.Common.{◌≡◌, ◌≢◌, ◌⊎◌, ℕ, ◌+◌, ◌*◌, ◌%◌, ◌<◌, ◌≤◌, ◌==◌, ◌&&◌, Bool, true, false, List, ◌++◌, length, Option, Some, None, refl, sym, ap, ◌∙◌, subst, inl, inr, ⊎_elim, arith, length-append, leb-true, le-leb, eqb-true, eq-eqb}
-use Rattle.std.proofs.lemmas.Bool.{both_ways, false_from_ne_true, or_left, cases_eq, and_parts, and_from}
+use Rattle.std.proofs.Common.{◌≡◌, ◌≢◌, ℕ, ◌+◌, ◌%◌, ◌≤◌, ◌==◌, true, List, length, Some, None, refl, sym, ap, ◌∙◌, subst, ⊎_elim, arith, length-append, leb-true, le-leb, eqb-true, eq-eqb}
+use Rattle.std.proofs.lemmas.Bool.{false_from_ne_true, or_left, cases_eq, and_parts, and_from}
 use Rattle.std.proofs.lemmas.Option.{same_Some, none-some}
-use Rattle.rbf_model.specs.Fields.{entry_at, is_used, size_field}
+use Rattle.rbf_model.specs.Fields.{entry_at, is_used}
 use Rattle.rbf_model.specs.Geometry.{Geometry}
 use Rattle.rbf_model.specs.Segments.{has, sectors_of}
-use Rattle.rbf_model.specs.File.{DiskFile, file_from, file_at, has_room, is_directory, is_directory_size}
+use Rattle.rbf_model.specs.File.{DiskFile, file_from, file_at, is_directory_size}
 use Rattle.rbf_model.specs.Space.{is_marked, own_sectors, IsMapped}
 use Rattle.rbf_model.specs.Tree.{HasEntry}
 use Rattle.rbf_model.specs.Volume.{DiskVolume, Sound}
@@ -28,20 +28,20 @@ grown_size size h =
     and_from _ _ (le-leb 64 (size + 32) (omega arith)) (eq-eqb ((size + 32) % 32) 0 (omega arith))
 
 pub append_law : (g : Geometry) (disk : ℕ → List ℕ) (v : DiskVolume) → Sound g disk v → (d : ℕ) (dir : DiskFile) (bytes : List ℕ) → length bytes ≡ 256
-  → (i : ℕ) (entry : List ℕ) (n : ℕ) → Appends g disk v d dir bytes i entry n
-  → Sound g (put disk d bytes) (with_file g (with_file g v d (Some (file_from disk bytes))) n (Some (file_at disk n)))
+    → (i : ℕ) (entry : List ℕ) (n : ℕ) → Appends g disk v d dir bytes i entry n
+    → Sound g (put disk d bytes) (with_file g (with_file g v d (Some (file_from disk bytes))) n (Some (file_at disk n)))
 append_law g disk v sound d dir bytes whole i entry n appends = record {
   shape = sound.shape;
   sectors = disk_put g disk d bytes sound.sectors whole;
   shows = record {
     ident = ident_beside g disk v sound d bytes (let past = past_descriptor g disk v sound d dir bytes whole appends.describes in omega arith);
     shown = λ m other is. (shown m other is).same;
-    room = λ m other is. (shown m other is).room
+    room = λ m other is. (shown m other is).room;
   };
   mapped = mapped_comes g (is_marked (put disk d bytes)) (put_file v.files d (Some now)) (lost_after g v.files v.lost d (Some now)) mapped n (file_at disk n)
-    appends.ready.clusters appends.ready.within appends.ready.distinct not_root;
+      appends.ready.clusters appends.ready.within appends.ready.distinct not_root;
   tree = tree_with_leaf g v.files sound.tree d i n dir now (file_at disk n) appends.describes.is appends.directory appends.kind size after changes
-    (λ has. let fits = has.within in let end = appends.end in absurd (omega arith)) has_entry new absent appends.ready.number appends.ready.made
+      (λ has. let fits = has.within in let end = appends.end in absurd (omega arith)) has_entry new absent appends.ready.number appends.ready.made;
 }
   where
     now : DiskFile
@@ -99,15 +99,15 @@ append_law g disk v sound d dir bytes whole i entry n appends = record {
     shown_new =
         shown_at disk n (file_at disk n) d bytes (record { same = refl; room = appends.ready.room })
         (false_from_ne_true (has (own_sectors n (file_at disk n)) d)
-          (ready_apart g (is_marked (put disk d bytes)) (put_file v.files d (Some (file_from disk bytes))) (lost_after g v.files v.lost d (Some (file_from disk bytes))) mapped n
-            (file_at disk n) appends.ready.clusters d (file_from disk bytes) d (put_file_here v.files d (Some (file_from disk bytes)))
-            (owns_own g d (file_from disk bytes) d own_descriptor)))
+        (ready_apart g (is_marked (put disk d bytes)) (put_file v.files d (Some (file_from disk bytes))) (lost_after g v.files v.lost d (Some (file_from disk bytes))) mapped n
+        (file_at disk n) appends.ready.clusters d (file_from disk bytes) d (put_file_here v.files d (Some (file_from disk bytes)))
+        (owns_own g d (file_from disk bytes) d own_descriptor)))
 
     shown_then : (m : ℕ) (other : DiskFile) → put_file v.files d (Some (file_from disk bytes)) m ≡ Some other → IsShown (put disk d bytes) m other
     shown_then m other is =
         ⊎_elim
         (λ here. subst (λ k. IsShown (put disk d bytes) k other) (sym here.0)
-          (subst (IsShown (put disk d bytes) d) (same_Some (file_from disk bytes) other here.1) (shown_described g disk v sound d dir bytes whole appends.describes)))
+        (subst (IsShown (put disk d bytes) d) (same_Some (file_from disk bytes) other here.1) (shown_described g disk v sound d dir bytes whole appends.describes)))
         (λ there. shown_beside_descriptor g disk v sound d dir bytes whole appends.describes m other there.0 there.1)
         (put_file_cases v.files d (Some (file_from disk bytes)) m other is)
 
@@ -115,6 +115,6 @@ append_law g disk v sound d dir bytes whole i entry n appends = record {
     shown m other is =
         ⊎_elim
         (λ here. subst (λ k. IsShown (put disk d bytes) k other) (sym here.0)
-          (subst (IsShown (put disk d bytes) n) (same_Some (file_at disk n) other here.1) shown_new))
+        (subst (IsShown (put disk d bytes) n) (same_Some (file_at disk n) other here.1) shown_new))
         (λ there. shown_then m other there.1)
         (put_file_cases (put_file v.files d (Some (file_from disk bytes))) n (Some (file_at disk n)) m other is)

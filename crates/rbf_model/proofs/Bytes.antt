@@ -1,14 +1,13 @@
 -- A disk with other bytes in one sector.
-use Rattle.std.proofs.Common.{◌≡◌, ◌≢◌, ◌⊎◌, ℕ, zero, suc, ◌+◌, ◌-◌, ◌*◌, ◌/◌, ◌%◌, ◌<◌, ◌≤◌, ◌==◌, ◌||◌, Bool, true, false, List, [], ◌∷◌, ◌++◌, length, take, drop, get_or, Option, Some, refl, sym, ap, ◌∙◌, subst, inl, inr, ⊎_elim, arith, append_assoc, length-append, eqb-true, eq-eqb}
+use Rattle.std.proofs.Common.{◌≡◌, ◌≢◌, ℕ, zero, suc, ◌+◌, ◌-◌, ◌*◌, ◌/◌, ◌%◌, ◌<◌, ◌==◌, true, false, List, [], ◌∷◌, ◌++◌, length, take, drop, get_or, refl, sym, ap, ◌∙◌, subst, ⊎_elim, arith, length-append, eqb-true, eq-eqb}
 use mathlib.Core.Path.{fun_ext}
 use Rattle.std.specs.Prelude.{flat_map, slice_index}
 use Rattle.std.specs.Int.{bit_at}
 use Rattle.std.proofs.lemmas.Bool.{cond-true, cond-false, false_from_ne_true, or_parts, or_left, or_right, or_cases, false≢true, both_ways, cases_eq}
-use Rattle.std.proofs.lemmas.List.{take_at, drop_at, get_or_append_left, get_or-append-add}
-use Rattle.std.proofs.Math.Seq.{take-append-add, drop-append-add}
+use Rattle.std.proofs.lemmas.List.{drop_at, get_or_append_left, get_or-append-add}
 use Rattle.rbf_model.specs.Fields.{size_field, segments_field}
 use Rattle.rbf_model.specs.Segments.{AreDistinct, sectors_of, has}
-use Rattle.rbf_model.specs.File.{DiskFile, file_from, file_at, bytes_of}
+use Rattle.rbf_model.specs.File.{file_from, file_at}
 use Rattle.rbf_model.specs.Space.{is_marked}
 use Rattle.rbf_model.specs.Writes.{put, put_at}
 use Rattle.rbf_model.proofs.Pieces.{put_at_append}
@@ -46,14 +45,14 @@ joined_beside disk s bytes (x ∷ xs) none =
 
 -- a file whose sectors are others
 pub file_from_beside : (disk : ℕ → List ℕ) (s : ℕ) (bytes descriptor : List ℕ) → has (sectors_of (segments_field descriptor)) s ≡ false
-  → file_from (put disk s bytes) descriptor ≡ file_from disk descriptor
+    → file_from (put disk s bytes) descriptor ≡ file_from disk descriptor
 file_from_beside disk s bytes descriptor none =
     ap (λ whole. record (file_from disk descriptor) { contents = take (size_field descriptor) whole })
     (joined_beside disk s bytes (sectors_of (segments_field descriptor)) none)
 
 -- a file whose descriptor and sectors are others
 pub file_at_beside : (disk : ℕ → List ℕ) (s : ℕ) (bytes : List ℕ) (n : ℕ) → has (n ∷ sectors_of (segments_field (disk n))) s ≡ false
-  → file_at (put disk s bytes) n ≡ file_at disk n
+    → file_at (put disk s bytes) n ≡ file_at disk n
 file_at_beside disk s bytes n none =
     let parts = not_has_first n (sectors_of (segments_field (disk n))) s none in
     ap (file_from (put disk s bytes)) (put_beside disk s bytes n parts.0) ∙ file_from_beside disk s bytes (disk n) parts.1
@@ -75,7 +74,7 @@ distinct_first x xs h =
 
 -- the second of two lists
 pub distinct_second : (xs ys : List ℕ) → AreDistinct (xs ++ ys) → AreDistinct ys
-distinct_second xs ys h = λ i j d low high. 
+distinct_second xs ys h = λ i j d low high.
     let one = get_or-append-add xs ys i d in
     let other = get_or-append-add xs ys j d in
     λ same. h (length xs + i) (length xs + j) d (omega arith) (omega (arith, length-append xs ys)) (one ∙ same ∙ sym other)
@@ -102,12 +101,12 @@ has_place (x ∷ xs) (suc j) low = or_right (x == get_or xs j 0) (has xs (get_or
 
 -- the bytes of sectors of which the one in place j is changed
 pub joined_put : (disk : ℕ → List ℕ) (bytes : List ℕ) (xs : List ℕ) (j : ℕ) → AreDistinct xs → ((x : ℕ) → has xs x ≡ true → length (disk x) ≡ 256) → length bytes ≡ 256
-  → j < length xs → flat_map (put disk (get_or xs j 0) bytes) xs ≡ put_at (flat_map disk xs) (256 * j) bytes
+    → j < length xs → flat_map (put disk (get_or xs j 0) bytes) xs ≡ put_at (flat_map disk xs) (256 * j) bytes
 joined_put disk bytes [] j distinct full whole low = absurd (omega arith)
 joined_put disk bytes (x ∷ xs) zero distinct full whole low =
     ap (λ b. b ++ flat_map (put disk x bytes) xs) (put_here disk x bytes)
     ∙ ap (λ b. bytes ++ b) (joined_beside disk x bytes xs (distinct_first x xs distinct)
-      ∙ sym (drop_at (disk x) (flat_map disk xs) (length bytes) (full x (or_left (x == x) (has xs x) (eq-eqb x x refl)) ∙ sym whole)))
+    ∙ sym (drop_at (disk x) (flat_map disk xs) (length bytes) (full x (or_left (x == x) (has xs x) (eq-eqb x x refl)) ∙ sym whole)))
     ∙ (let none : length bytes ≡ 0 + length bytes = omega arith in ap (λ k. bytes ++ drop k (disk x ++ flat_map disk xs)) none)
 joined_put disk bytes (x ∷ xs) (suc j) distinct full whole low =
     let first = full x (or_left (x == x) (has xs x) (eq-eqb x x refl)) in
@@ -115,6 +114,6 @@ joined_put disk bytes (x ∷ xs) (suc j) distinct full whole low =
     let there : length (disk x) + 256 * j ≡ 256 * suc j = omega arith in
     ap (λ b. b ++ flat_map (put disk (get_or xs j 0) bytes) xs) (put_beside disk (get_or xs j 0) bytes x differ)
     ∙ ap (λ b. disk x ++ b)
-      (joined_put disk bytes xs j (distinct_rest x xs distinct) (λ y h. full y (or_right (x == y) (has xs y) h)) whole (omega arith))
+    (joined_put disk bytes xs j (distinct_rest x xs distinct) (λ y h. full y (or_right (x == y) (has xs y) h)) whole (omega arith))
     ∙ sym (put_at_append (disk x) (flat_map disk xs) bytes (256 * j))
     ∙ ap (λ k. put_at (disk x ++ flat_map disk xs) k bytes) there

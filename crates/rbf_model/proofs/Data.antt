@@ -1,15 +1,15 @@
 -- Writes to the sectors of a file, and to sectors that nothing owns.
-use Rattle.std.proofs.Common.{◌≡◌, ◌≢◌, ◌⊎◌, ℕ, ◌+◌, ◌-◌, ◌*◌, ◌<◌, ◌≤◌, ◌==◌, Bool, true, false, List, [], ◌∷◌, ◌++◌, length, take, drop, get_or, Option, Some, refl, sym, ap, ◌∙◌, subst, inl, inr, ⊎_elim, arith, leb-true}
+use Rattle.std.proofs.Common.{◌≡◌, ◌≢◌, ℕ, ◌+◌, ◌-◌, ◌*◌, ◌<◌, ◌≤◌, ◌==◌, true, false, List, [], length, take, get_or, Some, refl, sym, ap, ◌∙◌, subst, ⊎_elim, arith, leb-true}
 use Rattle.std.specs.Prelude.{flat_map, if◌then◌else◌}
 use Rattle.std.proofs.lemmas.Bool.{both_ways, false_from_ne_true, or_right, cases_eq, cases_lt}
 use Rattle.std.proofs.lemmas.Option.{same_Some}
 use Rattle.rbf_model.specs.Fields.{size_field, segments_field}
 use Rattle.rbf_model.specs.Geometry.{Geometry, map_sectors}
 use Rattle.rbf_model.specs.Segments.{has, sectors_of, AreDistinct}
-use Rattle.rbf_model.specs.File.{DiskFile, file_from, file_at, bytes_of, has_room, is_directory}
+use Rattle.rbf_model.specs.File.{DiskFile, file_from, file_at, bytes_of, has_room}
 use Rattle.rbf_model.specs.Space.{is_marked, system_sectors, own_sectors, owned, owns, IsMapped}
 use Rattle.rbf_model.specs.Volume.{DiskVolume, Sound}
-use Rattle.rbf_model.specs.Writes.{put, put_at, put_file, with_same_space}
+use Rattle.rbf_model.specs.Writes.{put, put_at, with_same_space}
 use Rattle.rbf_model.specs.Laws.{IsFileSector, IsUnseen, unowned, past_size, with_bytes, Overwrites}
 use Rattle.rbf_model.proofs.Segments.{has_range, sectors_within, length-joined}
 use Rattle.rbf_model.proofs.Keeps.{segments_are, room_is, size_is}
@@ -19,7 +19,7 @@ use Rattle.rbf_model.proofs.Entries.{listing_file}
 use Rattle.rbf_model.proofs.Kept.{tree_kept}
 use Rattle.rbf_model.proofs.Pieces.{take_put_at, front_same}
 use Rattle.rbf_model.proofs.Bytes.{put_beside, put_same, joined_put, distinct_first, distinct_rest, distinct_second, has_place}
-use Rattle.rbf_model.proofs.Owners.{owns_own, owns_system, root_file, own_after, own_below, own_apart, marks_stay, mapped_by_marks}
+use Rattle.rbf_model.proofs.Owners.{owns_own, owns_system, root_file, own_after, own_apart, marks_stay, mapped_by_marks}
 use Rattle.rbf_model.proofs.Shown.{IsShown, disk_put, shown_beside, ident_beside}
 
 -- a file's own sectors are distinct
@@ -42,25 +42,26 @@ module _ (g : Geometry) (disk : ℕ → List ℕ) (v : DiskVolume) (sound : Soun
     shows = record {
       ident = ident_beside g disk v sound s bytes (omega arith);
       shown = λ n file is. (shown n file is).same;
-      room = λ n file is. (shown n file is).room
+      room = λ n file is. (shown n file is).room;
     };
     mapped = marks_kept past;
-    tree = sound.tree
+    tree = sound.tree;
   }
 
-  unowned_law : ((n : ℕ) (file : DiskFile) → v.files n ≡ Some file → owns g n file s ≡ false) → Sound g (put disk s bytes) v
+  -- what nothing owns is no sector of the map
+  pub unowned_past : ((n : ℕ) (file : DiskFile) → v.files n ≡ Some file → owns g n file s ≡ false) → map_sectors g < s
+  unowned_past free =
+      ⊎_elim (λ after. after)
+      (λ within.
+      let r = root_file g disk v sound in
+      absurd (both_ways (owns g g.root r.0 s) (free g.root r.0 r.1) (owns_system g r.0 s (has_range 0 (1 + map_sectors g) s (omega arith) (omega arith)))))
+      (cases_lt (map_sectors g) s)
+
+  pub unowned_law : ((n : ℕ) (file : DiskFile) → v.files n ≡ Some file → owns g n file s ≡ false) → Sound g (put disk s bytes) v
   unowned_law free =
-      unseen_write past
+      unseen_write (unowned_past free)
       (λ n file is. shown_beside g disk v sound n file s bytes is
-        (false_from_ne_true (has (own_sectors n file) s) (λ own. both_ways (owns g n file s) (free n file is) (owns_own g n file s own))))
-    where
-      past : map_sectors g < s
-      past =
-          ⊎_elim (λ after. after)
-          (λ within.
-            let r = root_file g disk v sound in
-            absurd (both_ways (owns g g.root r.0 s) (free g.root r.0 r.1) (owns_system g r.0 s (has_range 0 (1 + map_sectors g) s (omega arith) (omega arith)))))
-          (cases_lt (map_sectors g) s)
+      (false_from_ne_true (has (own_sectors n file) s) (λ own. both_ways (owns g n file s) (free n file is) (owns_own g n file s own))))
 
 module _ (g : Geometry) (disk : ℕ → List ℕ) (v : DiskVolume) (sound : Sound g disk v) (n j s : ℕ) (file : DiskFile) (bytes : List ℕ) (whole : length bytes ≡ 256)
     (sector : IsFileSector v n file j s) where
@@ -105,7 +106,7 @@ module _ (g : Geometry) (disk : ℕ → List ℕ) (v : DiskVolume) (sound : Soun
 
   -- what the descriptor then stands for
   pub file_written : file_at (put disk s bytes) n
-    ≡ record file { contents = take (size_field (disk n)) (put_at (bytes_of disk (segments_field (disk n))) (256 * j) bytes) }
+      ≡ record file { contents = take (size_field (disk n)) (put_at (bytes_of disk (segments_field (disk n))) (256 * j) bytes) }
   file_written =
       ap (file_from (put disk s bytes)) (put_beside disk s bytes n not_descriptor)
       ∙ ap (λ w. record (file_from disk (disk n)) { contents = take (size_field (disk n)) w }) (bytes_written bytes whole)
@@ -143,13 +144,13 @@ module _ (g : Geometry) (disk : ℕ → List ℕ) (v : DiskVolume) (sound : Soun
   past_size_law agree =
       unseen_write g disk v sound s bytes whole past_map
       (λ m other is. ⊎_elim
-        (λ same. record {
-          same = same_Some other file (sym is ∙ ap v.files same ∙ sector.is) ∙ sym unchanged ∙ ap (file_at (put disk s bytes)) (sym same);
-          room = subst (λ k. has_room other.segments (size_field (put disk s bytes k)) ≡ true) (sym same)
-            (room_at other (ap (λ f. f.segments) (same_Some other file (sym is ∙ ap v.files same ∙ sector.is))))
-        })
-        (λ differ. shown_other m other differ is)
-        (cases_eq m n))
+      (λ same. record {
+        same = same_Some other file (sym is ∙ ap v.files same ∙ sector.is) ∙ sym unchanged ∙ ap (file_at (put disk s bytes)) (sym same);
+        room = subst (λ k. has_room other.segments (size_field (put disk s bytes k)) ≡ true) (sym same)
+            (room_at other (ap (λ f. f.segments) (same_Some other file (sym is ∙ ap v.files same ∙ sector.is))));
+      })
+      (λ differ. shown_other m other differ is)
+      (cases_eq m n))
     where
       agree_at : take (size_field (disk n) - 256 * j) bytes ≡ take (size_field (disk n) - 256 * j) (disk s)
       agree_at = subst (λ size. take (size - 256 * j) bytes ≡ take (size - 256 * j) (disk s)) size_are agree
@@ -158,8 +159,8 @@ module _ (g : Geometry) (disk : ℕ → List ℕ) (v : DiskVolume) (sound : Soun
       unchanged =
           file_written
           ∙ ap (λ c. record file { contents = c })
-            (front_same (bytes_of disk (segments_field (disk n))) bytes (disk s) (256 * j) (size_field (disk n)) (omega (arith, fits)) (whole ∙ sym (full s has_sector)) agree_at
-              ∙ ap (take (size_field (disk n))) self_written ∙ sym contents_are)
+          (front_same (bytes_of disk (segments_field (disk n))) bytes (disk s) (256 * j) (size_field (disk n)) (omega (arith, fits)) (whole ∙ sym (full s has_sector)) agree_at
+          ∙ ap (take (size_field (disk n))) self_written ∙ sym contents_are)
 
   -- bytes below the size change in the contents
   pub with_bytes_written : 256 * j < length file.contents → file_at (put disk s bytes) n ≡ with_bytes file j bytes
@@ -168,9 +169,9 @@ module _ (g : Geometry) (disk : ℕ → List ℕ) (v : DiskVolume) (sound : Soun
       let room : size_field (disk n) ≤ length (bytes_of disk (segments_field (disk n))) = room_fits in
       file_written
       ∙ ap (λ c. record file { contents = c })
-        (take_put_at (bytes_of disk (segments_field (disk n))) bytes (256 * j) (size_field (disk n)) (omega arith) room (omega (arith, fits))
-          ∙ ap (λ k. put_at (take (size_field (disk n)) (bytes_of disk (segments_field (disk n)))) (256 * j) (take (k - 256 * j) bytes)) (sym size)
-          ∙ ap (λ c. put_at c (256 * j) (take (length file.contents - 256 * j) bytes)) (sym contents_are))
+      (take_put_at (bytes_of disk (segments_field (disk n))) bytes (256 * j) (size_field (disk n)) (omega arith) room (omega (arith, fits))
+      ∙ ap (λ k. put_at (take (size_field (disk n)) (bytes_of disk (segments_field (disk n)))) (256 * j) (take (k - 256 * j) bytes)) (sym size)
+      ∙ ap (λ c. put_at c (256 * j) (take (length file.contents - 256 * j) bytes)) (sym contents_are))
     where
       room_fits : size_field (disk n) ≤ length (bytes_of disk (segments_field (disk n)))
       room_fits =
@@ -181,25 +182,25 @@ unseen_law g disk v sound s bytes whole (unowned below free) = unowned_law g dis
 unseen_law g disk v sound s bytes whole (past_size {n = n} {j = j} {file = file} sector agree) = past_size_law g disk v sound n j s file bytes whole sector agree
 
 pub overwrite_law : (g : Geometry) (disk : ℕ → List ℕ) (v : DiskVolume) → Sound g disk v → (n j s : ℕ) (file : DiskFile) (bytes : List ℕ) → length bytes ≡ 256 → Overwrites v n file j s
-  → Sound g (put disk s bytes) (with_same_space v n (with_bytes file j bytes))
+    → Sound g (put disk s bytes) (with_same_space v n (with_bytes file j bytes))
 overwrite_law g disk v sound n j s file bytes whole over = record {
   shape = sound.shape;
   sectors = disk_put g disk s bytes sound.sectors whole;
   shows = record {
     ident = ident_beside g disk v sound s bytes (let p = past in omega arith);
     shown = λ m other is. ⊎_elim
-      (λ here. sym (same_Some (with_bytes file j bytes) other here.1) ∙ sym written ∙ ap (file_at (put disk s bytes)) (sym here.0))
-      (λ there. (shown_other g disk v sound n j s file bytes whole over.sector m other there.0 there.1).same)
-      (put_file_cases v.files n (Some (with_bytes file j bytes)) m other is);
+        (λ here. sym (same_Some (with_bytes file j bytes) other here.1) ∙ sym written ∙ ap (file_at (put disk s bytes)) (sym here.0))
+        (λ there. (shown_other g disk v sound n j s file bytes whole over.sector m other there.0 there.1).same)
+        (put_file_cases v.files n (Some (with_bytes file j bytes)) m other is);
     room = λ m other is. ⊎_elim
-      (λ here. subst (λ k. has_room other.segments (size_field (put disk s bytes k)) ≡ true) (sym here.0)
+        (λ here. subst (λ k. has_room other.segments (size_field (put disk s bytes k)) ≡ true) (sym here.0)
         (room_at g disk v sound n j s file bytes whole over.sector other (ap (λ f. f.segments) (sym (same_Some (with_bytes file j bytes) other here.1)))))
-      (λ there. (shown_other g disk v sound n j s file bytes whole over.sector m other there.0 there.1).room)
-      (put_file_cases v.files n (Some (with_bytes file j bytes)) m other is)
+        (λ there. (shown_other g disk v sound n j s file bytes whole over.sector m other there.0 there.1).room)
+        (put_file_cases v.files n (Some (with_bytes file j bytes)) m other is);
   };
   mapped = mapped_same g (is_marked (put disk s bytes)) v.files v.lost (marks_kept g disk v sound s bytes whole past) n file (with_bytes file j bytes) over.sector.is refl;
   tree = tree_kept g v.files sound.tree n file (with_bytes file j bytes) over.sector.is refl
-    (listing_file (with_bytes file j bytes) over.not_directory ∙ sym (listing_file file over.not_directory))
+      (listing_file (with_bytes file j bytes) over.not_directory ∙ sym (listing_file file over.not_directory));
 }
   where
     past : map_sectors g < s

@@ -1,5 +1,5 @@
 -- Writes of descriptors.
-use Rattle.std.proofs.Common.{◌≡◌, ◌≢◌, ◌⊎◌, ℕ, ◌+◌, ◌*◌, ◌<◌, ◌≤◌, ◌==◌, Bool, true, false, List, [], length, take, Option, Some, refl, sym, ap, ◌∙◌, subst, inl, inr, ⊎_elim, arith, eq-eqb}
+use Rattle.std.proofs.Common.{◌≡◌, ◌≢◌, ℕ, ◌<◌, ◌==◌, true, List, length, take, Some, refl, sym, ap, ◌∙◌, subst, inl, inr, ⊎_elim, arith, eq-eqb}
 use Rattle.std.proofs.lemmas.Bool.{false_from_ne_true, or_left, cases_Bool}
 use Rattle.std.proofs.lemmas.Option.{same_Some}
 use Rattle.rbf_model.specs.Fields.{size_field, segments_field}
@@ -7,7 +7,7 @@ use Rattle.rbf_model.specs.Geometry.{Geometry, LieWithin, map_sectors}
 use Rattle.rbf_model.specs.Segments.{has, sectors_of, AreDistinct}
 use Rattle.rbf_model.specs.File.{DiskFile, file_from, file_at, bytes_of, has_room, is_directory}
 use Rattle.rbf_model.specs.Space.{is_marked, own_sectors, owned, IsMapped}
-use Rattle.rbf_model.specs.Volume.{DiskVolume, Sound, IsTree, listing, in_file}
+use Rattle.rbf_model.specs.Volume.{DiskVolume, Sound, IsTree, listing}
 use Rattle.rbf_model.specs.Writes.{put, put_file, lost_after, with_file}
 use Rattle.rbf_model.specs.Laws.{Describes, Redescribes}
 use Rattle.rbf_model.proofs.Keeps.{size_is}
@@ -38,8 +38,8 @@ module _ (g : Geometry) (disk : ℕ → List ℕ) (v : DiskVolume) (sound : Soun
   pub shown_described : IsShown (put disk n bytes) n (file_from disk bytes)
   shown_described = record {
     same = sym (ap (file_from (put disk n bytes)) (put_here disk n bytes)
-      ∙ file_from_beside disk n bytes bytes (distinct_first n (sectors_of (segments_field bytes)) (own_distinct g n (file_from disk bytes) describes.distinct)));
-    room = subst (λ d. has_room (segments_field bytes) (size_field d) ≡ true) (sym (put_here disk n bytes)) describes.room
+        ∙ file_from_beside disk n bytes bytes (distinct_first n (sectors_of (segments_field bytes)) (own_distinct g n (file_from disk bytes) describes.distinct)));
+    room = subst (λ d. has_room (segments_field bytes) (size_field d) ≡ true) (sym (put_here disk n bytes)) describes.room;
   }
 
   pub below_described : (m : ℕ) (other : DiskFile) → put_file v.files n (Some (file_from disk bytes)) m ≡ Some other → m < g.total
@@ -55,9 +55,9 @@ module _ (g : Geometry) (disk : ℕ → List ℕ) (v : DiskVolume) (sound : Soun
       mapped_by_marks g (is_marked disk) (is_marked (put disk n bytes)) (put_file v.files n (Some (file_from disk bytes))) (lost_after g v.files v.lost n (Some (file_from disk bytes)))
       sound.shape below_described (λ c low. marks_stay g disk v sound n bytes c past_descriptor low)
       (mapped_after g (is_marked disk) v.files v.lost sound.mapped n (Some (file_from disk bytes))
-        (λ file h. subst (λ f. LieWithin g f.segments) (same_Some (file_from disk bytes) file h) describes.within)
-        (λ file h. subst (λ f. AreDistinct (owned g n f)) (same_Some (file_from disk bytes) file h) describes.distinct)
-        (λ c h. ⊎_elim (λ lost. inl lost) (λ was. inr (in_file_at g n (v.files n) old c describes.is ∙ was)) (describes.clusters c h)))
+      (λ file h. subst (λ f. LieWithin g f.segments) (same_Some (file_from disk bytes) file h) describes.within)
+      (λ file h. subst (λ f. AreDistinct (owned g n f)) (same_Some (file_from disk bytes) file h) describes.distinct)
+      (λ c h. ⊎_elim (λ lost. inl lost) (λ was. inr (in_file_at g n (v.files n) old c describes.is ∙ was)) (describes.clusters c h)))
 
   -- the disk stands for the volume, where the tree is one
   pub described_write : IsTree g (put_file v.files n (Some (file_from disk bytes))) → Sound g (put disk n bytes) (with_file g v n (Some (file_from disk bytes)))
@@ -67,22 +67,22 @@ module _ (g : Geometry) (disk : ℕ → List ℕ) (v : DiskVolume) (sound : Soun
     shows = record {
       ident = ident_beside g disk v sound n bytes (let past = past_descriptor in omega arith);
       shown = λ m other is. ⊎_elim
-        (λ here. sym (same_Some (file_from disk bytes) other here.1) ∙ shown_described.same ∙ ap (file_at (put disk n bytes)) (sym here.0))
-        (λ there. (shown_beside_descriptor m other there.0 there.1).same)
-        (put_file_cases v.files n (Some (file_from disk bytes)) m other is);
+          (λ here. sym (same_Some (file_from disk bytes) other here.1) ∙ shown_described.same ∙ ap (file_at (put disk n bytes)) (sym here.0))
+          (λ there. (shown_beside_descriptor m other there.0 there.1).same)
+          (put_file_cases v.files n (Some (file_from disk bytes)) m other is);
       room = λ m other is. ⊎_elim
-        (λ here. subst (λ k. has_room other.segments (size_field (put disk n bytes k)) ≡ true) (sym here.0)
+          (λ here. subst (λ k. has_room other.segments (size_field (put disk n bytes k)) ≡ true) (sym here.0)
           (subst (λ f. has_room f.segments (size_field (put disk n bytes n)) ≡ true) (same_Some (file_from disk bytes) other here.1) shown_described.room))
-        (λ there. (shown_beside_descriptor m other there.0 there.1).room)
-        (put_file_cases v.files n (Some (file_from disk bytes)) m other is)
+          (λ there. (shown_beside_descriptor m other there.0 there.1).room)
+          (put_file_cases v.files n (Some (file_from disk bytes)) m other is);
     };
     mapped = mapped_described;
-    tree = tree
+    tree = tree;
   }
 
 -- a file with another descriptor of its kind
 pub describe_law : (g : Geometry) (disk : ℕ → List ℕ) (v : DiskVolume) → Sound g disk v → (n : ℕ) (old : DiskFile) (bytes : List ℕ) → length bytes ≡ 256
-  → Redescribes g disk v n old bytes → Sound g (put disk n bytes) (with_file g v n (Some (file_from disk bytes)))
+    → Redescribes g disk v n old bytes → Sound g (put disk n bytes) (with_file g v n (Some (file_from disk bytes)))
 describe_law g disk v sound n old bytes whole re =
     described_write g disk v sound n old bytes whole re.describes
     (tree_kept g v.files sound.tree n old (file_from disk bytes) re.describes.is re.kind same)

@@ -1,17 +1,17 @@
 -- A write to a directory's sector that changes one entry, and with it a file that comes into the volume.
-use Rattle.std.proofs.Common.{◌≡◌, ◌≢◌, ◌⊎◌, ℕ, ◌+◌, ◌*◌, ◌<◌, ◌≤◌, Bool, true, false, List, length, take, Option, Some, None, IsSome, refl, sym, ap, ◌∙◌, subst, inl, inr, ⊎_elim, arith}
-use Rattle.std.proofs.lemmas.Bool.{both_ways, false_from_ne_true, false≢true}
+use Rattle.std.proofs.Common.{◌≡◌, ◌≢◌, ℕ, ◌*◌, ◌<◌, true, List, length, take, Some, None, refl, sym, ap, ◌∙◌, subst, ⊎_elim, arith}
+use Rattle.std.proofs.lemmas.Bool.{both_ways, false_from_ne_true}
 use Rattle.std.proofs.lemmas.Option.{same_Some, none-some}
 use Rattle.rbf_model.specs.Fields.{entry_at, is_used, size_field, segments_field}
 use Rattle.rbf_model.specs.Geometry.{Geometry, map_sectors}
 use Rattle.rbf_model.specs.Segments.{has}
-use Rattle.rbf_model.specs.File.{DiskFile, file_from, file_at, bytes_of, has_room, is_directory, is_directory_size}
-use Rattle.rbf_model.specs.Space.{is_marked, own_sectors, owns, IsMapped}
-use Rattle.rbf_model.specs.Tree.{HasEntry, root}
-use Rattle.rbf_model.specs.Volume.{DiskVolume, Sound, IsTree}
-use Rattle.rbf_model.specs.Writes.{put, put_at, put_file, lost_after, with_file, with_same_space, ChangesEntry, IsNewEntry}
+use Rattle.rbf_model.specs.File.{DiskFile, file_from, file_at, bytes_of, is_directory_size}
+use Rattle.rbf_model.specs.Space.{is_marked, own_sectors, IsMapped}
+use Rattle.rbf_model.specs.Tree.{HasEntry}
+use Rattle.rbf_model.specs.Volume.{DiskVolume, Sound}
+use Rattle.rbf_model.specs.Writes.{put, put_at, put_file, with_file, with_same_space, ChangesEntry, IsNewEntry}
 use Rattle.rbf_model.specs.Laws.{PutsEntry, Enters, with_entry}
-use Rattle.rbf_model.proofs.Change.{put_file_beside, put_file_cases, mapped_same}
+use Rattle.rbf_model.proofs.Change.{put_file_cases, mapped_same}
 use Rattle.rbf_model.proofs.Leaf.{tree_with_leaf}
 use Rattle.rbf_model.proofs.Pieces.{length-put_at, entry_put, changes_put}
 use Rattle.rbf_model.proofs.Bytes.{put_beside}
@@ -41,7 +41,7 @@ module _ (g : Geometry) (disk : ℕ → List ℕ) (v : DiskVolume) (sound : Soun
   pub shown_entry : IsShown (put disk s bytes) d (with_entry dir i entry)
   shown_entry = record {
     same = sym (file_written g disk v sound d j s dir bytes whole puts.sector ∙ ap (λ c. record dir { contents = c }) (sym contents));
-    room = room_at g disk v sound d j s dir bytes whole puts.sector (with_entry dir i entry) refl
+    room = room_at g disk v sound d j s dir bytes whole puts.sector (with_entry dir i entry) refl;
   }
     where
       contents : put_at dir.contents (32 * i) entry ≡ take (size_field (disk d)) (put_at (bytes_of disk (segments_field (disk d))) (256 * j) bytes)
@@ -54,7 +54,7 @@ module _ (g : Geometry) (disk : ℕ → List ℕ) (v : DiskVolume) (sound : Soun
   shown_entry_other m other is =
       ⊎_elim
       (λ here. subst (λ k. IsShown (put disk s bytes) k other) (sym here.0)
-        (subst (IsShown (put disk s bytes) d) (same_Some (with_entry dir i entry) other here.1) shown_entry))
+      (subst (IsShown (put disk s bytes) d) (same_Some (with_entry dir i entry) other here.1) shown_entry))
       (λ there. shown_other g disk v sound d j s dir bytes whole puts.sector m other there.0 there.1)
       (put_file_cases v.files d (Some (with_entry dir i entry)) m other is)
 
@@ -65,21 +65,21 @@ module _ (g : Geometry) (disk : ℕ → List ℕ) (v : DiskVolume) (sound : Soun
 
 -- a free entry that becomes a new file's
 pub enter_law : (g : Geometry) (disk : ℕ → List ℕ) (v : DiskVolume) → Sound g disk v → (d : ℕ) (dir : DiskFile) (j s : ℕ) (bytes : List ℕ) → length bytes ≡ 256
-  → (i : ℕ) (entry : List ℕ) (n : ℕ) → Enters g disk v d dir j s bytes i entry n
-  → Sound g (put disk s bytes) (with_file g (with_same_space v d (with_entry dir i entry)) n (Some (file_at disk n)))
+    → (i : ℕ) (entry : List ℕ) (n : ℕ) → Enters g disk v d dir j s bytes i entry n
+    → Sound g (put disk s bytes) (with_file g (with_same_space v d (with_entry dir i entry)) n (Some (file_at disk n)))
 enter_law g disk v sound d dir j s bytes whole i entry n enters = record {
   shape = sound.shape;
   sectors = disk_put g disk s bytes sound.sectors whole;
   shows = record {
     ident = ident_beside g disk v sound s bytes (let past = past_entry g disk v sound d dir j s bytes whole i entry enters.puts in omega arith);
     shown = λ m other is. (shown m other is).same;
-    room = λ m other is. (shown m other is).room
+    room = λ m other is. (shown m other is).room;
   };
   mapped = mapped_comes g (is_marked (put disk s bytes)) (put_file v.files d (Some (with_entry dir i entry))) v.lost mapped n (file_at disk n) enters.ready.clusters
-    enters.ready.within enters.ready.distinct not_root;
+      enters.ready.within enters.ready.distinct not_root;
   tree = tree_with_leaf g v.files sound.tree d i n dir (with_entry dir i entry) (file_at disk n) enters.puts.sector.is enters.puts.directory enters.puts.directory
-    (size_entry g disk v sound d dir j s bytes whole i entry enters.puts) enters.puts.after (changes_entry g disk v sound d dir j s bytes whole i entry enters.puts)
-    (λ has. both_ways (is_used (entry_at dir.contents i)) enters.free has.used) has_entry new absent enters.ready.number enters.ready.made
+      (size_entry g disk v sound d dir j s bytes whole i entry enters.puts) enters.puts.after (changes_entry g disk v sound d dir j s bytes whole i entry enters.puts)
+      (λ has. both_ways (is_used (entry_at dir.contents i)) enters.free has.used) has_entry new absent enters.ready.number enters.ready.made;
 }
   where
     mapped : IsMapped g (is_marked (put disk s bytes)) (put_file v.files d (Some (with_entry dir i entry))) v.lost
@@ -97,7 +97,7 @@ enter_law g disk v sound d dir j s bytes whole i entry n enters = record {
     has_entry : HasEntry (with_entry dir i entry).contents i
     has_entry = record {
       within = let fits = enters.puts.within in let same = length_entry g disk v sound d dir j s bytes whole i entry enters.puts in omega arith;
-      used = ap is_used entry_there ∙ enters.new.used
+      used = ap is_used entry_there ∙ enters.new.used;
     }
 
     new : IsNewEntry dir.contents i (entry_at (with_entry dir i entry).contents i) n
@@ -107,13 +107,13 @@ enter_law g disk v sound d dir j s bytes whole i entry n enters = record {
     shown_new =
         shown_at disk n (file_at disk n) s bytes (record { same = refl; room = enters.ready.room })
         (false_from_ne_true (has (own_sectors n (file_at disk n)) s)
-          (ready_apart g (is_marked disk) v.files v.lost sound.mapped n (file_at disk n) enters.ready.clusters d dir s enters.puts.sector.is
-            (owns_own g d dir s (own_sector g disk v sound d j s dir bytes whole enters.puts.sector))))
+        (ready_apart g (is_marked disk) v.files v.lost sound.mapped n (file_at disk n) enters.ready.clusters d dir s enters.puts.sector.is
+        (owns_own g d dir s (own_sector g disk v sound d j s dir bytes whole enters.puts.sector))))
 
     shown : (m : ℕ) (other : DiskFile) → put_file (put_file v.files d (Some (with_entry dir i entry))) n (Some (file_at disk n)) m ≡ Some other → IsShown (put disk s bytes) m other
     shown m other is =
         ⊎_elim
         (λ here. subst (λ k. IsShown (put disk s bytes) k other) (sym here.0)
-          (subst (IsShown (put disk s bytes) n) (same_Some (file_at disk n) other here.1) shown_new))
+        (subst (IsShown (put disk s bytes) n) (same_Some (file_at disk n) other here.1) shown_new))
         (λ there. shown_entry_other g disk v sound d dir j s bytes whole i entry enters.puts m other there.1)
         (put_file_cases (put_file v.files d (Some (with_entry dir i entry))) n (Some (file_at disk n)) m other is)

@@ -27,3 +27,4 @@ pub mod Entered
 pub mod Appended
 pub mod Left
 pub mod Lifted
+pub mod ImageLaws

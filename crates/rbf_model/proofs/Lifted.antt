@@ -1,9 +1,9 @@
 -- From disks to images: an image with other bytes in one sector.
-use Rattle.std.proofs.Common.{◌≡◌, ◌≢◌, ℕ, suc, ◌+◌, ◌-◌, ◌*◌, ◌<◌, ◌≤◌, List, ◌++◌, length, take, drop, refl, sym, ap, ◌∙◌, subst, ⊎_elim, arith}
+use Rattle.std.proofs.Common.{◌≡◌, ◌≢◌, ℕ, ◌+◌, ◌*◌, ◌<◌, ◌≤◌, List, ◌++◌, length, take, drop, sym, ap, ◌∙◌, subst, ⊎_elim, arith}
 use mathlib.Core.Path.{fun_ext}
 use Rattle.std.proofs.Math.Nat.{mul-le-mul_left}
 use Rattle.std.proofs.lemmas.Bool.{cases_eq}
-use Rattle.rbf_model.specs.Geometry.{Geometry, geometry, sector, HasHeader, IsHeader}
+use Rattle.rbf_model.specs.Geometry.{geometry, sector, IsHeader}
 use Rattle.rbf_model.specs.Volume.{DiskVolume, Sound, Vol}
 use Rattle.rbf_model.specs.Writes.{put, put_at, put_sector}
 use Rattle.rbf_model.proofs.Pieces.{length_piece, piece_put, piece_beside, drop_past_piece}
@@ -19,7 +19,7 @@ module _ (image : List ℕ) (s : ℕ) (bytes : List ℕ) (whole : length bytes �
   -- its sectors
   pub sector_put : sector (put_sector image s bytes) ≡ put (sector image) s bytes
   sector_put = fun_ext (λ n. ap (λ i. sector i n) put_sector_is
-    ∙ ⊎_elim
+      ∙ ⊎_elim
       (λ same. ap (sector (put_at image (256 * s) bytes)) same ∙ piece_put 256 image bytes s whole fits ∙ sym (put_here (sector image) s bytes) ∙ ap (put (sector image) s bytes) (sym same))
       (λ differ. piece_beside 256 image bytes s whole fits n differ ∙ sym (put_beside (sector image) s bytes n differ))
       (cases_eq n s))
@@ -32,16 +32,16 @@ module _ (image : List ℕ) (s : ℕ) (bytes : List ℕ) (whole : length bytes �
 
 -- a write to a disk is one to its image
 pub vol_put : (image : List ℕ) (v now : DiskVolume) (s : ℕ) (bytes : List ℕ) → Vol image v → 1 ≤ s → s < (geometry (sector image 0)).total → length bytes ≡ 256
-  → Sound (geometry (sector image 0)) (put (sector image) s bytes) now → now.rest ≡ v.rest → Vol (put_sector image s bytes) now
+    → Sound (geometry (sector image 0)) (put (sector image) s bytes) now → now.rest ≡ v.rest → Vol (put_sector image s bytes) now
 vol_put image v now s bytes vol after below whole sound rest = record {
   header = record {
     ident = let was = vol.header.ident in let same = length_put_sector image s bytes whole fits in omega arith;
     header = subst IsHeader shape vol.header.header;
     fits = subst (λ g. 256 * g.total ≤ length (put_sector image s bytes)) shape
-      (let was = vol.header.fits in let same = length_put_sector image s bytes whole fits in omega arith)
+        (let was = vol.header.fits in let same = length_put_sector image s bytes whole fits in omega arith);
   };
   sound = subst (λ g. Sound g (sector (put_sector image s bytes)) now) shape (subst (λ d. Sound (geometry (sector image 0)) d now) (sym (sector_put image s bytes whole fits)) sound);
-  rest = rest ∙ vol.rest ∙ sym (rest_put image s bytes whole fits (geometry (sector image 0)).total below) ∙ ap (λ g. drop (256 * g.total) (put_sector image s bytes)) shape
+  rest = rest ∙ vol.rest ∙ sym (rest_put image s bytes whole fits (geometry (sector image 0)).total below) ∙ ap (λ g. drop (256 * g.total) (put_sector image s bytes)) shape;
 }
   where
     fits : 256 * (s + 1) ≤ length image

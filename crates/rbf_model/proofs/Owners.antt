@@ -1,17 +1,16 @@
 -- The sectors and clusters of a volume's files, within it and apart.
-use Rattle.std.proofs.Common.{◌≡◌, ◌≢◌, ◌⊎◌, ◌↔◌, ℕ, zero, suc, ◌+◌, ◌-◌, ◌*◌, ◌/◌, ◌%◌, ◌<◌, ◌≤◌, ◌==◌, Bool, true, false, List, [], ◌∷◌, ◌++◌, length, Option, Some, IsSome, refl, sym, ap, ◌∙◌, subst, inl, inr, ⊎_elim, arith, eqb-true, eq-eqb, leb-true}
+use Rattle.std.proofs.Common.{◌≡◌, ◌≢◌, ◌⊎◌, ℕ, zero, suc, ◌+◌, ◌*◌, ◌/◌, ◌<◌, ◌≤◌, ◌==◌, Bool, true, List, [], ◌++◌, Option, Some, refl, sym, ap, ◌∙◌, subst, inl, inr, ⊎_elim, arith, eqb-true, eq-eqb, leb-true}
 use Rattle.std.specs.Prelude.{if◌then◌else◌}
-use Rattle.std.proofs.Math.Nat.{lt_of_mul-lt-mul_right, mul_comm}
-use Rattle.std.proofs.lemmas.Bool.{cond-true, cond-false, cases_Bool, cases_eq, both_ways, false≢true, false_from_ne_true, eqb-false, or_cases}
-use Rattle.rbf_model.specs.Fields.{segments_field}
-use Rattle.rbf_model.specs.Geometry.{Geometry, IsGeometry, IsHeader, LieWithin, is_cluster_size, map_sectors}
+use Rattle.std.proofs.Math.Nat.{lt_of_mul-lt-mul_right}
+use Rattle.std.proofs.lemmas.Bool.{cond-true, cond-false, cases_Bool, false≢true, or_cases}
+use Rattle.rbf_model.specs.Geometry.{Geometry, IsGeometry, LieWithin, is_cluster_size, map_sectors}
 use Rattle.rbf_model.specs.Segments.{AreDistinct, sectors_of, has}
-use Rattle.rbf_model.specs.File.{DiskFile, file_at}
-use Rattle.rbf_model.specs.Space.{is_whole, is_marked, system_sectors, own_sectors, owned, owns, has_cluster, IsLost, IsMapped}
+use Rattle.rbf_model.specs.File.{DiskFile}
+use Rattle.rbf_model.specs.Space.{is_whole, is_marked, system_sectors, own_sectors, owned, owns, has_cluster, IsMapped}
 use Rattle.rbf_model.specs.Tree.{root}
 use Rattle.rbf_model.specs.Volume.{DiskVolume, Sound}
 use Rattle.rbf_model.specs.Writes.{put}
-use Rattle.rbf_model.proofs.Lists.{some_is, some_of}
+use Rattle.rbf_model.proofs.Lists.{some_of}
 use Rattle.rbf_model.proofs.Segments.{has_cases, has_left, has_right, range_has, has_range, sectors_within}
 use Rattle.rbf_model.proofs.Space.{cluster_from_owns, owns_from_cluster}
 use Rattle.rbf_model.proofs.Bytes.{distinct_parts, marked_beside}
@@ -40,14 +39,14 @@ owns_system g file s h =
 
 -- what is owned is one or the other
 pub owned_cases : (g : Geometry) (n : ℕ) (file : DiskFile) (s : ℕ) → owns g n file s ≡ true
-  → ((n ≡ g.root) × (has (system_sectors g) s ≡ true)) ⊎ (has (own_sectors n file) s ≡ true)
+    → ((n ≡ g.root) × (has (system_sectors g) s ≡ true)) ⊎ (has (own_sectors n file) s ≡ true)
 unfolding owns owned
 owned_cases g n file s h =
     ⊎_elim
     (λ system. ⊎_elim
-      (λ at_root. inl (eqb-true n g.root at_root, subst (λ xs. has xs s ≡ true) (cond-true (n == g.root) (system_sectors g) [] at_root) system))
-      (λ other. absurd (false≢true (subst (λ xs. has xs s ≡ true) (cond-false (n == g.root) (system_sectors g) [] other) system)))
-      (cases_Bool (n == g.root)))
+    (λ at_root. inl (eqb-true n g.root at_root, subst (λ xs. has xs s ≡ true) (cond-true (n == g.root) (system_sectors g) [] at_root) system))
+    (λ other. absurd (false≢true (subst (λ xs. has xs s ≡ true) (cond-false (n == g.root) (system_sectors g) [] other) system)))
+    (cases_Bool (n == g.root)))
     (λ own. inr own)
     (has_cases (if n == g.root then system_sectors g else []) (own_sectors n file) s h)
 
@@ -66,9 +65,9 @@ module _ (g : Geometry) (shape : IsGeometry g) where
       ⊎_elim
       (λ system. let r = range_has 0 (1 + map_sectors g) s system.1 in let q = r.1 in omega arith)
       (λ own. ⊎_elim
-        (λ here. let e : n ≡ s = eqb-true n s here in omega arith)
-        (λ later. (sectors_within g file.segments within s later).1)
-        (or_cases (n == s) (has (sectors_of file.segments) s) own))
+      (λ here. let e : n ≡ s = eqb-true n s here in omega arith)
+      (λ later. (sectors_within g file.segments within s later).1)
+      (or_cases (n == s) (has (sectors_of file.segments) s) own))
       (owned_cases g n file s h)
 
   -- so its clusters begin there
@@ -129,7 +128,7 @@ module _ (g : Geometry) (disk : ℕ → List ℕ) (v : DiskVolume) (sound : Soun
 
   -- and is of no other file
   pub own_apart : (n m : ℕ) (one other : DiskFile) (s : ℕ) → v.files n ≡ Some one → v.files m ≡ Some other → has (own_sectors n one) s ≡ true
-    → has (own_sectors m other) s ≡ true → n ≡ m
+      → has (own_sectors m other) s ≡ true → n ≡ m
   own_apart n m one other s is at own_one own_other =
       sound.mapped.apart n m one other (s / g.cluster) is at (cluster_from_owns g n one s (owns_own g n one s own_one))
       (cluster_from_owns g m other s (owns_own g m other s own_other))
@@ -143,8 +142,8 @@ module _ (g : Geometry) (disk : ℕ → List ℕ) (v : DiskVolume) (sound : Soun
 
 -- the space of files rests on the marks of clusters that begin in the volume
 pub mapped_by_marks : (g : Geometry) (marked news : ℕ → Bool) (files : ℕ → Option DiskFile) (lost : ℕ → Bool) → IsGeometry g
-  → ((n : ℕ) (file : DiskFile) → files n ≡ Some file → n < g.total) → ((c : ℕ) → c * g.cluster < g.total → news c ≡ marked c)
-  → IsMapped g marked files lost → IsMapped g news files lost
+    → ((n : ℕ) (file : DiskFile) → files n ≡ Some file → n < g.total) → ((c : ℕ) → c * g.cluster < g.total → news c ≡ marked c)
+    → IsMapped g marked files lost → IsMapped g news files lost
 mapped_by_marks g marked news files lost shape below same mapped = record {
   within = mapped.within;
   marks = λ n file c is h. same c (cluster_below g shape n file c (below n file is) (mapped.within n file is) h) ∙ mapped.marks n file c is h;
@@ -152,6 +151,6 @@ mapped_by_marks g marked news files lost shape below same mapped = record {
   apart = mapped.apart;
   lost_are = λ c. (
     λ l. let w = (mapped.lost_are c).0 l in record { whole = w.whole; marked_in = same c (whole_below g shape c w.whole) ∙ w.marked_in; unused = w.unused },
-    λ w. (mapped.lost_are c).1 (record { whole = w.whole; marked_in = sym (same c (whole_below g shape c w.whole)) ∙ w.marked_in; unused = w.unused })
-  )
+    λ w. (mapped.lost_are c).1 (record { whole = w.whole; marked_in = sym (same c (whole_below g shape c w.whole)) ∙ w.marked_in; unused = w.unused }),
+  );
 }

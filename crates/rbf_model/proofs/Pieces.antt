@@ -1,5 +1,5 @@
 -- Bytes that are put in the midst of others.
-use Rattle.std.proofs.Common.{◌≡◌, ◌≢◌, ℕ, zero, suc, ◌+◌, ◌-◌, ◌*◌, ◌<◌, ◌≤◌, min, List, [], ◌∷◌, ◌++◌, length, take, drop, refl, sym, ap, ◌∙◌, subst, inl, inr, ⊎_elim, arith, append_assoc, append-nil, length-append, length-take, length-drop}
+use Rattle.std.proofs.Common.{◌≡◌, ◌≢◌, ℕ, zero, suc, ◌+◌, ◌-◌, ◌*◌, ◌<◌, ◌≤◌, List, [], ◌++◌, length, take, drop, refl, sym, ap, ◌∙◌, ⊎_elim, arith, append_assoc, append-nil, length-append, length-take, length-drop}
 use Rattle.std.proofs.lemmas.Bool.{cases_lt, cases_order}
 use Rattle.std.proofs.lemmas.List.{take-append-le, take_all, take-take, take_at, drop_at, drop_all, drop-take, drop-drop, drop-append-le, take-append-drop, length-take-le}
 use Rattle.std.proofs.Math.Nat.{mul-le-mul_left}
@@ -12,11 +12,11 @@ pub take_append : (n : ℕ) (xs ys : List ℕ) → take n (xs ++ ys) ≡ take n 
 take_append n xs ys =
     ⊎_elim
     (λ short.
-      let none : n - length xs ≡ 0 = omega arith in
-      take-append-le n xs ys (omega arith) ∙ sym (append-nil (take n xs)) ∙ ap (λ k. take n xs ++ take k ys) (sym none))
+    let none : n - length xs ≡ 0 = omega arith in
+    take-append-le n xs ys (omega arith) ∙ sym (append-nil (take n xs)) ∙ ap (λ k. take n xs ++ take k ys) (sym none))
     (λ long.
-      let whole : length xs + (n - length xs) ≡ n = omega arith in
-      ap (λ k. take k (xs ++ ys)) (sym whole) ∙ take-append-add xs ys (n - length xs) ∙ ap (λ f. f ++ take (n - length xs) ys) (sym (take_all n xs long)))
+    let whole : length xs + (n - length xs) ≡ n = omega arith in
+    ap (λ k. take k (xs ++ ys)) (sym whole) ∙ take-append-add xs ys (n - length xs) ∙ ap (λ f. f ++ take (n - length xs) ys) (sym (take_all n xs long)))
     (cases_lt n (length xs))
 
 -- what is left of two lists joined, past the first
@@ -32,36 +32,36 @@ length-put_at contents bytes at fits =
 
 -- the front of such bytes has the front of the piece
 pub take_put_at : (whole bytes : List ℕ) (at size : ℕ) → at ≤ size → size ≤ length whole → at + length bytes ≤ length whole
-  → take size (put_at whole at bytes) ≡ put_at (take size whole) at (take (size - at) bytes)
+    → take size (put_at whole at bytes) ≡ put_at (take size whole) at (take (size - at) bytes)
 take_put_at whole bytes at size low high fits =
     let front : length (take at whole) ≡ at = length-take-le at whole (omega arith) in
     let piece : length (take at whole ++ bytes) ≡ at + length bytes = length-append (take at whole) bytes ∙ omega arith in
     take_append size (take at whole ++ bytes) (drop (at + length bytes) whole)
     ∙ ap (λ k. take size (take at whole ++ bytes) ++ take (size - k) (drop (at + length bytes) whole)) piece
     ∙ ap (λ f. f ++ take (size - (at + length bytes)) (drop (at + length bytes) whole))
-      (take_append size (take at whole) bytes
-        ∙ ap (λ k. take size (take at whole) ++ take (size - k) bytes) front
-        ∙ ap (λ f. f ++ take (size - at) bytes) (take_all size (take at whole) (omega arith) ∙ sym (take-take at size whole low)))
+    (take_append size (take at whole) bytes
+    ∙ ap (λ k. take size (take at whole) ++ take (size - k) bytes) front
+    ∙ ap (λ f. f ++ take (size - at) bytes) (take_all size (take at whole) (omega arith) ∙ sym (take-take at size whole low)))
     ∙ ap (λ b. (take at (take size whole) ++ take (size - at) bytes) ++ b) rest
   where
     rest : take (size - (at + length bytes)) (drop (at + length bytes) whole) ≡ drop (at + length (take (size - at) bytes)) (take size whole)
     rest =
         ⊎_elim
         (λ short.
-          let none : size - (at + length bytes) ≡ 0 = omega arith in
-          let end : at + length (take (size - at) bytes) ≡ size = omega (arith, length-take (size - at) bytes) in
-          ap (λ k. take k (drop (at + length bytes) whole)) none
-          ∙ sym (ap (λ k. drop k (take size whole)) end ∙ drop_all size (take size whole) (omega (arith, length-take size whole))))
+        let none : size - (at + length bytes) ≡ 0 = omega arith in
+        let end : at + length (take (size - at) bytes) ≡ size = omega (arith, length-take (size - at) bytes) in
+        ap (λ k. take k (drop (at + length bytes) whole)) none
+        ∙ sym (ap (λ k. drop k (take size whole)) end ∙ drop_all size (take size whole) (omega (arith, length-take size whole))))
         (λ long.
-          let end : at + length (take (size - at) bytes) ≡ at + length bytes = omega (arith, length-take (size - at) bytes) in
-          let split : at + length bytes + (size - (at + length bytes)) ≡ size = omega arith in
-          sym (drop-take (at + length bytes) (size - (at + length bytes)) whole) ∙ ap (λ k. drop (at + length bytes) (take k whole)) split
-          ∙ ap (λ k. drop k (take size whole)) (sym end))
+        let end : at + length (take (size - at) bytes) ≡ at + length bytes = omega (arith, length-take (size - at) bytes) in
+        let split : at + length bytes + (size - (at + length bytes)) ≡ size = omega arith in
+        sym (drop-take (at + length bytes) (size - (at + length bytes)) whole) ∙ ap (λ k. drop (at + length bytes) (take k whole)) split
+        ∙ ap (λ k. drop k (take size whole)) (sym end))
         (cases_lt size (at + length bytes))
 
 -- two pieces that agree as far as a front goes
 pub front_same : (whole one other : List ℕ) (at size : ℕ) → at ≤ length whole → length one ≡ length other → take (size - at) one ≡ take (size - at) other
-  → take size (put_at whole at one) ≡ take size (put_at whole at other)
+    → take size (put_at whole at one) ≡ take size (put_at whole at other)
 front_same whole one other at size fits same agree =
     split one ∙ ap (λ f. (take size (take at whole) ++ f) ++ take (size - (at + length one)) (drop (at + length one) whole)) agree
     ∙ ap (λ k. (take size (take at whole) ++ take (size - at) other) ++ take (size - (at + k)) (drop (at + k) whole)) same
@@ -76,7 +76,7 @@ front_same whole one other at size fits same agree =
         take_append size (take at whole ++ bytes) (drop (at + length bytes) whole)
         ∙ ap (λ k. take size (take at whole ++ bytes) ++ take (size - k) (drop (at + length bytes) whole)) piece
         ∙ ap (λ f. f ++ take (size - (at + length bytes)) (drop (at + length bytes) whole))
-          (take_append size (take at whole) bytes ∙ ap (λ k. take size (take at whole) ++ take (size - k) bytes) front)
+        (take_append size (take at whole) bytes ∙ ap (λ k. take size (take at whole) ++ take (size - k) bytes) front)
 
 -- a piece in the second of two lists
 pub put_at_append : (xs ys bytes : List ℕ) (at : ℕ) → put_at (xs ++ ys) (length xs + at) bytes ≡ xs ++ put_at ys at bytes
@@ -154,7 +154,7 @@ module _ (contents entry : List ℕ) (i : ℕ) (whole : length entry ≡ 32) (fi
   changes_put = record {
     beside = λ j differ. piece_beside 32 contents entry i whole fits j differ;
     kept = λ j differ h. omega (arith, length_piece 32 contents entry i whole fits);
-    no_more = λ j differ h. omega (arith, length_piece 32 contents entry i whole fits)
+    no_more = λ j differ h. omega (arith, length_piece 32 contents entry i whole fits);
   }
 
 module _ (contents entry : List ℕ) (i : ℕ) (whole : length entry ≡ 32) (end : length contents ≡ 32 * i) where
@@ -165,12 +165,12 @@ module _ (contents entry : List ℕ) (i : ℕ) (whole : length entry ≡ 32) (en
   pub changes_added : ChangesEntry contents (contents ++ entry) i
   changes_added = record {
     beside = λ j differ.
-      ⊎_elim (λ same. absurd (differ same))
-      (λ apart. ⊎_elim
+        ⊎_elim (λ same. absurd (differ same))
+        (λ apart. ⊎_elim
         (λ low. piece_in_front 32 contents entry j (omega arith))
         (λ high. piece_past 32 (contents ++ entry) j (omega (arith, length-append contents entry)) ∙ sym (piece_past 32 contents j (omega arith)))
         apart)
-      (cases_order j i);
+        (cases_order j i);
     kept = λ j differ h. omega (arith, length-append contents entry);
-    no_more = λ j differ h. omega (arith, length-append contents entry)
+    no_more = λ j differ h. omega (arith, length-append contents entry);
   }

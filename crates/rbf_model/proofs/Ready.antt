@@ -1,8 +1,7 @@
 -- A new file that is on the disk, and comes into the volume.
-use Rattle.std.proofs.Common.{◌≡◌, ◌≢◌, ◌⊎◌, ℕ, ◌/◌, ◌==◌, Bool, true, false, List, [], ◌++◌, Option, Some, None, refl, sym, ap, ◌∙◌, subst, inl, inr, eq-eqb, ne_eqb}
+use Rattle.std.proofs.Common.{◌≡◌, ◌≢◌, ℕ, ◌/◌, ◌==◌, Bool, true, [], ◌++◌, Option, Some, None, refl, sym, ap, subst, inl, eq-eqb, ne_eqb}
 use Rattle.std.proofs.lemmas.Bool.{both_ways, or_left, cond-false}
 use Rattle.std.proofs.lemmas.Option.{same_Some}
-use Rattle.std.specs.Prelude.{if◌then◌else◌}
 use Rattle.rbf_model.specs.Geometry.{Geometry, LieWithin}
 use Rattle.rbf_model.specs.Segments.{has, sectors_of, AreDistinct}
 use Rattle.rbf_model.specs.File.{DiskFile}

@@ -1,5 +1,5 @@
 -- What a write leaves of the files that it does not reach.
-use Rattle.std.proofs.Common.{◌≡◌, ◌≢◌, ℕ, ◌<◌, ◌≤◌, Bool, true, false, List, length, Option, Some, refl, sym, ap, ◌∙◌, subst, arith}
+use Rattle.std.proofs.Common.{◌≡◌, ◌≢◌, ℕ, ◌≤◌, true, false, List, length, Some, sym, ◌∙◌, subst, arith}
 use Rattle.rbf_model.specs.Fields.{size_field, segments_field}
 use Rattle.rbf_model.specs.Geometry.{Geometry, IsDisk}
 use Rattle.rbf_model.specs.Segments.{has, sectors_of}
@@ -26,7 +26,7 @@ shown_at disk n file s bytes is none =
     let parts = not_has_first n (sectors_of (segments_field (disk n))) s none_at in
     record {
       same = e ∙ sym (file_at_beside disk s bytes n none_at);
-      room = subst (λ d. has_room file.segments (size_field d) ≡ true) (sym (put_beside disk s bytes n parts.0)) is.room
+      room = subst (λ d. has_room file.segments (size_field d) ≡ true) (sym (put_beside disk s bytes n parts.0)) is.room;
     }
 
 module _ (g : Geometry) (disk : ℕ → List ℕ) (v : DiskVolume) (sound : Sound g disk v) where

@@ -1,5 +1,5 @@
 -- The writes of one sector that leave a disk standing for a volume: what each law asks.
-use Rattle.std.specs.Prelude.{◌≡◌, ◌⊎◌, ℕ, ◌+◌, ◌-◌, ◌*◌, ◌<◌, ◌≤◌, ◌&&◌, ◌||◌, Bool, true, false, not, List, ◌++◌, length, take, get_or, Option, Some}
+use Rattle.std.specs.Prelude.{◌≡◌, ◌⊎◌, ℕ, ◌+◌, ◌-◌, ◌*◌, ◌<◌, ◌≤◌, ◌&&◌, ◌||◌, Bool, true, false, not, List, ◌++◌, length, take, get_or, Some}
 use Rattle.rbf_model.specs.Fields.{entry_at, is_used, size_field, segments_field}
 use Rattle.rbf_model.specs.Geometry.{Geometry, IsNumber, LieWithin, map_sectors}
 use Rattle.rbf_model.specs.Segments.{sectors_of, AreDistinct}
@@ -7,7 +7,7 @@ use Rattle.rbf_model.specs.File.{DiskFile, file_from, file_at, is_directory, has
 use Rattle.rbf_model.specs.Space.{is_whole, is_marked, own_sectors, owned, owns, has_cluster, Unused}
 use Rattle.rbf_model.specs.Tree.{NamesIn}
 use Rattle.rbf_model.specs.Volume.{DiskVolume, is_free}
-use Rattle.rbf_model.specs.Writes.{put, put_at, with_file, with_same_space, with_lost, IsNewDirectory, IsNewEntry}
+use Rattle.rbf_model.specs.Writes.{put, put_at, with_file, IsNewDirectory, IsNewEntry}
 
 -- a sector of the map
 pub record IsMapSector (g : Geometry) (s : ℕ) : Type 0 where
@@ -36,7 +36,7 @@ pub record IsFileSector (v : DiskVolume) (n : ℕ) (file : DiskFile) (j s : ℕ)
 pub data IsUnseen (g : Geometry) (disk : ℕ → List ℕ) (v : DiskVolume) (s : ℕ) (bytes : List ℕ) : Type 0 where
   unowned : s < g.total → ((n : ℕ) (file : DiskFile) → v.files n ≡ Some file → owns g n file s ≡ false) → IsUnseen g disk v s bytes
   past_size : {n j : ℕ} {file : DiskFile} → IsFileSector v n file j s → take (length file.contents - 256 * j) bytes ≡ take (length file.contents - 256 * j) (disk s)
-    → IsUnseen g disk v s bytes
+      → IsUnseen g disk v s bytes
 
 -- the file with the bytes of its sector in place j, as far as its size goes
 abbrev pub with_bytes : DiskFile → ℕ → List ℕ → DiskFile

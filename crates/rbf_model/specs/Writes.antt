@@ -35,7 +35,7 @@ with_file g v n file = record {
   ident = v.ident;
   files = put_file v.files n file;
   lost = lost_after g v.files v.lost n file;
-  rest = v.rest
+  rest = v.rest;
 }
 
 -- a volume whose file of number n has the same segments and is another for the rest
