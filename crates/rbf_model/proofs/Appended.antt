@@ -9,11 +9,11 @@ use Rattle.rbf_model.specs.File.{DiskFile, file_from, file_at, is_directory_size
 use Rattle.rbf_model.specs.Space.{is_marked, own_sectors, IsMapped}
 use Rattle.rbf_model.specs.Tree.{HasEntry}
 use Rattle.rbf_model.specs.Volume.{DiskVolume, Sound}
-use Rattle.rbf_model.specs.Writes.{put, put_file, lost_after, with_file, ChangesEntry, IsNewEntry}
+use Rattle.rbf_model.specs.Writes.{put, put_file, lost_after, with_file, IsNewEntry}
 use Rattle.rbf_model.specs.Laws.{Appends}
 use Rattle.rbf_model.proofs.Change.{put_file_here, put_file_beside, put_file_cases}
 use Rattle.rbf_model.proofs.Leaf.{tree_with_leaf}
-use Rattle.rbf_model.proofs.Pieces.{entry_added, changes_added}
+use Rattle.rbf_model.proofs.Pieces.{ChangesEntry, entry_added, changes_added}
 use Rattle.rbf_model.proofs.Owners.{owns_own, root_file}
 use Rattle.rbf_model.proofs.Shown.{IsShown, disk_put, shown_at, ident_beside}
 use Rattle.rbf_model.proofs.Described.{past_descriptor, shown_beside_descriptor, shown_described, mapped_described}

@@ -9,11 +9,11 @@ use Rattle.rbf_model.specs.File.{DiskFile, file_from, file_at, bytes_of, is_dire
 use Rattle.rbf_model.specs.Space.{is_marked, own_sectors, IsMapped}
 use Rattle.rbf_model.specs.Tree.{HasEntry}
 use Rattle.rbf_model.specs.Volume.{DiskVolume, Sound}
-use Rattle.rbf_model.specs.Writes.{put, put_at, put_file, with_file, with_same_space, ChangesEntry, IsNewEntry}
+use Rattle.rbf_model.specs.Writes.{put, put_at, put_file, with_file, with_same_space, IsNewEntry}
 use Rattle.rbf_model.specs.Laws.{PutsEntry, Enters, with_entry}
 use Rattle.rbf_model.proofs.Change.{put_file_cases, mapped_same}
 use Rattle.rbf_model.proofs.Leaf.{tree_with_leaf}
-use Rattle.rbf_model.proofs.Pieces.{length-put_at, entry_put, changes_put}
+use Rattle.rbf_model.proofs.Pieces.{ChangesEntry, length-put_at, entry_put, changes_put}
 use Rattle.rbf_model.proofs.Bytes.{put_beside}
 use Rattle.rbf_model.proofs.Owners.{owns_own, root_file}
 use Rattle.rbf_model.proofs.Shown.{IsShown, disk_put, shown_at, ident_beside}

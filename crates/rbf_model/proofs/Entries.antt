@@ -5,7 +5,8 @@ use Rattle.rbf_model.specs.Fields.{is_used, descriptor_field}
 use Rattle.rbf_model.specs.File.{DiskFile, is_directory}
 use Rattle.rbf_model.specs.Tree.{HasEntry, NamesIn}
 use Rattle.rbf_model.specs.Volume.{listing}
-use Rattle.rbf_model.specs.Writes.{ChangesEntry, IsNewDirectory}
+use Rattle.rbf_model.proofs.Pieces.{ChangesEntry}
+use Rattle.rbf_model.specs.Writes.{IsNewDirectory}
 use Rattle.rbf_model.proofs.Keeps.{no_entry}
 
 pub entry_kept : (old new : List ℕ) (i j : ℕ) → ChangesEntry old new i → j ≢ i → HasEntry old j → HasEntry new j

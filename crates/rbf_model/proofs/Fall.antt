@@ -7,7 +7,8 @@ use Rattle.rbf_model.specs.Geometry.{Geometry}
 use Rattle.rbf_model.specs.File.{DiskFile, is_directory, is_directory_size}
 use Rattle.rbf_model.specs.Tree.{dot, dot_dot, HasEntry, NamesIn, Reached, root, named, Links, IsEntry, IsParent, of_root, of_other, HasDots, self_first, parent_first, HasNames, HasDifferentNames}
 use Rattle.rbf_model.specs.Volume.{IsTree, directories, listing}
-use Rattle.rbf_model.specs.Writes.{put_file, ChangesEntry}
+use Rattle.rbf_model.proofs.Pieces.{ChangesEntry}
+use Rattle.rbf_model.specs.Writes.{put_file}
 use Rattle.rbf_model.proofs.Lists.{some_is}
 use Rattle.rbf_model.proofs.Keeps.{no_entry}
 use Rattle.rbf_model.proofs.Named.{by_place, names_to}

@@ -5,7 +5,13 @@ use Rattle.std.proofs.lemmas.List.{take-append-le, take_all, take-take, take_at,
 use Rattle.std.proofs.Math.Nat.{mul-le-mul_left}
 use Rattle.std.proofs.Math.Seq.{take-append-add, drop-append-add}
 use Rattle.rbf_model.specs.Fields.{entry_at}
-use Rattle.rbf_model.specs.Writes.{put_at, ChangesEntry}
+use Rattle.rbf_model.specs.Writes.{put_at}
+
+-- a directory's bytes of which no entry but the one in place i has changed, come or gone
+pub record ChangesEntry (old new : List ℕ) (i : ℕ) : Type 0 where
+  pub beside : (j : ℕ) → j ≢ i → entry_at new j ≡ entry_at old j
+  pub kept : (j : ℕ) → j ≢ i → 32 * (j + 1) ≤ length old → 32 * (j + 1) ≤ length new
+  pub no_more : (j : ℕ) → j ≢ i → 32 * (j + 1) ≤ length new → 32 * (j + 1) ≤ length old
 
 -- the front of two lists joined
 pub take_append : (n : ℕ) (xs ys : List ℕ) → take n (xs ++ ys) ≡ take n xs ++ take (n - length xs) ys

@@ -8,3 +8,4 @@ pub mod Volume
 pub mod Faults
 pub mod Writes
 pub mod Laws
+pub mod Walk
