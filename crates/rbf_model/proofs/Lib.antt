@@ -28,3 +28,5 @@ pub mod Appended
 pub mod Left
 pub mod Lifted
 pub mod ImageLaws
+pub mod Walked
+pub mod SectorBytes
