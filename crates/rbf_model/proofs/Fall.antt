@@ -1,16 +1,17 @@
 -- The tree without one file that is no directory.
-use Rattle.std.proofs.Common.{◌≡◌, ◌≢◌, ◌⊎◌, ◌↔◌, ℕ, zero, suc, ◌≤◌, Bool, true, false, List, [], length, Option, Some, None, IsSome, refl, sym, ap, ◌∙◌, subst, inl, inr, ⊎_elim, arith}
-use Rattle.std.proofs.lemmas.Bool.{cases_Bool, cases_eq, both_ways, false≢true}
-use Rattle.std.proofs.lemmas.Option.{same_Some, none-some}
+use Rattle.std.proofs.Common.{◌≡◌, ◌≢◌, ℕ, true, false, [], length, Option, Some, None, IsSome, sym, ap, ◌∙◌, subst, ⊎_elim, arith}
+use Rattle.std.proofs.lemmas.Bool.{cases_eq, both_ways, false≢true}
+use Rattle.std.proofs.lemmas.Option.{same_Some}
 use Rattle.rbf_model.specs.Fields.{entry_at, name_field, descriptor_field}
-use Rattle.rbf_model.specs.Geometry.{Geometry, IsNumber}
+use Rattle.rbf_model.specs.Geometry.{Geometry}
 use Rattle.rbf_model.specs.File.{DiskFile, is_directory, is_directory_size}
 use Rattle.rbf_model.specs.Tree.{dot, dot_dot, HasEntry, NamesIn, Reached, root, named, Links, IsEntry, IsParent, of_root, of_other, HasDots, self_first, parent_first, HasNames, HasDifferentNames}
 use Rattle.rbf_model.specs.Volume.{IsTree, directories, listing}
-use Rattle.rbf_model.specs.Writes.{put_file, ChangesEntry}
-use Rattle.rbf_model.proofs.Lists.{some_is, some_of}
+use Rattle.rbf_model.proofs.Pieces.{ChangesEntry}
+use Rattle.rbf_model.specs.Writes.{put_file}
+use Rattle.rbf_model.proofs.Lists.{some_is}
 use Rattle.rbf_model.proofs.Keeps.{no_entry}
-use Rattle.rbf_model.proofs.Named.{by_place, names_from, names_to}
+use Rattle.rbf_model.proofs.Named.{by_place, names_to}
 use Rattle.rbf_model.proofs.Change.{put_file_here, put_file_beside}
 use Rattle.rbf_model.proofs.Entries.{entry_back, names_kept, names_back, listing_directory, listing_file}
 
@@ -63,9 +64,9 @@ module _ (g : Geometry) (files : ℕ → Option DiskFile) (tree : IsTree g files
       by_place n d e
       (λ here. absurd (no_entry (directories files e) j (ap (directories files) here ∙ was_here) names.entry))
       (λ above.
-        let before = subst (λ c. NamesIn c j m) (ap (directories files) above ∙ was_above) names in
-        let differ : j ≢ i = λ same. other (sym before.descriptor ∙ ap (λ k. descriptor_field (entry_at old.contents k)) same ∙ was.descriptor) in
-        subst (λ c. NamesIn c j m) (sym (ap (directories news) above ∙ is_above)) (names_kept old.contents dir.contents i j m change differ before))
+      let before = subst (λ c. NamesIn c j m) (ap (directories files) above ∙ was_above) names in
+      let differ : j ≢ i = λ same. other (sym before.descriptor ∙ ap (λ k. descriptor_field (entry_at old.contents k)) same ∙ was.descriptor) in
+      subst (λ c. NamesIn c j m) (sym (ap (directories news) above ∙ is_above)) (names_kept old.contents dir.contents i j m change differ before))
       (λ not_n not_d. subst (λ c. NamesIn c j m) (sym (is_beside e not_n not_d)) names)
 
   -- and there is no other; that one is gone
@@ -74,9 +75,9 @@ module _ (g : Geometry) (files : ℕ → Option DiskFile) (tree : IsTree g files
       by_place n d e
       (λ here. absurd (no_entry (directories news e) j (ap (directories news) here ∙ is_here) names.entry))
       (λ above.
-        let now = subst (λ c. NamesIn c j m) (ap (directories news) above ∙ is_above) names in
-        let differ : j ≢ i = λ same. gone (subst (HasEntry dir.contents) same now.entry) in
-        (subst (λ c. NamesIn c j m) (sym (ap (directories files) above ∙ was_above)) (names_back old.contents dir.contents i j m change differ now), λ same. differ same.1))
+      let now = subst (λ c. NamesIn c j m) (ap (directories news) above ∙ is_above) names in
+      let differ : j ≢ i = λ same. gone (subst (HasEntry dir.contents) same now.entry) in
+      (subst (λ c. NamesIn c j m) (sym (ap (directories files) above ∙ was_above)) (names_back old.contents dir.contents i j m change differ now), λ same. differ same.1))
       (λ not_n not_d. (subst (λ c. NamesIn c j m) (is_beside e not_n not_d) names, λ same. not_d same.0))
 
   -- so the file is named no more
@@ -114,7 +115,7 @@ module _ (g : Geometry) (files : ℕ → Option DiskFile) (tree : IsTree g files
   link_stays : (p j m : ℕ) → m ≢ n → Links g (directories files) p j m → Links g (directories news) p j m
   link_stays p j m not_n link = record {
     from = stays link.from (λ same. no_entry (directories files p) j (ap (directories files) same ∙ was_here) link.names.entry);
-    names = keep p j m link.names not_n
+    names = keep p j m link.names not_n;
   }
 
   parent_stays : (m p : ℕ) → m ≢ n → IsParent g (directories files) m p → IsParent g (directories news) m p
@@ -122,7 +123,7 @@ module _ (g : Geometry) (files : ℕ → Option DiskFile) (tree : IsTree g files
   parent_stays m p not_n (of_other {i = j} a link) = of_other a (link_stays p j m not_n link)
 
   dots_stay : (m : ℕ) → m ≢ n → (entry_at (directories news m) 0 ≡ entry_at (directories files m) 0) → (entry_at (directories news m) 1 ≡ entry_at (directories files m) 1)
-    → HasDots g (directories files) m → HasDots g (directories news) m
+      → HasDots g (directories files) m → HasDots g (directories news) m
   dots_stay m not_n zeroth first (self_first {p = p} one two parent) =
       self_first (subst (λ e. IsEntry e dot m) (sym zeroth) one) (subst (λ e. IsEntry e dot_dot p) (sym first) two) (parent_stays m p not_n parent)
   dots_stay m not_n zeroth first (parent_first {p = p} one two parent) =
@@ -141,8 +142,8 @@ module _ (g : Geometry) (files : ℕ → Option DiskFile) (tree : IsTree g files
       (λ here. absurd (some_not_n m (some_is (news m) one h) here))
       (λ above. subst (HasDots g (directories news)) (sym above) dots_above)
       (λ not_n not_d.
-        let lists = is_beside m not_n not_d in
-        dots_stay m not_n (ap (λ c. entry_at c 0) lists) (ap (λ c. entry_at c 1) lists) (tree.dots m one (sym (file_beside m not_n not_d) ∙ h) is_dir))
+      let lists = is_beside m not_n not_d in
+      dots_stay m not_n (ap (λ c. entry_at c 0) lists) (ap (λ c. entry_at c 1) lists) (tree.dots m one (sym (file_beside m not_n not_d) ∙ h) is_dir))
 
   -- an entry of the directory is one of those before
   not_gone : (j : ℕ) → HasEntry dir.contents j → j ≢ i
@@ -167,27 +168,27 @@ module _ (g : Geometry) (files : ℕ → Option DiskFile) (tree : IsTree g files
   tree_without_leaf = record {
     reached = λ m. (reached_after m, λ r. reached_some r);
     root = λ one h.
-      by_place n d g.root
-      (λ here. absurd (root_not_n (sym here)))
-      (λ above. subst (λ f. is_directory f ≡ true) (sym (same_Some one dir (sym h ∙ ap news above ∙ file_above))) new_dir)
-      (λ not_n not_d. tree.root one (sym (file_beside g.root not_n not_d) ∙ h));
+        by_place n d g.root
+        (λ here. absurd (root_not_n (sym here)))
+        (λ above. subst (λ f. is_directory f ≡ true) (sym (same_Some one dir (sym h ∙ ap news above ∙ file_above))) new_dir)
+        (λ not_n not_d. tree.root one (sym (file_beside g.root not_n not_d) ∙ h));
     sizes = λ m one h is_dir.
-      by_place n d m
-      (λ here. absurd (some_not_n m (some_is (news m) one h) here))
-      (λ above. subst (λ f. is_directory_size (length f.contents) ≡ true) (sym (same_Some one dir (sym h ∙ ap news above ∙ file_above))) size)
-      (λ not_n not_d. tree.sizes m one (sym (file_beside m not_n not_d) ∙ h) is_dir);
+        by_place n d m
+        (λ here. absurd (some_not_n m (some_is (news m) one h) here))
+        (λ above. subst (λ f. is_directory_size (length f.contents) ≡ true) (sym (same_Some one dir (sym h ∙ ap news above ∙ file_above))) size)
+        (λ not_n not_d. tree.sizes m one (sym (file_beside m not_n not_d) ∙ h) is_dir);
     numbers = λ e j m names. tree.numbers e j m (only e j m names).0;
     dots = dots_after;
     names = λ m.
-      by_place n d m
-      (λ here. λ j low has. absurd (no_entry (directories news m) j (ap (directories news) here ∙ is_here) has))
-      (λ above. subst HasNames (sym (ap (directories news) above ∙ is_above)) names_above)
-      (λ not_n not_d. subst HasNames (sym (is_beside m not_n not_d)) (tree.names m));
+        by_place n d m
+        (λ here. λ j low has. absurd (no_entry (directories news m) j (ap (directories news) here ∙ is_here) has))
+        (λ above. subst HasNames (sym (ap (directories news) above ∙ is_above)) names_above)
+        (λ not_n not_d. subst HasNames (sym (is_beside m not_n not_d)) (tree.names m));
     different = λ m.
-      by_place n d m
-      (λ here. λ j k one other low low2 has has2 a b same. absurd (no_entry (directories news m) j (ap (directories news) here ∙ is_here) has))
-      (λ above. subst HasDifferentNames (sym (ap (directories news) above ∙ is_above)) different_above)
-      (λ not_n not_d. subst HasDifferentNames (sym (is_beside m not_n not_d)) (tree.different m));
+        by_place n d m
+        (λ here. λ j k one other low low2 has has2 a b same. absurd (no_entry (directories news m) j (ap (directories news) here ∙ is_here) has))
+        (λ above. subst HasDifferentNames (sym (ap (directories news) above ∙ is_above)) different_above)
+        (λ not_n not_d. subst HasDifferentNames (sym (is_beside m not_n not_d)) (tree.different m));
     once = λ e k j l m one other. tree.once e k j l m (only e j m one).0 (only k l m other).0;
-    root_free = λ e j names. tree.root_free e j (only e j g.root names).0
+    root_free = λ e j names. tree.root_free e j (only e j g.root names).0;
   }

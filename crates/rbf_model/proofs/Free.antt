@@ -26,7 +26,7 @@ module _ (g : Geometry) (disk : ℕ → List ℕ) (v : DiskVolume) (sound : Soun
   pub number_below : (n : ℕ) (file : DiskFile) → v.files n ≡ Some file → suc n ≤ g.total
   number_below n file h = (number_of_reached g _ sound.shape.header ((sound.tree.reached n).0 (some_is (v.files n) file h))).below
 
-  free_parts : (c : ℕ) → is_free g v c ≡ true → (is_whole g c ≡ true) × (v.lost c ≡ false) × Unused g v.files c
+  pub free_parts : (c : ℕ) → is_free g v c ≡ true → (is_whole g c ≡ true) × (v.lost c ≡ false) × Unused g v.files c
   unfolding is_free
   free_parts c h =
       let w = three_parts (is_whole g c) (not (v.lost c)) _ h in (

@@ -1,9 +1,9 @@
 -- The tree with a file that is another, and lists the same.
-use Rattle.std.proofs.Common.{◌≡◌, ◌≢◌, ℕ, Bool, true, false, List, length, Option, Some, None, IsSome, refl, sym, ap, ◌∙◌, subst, ⊎_elim}
+use Rattle.std.proofs.Common.{◌≡◌, ℕ, true, List, length, Option, Some, IsSome, refl, sym, ap, ◌∙◌, subst, ⊎_elim}
 use mathlib.Core.Path.{fun_ext}
 use Rattle.std.proofs.lemmas.Bool.{cases_eq}
 use Rattle.std.proofs.lemmas.Option.{same_Some}
-use Rattle.rbf_model.specs.Geometry.{Geometry, IsNumber}
+use Rattle.rbf_model.specs.Geometry.{Geometry}
 use Rattle.rbf_model.specs.File.{DiskFile, is_directory, is_directory_size}
 use Rattle.rbf_model.specs.Tree.{NamesIn, Reached, HasDots, HasNames, HasDifferentNames}
 use Rattle.rbf_model.specs.Volume.{IsTree, directories, listing}
@@ -20,9 +20,9 @@ module _ (g : Geometry) (files : ℕ → Option DiskFile) (tree : IsTree g files
   lists : directories news ≡ directories files
   unfolding news
   lists = fun_ext (λ m. ⊎_elim
-    (λ here. ap listing (ap news here ∙ put_file_here files n (Some new)) ∙ same ∙ sym (ap listing (ap files here ∙ is)))
-    (λ beside. ap listing (put_file_beside files n (Some new) m beside))
-    (cases_eq m n))
+      (λ here. ap listing (ap news here ∙ put_file_here files n (Some new)) ∙ same ∙ sym (ap listing (ap files here ∙ is)))
+      (λ beside. ap listing (put_file_beside files n (Some new) m beside))
+      (cases_eq m n))
 
   -- a file is as before, or the one that is another
   was : (m : ℕ) (one : DiskFile) → news m ≡ Some one → (file : DiskFile) × (files m ≡ Some file) × (is_directory one ≡ is_directory file) × (listing (Some one) ≡ listing (Some file))
@@ -30,8 +30,8 @@ module _ (g : Geometry) (files : ℕ → Option DiskFile) (tree : IsTree g files
   was m one h =
       ⊎_elim
       (λ here.
-        let e = same_Some new one here.1 in
-        (old, ap files here.0 ∙ is, sym (ap is_directory e) ∙ kind, sym (ap (λ f. listing (Some f)) e) ∙ same))
+      let e = same_Some new one here.1 in
+      (old, ap files here.0 ∙ is, sym (ap is_directory e) ∙ kind, sym (ap (λ f. listing (Some f)) e) ∙ same))
       (λ there. (one, there.1, refl, refl))
       (put_file_cases files n (Some new) m one h)
 
@@ -53,20 +53,20 @@ module _ (g : Geometry) (files : ℕ → Option DiskFile) (tree : IsTree g files
   tree_kept = record {
     reached = λ m. (
       λ some. subst (λ dirs. Reached g dirs m) (sym lists) ((tree.reached m).0 (some_before m some)),
-      λ r. some_after m ((tree.reached m).1 (subst (λ dirs. Reached g dirs m) lists r))
+      λ r. some_after m ((tree.reached m).1 (subst (λ dirs. Reached g dirs m) lists r)),
     );
     root = λ one h. let u = was g.root one h in u.2 ∙ tree.root u.0 u.1;
     sizes = λ m one h is_dir.
-      let u = was m one h in
-      let was_dir = sym u.2 ∙ is_dir in
-      let contents : one.contents ≡ u.0.contents = sym (listing_directory one is_dir) ∙ u.3 ∙ listing_directory u.0 was_dir in
-      subst (λ c. is_directory_size (length c) ≡ true) (sym contents) (tree.sizes m u.0 u.1 was_dir);
+        let u = was m one h in
+        let was_dir = sym u.2 ∙ is_dir in
+        let contents : one.contents ≡ u.0.contents = sym (listing_directory one is_dir) ∙ u.3 ∙ listing_directory u.0 was_dir in
+        subst (λ c. is_directory_size (length c) ≡ true) (sym contents) (tree.sizes m u.0 u.1 was_dir);
     numbers = λ e j m names. tree.numbers e j m (back e j m names);
     dots = λ m one h is_dir.
-      let u = was m one h in
-      subst (λ dirs. HasDots g dirs m) (sym lists) (tree.dots m u.0 u.1 (sym u.2 ∙ is_dir));
+        let u = was m one h in
+        subst (λ dirs. HasDots g dirs m) (sym lists) (tree.dots m u.0 u.1 (sym u.2 ∙ is_dir));
     names = λ m. subst (λ (dirs : ℕ → List ℕ). HasNames (dirs m)) (sym lists) (tree.names m);
     different = λ m. subst (λ (dirs : ℕ → List ℕ). HasDifferentNames (dirs m)) (sym lists) (tree.different m);
     once = λ e k j l m one other. tree.once e k j l m (back e j m one) (back k l m other);
-    root_free = λ e j names. tree.root_free e j (back e j g.root names)
+    root_free = λ e j names. tree.root_free e j (back e j g.root names);
   }

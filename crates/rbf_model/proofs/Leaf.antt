@@ -1,19 +1,20 @@
 -- The tree with one more file.
-use Rattle.std.proofs.Common.{◌≡◌, ◌≢◌, ◌⊎◌, ◌↔◌, ℕ, zero, suc, ◌≤◌, Bool, true, false, List, [], length, Option, Some, None, IsSome, refl, sym, ap, ◌∙◌, subst, inl, inr, ⊎_elim, arith}
-use Rattle.std.proofs.lemmas.Bool.{cases_Bool, cases_eq, cond-true, cond-false, both_ways, false≢true}
+use Rattle.std.proofs.Common.{◌≡◌, ◌≢◌, ◌⊎◌, ℕ, ◌≤◌, true, List, [], length, Option, Some, None, IsSome, refl, sym, ap, ◌∙◌, subst, inl, inr, ⊎_elim, arith}
+use Rattle.std.proofs.lemmas.Bool.{cases_eq, false≢true}
 use Rattle.std.proofs.lemmas.Option.{same_Some, none-some}
 use Rattle.os9_base.specs.Name.{SameName}
 use Rattle.rbf_model.specs.Fields.{entry_at, name_field, descriptor_field}
 use Rattle.rbf_model.specs.Geometry.{Geometry, IsNumber}
 use Rattle.rbf_model.specs.File.{DiskFile, is_directory, is_directory_size}
-use Rattle.rbf_model.specs.Tree.{dot, dot_dot, HasEntry, NamesIn, Reached, root, named, Links, IsEntry, IsParent, of_root, of_other, HasDots, self_first, parent_first, IsProper, HasNames, HasDifferentNames}
+use Rattle.rbf_model.specs.Tree.{dot, dot_dot, HasEntry, NamesIn, Reached, root, named, Links, IsEntry, IsParent, of_root, of_other, HasDots, self_first, parent_first, HasNames, HasDifferentNames}
 use Rattle.rbf_model.specs.Volume.{IsTree, directories, listing}
-use Rattle.rbf_model.specs.Writes.{put_file, ChangesEntry, IsNewDirectory, IsNewEntry}
-use Rattle.rbf_model.proofs.Lists.{some_is, some_of}
+use Rattle.rbf_model.proofs.Pieces.{ChangesEntry}
+use Rattle.rbf_model.specs.Writes.{put_file, IsNewDirectory, IsNewEntry}
+use Rattle.rbf_model.proofs.Lists.{some_is}
 use Rattle.rbf_model.proofs.Keeps.{no_entry}
 use Rattle.rbf_model.proofs.Named.{by_place, names_to}
-use Rattle.rbf_model.proofs.Change.{put_file_here, put_file_beside, put_file_cases}
-use Rattle.rbf_model.proofs.Entries.{entry_kept, entry_back, names_kept, names_back, listing_directory, listing_file, no_third_entry}
+use Rattle.rbf_model.proofs.Change.{put_file_here, put_file_beside}
+use Rattle.rbf_model.proofs.Entries.{entry_back, names_kept, names_back, listing_directory, no_third_entry}
 
 -- every name that was there leads on
 pub reached_grows : (g : Geometry) (dirs news : ℕ → List ℕ) → ((d i n : ℕ) → NamesIn (dirs d) i n → NamesIn (news d) i n) → {n : ℕ} → Reached g dirs n → Reached g news n
@@ -66,9 +67,9 @@ module _ (g : Geometry) (files : ℕ → Option DiskFile) (tree : IsTree g files
       by_place n d e
       (λ here. absurd (no_entry (directories files e) j (ap (directories files) here ∙ was_here) names.entry))
       (λ above.
-        let was = subst (λ c. NamesIn c j m) (ap (directories files) above ∙ was_above) names in
-        let differ : j ≢ i = λ same. free (subst (HasEntry old.contents) same was.entry) in
-        subst (λ c. NamesIn c j m) (sym (ap (directories news) above ∙ is_above)) (names_kept old.contents dir.contents i j m change differ was))
+      let was = subst (λ c. NamesIn c j m) (ap (directories files) above ∙ was_above) names in
+      let differ : j ≢ i = λ same. free (subst (HasEntry old.contents) same was.entry) in
+      subst (λ c. NamesIn c j m) (sym (ap (directories news) above ∙ is_above)) (names_kept old.contents dir.contents i j m change differ was))
       (λ not_n not_d. subst (λ c. NamesIn c j m) (sym (is_beside e not_n not_d)) names)
 
   -- there is one more
@@ -81,11 +82,11 @@ module _ (g : Geometry) (files : ℕ → Option DiskFile) (tree : IsTree g files
       by_place n d e
       (λ here. absurd (no_third_entry file n d j made names.after (subst (λ c. HasEntry c j) (ap (directories news) here ∙ is_here) names.entry)))
       (λ above.
-        let now = subst (λ c. NamesIn c j m) (ap (directories news) above ∙ is_above) names in
-        ⊎_elim
-        (λ same. inr (above, same, sym now.descriptor ∙ ap (λ k. descriptor_field (entry_at dir.contents k)) same ∙ new.is.descriptor))
-        (λ differ. inl (subst (λ c. NamesIn c j m) (sym (ap (directories files) above ∙ was_above)) (names_back old.contents dir.contents i j m change differ now)))
-        (cases_eq j i))
+      let now = subst (λ c. NamesIn c j m) (ap (directories news) above ∙ is_above) names in
+      ⊎_elim
+      (λ same. inr (above, same, sym now.descriptor ∙ ap (λ k. descriptor_field (entry_at dir.contents k)) same ∙ new.is.descriptor))
+      (λ differ. inl (subst (λ c. NamesIn c j m) (sym (ap (directories files) above ∙ was_above)) (names_back old.contents dir.contents i j m change differ now)))
+      (cases_eq j i))
       (λ not_n not_d. inl (subst (λ c. NamesIn c j m) (is_beside e not_n not_d) names))
 
   grows : {m : ℕ} → Reached g (directories files) m → Reached g (directories news) m
@@ -122,7 +123,7 @@ module _ (g : Geometry) (files : ℕ → Option DiskFile) (tree : IsTree g files
 
   -- the first two entries of a directory that was there
   dots_grow : (m : ℕ) → (entry_at (directories news m) 0 ≡ entry_at (directories files m) 0) → (entry_at (directories news m) 1 ≡ entry_at (directories files m) 1)
-    → HasDots g (directories files) m → HasDots g (directories news) m
+      → HasDots g (directories files) m → HasDots g (directories news) m
   dots_grow m zeroth first (self_first {p = p} one two parent) =
       self_first (subst (λ e. IsEntry e dot m) (sym zeroth) one) (subst (λ e. IsEntry e dot_dot p) (sym first) two) (parent_grows m p parent)
   dots_grow m zeroth first (parent_first {p = p} one two parent) =
@@ -155,16 +156,16 @@ module _ (g : Geometry) (files : ℕ → Option DiskFile) (tree : IsTree g files
       (λ here. subst (HasDots g (directories news)) (sym here) (dots_here (subst (λ f. is_directory f ≡ true) (same_Some one file (sym h ∙ ap news here ∙ file_here)) is_dir)))
       (λ above. subst (HasDots g (directories news)) (sym above) dots_above)
       (λ not_n not_d.
-        let lists = is_beside m not_n not_d in
-        dots_grow m (ap (λ c. entry_at c 0) lists) (ap (λ c. entry_at c 1) lists) (tree.dots m one (sym (file_beside m not_n not_d) ∙ h) is_dir))
+      let lists = is_beside m not_n not_d in
+      dots_grow m (ap (λ c. entry_at c 0) lists) (ap (λ c. entry_at c 1) lists) (tree.dots m one (sym (file_beside m not_n not_d) ∙ h) is_dir))
 
   names_above : HasNames dir.contents
   names_above j low has =
       ⊎_elim
       (λ same. (new.name, ap (λ k. name_field (entry_at dir.contents k)) same ∙ new.is.name_is, new.proper))
       (λ differ.
-        let w = subst HasNames was_above (tree.names d) j low (entry_back old.contents dir.contents i j change differ has) in
-        (w.0, ap name_field (change.beside j differ) ∙ w.1, w.2))
+      let w = subst HasNames was_above (tree.names d) j low (entry_back old.contents dir.contents i j change differ has) in
+      (w.0, ap name_field (change.beside j differ) ∙ w.1, w.2))
       (cases_eq j i)
 
   names_after : (m : ℕ) → HasNames (directories news m)
@@ -175,7 +176,7 @@ module _ (g : Geometry) (files : ℕ → Option DiskFile) (tree : IsTree g files
       (λ not_n not_d. subst HasNames (sym (is_beside m not_n not_d)) (tree.names m))
 
   fresh_differs : (k : ℕ) (one other : List ℕ) → k ≢ i → 2 ≤ k → HasEntry dir.contents k → name_field (entry_at dir.contents i) ≡ Some one → name_field (entry_at dir.contents k) ≡ Some other
-    → SameName one other → ⊥
+      → SameName one other → ⊥
   fresh_differs k one other differ low has a b same =
       new.differs k other differ low (entry_back old.contents dir.contents i k change differ has) (ap name_field (sym (change.beside k differ)) ∙ b)
       (subst (λ x. SameName x other) (same_Some one new.name (sym a ∙ new.is.name_is)) same)
@@ -184,14 +185,14 @@ module _ (g : Geometry) (files : ℕ → Option DiskFile) (tree : IsTree g files
   different_above j k one other low low2 has has2 a b same =
       ⊎_elim
       (λ here. ⊎_elim
-        (λ here2. here ∙ sym here2)
-        (λ differ. absurd (fresh_differs k one other differ low2 has2 (ap (λ x. name_field (entry_at dir.contents x)) (sym here) ∙ a) b same))
-        (cases_eq k i))
+      (λ here2. here ∙ sym here2)
+      (λ differ. absurd (fresh_differs k one other differ low2 has2 (ap (λ x. name_field (entry_at dir.contents x)) (sym here) ∙ a) b same))
+      (cases_eq k i))
       (λ differ. ⊎_elim
-        (λ here2. absurd (fresh_differs j other one differ low has (ap (λ x. name_field (entry_at dir.contents x)) (sym here2) ∙ b) a (sym same)))
-        (λ differ2. subst HasDifferentNames was_above (tree.different d) j k one other low low2 (entry_back old.contents dir.contents i j change differ has)
-          (entry_back old.contents dir.contents i k change differ2 has2) (ap name_field (sym (change.beside j differ)) ∙ a) (ap name_field (sym (change.beside k differ2)) ∙ b) same)
-        (cases_eq k i))
+      (λ here2. absurd (fresh_differs j other one differ low has (ap (λ x. name_field (entry_at dir.contents x)) (sym here2) ∙ b) a (sym same)))
+      (λ differ2. subst HasDifferentNames was_above (tree.different d) j k one other low low2 (entry_back old.contents dir.contents i j change differ has)
+      (entry_back old.contents dir.contents i k change differ2 has2) (ap name_field (sym (change.beside j differ)) ∙ a) (ap name_field (sym (change.beside k differ2)) ∙ b) same)
+      (cases_eq k i))
       (cases_eq j i)
 
   different_after : (m : ℕ) → HasDifferentNames (directories news m)
@@ -205,9 +206,9 @@ module _ (g : Geometry) (files : ℕ → Option DiskFile) (tree : IsTree g files
   sizes_after m one h is_dir =
       by_place n d m
       (λ here.
-        let same = same_Some one file (sym h ∙ ap news here ∙ file_here) in
-        subst (λ f. is_directory_size (length f.contents) ≡ true) (sym same)
-        (subst (λ s. is_directory_size s ≡ true) (sym (made (subst (λ f. is_directory f ≡ true) same is_dir)).two) refl))
+      let same = same_Some one file (sym h ∙ ap news here ∙ file_here) in
+      subst (λ f. is_directory_size (length f.contents) ≡ true) (sym same)
+      (subst (λ s. is_directory_size s ≡ true) (sym (made (subst (λ f. is_directory f ≡ true) same is_dir)).two) refl))
       (λ above. subst (λ f. is_directory_size (length f.contents) ≡ true) (sym (same_Some one dir (sym h ∙ ap news above ∙ file_above))) size)
       (λ not_n not_d. tree.sizes m one (sym (file_beside m not_n not_d) ∙ h) is_dir)
 
@@ -225,13 +226,13 @@ module _ (g : Geometry) (files : ℕ → Option DiskFile) (tree : IsTree g files
   once_after e k j l m one other =
       ⊎_elim
       (λ was. ⊎_elim
-        (λ was2. tree.once e k j l m was was2)
-        (λ is_new. absurd (not_named_before e j (subst (NamesIn (directories files e) j) is_new.2 was)))
-        (only k l m other))
+      (λ was2. tree.once e k j l m was was2)
+      (λ is_new. absurd (not_named_before e j (subst (NamesIn (directories files e) j) is_new.2 was)))
+      (only k l m other))
       (λ is_new. ⊎_elim
-        (λ was2. absurd (not_named_before k l (subst (NamesIn (directories files k) l) is_new.2 was2)))
-        (λ is_new2. (is_new.0 ∙ sym is_new2.0, is_new.1 ∙ sym is_new2.1))
-        (only k l m other))
+      (λ was2. absurd (not_named_before k l (subst (NamesIn (directories files k) l) is_new.2 was2)))
+      (λ is_new2. (is_new.0 ∙ sym is_new2.0, is_new.1 ∙ sym is_new2.1))
+      (only k l m other))
       (only e j m one)
 
   -- the tree with the new file
@@ -240,7 +241,7 @@ module _ (g : Geometry) (files : ℕ → Option DiskFile) (tree : IsTree g files
   tree_with_leaf = record {
     reached = λ m. (
       λ some. ⊎_elim (λ here. subst (Reached g (directories news)) (sym here) here_reached) (λ not_n. grows ((tree.reached m).0 (some_before m not_n some))) (cases_eq m n),
-      λ r. reached_some r
+      λ r. reached_some r,
     );
     root = root_after;
     sizes = sizes_after;
@@ -249,5 +250,5 @@ module _ (g : Geometry) (files : ℕ → Option DiskFile) (tree : IsTree g files
     names = names_after;
     different = different_after;
     once = once_after;
-    root_free = λ e j names. ⊎_elim (λ was. tree.root_free e j was) (λ is_new. root_not_n (sym is_new.2)) (only e j g.root names)
+    root_free = λ e j names. ⊎_elim (λ was. tree.root_free e j was) (λ is_new. root_not_n (sym is_new.2)) (only e j g.root names);
   }

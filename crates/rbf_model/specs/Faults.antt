@@ -2,7 +2,7 @@
 use Rattle.std.specs.Prelude.{◌≡◌, ◌≢◌, ◌⊎◌, ◌↔◌, ℕ, ◌*◌, ◌/◌, ◌<◌, ◌≤◌, ◌&&◌, true, false, not, List, [], length, drop, get_or, Some, None, Contains, if◌then◌else◌}
 use Rattle.std.specs.List.{list_any}
 use Rattle.rbf_model.specs.Fields.{size_field, segments_field, entry_at, descriptor_field}
-use Rattle.rbf_model.specs.Geometry.{LieWithin, Geometry, geometry, HasMap, HasHeader, IsNumber, is_within, sector}
+use Rattle.rbf_model.specs.Geometry.{LieWithin, Geometry, image_geometry, HasMap, HasHeader, IsNumber, is_within, sector}
 use Rattle.rbf_model.specs.Segments.{AreDistinct, has}
 use Rattle.rbf_model.specs.File.{file_at, is_directory, is_directory_size, is_searched, has_room}
 use Rattle.rbf_model.specs.Space.{is_whole, is_marked, owned, owns, has_cluster}
@@ -52,7 +52,7 @@ pub data Breaks (g : Geometry) (disk : ℕ → List ℕ) : ℕ → ℕ → Type 
 -- a breach of a rule by an image; where the first line of rule 1 fails no other is tested
 pub data ImageBreaks (image : List ℕ) : ℕ → ℕ → Type 0 where
   bad_header : ¬ HasHeader image → ImageBreaks image 1 0
-  breaks : {rule lsn : ℕ} → HasHeader image → Breaks (geometry (sector image 0)) (sector image) rule lsn → ImageBreaks image rule lsn
+  breaks : {rule lsn : ℕ} → HasHeader image → Breaks (image_geometry image) (sector image) rule lsn → ImageBreaks image rule lsn
 
 -- the fault of an image: the breach of the least rule, and of those the one at the least sector
 pub record IsFault (image : List ℕ) (rule lsn : ℕ) : Type 0 where
@@ -92,4 +92,4 @@ volume_of g disk found rest = record {
 -- the volume of an image whose reached descriptors are found
 abbrev pub image_volume : List ℕ → List ℕ → DiskVolume
 image_volume image numbers =
-    volume_of (geometry (sector image 0)) (sector image) numbers (drop (256 * (geometry (sector image 0)).total) image)
+    volume_of (image_geometry image) (sector image) numbers (drop (256 * (image_geometry image).total) image)

@@ -1,7 +1,6 @@
 -- Where the fields of RBF's sectors stand (OS-9 Technical Reference, Random Block File Manager).
-use Rattle.std.specs.Prelude.{ℕ, ◌+◌, ◌-◌, ◌*◌, ◌/◌, ◌%◌, ◌==◌, Bool, not, List, map, take, drop, slice_index, take_while, Option}
+use Rattle.std.specs.Prelude.{ℕ, ◌+◌, ◌*◌, ◌==◌, Bool, not, List, map, take, drop, slice_index, take_while, Option}
 use Rattle.std.specs.List.{range_with_len}
-use Rattle.std.specs.Int.{bit_at}
 use Rattle.byteorder.specs.Endian.{big_from}
 use Rattle.os9_base.specs.Name.{stored_name}
 
@@ -86,9 +85,3 @@ name_field entry = stored_name (take 29 entry)
 -- DIR.FD: the descriptor that the entry names
 abbrev pub descriptor_field : List ℕ → ℕ
 descriptor_field entry = big_from 29 3 entry
-
--- Allocation map, from LSN 1 on ("Disk Allocation Map").
-
--- the mark of a cluster in the map's bytes: one bit each, the most significant first, set where the cluster is in use
-abbrev pub mark_bit : List ℕ → ℕ → ℕ
-mark_bit map_bytes c = bit_at (slice_index map_bytes (c / 8)) (7 - c % 8)

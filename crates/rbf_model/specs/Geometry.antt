@@ -57,6 +57,10 @@ LieWithin g segments = All (λ segment. is_within g segment ≡ true) segments
 abbrev pub sector : List ℕ → ℕ → List ℕ
 sector image n = take 256 (drop (256 * n) image)
 
+-- what an image's sector 0 says
+abbrev pub image_geometry : List ℕ → Geometry
+image_geometry image = geometry (sector image 0)
+
 -- every sector of the volume has 256 bytes
 abbrev pub IsDisk : Geometry → (ℕ → List ℕ) → Type 0
 IsDisk g disk = (n : ℕ) → n < g.total → length (disk n) ≡ 256
@@ -64,5 +68,5 @@ IsDisk g disk = (n : ℕ) → n < g.total → length (disk n) ≡ 256
 -- an image that holds the volume that its sector 0 speaks of
 pub record HasHeader (image : List ℕ) : Type 0 where
   pub ident : 256 ≤ length image
-  pub header : IsHeader (geometry (sector image 0))
-  pub fits : 256 * (geometry (sector image 0)).total ≤ length image
+  pub header : IsHeader (image_geometry image)
+  pub fits : 256 * (image_geometry image).total ≤ length image

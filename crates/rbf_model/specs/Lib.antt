@@ -7,3 +7,5 @@ pub mod Tree
 pub mod Volume
 pub mod Faults
 pub mod Writes
+pub mod Laws
+pub mod Walk

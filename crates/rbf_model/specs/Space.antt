@@ -26,9 +26,13 @@ is_marked disk c = bit_at (map_byte disk (c / 8)) (7 - c % 8) == 1
 abbrev pub system_sectors : Geometry → List ℕ
 system_sectors g = range_with_len 0 (1 + map_sectors g)
 
--- the sectors of one owner: the descriptor, the file's sectors, and for the root's file the system's sectors besides
+-- the sectors of a file, its descriptor's first
+abbrev pub own_sectors : ℕ → DiskFile → List ℕ
+own_sectors n file = n ∷ sectors_of file.segments
+
+-- the sectors of one owner: those of the file, and for the root's file the system's sectors before them
 unfoldable pub owned : Geometry → ℕ → DiskFile → List ℕ
-owned g n file = (if n == g.root then system_sectors g else []) ++ n ∷ sectors_of file.segments
+owned g n file = (if n == g.root then system_sectors g else []) ++ own_sectors n file
 
 -- the sector is one of the owner's
 unfoldable pub owns : Geometry → ℕ → DiskFile → ℕ → Bool

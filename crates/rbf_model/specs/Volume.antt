@@ -2,7 +2,7 @@
 use Rattle.std.specs.Prelude.{◌≡◌, ◌↔◌, ℕ, ◌*◌, ◌&&◌, Bool, true, false, not, List, [], length, drop, filter, Option, Some, None, IsSome, is_some, if◌then◌else◌}
 use Rattle.std.specs.List.{range_with_len, list_all}
 use Rattle.rbf_model.specs.Fields.{size_field}
-use Rattle.rbf_model.specs.Geometry.{Geometry, geometry, IsGeometry, IsDisk, IsNumber, HasHeader, sector}
+use Rattle.rbf_model.specs.Geometry.{Geometry, image_geometry, IsGeometry, IsDisk, IsNumber, HasHeader, sector}
 use Rattle.rbf_model.specs.File.{DiskFile, file_at, is_directory, is_directory_size, has_room}
 use Rattle.rbf_model.specs.Space.{IsMapped, is_marked, is_whole, has_cluster, cluster_count}
 use Rattle.rbf_model.specs.Tree.{Names, Reached, HasDots, HasNames, HasDifferentNames}
@@ -52,8 +52,8 @@ pub record Sound (g : Geometry) (disk : ℕ → List ℕ) (v : DiskVolume) : Typ
 -- an image stands for a volume; an image for which there is one is well formed
 pub record Vol (image : List ℕ) (v : DiskVolume) : Type 0 where
   pub header : HasHeader image
-  pub sound : Sound (geometry (sector image 0)) (sector image) v
-  pub rest : v.rest ≡ drop (256 * (geometry (sector image 0)).total) image
+  pub sound : Sound (image_geometry image) (sector image) v
+  pub rest : v.rest ≡ drop (256 * (image_geometry image).total) image
 
 -- the cluster is one of the file's, if there is one
 abbrev pub in_file : Geometry → ℕ → Option DiskFile → ℕ → Bool

@@ -35,7 +35,7 @@ with_file g v n file = record {
   ident = v.ident;
   files = put_file v.files n file;
   lost = lost_after g v.files v.lost n file;
-  rest = v.rest
+  rest = v.rest;
 }
 
 -- a volume whose file of number n has the same segments and is another for the rest
@@ -45,12 +45,6 @@ with_same_space v n file = record { ident = v.ident; files = put_file v.files n 
 -- a volume with other lost clusters
 abbrev pub with_lost : DiskVolume → (ℕ → Bool) → DiskVolume
 with_lost v lost = record { ident = v.ident; files = v.files; lost = lost; rest = v.rest }
-
--- a directory's bytes of which no entry but the one in place i has changed, come or gone
-pub record ChangesEntry (old new : List ℕ) (i : ℕ) : Type 0 where
-  pub beside : (j : ℕ) → j ≢ i → entry_at new j ≡ entry_at old j
-  pub kept : (j : ℕ) → j ≢ i → 32 * (j + 1) ≤ length old → 32 * (j + 1) ≤ length new
-  pub no_more : (j : ℕ) → j ≢ i → 32 * (j + 1) ≤ length new → 32 * (j + 1) ≤ length old
 
 -- the bytes of a new directory n in directory d: itself and its parent, and no other entry
 pub record IsNewDirectory (contents : List ℕ) (n d : ℕ) : Type 0 where

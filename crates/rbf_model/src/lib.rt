@@ -2,3 +2,4 @@
 #![tactic(auto)]
 
 pub mod volume;
+pub mod writes;
