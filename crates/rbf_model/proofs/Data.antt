@@ -74,10 +74,10 @@ module _ (g : Geometry) (disk : ℕ → List ℕ) (v : DiskVolume) (sound : Soun
   sectors_are : sectors_of file.segments ≡ sectors_of (segments_field (disk n))
   sectors_are = ap (λ f. sectors_of f.segments) is_at
 
-  place : j < length (sectors_of (segments_field (disk n)))
+  pub place : j < length (sectors_of (segments_field (disk n)))
   place = subst (λ xs. j < length xs) sectors_are sector.within
 
-  there : get_or (sectors_of (segments_field (disk n))) j 0 ≡ s
+  pub there : get_or (sectors_of (segments_field (disk n))) j 0 ≡ s
   there = subst (λ xs. get_or xs j 0 ≡ s) sectors_are sector.at
 
   has_sector : has (sectors_of (segments_field (disk n))) s ≡ true
@@ -95,7 +95,7 @@ module _ (g : Geometry) (disk : ℕ → List ℕ) (v : DiskVolume) (sound : Soun
       both_ways (has (sectors_of (segments_field (disk n))) n) (distinct_first n (sectors_of (segments_field (disk n))) distinct_at)
       (subst (λ x. has (sectors_of (segments_field (disk n))) x ≡ true) (sym same) has_sector)
 
-  full : (x : ℕ) → has (sectors_of (segments_field (disk n))) x ≡ true → length (disk x) ≡ 256
+  pub full : (x : ℕ) → has (sectors_of (segments_field (disk n))) x ≡ true → length (disk x) ≡ 256
   full x h = sound.sectors x (sectors_within g (segments_field (disk n)) (segments_are g disk v sound n file sector.is) x h).1
 
   -- its bytes in the file's
@@ -112,10 +112,10 @@ module _ (g : Geometry) (disk : ℕ → List ℕ) (v : DiskVolume) (sound : Soun
       ∙ ap (λ w. record (file_from disk (disk n)) { contents = take (size_field (disk n)) w }) (bytes_written bytes whole)
       ∙ ap (λ (f : DiskFile). record f { contents = take (size_field (disk n)) (put_at (bytes_of disk (segments_field (disk n))) (256 * j) bytes) }) (sym is_at)
 
-  contents_are : file.contents ≡ take (size_field (disk n)) (bytes_of disk (segments_field (disk n)))
+  pub contents_are : file.contents ≡ take (size_field (disk n)) (bytes_of disk (segments_field (disk n)))
   contents_are = ap (λ f. f.contents) is_at
 
-  size_are : length file.contents ≡ size_field (disk n)
+  pub size_are : length file.contents ≡ size_field (disk n)
   size_are = ap length contents_are ∙ size_is g disk v sound n file sector.is
 
   pub room_at : (news : DiskFile) → news.segments ≡ file.segments → has_room news.segments (size_field (put disk s bytes n)) ≡ true
@@ -137,7 +137,7 @@ module _ (g : Geometry) (disk : ℕ → List ℕ) (v : DiskVolume) (sound : Soun
       sym (bytes_written (disk s) (full s has_sector)) ∙ ap (λ d. bytes_of d (segments_field (disk n))) (put_same disk s)
 
   -- the sector's place is within the file's sectors
-  fits : 256 * j + 256 ≤ length (bytes_of disk (segments_field (disk n)))
+  pub fits : 256 * j + 256 ≤ length (bytes_of disk (segments_field (disk n)))
   fits = let p = place in omega (arith, length-joined disk (sectors_of (segments_field (disk n))) full)
 
   past_size_law : take (length file.contents - 256 * j) bytes ≡ take (length file.contents - 256 * j) (disk s) → Sound g (put disk s bytes) v
