@@ -1,12 +1,12 @@
 -- The sectors and clusters of a volume's files, within it and apart.
-use Rattle.std.proofs.Common.{◌≡◌, ◌≢◌, ◌⊎◌, ℕ, zero, suc, ◌+◌, ◌*◌, ◌/◌, ◌<◌, ◌≤◌, ◌==◌, Bool, true, List, [], ◌++◌, Option, Some, refl, sym, ap, ◌∙◌, subst, inl, inr, ⊎_elim, arith, eqb-true, eq-eqb, leb-true}
+use Rattle.std.proofs.Common.{false, ◌≡◌, ◌≢◌, ◌⊎◌, ℕ, zero, suc, ◌+◌, ◌*◌, ◌/◌, ◌<◌, ◌≤◌, ◌==◌, Bool, true, List, [], ◌++◌, Option, Some, refl, sym, ap, ◌∙◌, subst, inl, inr, ⊎_elim, arith, eqb-true, eq-eqb, leb-true}
 use Rattle.std.specs.Prelude.{if◌then◌else◌}
-use Rattle.std.proofs.Math.Nat.{lt_of_mul-lt-mul_right}
-use Rattle.std.proofs.lemmas.Bool.{cond-true, cond-false, cases_Bool, false≢true, or_cases}
+use Rattle.std.proofs.Math.Nat.{lt-div-mul-add, lt_of_mul-lt-mul_right}
+use Rattle.std.proofs.lemmas.Bool.{both_ways, false_from_ne_true, cond-true, cond-false, cases_Bool, false≢true, or_cases}
 use Rattle.rbf_model.specs.Geometry.{Geometry, IsGeometry, LieWithin, is_cluster_size, map_sectors}
 use Rattle.rbf_model.specs.Segments.{AreDistinct, sectors_of, has}
 use Rattle.rbf_model.specs.File.{DiskFile}
-use Rattle.rbf_model.specs.Space.{is_whole, is_marked, system_sectors, own_sectors, owned, owns, has_cluster, IsMapped}
+use Rattle.rbf_model.specs.Space.{Unused, is_whole, is_marked, system_sectors, own_sectors, owned, owns, has_cluster, IsMapped}
 use Rattle.rbf_model.specs.Tree.{root}
 use Rattle.rbf_model.specs.Volume.{DiskVolume, Sound}
 use Rattle.rbf_model.specs.Writes.{put}
@@ -139,6 +139,18 @@ module _ (g : Geometry) (disk : ℕ → List ℕ) (v : DiskVolume) (sound : Soun
       let place = mark_sector g sound.shape c low in
       let differ : 1 + c / 8 / 256 ≢ s = λ same. absurd (omega arith) in
       marked_beside disk s bytes c differ
+
+-- a sector of a cluster that no file has is in no file
+pub unowned_of_unused : (g : Geometry) (files : ℕ → Option DiskFile) (s : ℕ) → Unused g files (s / g.cluster) → (n : ℕ) (file : DiskFile) → files n ≡ Some file → owns g n file s ≡ false
+unowned_of_unused g files s unused n file is =
+    false_from_ne_true (owns g n file s) (λ owned_too. both_ways (has_cluster g n file (s / g.cluster)) (unused n file is) (cluster_from_owns g n file s owned_too))
+
+-- and of a whole one is within the volume
+pub whole_sector_below : (g : Geometry) (s : ℕ) → 1 ≤ g.cluster → is_whole g (s / g.cluster) ≡ true → s < g.total
+whole_sector_below g s positive h =
+    let end : (s / g.cluster + 1) * g.cluster ≤ g.total = leb-true ((s / g.cluster + 1) * g.cluster) g.total h in
+    let below : s < s / g.cluster * g.cluster + g.cluster = lt-div-mul-add positive in
+    omega arith
 
 -- the space of files rests on the marks of clusters that begin in the volume
 pub mapped_by_marks : (g : Geometry) (marked news : ℕ → Bool) (files : ℕ → Option DiskFile) (lost : ℕ → Bool) → IsGeometry g
