@@ -7,7 +7,7 @@ ghost use Rattle.machine_model.specs.Run.{Tick, Choose, Slice, Goes, cost as cos
 
 use crate::line::{LineEnd, write_line};
 use crate::memory::Memory;
-use crate::step_stub::step;
+use cpu6809::step;
 use cpu_model::stop::Stop;
 use device_table::devices::Devices;
 use machine_model::activity::Activity;

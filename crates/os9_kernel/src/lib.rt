@@ -7,6 +7,6 @@ mod kernel;
 mod line;
 mod memory;
 mod start;
-mod step_stub;
 
 pub use kernel::Kernel;
+pub use start::BootFault;
