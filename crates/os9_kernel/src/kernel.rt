@@ -97,6 +97,7 @@ impl Kernel {
             → (t : State) × Slice n s result t
             × Stands self.new (screens ⟦<dyn CharDriver as CharDriver>⟧ devices.new.terms.items) t }
         ensures count { ticks self.new ≡ ticks self.old + 1 }
+        ensures terminals { vec_len devices.new.terms ≡ vec_len devices.old.terms }
         ensures drives_kept { devices.new.drives ≡ devices.old.drives }
     {
         self.tick();
@@ -116,6 +117,7 @@ impl Kernel {
             × Stands self.new (screens ⟦<dyn CharDriver as CharDriver>⟧ devices.new.terms.items) t }
         ensures ran { result ≢ SliceEnd.NoMemory → result ≡ SliceEnd.Ran }
         ensures count { ticks self.new ≡ ticks self.old }
+        ensures terminals { vec_len devices.new.terms ≡ vec_len devices.old.terms }
         ensures drives_kept { devices.new.drives ≡ devices.old.drives }
     {
         let mut left = n;

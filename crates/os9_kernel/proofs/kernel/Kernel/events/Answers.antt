@@ -7,7 +7,7 @@ use Rattle.os9_kernel.proofs.kernel.Kernel.events.Goals as goal
 pub loop-left-preserved : goal.loop-left-preserved
 loop-left-preserved g c = record {
     going = c.in-Ran.ensures.ran refl;
-    terminal = omega (arith, c.in-Ran.ensures.terminals, c.loop-left.invariant.terminal);
+    terminal = c.in-Ran.ensures.terminals ∙ c.loop-left.invariant.terminal;
     count = c.in-Ran.ensures.count ∙ c.loop-left.invariant.count;
     drives = c.in-Ran.ensures.drives_kept ∙ c.loop-left.invariant.drives;
     tied = λ s stood.

@@ -1,0 +1,61 @@
+-- The bytes of the terminals, one terminal after another.
+use Rattle.std.proofs.Common.{◌≡◌, ℕ, ◌+◌, ◌<◌, ◌≤◌, Option, Some, None, List, [], ◌∷◌, ◌++◌, length, map, take, drop, slice_get, slice_set, get_or, refl, sym, ap, ◌∙◌, append_assoc, append-nil, get_or-drop, length-take, All, arith, rules}
+use Rattle.std.specs.Prelude.{IfSome, IsSome, unwrap_or}
+use Rattle.std.specs.List.{flat_map}
+use Rattle.std.proofs.lemmas.List.{take_all, take_more, drop_all, get_or-append_right, length-map}
+use Rattle.std.proofs.lemmas.List.Concat.{flat_map-append}
+use Rattle.std.proofs.lemmas.List.Edits.{map_over_more}
+use Rattle.std.proofs.lemmas.List.Elements.{All-get_or}
+use Rattle.std.proofs.lemmas.Option.{slice_get_within, get_or_from_slice_get}
+use Rattle.os9_outer.specs.Stream.{appended, emptied}
+use Rattle.device_table.specs.Screens.{Screen, ChangesOne}
+use Rattle.machine_model.specs.Run.{bytes_of, console_of, without_bytes}
+use Rattle.os9_boot.specs.Console.{Takes, IsTold}
+
+-- what was taken from a terminal's driver was taken from the terminal
+pub Takes-from : (bytes : List ℕ) (old new : Screen) → IfSome old.put (λ put. bytes ≡ put) → new.put ≡ emptied old.put → new.keys ≡ old.keys → new.faults ≡ old.faults → Takes bytes old new
+Takes-from bytes old new handed none keys faults =
+    let by : List _ → Option (List ℕ) → ℕ → Screen = λ keys put faults. record { keys = keys; put = put; faults = faults } in
+    record {
+      handed_over = handed;
+      none_left = ap (λ k. by k new.put new.faults) keys ∙ ap (λ p. by old.keys p new.faults) none ∙ ap (λ f. by old.keys (emptied old.put) f) faults;
+    }
+
+-- the terminals, of which the first so many were emptied
+abbrev pub emptied_front : ℕ → List Screen → List Screen
+emptied_front n screens = map without_bytes (take n screens) ++ drop n screens
+
+appended-nothing : (stream : Option (List ℕ)) → appended stream [] ≡ stream
+appended-nothing None = refl
+appended-nothing (Some bytes) = rw append-nil refl
+
+appended-twice : (stream : Option (List ℕ)) (first second : List ℕ) → appended (appended stream first) second ≡ appended stream (first ++ second)
+appended-twice None first second = refl
+appended-twice (Some bytes) first second = rw append_assoc refl
+
+told_bytes : (bytes : List ℕ) (put : Option (List ℕ)) → IsSome put → IfSome put (λ put. bytes ≡ put) → bytes ≡ unwrap_or put []
+told_bytes bytes None told is = cc
+told_bytes bytes (Some put) told is = is
+
+-- one terminal more
+pub record Passed (n : ℕ) (bytes : List ℕ) (screens now : List Screen) : Type 0 where
+  pub emptied : now ≡ emptied_front (n + 1) screens
+  pub written : All IsTold screens → console_of (take (n + 1) screens) ≡ console_of (take n screens) ++ bytes
+
+pub passes : (n : ℕ) (bytes : List ℕ) (screens before now : List Screen) → n < length screens → before ≡ emptied_front n screens → ChangesOne (Takes bytes) n before now → Passed n bytes screens now
+passes n bytes screens before now within so_far (old, new, is, set, took) =
+    let here : old ≡ get_or before n old = sym (get_or_from_slice_get before n old old is) in
+    let size : length (map without_bytes (take n screens)) ≡ n = simp (length-map, length-take) (omega arith) in
+    let there : get_or before n old ≡ get_or screens n old = rw so_far (get_or-append_right (map without_bytes (take n screens)) (drop n screens) n n old size (omega arith) ∙ rw get_or-drop (ap (λ k. get_or screens k old) (omega arith))) in
+    let same : old ≡ get_or screens n old = here ∙ there in
+    record {
+      emptied = set ∙ ap (λ screen. slice_set before n screen) took.none_left ∙ map_over_more without_bytes screens before n old within so_far here;
+      written = λ told.
+        let tells : IsSome old.put = rw same (All-get_or IsTold screens n old within told) in
+        rw (take_more screens n old within, flat_map-append, told_bytes bytes old.put tells took.handed_over, ← same) (ap (λ rest. console_of (take n screens) ++ rest) (append-nil (unwrap_or old.put [])));
+    }
+
+-- what was written after one terminal more
+pub written-more : (n : ℕ) (bytes : List ℕ) (screens now : List Screen) (first before after : Option (List ℕ)) → Passed n bytes screens now → (All IsTold screens → before ≡ appended first (console_of (take n screens))) → after ≡ appended before bytes → All IsTold screens → after ≡ appended first (console_of (take (n + 1) screens))
+written-more n bytes screens now first before after passed so_far gained told =
+    gained ∙ ap (λ stream. appended stream bytes) (so_far told) ∙ appended-twice first (console_of (take n screens)) bytes ∙ ap (appended first) (sym (passed.written told))

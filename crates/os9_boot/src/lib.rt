@@ -1,0 +1,10 @@
+//! The top call: a command line, a host and devices in, a status out.
+#![tactic(auto)]
+
+mod console;
+mod run;
+mod status;
+mod top;
+
+pub use os9_words::command::read_words;
+pub use top::os9_main;

@@ -1,0 +1,60 @@
+ghost use Rattle.std.specs.Prelude.{◌≡◌, ◌+◌, ◌<◌, All, List, OnOk, length, vec_len};
+ghost use Rattle.os9_base.specs.Count.{Rose};
+ghost use Rattle.os9_outer.specs.Stream.{appended};
+ghost use Rattle.device_table.specs.Screens.{screens};
+ghost use Rattle.machine_model.specs.State.{State};
+ghost use Rattle.machine_model.specs.Run.{Run};
+ghost use Rattle.os9_kernel.specs.Tie.{Stands, ticks};
+ghost use Rattle.os9_boot.specs.Console.{IsTold};
+ghost use Rattle.os9_boot.specs.Stop.{OnOutputFault, UnlessOutputFault};
+
+use crate::console::pass_on;
+use device_table::devices::Devices;
+use os9_kernel::{Kernel, SliceEnd};
+use os9_outer::host::{Host, HostFault};
+use os9_outer::terminal::CharDriver;
+
+/// Why a run stopped before its end.
+#[derive(Clone, Copy, Debug, PartialEq, Eq)]
+pub enum Stop {
+    /// The output stream could not be written.
+    Output,
+    /// Memory is wanting.
+    NoMemory,
+}
+
+/// Runs the slices, and passes what each writes to the output stream. It stops before a slice
+/// where no process lives.
+pub fn run_slices<H: Host>(
+    kernel: &mut Kernel,
+    slices: &[u32],
+    host: &mut H,
+    devices: &mut Devices,
+) -> Result<(), Stop>
+    requires few { ticks kernel.old + length slices.now < 4294000000 }
+    requires terminal { 0 < vec_len devices.old.terms }
+    ensures run { OnOk result ((s : State)
+        → All IsTold (screens ⟦<dyn CharDriver as CharDriver>⟧ devices.old.terms.items)
+        → Stands kernel.old (screens ⟦<dyn CharDriver as CharDriver>⟧ devices.old.terms.items) s
+        → (written : List _) × (t : State) × Run slices.now s written t
+        × Stands kernel.new (screens ⟦<dyn CharDriver as CharDriver>⟧ devices.new.terms.items) t
+        × (H.bytes_out host.new ≡ appended (H.bytes_out host.old) written)) }
+    ensures fault_counted { OnOutputFault result (Rose (H.host_faults host.old) (H.host_faults host.new)) }
+    ensures count_kept { UnlessOutputFault result (H.host_faults host.new ≡ H.host_faults host.old) }
+    ensures files_kept { H.file_map host.new ≡ H.file_map host.old }
+{
+    for n in slices {
+        if kernel.living() == 0 {
+            return Ok(());
+        }
+        if let SliceEnd::NoMemory = kernel.slice(*n, devices) {
+            return Err(Stop::NoMemory);
+        }
+        match pass_on(devices, host) {
+            Ok(()) => {}
+            Err(HostFault::Failed) => return Err(Stop::Output),
+            Err(HostFault::OutOfMemory) => return Err(Stop::NoMemory),
+        }
+    }
+    Ok(())
+}

@@ -1,0 +1,1 @@
+pub fn os9_main() {}
