@@ -3,3 +3,4 @@ pub mod MemoryLemmas
 pub mod PutLemmas
 pub mod TieLemmas
 pub mod SliceLemmas
+pub mod StartLemmas
