@@ -3,6 +3,7 @@ use Rattle.std.proofs.Common.{◌≡◌, ◌≢◌, ℕ, ◌+◌, ◌-◌, ◌<�
 use Rattle.std.specs.Prelude.{IsSome, MatchBool, MatchOption, is_some, count_by, if◌then◌else◌}
 use Rattle.std.specs.List.{list_any}
 use Rattle.std.proofs.lemmas.List.Elements.{All-set, All-map, All-get_or}
+use Rattle.std.proofs.lemmas.List.Sums.{sum_by-cons}
 use Rattle.std.proofs.lemmas.Option.{slice_get_within, get_or_from_slice_get}
 use Rattle.cpu_model.specs.Step.{Outcome, Done, Calls, Aborts, step_of}
 use Rattle.os9_outer.specs.Stream.{appended, emptied, GainsPrefix}
@@ -100,9 +101,13 @@ tied-terms kernel terms other s tied = record {
 
 -- ---- how many live
 
+counted : (process : Option Process) (processes : List (Option Process)) → count_by is_living (process ∷ processes) ≡ (if is_living process then 1 else 0) + count_by is_living processes
+counted process processes = sum_by-cons (λ p. if is_living p then 1 else 0) process processes
+
 any-none : (processes : List (Option Process)) → count_by is_living processes ≡ 0 → list_any is_living processes ≡ false
 any-none [] none = refl
-any-none (process ∷ processes) none = by_first (is_living process) (any-none processes) none
+any-none (process ∷ processes) none =
+    by_first (is_living process) (any-none processes) (sym (counted process processes) ∙ none)
   where
   by_first : (lives : Bool) → (count_by is_living processes ≡ 0 → list_any is_living processes ≡ false) → (if lives then 1 else 0) + count_by is_living processes ≡ 0 → (lives || list_any is_living processes) ≡ false
   by_first true others none = absurd (omega arith)
@@ -110,7 +115,8 @@ any-none (process ∷ processes) none = by_first (is_living process) (any-none p
 
 any-some : (processes : List (Option Process)) → count_by is_living processes ≢ 0 → list_any is_living processes ≡ true
 any-some [] some = absurd (some refl)
-any-some (process ∷ processes) some = by_first (is_living process) (any-some processes) some
+any-some (process ∷ processes) some =
+    by_first (is_living process) (any-some processes) (λ none. some (counted process processes ∙ none))
   where
   by_first : (lives : Bool) → (count_by is_living processes ≢ 0 → list_any is_living processes ≡ true) → ((if lives then 1 else 0) + count_by is_living processes ≡ 0 → ⊥) → (lives || list_any is_living processes) ≡ true
   by_first true others some = refl
