@@ -63,3 +63,23 @@ fn tell_in_three<H: Host>(
     host.err(second)?;
     host.err(third)
 }
+
+#[cfg(test)]
+mod tests {
+    use super::*;
+    use os9_outer::mem_host::MemHost;
+    use std::test::Fail;
+
+    #[test]
+    fn lines_on_err(rt: HostRuntime) -> Result<(), Fail> {
+        let alloc = rt.alloc();
+        let mut host = MemHost::new(alloc, Vec::new(alloc), Vec::new(alloc));
+        tell_words(&mut host)?;
+        tell_cannot_read(&mut host, "s")?;
+        tell_cannot_write_output(&mut host)?;
+        tell_no_memory(&mut host)?;
+        let lines = b"os9: words\nos9: cannot read s\nos9: cannot write output\nos9: no memory\n";
+        assert_eq!(rt; host.err_bytes.as_slice(), lines.as_slice());
+        Ok(())
+    }
+}
