@@ -1,4 +1,4 @@
-ghost use Rattle.std.specs.Prelude.{◌≡◌, ◌<◌, Some, vec_len};
+ghost use Rattle.std.specs.Prelude.{◌≡◌, ◌<◌, Some, slice_get, vec_len};
 ghost use Rattle.os9_base.specs.Name.{parsed_name};
 ghost use Rattle.device_table.specs.Names.{is_called, named_device, device_of};
 
@@ -40,16 +40,18 @@ impl Devices {
         if there { Some(device) } else { None }
     }
 
-    /// The driver of the drive of this number.
+    /// The driver of the drive of this number. A caller lends what is in the box.
     pub fn drive(&mut self, n: u8) -> &mut Box<dyn BlockDriver>
         requires { n < vec_len self.old.drives }
+        ensures { slice_get self.old.drives.items n ≡ Some result.now }
     {
         &mut self.drives[n as usize]
     }
 
-    /// The driver of the terminal of this number; 0 is TERM.
+    /// The driver of the terminal of this number; 0 is TERM. A caller lends what is in the box.
     pub fn term(&mut self, n: u8) -> &mut Box<dyn CharDriver>
         requires { n < vec_len self.old.terms }
+        ensures { slice_get self.old.terms.items n ≡ Some result.now }
     {
         &mut self.terms[n as usize]
     }
@@ -90,5 +92,53 @@ fn is_name(name: &Name, word: &[u8]) -> bool
     match parse_name(word) {
         Ok(other) => same_name(name, &other),
         Err(_) => false,
+    }
+}
+
+#[cfg(test)]
+mod tests {
+    use super::*;
+    use crate::put::put_on;
+    use os9_outer::sure_drive::SureDrive;
+    use os9_outer::sure_tty::SureTty;
+    use std::test::Fail;
+
+    #[test]
+    fn devices_by_name(rt: HostRuntime) -> Result<(), Fail> {
+        let alloc = rt.alloc();
+        let mut devices = Devices {
+            drives: Vec::new(alloc),
+            terms: Vec::new(alloc),
+        };
+        devices.drives.push(Box::new(alloc, SureDrive::new())?)?;
+        devices.terms.push(Box::new(alloc, SureTty::new(alloc))?)?;
+        for (text, device) in [
+            (b"d0".as_slice(), Some(Dev::Drive(0))),
+            (b"D1", None),
+            (b"Term", Some(Dev::Term(0))),
+            (b"T1", None),
+            (b"pipe", Some(Dev::Pipe)),
+            (b"T0", None),
+        ] {
+            let name = parse_name(text).ok().ok_or("no name")?;
+            assert_eq!(rt; devices.find(&name), device);
+        }
+        Ok(())
+    }
+
+    #[test]
+    fn bytes_on_a_terminal(rt: HostRuntime) -> Result<(), Fail> {
+        let alloc = rt.alloc();
+        let mut devices = Devices {
+            drives: Vec::new(alloc),
+            terms: Vec::new(alloc),
+        };
+        devices.terms.push(Box::new(alloc, SureTty::new(alloc))?)?;
+        assert_eq!(rt; devices.terms.len(), 1);
+        put_on(&mut devices, 0, b"hello")?;
+        assert_eq!(rt; devices.terms.len(), 1);
+        let bytes = devices.term(0).take();
+        assert_eq!(rt; bytes.as_slice(), b"hello".as_slice());
+        Ok(())
     }
 }

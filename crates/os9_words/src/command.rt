@@ -81,3 +81,44 @@ fn is_value(word: &str) -> bool
 {
     !word.is_empty() && !word.starts_with('-')
 }
+
+#[cfg(test)]
+mod tests {
+    use super::*;
+    use std::test::Fail;
+
+    fn words_of(alloc: Global, words: &[&str]) -> Result<Vec<String>, AllocError> {
+        words
+            .iter()
+            .map(|word| String::from_str(alloc, word))
+            .try_collect(alloc)
+    }
+
+    #[test]
+    fn run_words_are_read(rt: HostRuntime) -> Result<(), Fail> {
+        let words = words_of(rt.alloc(), &["run", "h", "--slices", "s"])?;
+        let Command::Run(run) = read_words(rt.alloc(), &words)?;
+        assert_eq!(rt; run.files.len(), 1);
+        assert_eq!(rt; run.files.word(0).text() == "h", true);
+        assert_eq!(rt; run.slices.text() == "s", true);
+        Ok(())
+    }
+
+    #[test]
+    fn bad_words(rt: HostRuntime) -> Result<(), Fail> {
+        for words in [
+            [].as_slice(),
+            &["run", "h", "--slices"],
+            &["run", "h", "--slices", ""],
+            &["run", "h", "--slices", "-"],
+            &["run", "-h", "--slices", "s"],
+            &["run", "--slices", "s", "h"],
+            &["run", "h", "--slices", "s", "--slices", "s"],
+        ] {
+            let words = words_of(rt.alloc(), words)?;
+            let refused = read_words(rt.alloc(), &words).err();
+            assert_eq!(rt; refused, Some(WordsFault::Refused));
+        }
+        Ok(())
+    }
+}

@@ -1,4 +1,6 @@
 ghost use Rattle.std.specs.Prelude.{◌≡◌, ◌++◌, OnOk};
+ghost use Rattle.os9_base.specs.Count.{Rose};
+ghost use Rattle.os9_outer.specs.Host.{OnFailed};
 ghost use Rattle.os9_outer.specs.Stream.{appended, GainsPrefix};
 ghost use Rattle.os9_words.specs.Lines.{words_line, cannot_read_line, cannot_write_output_line, no_memory_line, ChangesErrOnly};
 
@@ -8,6 +10,8 @@ use os9_outer::host::{Host, HostFault};
 pub fn tell_words<H: Host>(host: &mut H) -> Result<(), HostFault>
     ensures told { OnOk result (H.bytes_err host.new ≡ appended (H.bytes_err host.old) words_line) }
     ensures prefix { GainsPrefix (H.bytes_err host.old) words_line (H.bytes_err host.new) }
+    ensures fault_counted { OnFailed result
+        (Rose (H.err_stream_faults host.old) (H.err_stream_faults host.new)) }
     ensures others { ChangesErrOnly ⟦<H as Host>⟧ host.old host.new }
 {
     host.err(b"os9: words\n")
@@ -19,6 +23,8 @@ pub fn tell_cannot_read<H: Host>(host: &mut H, name: &str) -> Result<(), HostFau
         ≡ appended (H.bytes_err host.old) (cannot_read_line name.now)) }
     ensures prefix { GainsPrefix (H.bytes_err host.old) (cannot_read_line name.now)
         (H.bytes_err host.new) }
+    ensures fault_counted { OnFailed result
+        (Rose (H.err_stream_faults host.old) (H.err_stream_faults host.new)) }
     ensures others { ChangesErrOnly ⟦<H as Host>⟧ host.old host.new }
 {
     tell_in_three(host, b"os9: cannot read ", name.as_bytes(), b"\n")
@@ -31,6 +37,8 @@ pub fn tell_cannot_write_output<H: Host>(host: &mut H) -> Result<(), HostFault>
         ≡ appended (H.bytes_err host.old) cannot_write_output_line) }
     ensures prefix { GainsPrefix (H.bytes_err host.old) cannot_write_output_line
         (H.bytes_err host.new) }
+    ensures fault_counted { OnFailed result
+        (Rose (H.err_stream_faults host.old) (H.err_stream_faults host.new)) }
     ensures others { ChangesErrOnly ⟦<H as Host>⟧ host.old host.new }
 {
     host.err(b"os9: cannot write output\n")
@@ -41,6 +49,8 @@ pub fn tell_no_memory<H: Host>(host: &mut H) -> Result<(), HostFault>
     ensures told { OnOk result (H.bytes_err host.new
         ≡ appended (H.bytes_err host.old) no_memory_line) }
     ensures prefix { GainsPrefix (H.bytes_err host.old) no_memory_line (H.bytes_err host.new) }
+    ensures fault_counted { OnFailed result
+        (Rose (H.err_stream_faults host.old) (H.err_stream_faults host.new)) }
     ensures others { ChangesErrOnly ⟦<H as Host>⟧ host.old host.new }
 {
     host.err(b"os9: no memory\n")
@@ -57,9 +67,31 @@ fn tell_in_three<H: Host>(
         ≡ appended (H.bytes_err host.old) (first.now ++ second.now ++ third.now)) }
     ensures prefix { GainsPrefix (H.bytes_err host.old) (first.now ++ second.now ++ third.now)
         (H.bytes_err host.new) }
+    ensures fault_counted { OnFailed result
+        (Rose (H.err_stream_faults host.old) (H.err_stream_faults host.new)) }
     ensures others { ChangesErrOnly ⟦<H as Host>⟧ host.old host.new }
 {
     host.err(first)?;
     host.err(second)?;
     host.err(third)
+}
+
+#[cfg(test)]
+mod tests {
+    use super::*;
+    use os9_outer::mem_host::MemHost;
+    use std::test::Fail;
+
+    #[test]
+    fn lines_on_err(rt: HostRuntime) -> Result<(), Fail> {
+        let alloc = rt.alloc();
+        let mut host = MemHost::new(alloc, Vec::new(alloc), Vec::new(alloc));
+        tell_words(&mut host)?;
+        tell_cannot_read(&mut host, "s")?;
+        tell_cannot_write_output(&mut host)?;
+        tell_no_memory(&mut host)?;
+        let lines = b"os9: words\nos9: cannot read s\nos9: cannot write output\nos9: no memory\n";
+        assert_eq!(rt; host.err_bytes.as_slice(), lines.as_slice());
+        Ok(())
+    }
 }
