@@ -1,0 +1,6 @@
+//! Which image is well formed: the tree of its volume, or the least rule that it breaks.
+#![tactic(auto)]
+
+mod directory;
+mod header;
+mod walk;
