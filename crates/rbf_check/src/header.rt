@@ -1,6 +1,7 @@
-ghost use Rattle.std.specs.Prelude.{◌≡◌, ◌+◌, ◌*◌, ◌≤◌, length, MatchBool, MatchOption};
+ghost use Rattle.std.specs.Prelude.{◌≡◌, ◌+◌, ℕ, ◌*◌, ◌≤◌, length, MatchBool, MatchOption};
 ghost use Rattle.rbf_model.specs.Geometry.{HasHeader, IsHeader, HasMap, sector as sector_of};
 ghost use Rattle.rbf_check.specs.Reading.{geometry_of, IsIdent};
+ghost use Rattle.rbf_check.specs.Rules.{IsLeastBreach};
 
 use rbf_sector::{Ident, read_ident};
 
@@ -41,10 +42,21 @@ fn is_header(ident: &Ident) -> bool
 }
 
 // Has the map a bit for each cluster, and does it end within the volume?
-pub fn has_map(ident: &Ident) -> bool
+fn has_map(ident: &Ident) -> bool
     ensures { MatchBool result (HasMap (geometry_of ident.now)) (¬ HasMap (geometry_of ident.now)) }
 {
     let bits = 8 * u64::from(ident.map_bytes) * u64::from(ident.cluster);
     let sectors = u32::from(ident.map_bytes).div_ceil(256);
     u64::from(ident.total) <= bits && 1 + sectors <= ident.total
+}
+
+/// The breach of rule 2, the map's, which is shown at LSN 1.
+pub fn map_breach(image: &[u8], ident: &Ident) -> Option<u32>
+    requires { IsIdent image.now ident.now }
+    ensures { IsLeastBreach (geometry_of ident.now) (sector_of image.now) 2 result }
+{
+    if has_map(ident) {
+        return None;
+    }
+    Some(1)
 }
