@@ -1,12 +1,12 @@
 -- The entries of a directory that can be searched.
-use Rattle.std.proofs.Common.{◌≡◌, ◌⊎◌, ℕ, ◌+◌, ◌-◌, ◌*◌, ◌/◌, ◌%◌, ◌<◌, ◌≤◌, zero, suc, Bool, true, false, cond, List, [], ◌∷◌, length, take, drop, get_or, Some, refl, sym, ap, ◌∙◌, subst, inl, inr, ⊎_elim, arith, leb, eqb, leb-true, All, ◌==◌, ◌&&◌, if◌then◌else◌}
+use Rattle.std.proofs.Common.{◌≡◌, ℕ, ◌+◌, ◌*◌, ◌/◌, ◌%◌, ◌<◌, ◌≤◌, Bool, true, false, List, [], length, take, drop, get_or, Some, refl, sym, ap, ◌∙◌, subst, ⊎_elim, arith, leb, eqb, leb-true, ◌==◌, ◌&&◌, if◌then◌else◌}
 use Rattle.std.specs.List.{list_all}
 use Rattle.std.specs.Int.{bit_at}
 use Rattle.std.proofs.lemmas.Bool.Decides.{nat_tests}
 use Rattle.std.proofs.lemmas.Bool.{cond-true, cond-false, cases_Bool, false≢true}
 use Rattle.std.proofs.lemmas.List.Sums.{AllPass-from_list_all}
 use Rattle.rbf_model.specs.Fields.{attributes_field, entry_at, size_field, segments_field}
-use Rattle.rbf_model.specs.Geometry.{Geometry, geometry, sector, HasHeader, LieWithin, IsDisk, is_within}
+use Rattle.rbf_model.specs.Geometry.{Geometry, geometry, sector, LieWithin, IsDisk, is_within}
 use Rattle.rbf_model.specs.File.{file_at, bytes_of, is_searched, is_directory, is_directory_size, has_room}
 use Rattle.rbf_model.specs.Segments.{sectors_of, has}
 use Rattle.rbf_model.specs.Faults.{searched}

@@ -1,5 +1,5 @@
 -- A walk over all that is found.
-use Rattle.std.proofs.Common.{◌≡◌, ◌↔◌, ◌⊎◌, ℕ, ◌+◌, ◌*◌, ◌<◌, ◌≤◌, Bool, true, false, List, [], ◌∷◌, ◌++◌, length, get_or, refl, sym, ap, ◌∙◌, subst, inl, inr, ⊎_elim, length-append, arith}
+use Rattle.std.proofs.Common.{◌≡◌, ◌↔◌, ℕ, ◌+◌, ◌*◌, ◌<◌, ◌≤◌, Bool, true, List, [], length, get_or, sym, ap, ◌∙◌, subst, ⊎_elim, length-append, arith}
 use Rattle.std.proofs.lemmas.Bool.{cases_lt, false≢true}
 use Rattle.std.proofs.lemmas.List.{get_or_append_left, get_or_default}
 use Rattle.rbf_model.specs.Geometry.{Geometry, IsNumber}
@@ -7,7 +7,7 @@ use Rattle.rbf_model.specs.Segments.{has}
 use Rattle.rbf_model.specs.Tree.{NamesIn, Reached}
 use Rattle.rbf_model.specs.Tree.Reached.{root, named}
 use Rattle.rbf_model.proofs.Bytes.{has_place, place_of}
-use Rattle.rbf_check.specs.Found.{Extends, IsSearch, IsVisited, added}
+use Rattle.rbf_check.specs.Found.{IsSearch, IsVisited, added}
 use Rattle.rbf_check.proofs.Visits.{has_extended, added_has, added_only}
 
 -- all found are reached, the root among them, and what the first of them name is found

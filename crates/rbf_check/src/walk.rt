@@ -136,7 +136,8 @@ mod tests {
         for rule in [OwnRule::Numbers, OwnRule::Room, OwnRule::Size] {
             assert_eq!(rt; least_breach(&image, &ident, &found, rule), None);
         }
-        assert_eq!(rt; read_header(&image[..4095]), None);
+        let cut = image.len().min(4095);
+        assert_eq!(rt; read_header(&image[..cut]), None);
         Ok(())
     }
 }

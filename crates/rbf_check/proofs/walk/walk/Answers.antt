@@ -1,5 +1,4 @@
-use Rattle.std.proofs.Common.{◌≡◌, ◌∙◌, ◌<◌, ◌≤◌, length, get_or, ap, arith, rules}
-use Rattle.std.proofs.lemmas.Grind.{common_steps}
+use Rattle.std.proofs.Common.{◌≡◌, ◌∙◌, ◌<◌, ◌≤◌, length, ap, arith, rules}
 use Rattle.std.proofs.lemmas.List.{get_or_read}
 use Rattle.rbf_model.specs.Geometry.{sector}
 use Rattle.rbf_model.specs.Faults.{searched}
