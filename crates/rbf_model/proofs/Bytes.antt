@@ -30,6 +30,12 @@ unfolding is_marked
 marked_beside disk s bytes c differ =
     ap (λ sector. bit_at (slice_index sector (c / 8 % 256)) (7 - c % 8) == 1) (put_beside disk s bytes (1 + c / 8 / 256) differ)
 
+-- and one that is in it
+pub marked_here : (disk : ℕ → List ℕ) (s : ℕ) (bytes : List ℕ) (c : ℕ) → 1 + c / 8 / 256 ≡ s → is_marked (put disk s bytes) c ≡ (bit_at (slice_index bytes (c / 8 % 256)) (7 - c % 8) == 1)
+unfolding is_marked
+marked_here disk s bytes c same =
+    ap (λ sector. bit_at (slice_index sector (c / 8 % 256)) (7 - c % 8) == 1) (ap (put disk s bytes) same ∙ put_here disk s bytes)
+
 -- a number that is not in a list is none of its numbers
 pub not_has_first : (x : ℕ) (xs : List ℕ) (s : ℕ) → has (x ∷ xs) s ≡ false → (x ≢ s) × (has xs s ≡ false)
 not_has_first x xs s none =

@@ -1,5 +1,5 @@
 -- Writes to the sectors of a file, and to sectors that nothing owns.
-use Rattle.std.proofs.Common.{◌≡◌, ◌≢◌, ℕ, ◌+◌, ◌-◌, ◌*◌, ◌<◌, ◌≤◌, ◌==◌, true, false, List, [], length, take, get_or, Some, refl, sym, ap, ◌∙◌, subst, ⊎_elim, arith, leb-true}
+use Rattle.std.proofs.Common.{◌⊎◌, ◌≡◌, ◌≢◌, ℕ, ◌+◌, ◌-◌, ◌*◌, ◌/◌, ◌<◌, ◌≤◌, ◌==◌, true, false, List, [], length, take, get_or, Some, refl, sym, ap, ◌∙◌, subst, ⊎_elim, arith, leb-true}
 use Rattle.std.specs.Prelude.{flat_map, if◌then◌else◌}
 use Rattle.std.proofs.lemmas.Bool.{both_ways, false_from_ne_true, or_right, cases_eq, cases_lt}
 use Rattle.std.proofs.lemmas.Option.{same_Some}
@@ -7,19 +7,19 @@ use Rattle.rbf_model.specs.Fields.{size_field, segments_field}
 use Rattle.rbf_model.specs.Geometry.{Geometry, map_sectors}
 use Rattle.rbf_model.specs.Segments.{has, sectors_of, AreDistinct}
 use Rattle.rbf_model.specs.File.{DiskFile, file_from, file_at, bytes_of, has_room}
-use Rattle.rbf_model.specs.Space.{is_marked, system_sectors, own_sectors, owned, owns, IsMapped}
-use Rattle.rbf_model.specs.Volume.{DiskVolume, Sound}
+use Rattle.rbf_model.specs.Space.{is_whole, is_marked, Unused, system_sectors, own_sectors, owned, owns, IsMapped}
+use Rattle.rbf_model.specs.Volume.{DiskVolume, Sound, is_free}
 use Rattle.rbf_model.specs.Writes.{put, put_at, with_same_space}
-use Rattle.rbf_model.specs.Laws.{IsFileSector, IsUnseen, unowned, past_size, with_bytes, Overwrites}
+use Rattle.rbf_model.specs.Laws.{IsFileSector, IsUnseen, idle, unowned, past_size, with_bytes, Overwrites}
 use Rattle.rbf_model.proofs.Segments.{has_range, sectors_within, length-joined}
 use Rattle.rbf_model.proofs.Keeps.{segments_are, room_is, size_is}
-use Rattle.rbf_model.proofs.Free.{number_below}
+use Rattle.rbf_model.proofs.Free.{number_below, free_parts}
 use Rattle.rbf_model.proofs.Change.{put_file_cases, mapped_same}
 use Rattle.rbf_model.proofs.Entries.{listing_file}
 use Rattle.rbf_model.proofs.Kept.{tree_kept}
 use Rattle.rbf_model.proofs.Pieces.{take_put_at, front_same}
 use Rattle.rbf_model.proofs.Bytes.{put_beside, put_same, joined_put, distinct_first, distinct_rest, distinct_second, has_place}
-use Rattle.rbf_model.proofs.Owners.{owns_own, owns_system, root_file, own_after, own_apart, marks_stay, mapped_by_marks}
+use Rattle.rbf_model.proofs.Owners.{own_below, owns_own, owns_system, root_file, own_after, own_apart, marks_stay, mapped_by_marks, unowned_of_unused, whole_sector_below, cluster_positive}
 use Rattle.rbf_model.proofs.Shown.{IsShown, disk_put, shown_beside, ident_beside}
 
 -- a file's own sectors are distinct
@@ -74,10 +74,10 @@ module _ (g : Geometry) (disk : ℕ → List ℕ) (v : DiskVolume) (sound : Soun
   sectors_are : sectors_of file.segments ≡ sectors_of (segments_field (disk n))
   sectors_are = ap (λ f. sectors_of f.segments) is_at
 
-  place : j < length (sectors_of (segments_field (disk n)))
+  pub place : j < length (sectors_of (segments_field (disk n)))
   place = subst (λ xs. j < length xs) sectors_are sector.within
 
-  there : get_or (sectors_of (segments_field (disk n))) j 0 ≡ s
+  pub there : get_or (sectors_of (segments_field (disk n))) j 0 ≡ s
   there = subst (λ xs. get_or xs j 0 ≡ s) sectors_are sector.at
 
   has_sector : has (sectors_of (segments_field (disk n))) s ≡ true
@@ -95,7 +95,7 @@ module _ (g : Geometry) (disk : ℕ → List ℕ) (v : DiskVolume) (sound : Soun
       both_ways (has (sectors_of (segments_field (disk n))) n) (distinct_first n (sectors_of (segments_field (disk n))) distinct_at)
       (subst (λ x. has (sectors_of (segments_field (disk n))) x ≡ true) (sym same) has_sector)
 
-  full : (x : ℕ) → has (sectors_of (segments_field (disk n))) x ≡ true → length (disk x) ≡ 256
+  pub full : (x : ℕ) → has (sectors_of (segments_field (disk n))) x ≡ true → length (disk x) ≡ 256
   full x h = sound.sectors x (sectors_within g (segments_field (disk n)) (segments_are g disk v sound n file sector.is) x h).1
 
   -- its bytes in the file's
@@ -112,10 +112,10 @@ module _ (g : Geometry) (disk : ℕ → List ℕ) (v : DiskVolume) (sound : Soun
       ∙ ap (λ w. record (file_from disk (disk n)) { contents = take (size_field (disk n)) w }) (bytes_written bytes whole)
       ∙ ap (λ (f : DiskFile). record f { contents = take (size_field (disk n)) (put_at (bytes_of disk (segments_field (disk n))) (256 * j) bytes) }) (sym is_at)
 
-  contents_are : file.contents ≡ take (size_field (disk n)) (bytes_of disk (segments_field (disk n)))
+  pub contents_are : file.contents ≡ take (size_field (disk n)) (bytes_of disk (segments_field (disk n)))
   contents_are = ap (λ f. f.contents) is_at
 
-  size_are : length file.contents ≡ size_field (disk n)
+  pub size_are : length file.contents ≡ size_field (disk n)
   size_are = ap length contents_are ∙ size_is g disk v sound n file sector.is
 
   pub room_at : (news : DiskFile) → news.segments ≡ file.segments → has_room news.segments (size_field (put disk s bytes n)) ≡ true
@@ -137,7 +137,7 @@ module _ (g : Geometry) (disk : ℕ → List ℕ) (v : DiskVolume) (sound : Soun
       sym (bytes_written (disk s) (full s has_sector)) ∙ ap (λ d. bytes_of d (segments_field (disk n))) (put_same disk s)
 
   -- the sector's place is within the file's sectors
-  fits : 256 * j + 256 ≤ length (bytes_of disk (segments_field (disk n)))
+  pub fits : 256 * j + 256 ≤ length (bytes_of disk (segments_field (disk n)))
   fits = let p = place in omega (arith, length-joined disk (sectors_of (segments_field (disk n))) full)
 
   past_size_law : take (length file.contents - 256 * j) bytes ≡ take (length file.contents - 256 * j) (disk s) → Sound g (put disk s bytes) v
@@ -177,7 +177,23 @@ module _ (g : Geometry) (disk : ℕ → List ℕ) (v : DiskVolume) (sound : Soun
       room_fits =
           omega (arith, length-joined disk (sectors_of (segments_field (disk n))) full, leb-true (size_field (disk n)) (256 * length (sectors_of (segments_field (disk n)))) (room_is g disk v sound n file sector.is))
 
+-- a free or lost cluster is whole, and no file has it
+pub idle_parts : (g : Geometry) (disk : ℕ → List ℕ) (v : DiskVolume) → Sound g disk v → (c : ℕ) → (is_free g v c ≡ true) ⊎ (v.lost c ≡ true) → (is_whole g c ≡ true) × Unused g v.files c
+idle_parts g disk v sound c h =
+    ⊎_elim (λ free. let w = free_parts g disk v sound c free in (w.0, w.2)) (λ lost. let l = (sound.mapped.lost_are c).0 lost in (l.whole, l.unused)) h
+
+-- so what is unseen is within the volume and past the map
+pub unseen_within : (g : Geometry) (disk : ℕ → List ℕ) (v : DiskVolume) → Sound g disk v → (s : ℕ) (bytes : List ℕ) → length bytes ≡ 256 → IsUnseen g disk v s bytes → (map_sectors g < s) × (s < g.total)
+unseen_within g disk v sound s bytes whole (idle h) =
+    let w = idle_parts g disk v sound (s / g.cluster) h in
+    (unowned_past g disk v sound s bytes whole (unowned_of_unused g v.files s w.1), whole_sector_below g s (cluster_positive g.cluster sound.shape.header.clusters) w.0)
+unseen_within g disk v sound s bytes whole (unowned below free) = (unowned_past g disk v sound s bytes whole free, below)
+unseen_within g disk v sound s bytes whole (past_size {n = n} {j = j} {file = file} sector agree) =
+    (past_map g disk v sound n j s file bytes whole sector, own_below g disk v sound n file s sector.is (own_sector g disk v sound n j s file bytes whole sector))
+
 pub unseen_law : (g : Geometry) (disk : ℕ → List ℕ) (v : DiskVolume) → Sound g disk v → (s : ℕ) (bytes : List ℕ) → length bytes ≡ 256 → IsUnseen g disk v s bytes → Sound g (put disk s bytes) v
+unseen_law g disk v sound s bytes whole (idle h) =
+    unowned_law g disk v sound s bytes whole (unowned_of_unused g v.files s (idle_parts g disk v sound (s / g.cluster) h).1)
 unseen_law g disk v sound s bytes whole (unowned below free) = unowned_law g disk v sound s bytes whole free
 unseen_law g disk v sound s bytes whole (past_size {n = n} {j = j} {file = file} sector agree) = past_size_law g disk v sound n j s file bytes whole sector agree
 

@@ -4,11 +4,11 @@ use Rattle.rbf_model.specs.Geometry.{image_geometry, sector}
 use Rattle.rbf_model.specs.File.{DiskFile, file_from, file_at}
 use Rattle.rbf_model.specs.Volume.{DiskVolume, Vol}
 use Rattle.rbf_model.specs.Writes.{put_sector, with_file, with_same_space, with_lost}
-use Rattle.rbf_model.specs.Laws.{IsMapSector, Takes, Frees, IsFileSector, IsUnseen, unowned, past_size, Overwrites, with_bytes, Redescribes, Enters, Appends, Leaves, with_entry}
+use Rattle.rbf_model.specs.Laws.{IsMapSector, Takes, Frees, IsFileSector, IsUnseen, Overwrites, with_bytes, Redescribes, Enters, Appends, Leaves, with_entry}
 use Rattle.rbf_model.proofs.Free.{number_below}
 use Rattle.rbf_model.proofs.Owners.{own_below}
 use Rattle.rbf_model.proofs.Map.{takes_law, frees_law}
-use Rattle.rbf_model.proofs.Data.{own_sector, past_map, unowned_past, unseen_law, overwrite_law}
+use Rattle.rbf_model.proofs.Data.{own_sector, past_map, unseen_within, unseen_law, overwrite_law}
 use Rattle.rbf_model.proofs.Described.{past_descriptor, describe_law}
 use Rattle.rbf_model.proofs.Entered.{enter_law}
 use Rattle.rbf_model.proofs.Appended.{append_law}
@@ -39,15 +39,9 @@ module _ (image : List ℕ) (v : DiskVolume) (vol : Vol image v) where
 
   pub unseen_image : (s : ℕ) (bytes : List ℕ) → length bytes ≡ 256 → IsUnseen (image_geometry image) (sector image) v s bytes → Vol (put_sector image s bytes) v
   unseen_image s bytes whole unseen =
-      vol_put image v v s bytes vol (low unseen) (high unseen) whole (unseen_law (image_geometry image) (sector image) v vol.sound s bytes whole unseen) refl
-    where
-      low : IsUnseen (image_geometry image) (sector image) v s bytes → 1 ≤ s
-      low (unowned below free) = let past = unowned_past (image_geometry image) (sector image) v vol.sound s bytes whole free in omega arith
-      low (past_size {n = n} {j = j} {file = file} at agree) = sector_after n j s file bytes whole at
-
-      high : IsUnseen (image_geometry image) (sector image) v s bytes → s < (image_geometry image).total
-      high (unowned below free) = below
-      high (past_size {n = n} {j = j} {file = file} at agree) = sector_below n j s file bytes whole at
+      let place = unseen_within (image_geometry image) (sector image) v vol.sound s bytes whole unseen in
+      let past = place.0 in
+      vol_put image v v s bytes vol (omega arith) place.1 whole (unseen_law (image_geometry image) (sector image) v vol.sound s bytes whole unseen) refl
 
   pub overwrite_image : (n j s : ℕ) (file : DiskFile) (bytes : List ℕ) → length bytes ≡ 256 → Overwrites v n file j s
       → Vol (put_sector image s bytes) (with_same_space v n (with_bytes file j bytes))

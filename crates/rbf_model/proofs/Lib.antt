@@ -30,3 +30,5 @@ pub mod Lifted
 pub mod ImageLaws
 pub mod Walked
 pub mod SectorBytes
+pub mod Placed
+pub mod Growth

@@ -1,20 +1,20 @@
 -- The sectors and clusters of a volume's files, within it and apart.
-use Rattle.std.proofs.Common.{◌≡◌, ◌≢◌, ◌⊎◌, ℕ, zero, suc, ◌+◌, ◌*◌, ◌/◌, ◌<◌, ◌≤◌, ◌==◌, Bool, true, List, [], ◌++◌, Option, Some, refl, sym, ap, ◌∙◌, subst, inl, inr, ⊎_elim, arith, eqb-true, eq-eqb, leb-true}
+use Rattle.std.proofs.Common.{not, ◌&&◌, false, ◌≡◌, ◌≢◌, ◌⊎◌, ℕ, zero, suc, ◌+◌, ◌*◌, ◌/◌, ◌<◌, ◌≤◌, ◌==◌, Bool, true, List, [], ◌++◌, Option, Some, refl, sym, ap, ◌∙◌, subst, inl, inr, ⊎_elim, arith, eqb-true, eq-eqb, leb-true}
 use Rattle.std.specs.Prelude.{if◌then◌else◌}
-use Rattle.std.proofs.Math.Nat.{lt_of_mul-lt-mul_right}
-use Rattle.std.proofs.lemmas.Bool.{cond-true, cond-false, cases_Bool, false≢true, or_cases}
+use Rattle.std.proofs.Math.Nat.{lt-div-mul-add, lt_of_mul-lt-mul_right}
+use Rattle.std.proofs.lemmas.Bool.{both_ways, false_from_ne_true, cond-true, cond-false, cases_Bool, false≢true, or_cases}
 use Rattle.rbf_model.specs.Geometry.{Geometry, IsGeometry, LieWithin, is_cluster_size, map_sectors}
 use Rattle.rbf_model.specs.Segments.{AreDistinct, sectors_of, has}
 use Rattle.rbf_model.specs.File.{DiskFile}
-use Rattle.rbf_model.specs.Space.{is_whole, is_marked, system_sectors, own_sectors, owned, owns, has_cluster, IsMapped}
+use Rattle.rbf_model.specs.Space.{Unused, is_whole, is_marked, system_sectors, own_sectors, owned, owns, has_cluster, IsMapped}
 use Rattle.rbf_model.specs.Tree.{root}
-use Rattle.rbf_model.specs.Volume.{DiskVolume, Sound}
+use Rattle.rbf_model.specs.Volume.{DiskVolume, Sound, is_free}
 use Rattle.rbf_model.specs.Writes.{put}
 use Rattle.rbf_model.proofs.Lists.{some_of}
 use Rattle.rbf_model.proofs.Segments.{has_cases, has_left, has_right, range_has, has_range, sectors_within}
 use Rattle.rbf_model.proofs.Space.{cluster_from_owns, owns_from_cluster}
 use Rattle.rbf_model.proofs.Bytes.{distinct_parts, marked_beside}
-use Rattle.rbf_model.proofs.Free.{number_below}
+use Rattle.rbf_model.proofs.Free.{number_below, is_free_is}
 
 -- a cluster has a sector
 pub cluster_positive : (k : ℕ) → is_cluster_size k ≡ true → 1 ≤ k
@@ -140,6 +140,18 @@ module _ (g : Geometry) (disk : ℕ → List ℕ) (v : DiskVolume) (sound : Soun
       let differ : 1 + c / 8 / 256 ≢ s = λ same. absurd (omega arith) in
       marked_beside disk s bytes c differ
 
+-- a sector of a cluster that no file has is in no file
+pub unowned_of_unused : (g : Geometry) (files : ℕ → Option DiskFile) (s : ℕ) → Unused g files (s / g.cluster) → (n : ℕ) (file : DiskFile) → files n ≡ Some file → owns g n file s ≡ false
+unowned_of_unused g files s unused n file is =
+    false_from_ne_true (owns g n file s) (λ owned_too. both_ways (has_cluster g n file (s / g.cluster)) (unused n file is) (cluster_from_owns g n file s owned_too))
+
+-- and of a whole one is within the volume
+pub whole_sector_below : (g : Geometry) (s : ℕ) → 1 ≤ g.cluster → is_whole g (s / g.cluster) ≡ true → s < g.total
+whole_sector_below g s positive h =
+    let end : (s / g.cluster + 1) * g.cluster ≤ g.total = leb-true ((s / g.cluster + 1) * g.cluster) g.total h in
+    let below : s < s / g.cluster * g.cluster + g.cluster = lt-div-mul-add positive in
+    omega arith
+
 -- the space of files rests on the marks of clusters that begin in the volume
 pub mapped_by_marks : (g : Geometry) (marked news : ℕ → Bool) (files : ℕ → Option DiskFile) (lost : ℕ → Bool) → IsGeometry g
     → ((n : ℕ) (file : DiskFile) → files n ≡ Some file → n < g.total) → ((c : ℕ) → c * g.cluster < g.total → news c ≡ marked c)
@@ -154,3 +166,21 @@ mapped_by_marks g marked news files lost shape below same mapped = record {
     λ w. (mapped.lost_are c).1 (record { whole = w.whole; marked_in = sym (same c (whole_below g shape c w.whole)) ∙ w.marked_in; unused = w.unused }),
   );
 }
+
+-- the clusters of a file other than the root's are those of its own sectors
+pub clusters_of_own : (g : Geometry) (n : ℕ) (file : DiskFile) (P : ℕ → Type 0) → n ≢ g.root → ((s : ℕ) → has (own_sectors n file) s ≡ true → P (s / g.cluster)) → (c : ℕ)
+    → has_cluster g n file c ≡ true → P c
+clusters_of_own g n file P other each c h =
+    let w = owns_from_cluster g n file c h in
+    subst P w.2 (⊎_elim (λ system. absurd (other system.0)) (λ own. each w.0 own) (owned_cases g n file w.0 w.1))
+
+-- the free clusters rest on the marks alone
+pub free_by_marks : (g : Geometry) (disk news : ℕ → List ℕ) (v w : DiskVolume) → Sound g disk v → Sound g news w → ((c : ℕ) → c * g.cluster < g.total → is_marked news c ≡ is_marked disk c) → (c : ℕ)
+    → is_free g w c ≡ is_free g v c
+free_by_marks g disk news v w before after same c =
+    is_free_is g news w after c
+    ∙ ⊎_elim
+    (λ whole. ap (λ b. is_whole g c && not b) (same c (whole_below g before.shape c whole)))
+    (λ part. ap (λ b. b && not (is_marked news c)) part ∙ sym (ap (λ b. b && not (is_marked disk c)) part))
+    (cases_Bool (is_whole g c))
+    ∙ sym (is_free_is g disk v before c)

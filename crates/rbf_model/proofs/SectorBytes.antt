@@ -1,5 +1,5 @@
 -- Where the bytes and entries of a file stand in its sectors.
-use Rattle.std.proofs.Common.{◌≡◌, ℕ, zero, suc, ◌+◌, ◌-◌, ◌*◌, ◌/◌, ◌%◌, ◌<◌, ◌≤◌, min, Bool, true, ◌==◌, List, [], ◌∷◌, ◌++◌, length, take, drop, get_or, Option, Some, refl, sym, ap, ◌∙◌, subst, arith, eq-eqb, length-take, length-drop, take-take, drop-drop}
+use Rattle.std.proofs.Common.{◌≡◌, ℕ, zero, suc, ◌+◌, ◌-◌, ◌*◌, ◌/◌, ◌%◌, ◌<◌, ◌≤◌, true, ◌==◌, List, [], ◌∷◌, ◌++◌, length, take, drop, get_or, Some, refl, sym, ap, ◌∙◌, arith, eq-eqb, length-take, take-take, drop-drop}
 use Rattle.std.specs.Prelude.{flat_map}
 use Rattle.std.proofs.lemmas.Bool.{or_left, or_right}
 use Rattle.std.proofs.lemmas.List.{take_at, get_or-take, get_or-drop, drop-take}
@@ -39,7 +39,7 @@ entry_in_take contents size i fits =
 
 -- the sector in place j of sectors that are joined
 pub sector_of_joined : (disk : ℕ → List ℕ) (xs : List ℕ) (j : ℕ) → ((x : ℕ) → has xs x ≡ true → length (disk x) ≡ 256) → j < length xs
-  → piece_at 256 (flat_map disk xs) j ≡ disk (get_or xs j 0)
+    → piece_at 256 (flat_map disk xs) j ≡ disk (get_or xs j 0)
 sector_of_joined disk [] j full low = absurd (omega arith)
 sector_of_joined disk (x ∷ xs) zero full low = take_at (disk x) (flat_map disk xs) 256 (full x (or_left (x == x) (has xs x) (eq-eqb x x refl)))
 sector_of_joined disk (x ∷ xs) (suc j) full low =

@@ -1,17 +1,16 @@
 -- A walk in a volume arrives at a file of the volume.
-use Rattle.std.proofs.Common.{◌≡◌, ◌≢◌, ℕ, zero, suc, ◌+◌, ◌*◌, ◌/◌, ◌<◌, ◌≤◌, ◌&&◌, Bool, true, false, cond, List, [], ◌∷◌, length, get_or, Option, Some, None, IsSome, refl, sym, ap, ◌∙◌, subst, ⊎_elim, arith}
-use Rattle.std.specs.Prelude.{find, option_map, map}
-use Rattle.std.specs.List.{range_with_len}
-use Rattle.std.proofs.lemmas.Bool.{cases_Bool, cond-true, cond-false, and_parts, false≢true}
+use Rattle.std.proofs.Common.{◌≡◌, ℕ, zero, suc, ◌+◌, ◌/◌, ◌<◌, ◌≤◌, Bool, true, List, [], ◌∷◌, length, get_or, Option, Some, None, IsSome, refl, sym, ap, ◌∙◌, subst, ⊎_elim, arith}
+use Rattle.std.specs.Prelude.{find, option_map}
+use Rattle.std.proofs.lemmas.Bool.{cases_Bool, cond-true, cond-false, and_parts}
 use Rattle.std.proofs.lemmas.Option.{same_Some, none-some}
 use Rattle.std.proofs.lemmas.List.FromFn.{length-map-range_with_len, get_or-map-range_with_len}
 use Rattle.rbf_model.specs.Fields.{entry_at, is_used, descriptor_field}
 use Rattle.rbf_model.specs.Geometry.{Geometry}
 use Rattle.rbf_model.specs.File.{DiskFile, is_directory}
-use Rattle.rbf_model.specs.Tree.{HasEntry, NamesIn, Reached, IsParent, of_root, of_other, HasDots, self_first, parent_first, root}
+use Rattle.rbf_model.specs.Tree.{HasEntry, IsParent, of_root, of_other, HasDots, self_first, parent_first, root}
 use Rattle.rbf_model.specs.Volume.{IsTree, directories, listing}
 use Rattle.rbf_model.specs.Walk.{WalkEnd, arrives, not_allowed, not_found, found, step, go_on, walk, look_up, has_name, entries_of, may_search}
-use Rattle.rbf_model.proofs.Lists.{some_is, some_of}
+use Rattle.rbf_model.proofs.Lists.{some_is}
 use Rattle.rbf_model.proofs.Entries.{listing_directory}
 use Rattle.rbf_model.proofs.Named.{names_to}
 
@@ -21,12 +20,12 @@ find_some p [] y h = absurd (none-some y h)
 find_some p (x ∷ xs) y h =
     ⊎_elim
     (λ here.
-      let same = same_Some x y (sym (cond-true (p x) (Some x) (find p xs) here) ∙ h) in
-      (0, omega arith, same, ap p (sym same) ∙ here))
+    let same = same_Some x y (sym (cond-true (p x) (Some x) (find p xs) here) ∙ h) in
+    (0, omega arith, same, ap p (sym same) ∙ here))
     (λ later.
-      let w = find_some p xs y (sym (cond-false (p x) (Some x) (find p xs) later) ∙ h) in
-      let low = w.1 in
-      (suc w.0, omega arith, w.2, w.3))
+    let w = find_some p xs y (sym (cond-false (p x) (Some x) (find p xs) later) ∙ h) in
+    let low = w.1 in
+    (suc w.0, omega arith, w.2, w.3))
     (cases_Bool (p x))
 
 map_some : {X : Type 0} (f : X → ℕ) (o : Option X) (n : ℕ) → option_map f o ≡ Some n → (x : X) × (o ≡ Some x) × (f x ≡ n)
@@ -44,10 +43,11 @@ look_up_entry contents name n h =
     let w = find_some (has_name name) (entries_of contents) m.0 m.1 in
     let low : w.0 < length contents / 32 = subst (λ k. w.0 < k) (length-map-range_with_len (entry_at contents) 0 (length contents / 32)) w.1 in
     let place : 0 + w.0 ≡ w.0 = omega arith in
-    let is : entry_at contents w.0 ≡ m.0 = sym (get_or-map-range_with_len (entry_at contents) 0 (length contents / 32) w.0 w.0 m.0 low place) ∙ w.2 in
-    (w.0,
+    let is : entry_at contents w.0 ≡ m.0 = sym (get_or-map-range_with_len (entry_at contents) 0 (length contents / 32) w.0 w.0 m.0 low place) ∙ w.2 in (
+      w.0,
       record { within = omega arith; used = subst (λ e. is_used e ≡ true) (sym is) (and_parts _ _ w.3).0 },
-      ap descriptor_field is ∙ m.2)
+      ap descriptor_field is ∙ m.2,
+    )
 
 module _ (g : Geometry) (files : ℕ → Option DiskFile) (tree : IsTree g files) where
   parent_file : (d p : ℕ) → IsParent g (directories files) d p → IsSome (files p)
@@ -55,7 +55,7 @@ module _ (g : Geometry) (files : ℕ → Option DiskFile) (tree : IsTree g files
   parent_file d p (of_other a link) = (tree.reached p).1 link.from
 
   dots_files : (d : ℕ) → IsSome (files d) → HasDots g (directories files) d
-    → IsSome (files (descriptor_field (entry_at (directories files d) 0))) × IsSome (files (descriptor_field (entry_at (directories files d) 1)))
+      → IsSome (files (descriptor_field (entry_at (directories files d) 0))) × IsSome (files (descriptor_field (entry_at (directories files d) 1)))
   dots_files d some (self_first {p = p} one two parent) =
       (subst (λ k. IsSome (files k)) (sym one.descriptor) some, subst (λ k. IsSome (files k)) (sym two.descriptor) (parent_file d p parent))
   dots_files d some (parent_first {p = p} one two parent) =
@@ -71,8 +71,8 @@ module _ (g : Geometry) (files : ℕ → Option DiskFile) (tree : IsTree g files
       lists = ap listing is ∙ listing_directory dir is_dir
 
       by_place : (j : ℕ) → HasEntry (directories files d) j
-        → IsSome (files (descriptor_field (entry_at (directories files d) 0))) × IsSome (files (descriptor_field (entry_at (directories files d) 1)))
-        → IsSome (files (descriptor_field (entry_at (directories files d) j)))
+          → IsSome (files (descriptor_field (entry_at (directories files d) 0))) × IsSome (files (descriptor_field (entry_at (directories files d) 1)))
+          → IsSome (files (descriptor_field (entry_at (directories files d) j)))
       by_place zero entry first = first.0
       by_place (suc zero) entry first = first.1
       by_place (suc (suc j)) entry first =
@@ -85,11 +85,11 @@ module _ (g : Geometry) (files : ℕ → Option DiskFile) (tree : IsTree g files
   step_file d n user execute name (Some dir) is h =
       ⊎_elim
       (λ may.
-        let w = look_up_entry dir.contents name n (found_some _ n (sym (cond-true (may_search dir user execute) (found (look_up dir.contents name)) not_allowed may) ∙ h)) in
-        subst (λ k. IsSome (files k)) w.2 (entry_file d w.0 dir is (and_parts _ _ may).0 w.1))
+      let w = look_up_entry dir.contents name n (found_some _ n (sym (cond-true (may_search dir user execute) (found (look_up dir.contents name)) not_allowed may) ∙ h)) in
+      subst (λ k. IsSome (files k)) w.2 (entry_file d w.0 dir is (and_parts _ _ may).0 w.1))
       (λ may_not.
-        let end : not_allowed ≡ arrives n = sym (cond-false (may_search dir user execute) (found (look_up dir.contents name)) not_allowed may_not) ∙ h in
-        absurd (cc))
+      let end : not_allowed ≡ arrives n = sym (cond-false (may_search dir user execute) (found (look_up dir.contents name)) not_allowed may_not) ∙ h in
+      absurd (cc))
       (cases_Bool (may_search dir user execute))
 
   go_on_some : (end : WalkEnd) (next : ℕ → WalkEnd) (n : ℕ) → go_on end next ≡ arrives n → (m : ℕ) × (end ≡ arrives m) × (next m ≡ arrives n)

@@ -1,5 +1,5 @@
 -- The writes of one sector that leave a disk standing for a volume: what each law asks.
-use Rattle.std.specs.Prelude.{◌≡◌, ◌⊎◌, ℕ, ◌+◌, ◌-◌, ◌*◌, ◌<◌, ◌≤◌, ◌&&◌, ◌||◌, Bool, true, false, not, List, ◌++◌, length, take, get_or, Some}
+use Rattle.std.specs.Prelude.{◌≡◌, ◌⊎◌, ℕ, ◌+◌, ◌-◌, ◌*◌, ◌/◌, ◌<◌, ◌≤◌, ◌&&◌, ◌||◌, Bool, true, false, not, List, ◌++◌, length, take, get_or, Some}
 use Rattle.rbf_model.specs.Fields.{entry_at, is_used, size_field, segments_field}
 use Rattle.rbf_model.specs.Geometry.{Geometry, IsNumber, LieWithin, map_sectors}
 use Rattle.rbf_model.specs.Segments.{sectors_of, AreDistinct}
@@ -32,9 +32,13 @@ pub record IsFileSector (v : DiskVolume) (n : ℕ) (file : DiskFile) (j s : ℕ)
   pub within : j < length (sectors_of file.segments)
   pub at : get_or (sectors_of file.segments) j 0 ≡ s
 
--- a write that the volume does not show: to a sector that nothing owns, as those of free and lost clusters, or to one of a file's that changes no byte below its size
+-- a write that the volume does not show
 pub data IsUnseen (g : Geometry) (disk : ℕ → List ℕ) (v : DiskVolume) (s : ℕ) (bytes : List ℕ) : Type 0 where
+  -- to a sector of a free or a lost cluster
+  idle : (is_free g v (s / g.cluster) ≡ true) ⊎ (v.lost (s / g.cluster) ≡ true) → IsUnseen g disk v s bytes
+  -- to any sector that nothing owns
   unowned : s < g.total → ((n : ℕ) (file : DiskFile) → v.files n ≡ Some file → owns g n file s ≡ false) → IsUnseen g disk v s bytes
+  -- to a sector of a file, of which no byte below the file's size changes
   past_size : {n j : ℕ} {file : DiskFile} → IsFileSector v n file j s → take (length file.contents - 256 * j) bytes ≡ take (length file.contents - 256 * j) (disk s)
       → IsUnseen g disk v s bytes
 

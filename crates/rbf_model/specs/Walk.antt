@@ -1,5 +1,5 @@
 -- The way from a directory along a list of names, and the permissions that it asks for.
-use Rattle.std.specs.Prelude.{ℕ, ◌/◌, ◌%◌, ◌==◌, ◌&&◌, ◌||◌, Bool, true, false, bit_and, bytes_eq, List, [], ◌∷◌, map, length, find, Option, Some, None, option_map, if◌then◌else◌}
+use Rattle.std.specs.Prelude.{ℕ, ◌/◌, ◌%◌, ◌==◌, ◌&&◌, ◌||◌, Bool, false, bit_and, bytes_eq, List, [], ◌∷◌, map, length, find, Option, Some, None, option_map, if◌then◌else◌}
 use Rattle.std.specs.List.{range_with_len}
 use Rattle.os9_base.specs.Name.{lower}
 use Rattle.rbf_model.specs.Fields.{entry_at, is_used, name_field, descriptor_field}

@@ -1,10 +1,11 @@
 //! The volume of an image, as laws over all images.
 
-ghost use Rattle.std.specs.Prelude.{◌≡◌, ℕ, List, filter, not, ◌&&◌};
+ghost use Rattle.std.specs.Prelude.{◌≡◌, ℕ, List, filter, not, ◌&&◌, Bool, IsSome};
 ghost use Rattle.std.specs.List.{range_with_len};
 ghost use Rattle.rbf_model.specs.Geometry.{image_geometry, sector, HasHeader};
 ghost use Rattle.rbf_model.specs.Space.{is_whole, is_marked, cluster_count};
 ghost use Rattle.rbf_model.specs.Volume.{DiskVolume, Vol, free_clusters};
+ghost use Rattle.rbf_model.specs.Walk.{arrives, walk};
 ghost use Rattle.rbf_model.specs.Faults.{Keeps, IsFound, ImageBreaks, image_volume};
 
 /// An image stands for one volume at most.
@@ -32,4 +33,11 @@ pub fn free_clusters_are_unmarked()
         free_clusters (image_geometry image) v
         ≡ filter (λ c. is_whole (image_geometry image) c && not (is_marked (sector image) c))
         (range_with_len 0 (cluster_count (image_geometry image))) }
+{}
+
+/// A walk in a volume that begins at one of its files and arrives anywhere arrives at another.
+pub fn walks_arrive_at_files()
+    ensures { (image : List ℕ) (v : DiskVolume) (user : ℕ) (execute : Bool) (d n : ℕ)
+        (names : List (List ℕ)) → Vol image v → IsSome (v.files d)
+        → walk v.files user execute d names ≡ arrives n → IsSome (v.files n) }
 {}
