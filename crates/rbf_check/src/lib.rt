@@ -1,4 +1,5 @@
-//! Which image is well formed: the tree of its volume, or the least rule that it breaks.
+//! What the test of an image reads: its header, the descriptors that are reached from its root, and
+//! which of them is the least that breaks rule 1, 5 or 6.
 #![tactic(auto)]
 
 mod descriptors;
