@@ -1,0 +1,5 @@
+pub mod Least
+pub mod MapRule
+pub mod Searched
+pub mod Visits
+pub mod Walked
