@@ -50,11 +50,16 @@ writes_word r at value = record { regs = r; writes = bytes_from at (word_bytes v
 
 -- ---- one byte
 
--- NEG to CLR of the byte at a place; TST writes nothing
+-- TST writes nothing
+abbrev pub unary_writes : Unary → ℕ → ℕ → List (ℕ × ℕ)
+unary_writes Tst at value = []
+unary_writes _ at value = bytes_from at (value ∷ [])
+
+-- NEG to CLR of the byte at a place
 abbrev pub unary_effect : Unary → Place → ℕ → Effect
-unary_effect Tst p value = changes (with_flags p.regs (unary_flags Tst value (flags_of p.regs.cc)))
 unary_effect u p value =
-    let f = flags_of p.regs.cc in writes_byte (with_flags p.regs (unary_flags u value f)) p.at (unary_value u value f)
+    let f = flags_of p.regs.cc in
+    record { regs = with_flags p.regs (unary_flags u value f); writes = unary_writes u p.at (unary_value u value f) }
 
 abbrev pub unary_effect_at : (ℕ → Option ℕ) → Unary → Place → Option Effect
 unary_effect_at cells u p = option_map (λ value. unary_effect u p value) (cells p.at)
@@ -96,6 +101,9 @@ lea index.Y p = with_flags (record p.regs { y = p.at }) (lea_flags p.at (flags_o
 lea index.U p = record p.regs { u = p.at }
 lea index.S p = record p.regs { s = p.at }
 
+abbrev pub jump : Place → Effect
+jump p = changes (record p.regs { pc = p.at })
+
 abbrev pub branch : Regs → Condition → ℕ → Regs
 branch r condition target = if holds condition (flags_of r.cc) then record r { pc = target } else r
 
@@ -106,22 +114,16 @@ enters r target =
 
 -- ---- stacks
 
--- the bytes of a register on a stack, from the lowest address up
-abbrev pub register_bytes : Regs → Register → List ℕ
-register_bytes r A = r.a ∷ []
-register_bytes r B = r.b ∷ []
-register_bytes r Cc = r.cc ∷ []
-register_bytes r Dp = r.dp ∷ []
-register_bytes r reg = word_bytes (register r reg)
-
-abbrev pub part : Regs → ℕ → ℕ → Register → List ℕ
-part r mask weight reg = if has_bit weight mask then register_bytes r reg else []
+-- the bytes of a register, where the mask has the bit of this weight
+abbrev pub part : ℕ → ℕ → List ℕ → List ℕ
+part mask weight bytes = if has_bit weight mask then bytes else []
 
 -- what a push with this mask puts on a stack, from the lowest address up
 unfoldable pub frame : Regs → Stack → ℕ → List ℕ
 frame r stack mask =
-    part r mask 1 Cc ++ part r mask 2 A ++ part r mask 4 B ++ part r mask 8 Dp ++ part r mask 16 X ++ part r mask 32 Y
-    ++ part r mask 64 (other_pointer stack) ++ part r mask 128 Pc
+    part mask 1 (r.cc ∷ []) ++ part mask 2 (r.a ∷ []) ++ part mask 4 (r.b ∷ []) ++ part mask 8 (r.dp ∷ [])
+    ++ part mask 16 (word_bytes r.x) ++ part mask 32 (word_bytes r.y)
+    ++ part mask 64 (word_bytes (register r (other_pointer stack))) ++ part mask 128 (word_bytes r.pc)
 
 abbrev pub push : Regs → Stack → ℕ → Effect
 push r stack mask =

@@ -44,7 +44,7 @@ extent_of_form FromPc16 = word
 extent_of_form Absolute = word
 extent_of_form _ = none
 
-abbrev instruction : Page → ℕ → Option ℕ → Tail → ℕ → Reading
+abbrev pub instruction : Page → ℕ → Option ℕ → Tail → ℕ → Reading
 instruction page opcode post tail length =
     Ok (record { page = page; opcode = opcode; post = post; tail = tail }, length)
 
@@ -59,32 +59,32 @@ read_tail page opcode post length word (high ∷ low ∷ rest) =
     instruction page opcode post (Word (high * 256 + low)) (length + 2)
 
 -- a pair of registers, which has to be a documented one
-abbrev read_pair : Page → ℕ → ℕ → List ℕ → Reading
+abbrev pub read_pair : Page → ℕ → ℕ → List ℕ → Reading
 read_pair page opcode length [] = Err Short
 read_pair page opcode length (pair ∷ rest) =
     if is_pair pair then instruction page opcode None (Byte pair) (length + 1) else Err NotDocumented
 
 -- what follows a postbyte of this meaning
-abbrev read_form : Page → ℕ → ℕ → ℕ → Option Indexing → List ℕ → Reading
+abbrev pub read_form : Page → ℕ → ℕ → ℕ → Option Indexing → List ℕ → Reading
 read_form page opcode length post None rest = Err NotDocumented
 read_form page opcode length post (Some indexing) rest =
     read_tail page opcode (Some (plain_postbyte indexing.0 post)) (length + 1) (extent_of_form indexing.0) rest
 
-abbrev read_indexed : Page → ℕ → ℕ → List ℕ → Reading
+abbrev pub read_indexed : Page → ℕ → ℕ → List ℕ → Reading
 read_indexed page opcode length [] = Err Short
 read_indexed page opcode length (post ∷ rest) = read_form page opcode length post (postbyte post) rest
 
-abbrev read_operand : Page → ℕ → ℕ → Mode → List ℕ → Reading
+abbrev pub read_operand : Page → ℕ → ℕ → Mode → List ℕ → Reading
 read_operand page opcode length Indexed rest = read_indexed page opcode length rest
 read_operand page opcode length Pair rest = read_pair page opcode length rest
 read_operand page opcode length mode rest = read_tail page opcode None length (extent_of_mode mode) rest
 
-abbrev read_row : Page → ℕ → ℕ → Option Row → List ℕ → Reading
+abbrev pub read_row : Page → ℕ → ℕ → Option Row → List ℕ → Reading
 read_row page opcode length None rest = Err NotDocumented
 read_row page opcode length (Some r) rest = read_operand page opcode length r.1 rest
 
 -- an opcode of this page, with this many bytes up to it
-abbrev read_opcode : Page → ℕ → List ℕ → Reading
+abbrev pub read_opcode : Page → ℕ → List ℕ → Reading
 read_opcode page length [] = Err Short
 read_opcode page length (opcode ∷ rest) = read_row page opcode length (row page opcode) rest
 

@@ -98,6 +98,7 @@ register r B = r.b
 register r Cc = r.cc
 register r Dp = r.dp
 
+-- a byte register takes the low byte
 abbrev pub with_register : Regs → Register → ℕ → Regs
 with_register r D value = with_d r value
 with_register r X value = record r { x = value }
@@ -105,10 +106,10 @@ with_register r Y value = record r { y = value }
 with_register r U value = record r { u = value }
 with_register r S value = record r { s = value }
 with_register r Pc value = record r { pc = value }
-with_register r A value = record r { a = value }
-with_register r B value = record r { b = value }
-with_register r Cc value = record r { cc = value }
-with_register r Dp value = record r { dp = value }
+with_register r A value = record r { a = value % 256 }
+with_register r B value = record r { b = value % 256 }
+with_register r Cc value = record r { cc = value % 256 }
+with_register r Dp value = record r { dp = value % 256 }
 
 -- the pointer of the other stack, which a push or a pull may name
 abbrev pub other_pointer : Stack → Register

@@ -13,7 +13,7 @@ use Rattle.cpu_model.specs.Registers.{wrapped}
 use Rattle.cpu_model.specs.Table.{row}
 use Rattle.cpu_model.specs.Reading.{Reading, reading}
 use Rattle.cpu_model.specs.Places.{place_of, byte_operand, word_operand, target_of, tail_byte}
-use Rattle.cpu_model.specs.Effects.{Effect, changes, unary_effect_at, unary_on, binary_on, word_on, store, store_word, lea, branch, enters, push, pull, return_from_interrupt, return_from_subroutine, transfer, exchange, abx, daa, mul, sex, orcc, andcc}
+use Rattle.cpu_model.specs.Effects.{Effect, changes, unary_effect_at, unary_on, binary_on, word_on, store, store_word, jump, lea, branch, enters, push, pull, return_from_interrupt, return_from_subroutine, transfer, exchange, abx, daa, mul, sex, orcc, andcc}
 
 -- an effect, a system call with its code byte and the registers when PC is past it, or the status with which
 -- a program that does this ends
@@ -29,7 +29,7 @@ window_from rest at None = []
 window_from rest at (Some byte) = byte ∷ rest (wrapped (at + 1))
 
 -- at most this many bytes from an address on, up to the first that is not named
-abbrev pub window : (ℕ → Option ℕ) → ℕ → ℕ → List ℕ
+unfoldable pub window : (ℕ → Option ℕ) → ℕ → ℕ → List ℕ
 window cells at zero = []
 window cells at (suc n) = window_from (λ address. window cells address n) at (cells at)
 
@@ -47,7 +47,7 @@ effect_of cells r i mode (Binary op acc) = option_map (λ x. changes (binary_on 
 effect_of cells r i mode (Word op reg) = option_map (λ x. changes (word_on op reg x)) (word_operand cells r mode i)
 effect_of cells r i mode (Store acc) = option_map (λ p. store acc p) (place_of cells r mode i)
 effect_of cells r i mode (StoreWord reg) = option_map (λ p. store_word reg p) (place_of cells r mode i)
-effect_of cells r i mode Jmp = option_map (λ p. changes (record p.regs { pc = p.at })) (place_of cells r mode i)
+effect_of cells r i mode Jmp = option_map jump (place_of cells r mode i)
 effect_of cells r i mode Jsr = option_map (λ p. enters p.regs p.at) (place_of cells r mode i)
 effect_of cells r i mode (Branch condition) = Some (changes (branch r condition (target_of r mode i.tail)))
 effect_of cells r i mode Bsr = Some (enters r (target_of r mode i.tail))

@@ -50,8 +50,8 @@ fn put_in_box(term: &mut Box<dyn CharDriver>, bytes: &[u8]) -> Result<(), PutFau
 pub fn put_on(devices: &mut Devices, n: u8, bytes: &[u8]) -> Result<(), PutFault>
     requires { n < vec_len devices.old.terms }
     ensures terminal { ChangesOne (Puts result bytes.now) n
-        (screens (λ b. keys_left b) (λ b. bytes_put b) (λ b. term_faults b) devices.old.terms.items)
-        (screens (λ b. keys_left b) (λ b. bytes_put b) (λ b. term_faults b) devices.new.terms.items) }
+        (screens ⟦<dyn CharDriver as CharDriver>⟧ devices.old.terms.items)
+        (screens ⟦<dyn CharDriver as CharDriver>⟧ devices.new.terms.items) }
     ensures drives_kept { devices.new.drives ≡ devices.old.drives }
 {
     put_in_box(&mut devices.terms[n as usize], bytes)

@@ -1,5 +1,5 @@
 -- System calls: what each answers, and what it changes.
-use Rattle.std.specs.Prelude.{◌≡◌, ℕ, zero, suc, ◌+◌, ◌-◌, ◌%◌, ◌==◌, nat_lt, Bool, Option, Some, None, option_map, ◌⊎◌, List, [], ◌∷◌, length, slice_get, slice_set, if◌then◌else◌, MatchBool, MatchOption}
+use Rattle.std.specs.Prelude.{◌≡◌, ℕ, zero, suc, ◌+◌, ◌-◌, ◌%◌, ◌==◌, nat_lt, Bool, Option, Some, None, option_map, unwrap_or, ◌⊎◌, List, [], ◌∷◌, ◌++◌, length, slice_get, slice_set, if◌then◌else◌, MatchBool, MatchOption}
 use Rattle.os9_base.specs.declared.registers.Regs.{Regs}
 use Rattle.os9_base.specs.Count.{Rose}
 use Rattle.os9_outer.specs.Stream.{appended, GainsPrefix}
@@ -53,10 +53,13 @@ abbrev pub line_at : (ℕ → Option ℕ) → ℕ → ℕ → Option (List ℕ)
 line_at cells at zero = Some []
 line_at cells at (suc most) = line_with (λ next. line_at cells next most) at (cells at)
 
--- a line feed follows each carriage return
+-- the line ends in a carriage return
+abbrev pub ends_in_return : List ℕ → Bool
+ends_in_return line = unwrap_or (slice_get line (length line - 1)) 0 == 13
+
+-- what is put: the line, and a line feed behind the carriage return at its end
 abbrev pub shown : List ℕ → List ℕ
-shown [] = []
-shown (byte ∷ bytes) = if byte == 13 then 13 ∷ 10 ∷ shown bytes else byte ∷ shown bytes
+shown line = if ends_in_return line then line ++ 10 ∷ [] else line
 
 -- the numbers of standard input, standard output and standard error, which name TERM
 abbrev pub is_standard_path : ℕ → Bool

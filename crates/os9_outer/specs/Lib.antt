@@ -1,4 +1,5 @@
 pub mod Drive
 pub mod Host
+pub mod HostFile
 pub mod Stream
 pub mod Terminal

@@ -3,9 +3,18 @@
 #![tactic(auto)]
 
 pub mod drive;
+mod failure;
 pub mod host;
+pub mod host_file;
+pub mod mem_host;
 mod pending;
+pub mod ram_drive;
+pub mod real_host;
+pub mod script_tty;
 mod slot;
 pub mod sure_drive;
+pub mod sure_host;
 pub mod sure_tty;
 pub mod terminal;
+#[cfg(test)]
+mod tests;

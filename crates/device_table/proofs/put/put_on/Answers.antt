@@ -6,7 +6,7 @@ use Rattle.device_table.proofs.put.put_on.Goals as goal
 pub returns-clause-terminal : goal.returns-clause-terminal
 returns-clause-terminal g c =
     let put = c.put_in_box.ensures in
-    ChangesOne-set _ _ _ _ c.args.devices.now.terms.items c.args.n c.index_mut.result.now c.put_in_box.new.term (omega (arith, c.args.devices.now.terms.ok.0)) c.index_mut.ensures.value (record {
+    ChangesOne-set _ _ c.args.devices.now.terms.items c.args.n c.index_mut.result.now c.put_in_box.new.term (omega (arith, c.args.devices.now.terms.ok.0)) c.index_mut.ensures.value (record {
       all = put.put_all;
       prefix = put.put_prefix;
       fault_counted = put.fault_counted;

@@ -1,0 +1,5 @@
+pub mod Windows
+pub mod Stores
+pub mod Counts
+pub mod Places
+pub mod Maps

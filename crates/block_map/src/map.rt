@@ -1,0 +1,256 @@
+ghost use Rattle.std.specs.Prelude.{◌≡◌, ◌≢◌, ℕ, ◌+◌, ◌-◌, ◌<◌, ◌≤◌, ◌↔◌, length, replicate, IsTrue, IsSome, OnOk, OnErr, IfOk, IfSome, IfNone, All, AllPairs, slice_index_or, None, Some, [], ◌∷◌};
+ghost use Rattle.std.specs.Option.{ForSome};
+ghost use Rattle.proc_model.specs.declared.group.BlockId.{BlockId};
+ghost use Rattle.block_pool.specs.Blocks.{Blocks, IsLive, count_of, free_count};
+ghost use Rattle.block_map.specs.Slots.{Slots, naming, named_in};
+ghost use Rattle.block_map.specs.Takes.{AreNew, shared_all, given_all, NamesLive, GainsLow, group_blocks};
+
+use block_pool::pool::Pool;
+use proc_model::group::{BlockId, Group};
+use std::marker::Model;
+
+/// How many slots a map has.
+pub const SLOTS: usize = 8;
+
+/// Why a map cannot name more.
+#[derive(Clone, Copy, Debug, PartialEq, Eq)]
+pub enum MapFault {
+    /// The slots that are wanted are not free.
+    NoSlot,
+    /// The pool has too few free blocks.
+    NoBlock,
+}
+
+/// What a process sees of the pool: eight places, the low area from slot 0 on, and where groups
+/// begin. No block stands in two places.
+#[derive(Drop)]
+pub struct Map {
+    places: [Option<BlockId>; SLOTS],
+    low: u8,
+    groups: [Option<u8>; SLOTS],
+}
+
+impl Model for Map {
+    ghost use Rattle.proc_model.specs.declared.group.BlockId.{BlockId};
+    ghost use Rattle.block_map.specs.Slots.{Slots, IsMap};
+
+    ghost Value = { Slots BlockId };
+
+    ghost view = { λ m. record { places = m.places; low = m.low; groups = m.groups } };
+
+    ghost invariant = { λ m. IsMap (record { places = m.places; low = m.low; groups = m.groups }) };
+}
+
+impl Map {
+    ghost use Rattle.block_map.specs.Slots.{IsMap, no_slots, place_of, group_of, Names, IsFreeRun, IsHighestFreeRun, named_from, cut_low_to, with_group, without_group};
+
+    /// A map that names nothing.
+    pub fn empty() -> Map
+        ensures { result ≡ no_slots }
+    {
+        Map {
+            places: [None; SLOTS],
+            low: 0,
+            groups: [None; SLOTS],
+        }
+    }
+
+    /// The block in a slot, if there is one.
+    pub fn place(&self, slot: u8) -> Option<BlockId>
+        requires { slot < 8 }
+        ensures place { result ≡ place_of self.now slot }
+        ensures shape { IsMap self.now }
+    {
+        self.places[slot as usize]
+    }
+
+    /// Puts `n` new blocks in the slots that follow the low area, which has them too then.
+    ///
+    /// `NoSlot` where fewer than `n` slots follow or one of them names a block, else `NoBlock` where
+    /// fewer than `n` blocks are free. After a refusal nothing has changed.
+    pub fn map_low(&mut self, pool: &mut Pool, n: u8) -> Result<(), MapFault>
+        requires { NamesLive self.old pool.old }
+
+        ensures no_slot { (result ≡ Err MapFault.NoSlot) ↔ (IsFreeRun self.old self.old.low n → ⊥) }
+        ensures no_block { (result ≡ Err MapFault.NoBlock)
+            ↔ (IsFreeRun self.old self.old.low n × (free_count pool.old < n)) }
+        ensures refused { OnErr result ((self.new ≡ self.old) × (pool.new ≡ pool.old)) }
+
+        ensures gains { OnOk result (GainsLow n self.old pool.old self.new pool.new) }
+        ensures live { NamesLive self.new pool.new }
+    {
+        let first = self.low as usize;
+        let len = n as usize;
+        if !self.is_free_run(first, len) {
+            return Err(MapFault::NoSlot);
+        }
+        if pool.free_blocks() < u16::from(n) {
+            return Err(MapFault::NoBlock);
+        }
+        name_new(&mut self.places[first..first + len], pool);
+        self.low += n;
+        Ok(())
+    }
+
+    /// Keeps the first `n` slots of the low area, and gives the blocks of its other slots back. A low
+    /// area of no more than `n` slots stays.
+    pub fn cut_low(&mut self, pool: &mut Pool, n: u8)
+        requires { NamesLive self.old pool.old }
+
+        ensures whole { self.old.low ≤ n → (self.new ≡ self.old) × (pool.new ≡ pool.old) }
+        ensures cut { n < self.old.low → self.new ≡ cut_low_to self.old n }
+        ensures given { n < self.old.low → pool.new ≡ given_all pool.old (named_from self.old n self.old.low) }
+        ensures live { NamesLive self.new pool.new }
+    {
+        if n < self.low {
+            give_back(&mut self.places[n as usize..self.low as usize], pool);
+            self.low = n;
+        }
+    }
+
+    /// Names the blocks of a group, in order, in the highest run of free slots of its length, and
+    /// answers the first slot of the run.
+    ///
+    /// `NoSlot` where there is no such run, and nothing has changed then. It is never `NoBlock`.
+    pub fn map_group(&mut self, pool: &mut Pool, g: &Group) -> Result<u8, MapFault>
+        requires some { 1 ≤ g.now.len }
+        requires different { AllPairs (λ a b. a ≢ b) (group_blocks g.now) }
+        requires group_live { All (λ id. IsLive pool.old id.0) (group_blocks g.now) }
+        requires countable { All (λ id. count_of pool.old id.0 < 65000) (group_blocks g.now) }
+        requires unnamed { All (λ id. Names self.old id → ⊥) (group_blocks g.now) }
+        requires live { NamesLive self.old pool.old }
+
+        ensures no_slot { (result ≡ Err MapFault.NoSlot) ↔ ((first : ℕ) → IsFreeRun self.old first g.now.len → ⊥) }
+        ensures no_other_fault { result ≢ Err MapFault.NoBlock }
+        ensures refused { OnErr result ((self.new ≡ self.old) × (pool.new ≡ pool.old)) }
+
+        ensures highest { IfOk result (IsHighestFreeRun self.old g.now.len) }
+        ensures grouped { IfOk result (λ first. self.new ≡ with_group self.old first (group_blocks g.now)) }
+        ensures shared { OnOk result (pool.new ≡ shared_all pool.old (group_blocks g.now)) }
+        ensures live { NamesLive self.new pool.new }
+    {
+        let len = g.len as usize;
+        let Some(slot) = self.highest_free_run(g.len) else {
+            return Err(MapFault::NoSlot);
+        };
+        let first = slot as usize;
+        name_shared(&mut self.places[first..first + len], &g.blocks[..len], pool);
+        self.groups[first] = Some(g.len);
+        Ok(slot)
+    }
+
+    /// Gives back the blocks of the group that begins at the slot, and frees its slots.
+    pub fn unmap(&mut self, pool: &mut Pool, slot: u8)
+        requires begins { IsSome (group_of self.old slot) }
+        requires live { NamesLive self.old pool.old }
+
+        ensures cut { IfSome (group_of self.old slot) (λ len. self.new ≡ without_group self.old slot len) }
+        ensures given { IfSome (group_of self.old slot)
+            (λ len. pool.new ≡ given_all pool.old (named_from self.old slot (slot + len))) }
+        ensures live { NamesLive self.new pool.new }
+    {
+        let first = slot as usize;
+        if let Some(len) = self.groups[first] {
+            give_back(&mut self.places[first..first + len as usize], pool);
+            self.groups[first] = None;
+        }
+    }
+
+    // Do so many slots from `first` on exist and name nothing?
+    fn is_free_run(&self, first: usize, len: usize) -> bool
+        requires { first ≤ 8 }
+        ensures { IsTrue result ↔ IsFreeRun self.now first len }
+    {
+        len <= SLOTS - first && name_nothing(&self.places[first..first + len])
+    }
+
+    // The first slot of the highest run of so many slots that name nothing.
+    fn highest_free_run(&self, len: u8) -> Option<u8>
+        requires { 1 ≤ len }
+        ensures none { IfNone result ((first : ℕ) → IsFreeRun self.now first len → ⊥) }
+        ensures highest { IfSome result (IsHighestFreeRun self.now len) }
+    {
+        for first in (0..SLOTS as u8).rev() {
+            if self.is_free_run(first as usize, len as usize) {
+                return Some(first);
+            }
+        }
+        None
+    }
+}
+
+// Names a new block in each of these places.
+fn name_new(places: &mut [Option<BlockId>], pool: &mut Pool)
+    requires { length places.old ≤ free_count pool.old }
+    ensures { AreNew places.new pool.old pool.new }
+{
+    for place in places.iter_mut() {
+        *place = pool.take();
+    }
+}
+
+// Names these blocks once more, in these places.
+fn name_shared(places: &mut [Option<BlockId>], blocks: &[BlockId], pool: &mut Pool)
+    requires as_many { length places.old ≡ length blocks.now }
+    requires few { length blocks.now ≤ 7 }
+    requires live { All (λ id. IsLive pool.old id.0) blocks.now }
+    requires countable { All (λ id. count_of pool.old id.0 < 65000) blocks.now }
+    ensures named { places.new ≡ naming blocks.now }
+    ensures shared { pool.new ≡ shared_all pool.old blocks.now }
+{
+    for (k, id) in blocks.iter().enumerate() {
+        pool.share(*id);
+        places[k] = Some(*id);
+    }
+}
+
+// Gives back what these places name, and clears them.
+fn give_back(places: &mut [Option<BlockId>], pool: &mut Pool)
+    requires live { (k : ℕ) (id : BlockId) → slice_index_or places.old k None ≡ Some id → IsLive pool.old id.0 }
+    requires once { (k other : ℕ) (id : BlockId) → slice_index_or places.old k None ≡ Some id
+        → slice_index_or places.old other None ≡ Some id → k ≡ other }
+    ensures cleared { places.new ≡ replicate (length places.old) None }
+    ensures given { pool.new ≡ given_all pool.old (named_in places.old) }
+{
+    for place in places.iter_mut() {
+        give_place(place, pool);
+    }
+}
+
+// Gives back what a place names, and clears it.
+fn give_place(place: &mut Option<BlockId>, pool: &mut Pool)
+    requires { ForSome place.old (λ id. IsLive pool.old id.0) }
+    ensures cleared { place.new ≡ None }
+    ensures given { pool.new ≡ given_all pool.old (named_in (place.old ∷ [])) }
+{
+    if let Some(id) = place.take() {
+        pool.give(id);
+    }
+}
+
+// Do all of these places name nothing?
+fn name_nothing(places: &[Option<BlockId>]) -> bool
+    ensures { IsTrue result ↔ ((k : ℕ) → k < length places.now → slice_index_or places.now k None ≡ None) }
+{
+    places.iter().all(|place| place.is_none())
+}
+
+#[cfg(test)]
+mod tests {
+    use super::*;
+    use std::test::Fail;
+
+    #[test]
+    fn group_of_one_block(rt: HostRuntime) -> Result<(), Fail> {
+        let mut pool = Pool::new(rt.alloc(), 8)?;
+        let block = pool.take().ok_or("no block")?;
+        let group = Group {
+            blocks: [block; 7],
+            len: 1,
+        };
+        let mut map = Map::empty();
+        assert_eq!(rt; map.map_group(&mut pool, &group), Ok(7));
+        assert_eq!(rt; map.place(7), Some(block));
+        Ok(())
+    }
+}

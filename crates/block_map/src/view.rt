@@ -1,0 +1,135 @@
+ghost use Rattle.std.specs.Prelude.{◌≡◌, ◌/◌, ◌%◌, ◌<◌, ◌≤◌, ◌↔◌, IsTrue};
+ghost use Rattle.std.specs.Bool.{OnTrue};
+
+use crate::map::Map;
+use block_pool::pool::Pool;
+use os9_base::memory::{Bus, UserMem};
+
+/// The bytes that a process sees: those of the blocks that its map names. A slot counts as named
+/// where its block is live in the pool.
+#[derive(Drop)]
+pub struct View<'a> {
+    pub map: &'a Map,
+    pub pool: &'a mut Pool,
+}
+
+impl Bus for View<'_> {
+    ghost use Rattle.block_map.specs.Window.{cells_of};
+    ghost use Rattle.block_map.specs.Beside.{SameBeside, SameBeside-self, SameBeside-then};
+
+    ghost cells = { λ view. cells_of view.map.now view.pool.now };
+
+    ghost same_beside = { SameBeside };
+
+    ghost same_beside_self = { SameBeside-self };
+
+    ghost same_beside_then = { SameBeside-then };
+
+    fn named(&self, at: u16) -> bool {
+        self.is_slot_live(slot_of(at))
+    }
+
+    fn get(&self, at: u16) -> u8 {
+        match self.map.place(slot_of(at)) {
+            Some(id) => self.pool.bytes(id)[offset_in_block(at) as usize],
+            None => unreachable!(),
+        }
+    }
+
+    fn put(&mut self, at: u16, byte: u8) {
+        if let Some(id) = self.map.place(slot_of(at)) {
+            self.pool.copy_in(id, offset_in_block(at), &[byte]);
+        }
+    }
+}
+
+impl Map {
+    /// The bytes that a process with this map sees in the pool.
+    pub fn view<'a>(&'a self, pool: &'a mut Pool) -> View<'a>
+        ensures map { result.map ≡ self.entry }
+        ensures bytes { result.pool.now ≡ pool.old }
+        ensures pool { result.pool.ghost_name ≡ pool.entry.ghost_name }
+    {
+        View { map: self, pool }
+    }
+}
+
+impl UserMem for View<'_> {
+    ghost use Rattle.block_map.specs.Window.{cells_of};
+    ghost use Rattle.block_map.specs.Beside.{SameBeside, SameBeside-self, SameBeside-then};
+
+    ghost cells = { λ view. cells_of view.map.now view.pool.now };
+
+    ghost same_beside = { SameBeside };
+
+    ghost same_beside_self = { SameBeside-self };
+
+    ghost same_beside_then = { SameBeside-then };
+
+    fn fits(&self, at: u16, len: u16) -> bool {
+        len == 0
+            || u32::from(at) + u32::from(len) <= 0x1_0000
+                && self.are_slots_live(slot_of(at), slot_of(at + (len - 1)))
+    }
+
+    fn load(&self, at: u16, into: &mut [u8]) {
+        for (k, byte) in into.iter_mut().enumerate() {
+            *byte = self.get(at + k as u16);
+        }
+    }
+
+    fn store(&mut self, at: u16, from: &[u8]) {
+        for (k, byte) in from.iter().enumerate() {
+            self.put(at + k as u16, *byte);
+        }
+    }
+}
+
+impl View<'_> {
+    ghost use Rattle.block_map.specs.Slots.{IsMap, place_of};
+    ghost use Rattle.block_pool.specs.Blocks.{IsPool, IsLive};
+    ghost use Rattle.block_map.specs.Window.{IsSlotLive, AllSlotsLive};
+
+    // Does the slot name a live block?
+    fn is_slot_live(&self, slot: u8) -> bool
+        requires { slot < 8 }
+        ensures live { IsTrue result ↔ IsSlotLive self.now.map.now self.now.pool.now slot }
+        ensures shape { OnTrue result (IsPool self.now.pool.now) }
+    {
+        match self.map.place(slot) {
+            Some(id) => self.pool.is_live(id),
+            None => false,
+        }
+    }
+
+    // Does each slot from `first` to `last` name a live block?
+    fn are_slots_live(&self, first: u8, last: u8) -> bool
+        requires { last < 8 }
+        ensures live { IsTrue result ↔ AllSlotsLive self.now.map.now self.now.pool.now first last }
+        ensures shape { OnTrue result (first ≤ last → IsPool self.now.pool.now) }
+    {
+        for slot in first..=last {
+            if !self.is_slot_live(slot) {
+                return false;
+            }
+        }
+        true
+    }
+}
+
+// The slot that an address lies in.
+fn slot_of(at: u16) -> u8
+    ensures { result ≡ at / 8192 }
+{
+    (at / 8192) as u8
+}
+
+// The place of an address in the block of its slot.
+fn offset_in_block(at: u16) -> u16
+    ensures { result ≡ at % 8192 }
+{
+    at % 8192
+}
+
+#[cfg(test)]
+mod tests;

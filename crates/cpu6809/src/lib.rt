@@ -1,0 +1,17 @@
+//! The MC6809 processor: one instruction at a time, over a bus.
+#![tactic(auto)]
+
+pub use cpu_model::stop::Stop;
+pub use execution::step;
+pub use os9_base::memory::Bus;
+
+mod change;
+mod commit;
+mod effect;
+mod execution;
+mod operation;
+mod place;
+mod register;
+mod stack;
+#[cfg(test)]
+mod tests;

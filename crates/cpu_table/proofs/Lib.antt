@@ -1,0 +1,5 @@
+pub mod Classes
+pub mod Grid
+pub mod Read
+pub mod Decoding
+pub mod Plain

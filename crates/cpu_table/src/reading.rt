@@ -1,0 +1,206 @@
+ghost use Rattle.std.specs.Prelude.{◌≡◌, ◌↔◌, ℕ, ◌≤◌, None, IfOk, []};
+ghost use Rattle.cpu_model.specs.Reading as model;
+ghost use Rattle.cpu_model.specs.Table as tables;
+ghost use Rattle.cpu_model.specs.declared.instruction.Instr.{Instr};
+ghost use Rattle.cpu_table.specs.Spelling.{BeginsWith, IsPlain, IsBegun, IsSpelled};
+
+use crate::table::{postbyte, row};
+use cpu_model::indexing::{Form, Indexing};
+use cpu_model::instruction::{DecodeFault, Instr, Page, Tail};
+use cpu_model::rows::{Mode, Row};
+
+/// What is known of an instruction before its operand bytes, and how many bytes that takes.
+#[derive(Clone, Copy)]
+struct Head {
+    page: Page,
+    opcode: u8,
+    post: Option<u8>,
+    length: u8,
+}
+
+impl Head {
+    /// The instruction with these operand bytes.
+    fn instruction(self, tail: Tail) -> Instr
+        ensures { result ≡ record { page = self.page; opcode = self.opcode; post = self.post; tail = tail } }
+    {
+        Instr {
+            page: self.page,
+            opcode: self.opcode,
+            post: self.post,
+            tail,
+        }
+    }
+}
+
+/// The instruction with no operand bytes.
+fn with_none(head: Head) -> Result<(Instr, u8), DecodeFault>
+    ensures { result ≡ model.read_tail head.page head.opcode head.post head.length model.none [] }
+{
+    Ok((head.instruction(Tail::Empty), head.length))
+}
+
+/// The instruction with one operand byte, the first of `rest`.
+fn with_byte(head: Head, rest: &[u8]) -> Result<(Instr, u8), DecodeFault>
+    requires { head.length ≤ 3 }
+    ensures { result ≡ model.read_tail head.page head.opcode head.post head.length model.byte rest.now }
+{
+    match rest {
+        [byte, ..] => Ok((head.instruction(Tail::Byte(*byte)), head.length + 1)),
+        [] => Err(DecodeFault::Short),
+    }
+}
+
+/// The instruction with two operand bytes, the first of `rest`.
+fn with_word(head: Head, rest: &[u8]) -> Result<(Instr, u8), DecodeFault>
+    requires { head.length ≤ 3 }
+    ensures { result ≡ model.read_tail head.page head.opcode head.post head.length model.word rest.now }
+{
+    match rest {
+        [high, low, ..] => {
+            let word = u16::from_be_bytes([*high, *low]);
+            Ok((head.instruction(Tail::Word(word)), head.length + 2))
+        }
+        _ => Err(DecodeFault::Short),
+    }
+}
+
+/// The instruction whose operand bytes, the first of `rest`, are those that its postbyte's form has.
+fn with_form(head: Head, form: Form, rest: &[u8]) -> Result<(Instr, u8), DecodeFault>
+    requires { head.length ≤ 3 }
+    ensures { result ≡ model.read_tail head.page head.opcode head.post head.length (model.extent_of_form form) rest.now }
+{
+    match form {
+        Form::Offset8 | Form::FromPc8 => with_byte(head, rest),
+        Form::Offset16 | Form::FromPc16 | Form::Absolute => with_word(head, rest),
+        _ => with_none(head),
+    }
+}
+
+/// The postbyte as it is given: bits 6 and 5 do not matter where the offset counts from PC.
+fn plain_postbyte(form: Form, post: u8) -> u8
+    ensures { result ≡ tables.plain_postbyte form post }
+{
+    match form {
+        Form::FromPc8 | Form::FromPc16 => 0x80 + (post & 0x1F),
+        _ => post,
+    }
+}
+
+/// The instruction of an indexed mode, whose postbyte is the first of `rest`.
+fn with_postbyte(head: Head, rest: &[u8]) -> Result<(Instr, u8), DecodeFault>
+    requires { head.length ≤ 2 }
+    ensures { result ≡ model.read_indexed head.page head.opcode head.length rest.now }
+{
+    match rest {
+        [post, after @ ..] => match postbyte(*post) {
+            Some(Indexing(form, _, _)) => {
+                let post = Some(plain_postbyte(form, *post));
+                let length = head.length + 1;
+                with_form(
+                    Head {
+                        post,
+                        length,
+                        ..head
+                    },
+                    form,
+                    after,
+                )
+            }
+            None => Err(DecodeFault::NotDocumented),
+        },
+        [] => Err(DecodeFault::Short),
+    }
+}
+
+/// Do both halves of this byte name registers, and of one size?
+fn is_pair(post: u8) -> bool
+    ensures { result ≡ tables.is_pair post }
+{
+    let (source, target) = (post >> 4, post & 0x0F);
+    source <= 5 && target <= 5 || (8..=11).contains(&source) && (8..=11).contains(&target)
+}
+
+/// The instruction on two registers, which the first byte of `rest` names.
+fn with_pair(head: Head, rest: &[u8]) -> Result<(Instr, u8), DecodeFault>
+    requires no_postbyte { head.post ≡ None }
+    requires short { head.length ≤ 2 }
+    ensures { result ≡ model.read_pair head.page head.opcode head.length rest.now }
+{
+    match rest {
+        [pair, ..] if is_pair(*pair) => with_byte(head, rest),
+        [_, ..] => Err(DecodeFault::NotDocumented),
+        [] => Err(DecodeFault::Short),
+    }
+}
+
+/// The instruction of this mode, whose bytes after the opcode are the first of `rest`.
+fn with_operand(head: Head, mode: Mode, rest: &[u8]) -> Result<(Instr, u8), DecodeFault>
+    requires no_postbyte { head.post ≡ None }
+    requires short { head.length ≤ 2 }
+    ensures { result ≡ model.read_operand head.page head.opcode head.length mode rest.now }
+{
+    match mode {
+        Mode::Inherent => with_none(head),
+        Mode::Immediate8 | Mode::Direct | Mode::Relative8 => with_byte(head, rest),
+        Mode::Immediate16 | Mode::Extended | Mode::Relative16 => with_word(head, rest),
+        Mode::Indexed => with_postbyte(head, rest),
+        Mode::Pair => with_pair(head, rest),
+    }
+}
+
+/// The instruction whose opcode, of this page, is the first of `bytes`, with `length` bytes up to
+/// and with it.
+fn from_opcode(page: Page, length: u8, bytes: &[u8]) -> Result<(Instr, u8), DecodeFault>
+    requires { length ≤ 2 }
+    ensures { result ≡ model.read_opcode page length bytes.now }
+{
+    match bytes {
+        [opcode, rest @ ..] => match row(page, *opcode) {
+            Some(Row(_, mode)) => {
+                let head = Head {
+                    page,
+                    opcode: *opcode,
+                    post: None,
+                    length,
+                };
+                with_operand(head, mode, rest)
+            }
+            None => Err(DecodeFault::NotDocumented),
+        },
+        [] => Err(DecodeFault::Short),
+    }
+}
+
+/// What the bytes begin with, by its prefix.
+#[tactic(auto, unfolding(cpu_model::specs::Reading::reading))]
+fn from_prefix(bytes: &[u8]) -> Result<(Instr, u8), DecodeFault>
+    ensures { result ≡ model.reading bytes.now }
+{
+    match bytes {
+        [] => Err(DecodeFault::Short),
+        [first, rest @ ..] => match *first {
+            0x10 => from_opcode(Page::Ten, 2, rest),
+            0x11 => from_opcode(Page::Eleven, 2, rest),
+            _ => from_opcode(Page::Base, 1, bytes),
+        },
+    }
+}
+
+/// The instruction at the front of these bytes, and the number of its bytes (MC6809 programming
+/// manual, appendix B). Of SWI2 that is 2: a code byte behind it is not its own.
+///
+/// `Short` where the bytes are the beginning of a longer spelling, and `NotDocumented` where
+/// nothing documented is spelled so, whatever follows.
+pub fn decode(bytes: &[u8]) -> Result<(Instr, u8), DecodeFault>
+    ensures value { result ≡ model.reading bytes.now }
+
+    // What is answered is documented and spelled so, and whatever is spelled so is answered.
+    ensures found { IfOk result (λ found. BeginsWith bytes.now found.0 found.1) }
+    ensures plain { IfOk result (λ found. IsPlain found.0) }
+    ensures only { (i : Instr) (count : ℕ) → BeginsWith bytes.now i count → result ≡ Ok (i, count) }
+
+    ensures short { (result ≡ Err DecodeFault.Short) ↔ IsBegun bytes.now }
+    ensures not_documented { (result ≡ Err DecodeFault.NotDocumented) ↔ (¬ IsBegun bytes.now × ¬ IsSpelled bytes.now) }
+{
+    from_prefix(bytes)
+}

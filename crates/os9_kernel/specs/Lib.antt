@@ -1,0 +1,4 @@
+pub mod Memory
+pub mod Line
+pub mod Tie
+pub mod Slice

@@ -1,0 +1,256 @@
+ghost use Rattle.std.specs.Prelude.{◌≡◌, ◌≢◌, ◌+◌, ◌<◌, ◌≤◌, ◌↔◌, IsTrue, true, count_by, option_map, vec_len, List, [], Some, IsSome};
+ghost use Rattle.device_table.specs.Screens.{Screen, screens};
+ghost use Rattle.machine_model.specs.State.{State, is_living};
+ghost use Rattle.machine_model.specs.Call.{done, refused, carry_clear as carry_clear_lem};
+ghost use Rattle.machine_model.specs.Event.{Event};
+ghost use Rattle.machine_model.specs.Run.{Tick, Choose, Slice, Goes, cost as cost_lem};
+
+use crate::line::{LineEnd, write_line};
+use crate::memory::Memory;
+use cpu6809::step;
+use cpu_model::stop::Stop;
+use device_table::devices::Devices;
+use machine_model::activity::Activity;
+use machine_model::ends::{EventEnd, SliceEnd};
+use os9_base::registers::{Pid, Regs};
+use os9_outer::terminal::CharDriver;
+
+/// The number of the first process.
+const FIRST: Pid = Pid(2);
+
+/// The kernel and the process that it runs.
+#[derive(Drop)]
+pub struct Kernel {
+    pub(crate) memory: Memory,
+    pub(crate) regs: Regs,
+    pub(crate) activity: Activity,
+    pub(crate) tick: u32,
+    pub(crate) chosen: bool,
+}
+
+impl Kernel {
+    ghost use Rattle.os9_kernel.specs.Tie.{Stands, IsGoing, HasFinished, IsUnknownCall, ticks, pending, process_of};
+
+    /// How many processes live.
+    pub fn living(&self) -> u8
+        ensures { (terms : List Screen) (s : State) → Stands self.now terms s → result ≡ count_by is_living s.inner.processes }
+    {
+        if self.is_living() { 1 } else { 0 }
+    }
+
+    /// The tick of a new slice.
+    pub fn tick(&mut self)
+        requires { ticks self.old < 4294000000 }
+        ensures step { (terms : List Screen) (s : State) → Stands self.old terms s
+            → (t : State) × Tick s t × Stands self.new terms t }
+        ensures count { ticks self.new ≡ ticks self.old + 1 }
+    {
+        self.tick += 1;
+    }
+
+    /// Chooses a process that is ready; None exactly where nobody is.
+    pub fn choose(&mut self) -> Option<Pid>
+        ensures step { (terms : List Screen) (s : State) → Stands self.old terms s
+            → (t : State) × Choose s t × Stands self.new terms t × (option_map (λ p. p.0) result ≡ t.inner.chosen) }
+        ensures count { ticks self.new ≡ ticks self.old }
+        ensures going { IsSome result → IsGoing self.new }
+    {
+        self.chosen = self.is_living();
+        self.chosen.then_some(FIRST)
+    }
+
+    /// One event of the process that was chosen: the first attempt of its call, else an instruction.
+    /// The process goes on where the answer is `Ran`. `NoMemory` comes only where a byte is put on a
+    /// terminal; the kernel is then used no more.
+    pub fn event(&mut self, devices: &mut Devices) -> EventEnd
+        requires going { IsGoing self.old }
+        requires terminal { 0 < vec_len devices.old.terms }
+        ensures step { result ≢ EventEnd.NoMemory → (s : State)
+            → Stands self.old (screens ⟦<dyn CharDriver as CharDriver>⟧ devices.old.terms.items) s
+            → (t : State) × Event s result t
+            × Stands self.new (screens ⟦<dyn CharDriver as CharDriver>⟧ devices.new.terms.items) t }
+        ensures ran { result ≡ EventEnd.Ran → IsGoing self.new }
+        ensures attempted { result ≡ EventEnd.Ran → pending self.old + pending self.new ≤ 1 }
+        ensures ended { result ≡ EventEnd.Ended → HasFinished self.new }
+        ensures never_waits { result ≢ EventEnd.Waits }
+        ensures terminals { vec_len devices.new.terms ≡ vec_len devices.old.terms }
+        ensures count { ticks self.new ≡ ticks self.old }
+        ensures drives_kept { devices.new.drives ≡ devices.old.drives }
+    {
+        match self.activity {
+            Activity::Running => self.instruction(),
+            Activity::Calling(0x06) => self.exit(),
+            Activity::Calling(0x8C) => self.put_line(devices),
+            Activity::Calling(_) => self.refuse_unknown(),
+            Activity::Finished(_) => unreachable!(),
+        }
+    }
+
+    /// A slice: the tick rises, a process is chosen, and it has its events until it has executed `n`
+    /// instructions, its call waits or it has ended. `Idle` comes exactly where nobody is ready.
+    /// After `NoMemory` the kernel is used no more.
+    pub fn slice(&mut self, n: u32, devices: &mut Devices) -> SliceEnd
+        requires tick { ticks self.old < 4294000000 }
+        requires terminal { 0 < vec_len devices.old.terms }
+        ensures step { result ≢ SliceEnd.NoMemory → (s : State)
+            → Stands self.old (screens ⟦<dyn CharDriver as CharDriver>⟧ devices.old.terms.items) s
+            → (t : State) × Slice n s result t
+            × Stands self.new (screens ⟦<dyn CharDriver as CharDriver>⟧ devices.new.terms.items) t }
+        ensures count { ticks self.new ≡ ticks self.old + 1 }
+        ensures drives_kept { devices.new.drives ≡ devices.old.drives }
+    {
+        self.tick();
+        match self.choose() {
+            None => SliceEnd::Idle,
+            Some(_) => self.events(n, devices),
+        }
+    }
+
+    /// The events of the chosen process until the slice is over.
+    fn events(&mut self, n: u32, devices: &mut Devices) -> SliceEnd
+        requires going { IsGoing self.old }
+        requires terminal { 0 < vec_len devices.old.terms }
+        ensures step { result ≢ SliceEnd.NoMemory → (s : State)
+            → Stands self.old (screens ⟦<dyn CharDriver as CharDriver>⟧ devices.old.terms.items) s
+            → (states : List State) × (t : State) × Goes n s states t
+            × Stands self.new (screens ⟦<dyn CharDriver as CharDriver>⟧ devices.new.terms.items) t }
+        ensures ran { result ≢ SliceEnd.NoMemory → result ≡ SliceEnd.Ran }
+        ensures count { ticks self.new ≡ ticks self.old }
+        ensures drives_kept { devices.new.drives ≡ devices.old.drives }
+    {
+        let mut left = n;
+        while left > 0 {
+            let cost = self.cost();
+            match self.event(devices) {
+                EventEnd::Ran => left -= cost,
+                EventEnd::Waits | EventEnd::Ended => return SliceEnd::Ran,
+                EventEnd::NoMemory => return SliceEnd::NoMemory,
+            }
+        }
+        SliceEnd::Ran
+    }
+
+    /// How many instructions the next event executes: an attempt of a call costs none.
+    fn cost(&self) -> u32
+        requires { IsGoing self.now }
+        ensures tied { (terms : List Screen) (s : State) → Stands self.now terms s → result ≡ cost_lem s }
+        ensures attempt { result + pending self.now ≡ 1 }
+    {
+        match self.activity {
+            Activity::Running => 1,
+            Activity::Calling(_) | Activity::Finished(_) => 0,
+        }
+    }
+
+    /// The process executes the instruction at PC.
+    fn instruction(&mut self) -> EventEnd
+        requires chosen { self.old.chosen ≡ true }
+        requires running { self.old.activity ≡ Activity.Running }
+        ensures step { (terms : List Screen) (s : State) → Stands self.old terms s
+            → (t : State) × Event s result t × Stands self.new terms t }
+        ensures ran { result ≡ EventEnd.Ran → IsGoing self.new }
+        ensures ended { result ≢ EventEnd.Ran → (result ≡ EventEnd.Ended) × HasFinished self.new }
+        ensures count { ticks self.new ≡ ticks self.old }
+    {
+        match step(&mut self.regs, &mut self.memory) {
+            Stop::Next => EventEnd::Ran,
+            Stop::Call(code) => {
+                self.activity = Activity::Calling(code);
+                EventEnd::Ran
+            }
+            Stop::Abort(status) => {
+                self.memory.give_up();
+                self.activity = Activity::Finished(status);
+                EventEnd::Ended
+            }
+        }
+    }
+
+    /// F$Exit: the process ends with the status in B.
+    fn exit(&mut self) -> EventEnd
+        requires chosen { self.old.chosen ≡ true }
+        requires calling { self.old.activity ≡ Activity.Calling 0x06 }
+        ensures step { (terms : List Screen) (s : State) → Stands self.old terms s
+            → (t : State) × Event s result t × Stands self.new terms t }
+        ensures ended { result ≡ EventEnd.Ended }
+        ensures finished { HasFinished self.new }
+        ensures count { ticks self.new ≡ ticks self.old }
+    {
+        self.memory.give_up();
+        self.activity = Activity::Finished(self.regs.b);
+        EventEnd::Ended
+    }
+
+    /// The call is none that there is: it is refused with 208.
+    fn refuse_unknown(&mut self) -> EventEnd
+        requires chosen { self.old.chosen ≡ true }
+        requires calling { IsUnknownCall self.old.activity }
+        ensures step { (terms : List Screen) (s : State) → Stands self.old terms s
+            → (t : State) × Event s result t × Stands self.new terms t }
+        ensures ran { result ≡ EventEnd.Ran }
+        ensures going { IsGoing self.new }
+        ensures running { pending self.new ≡ 0 }
+        ensures count { ticks self.new ≡ ticks self.old }
+    {
+        self.refuse(208);
+        EventEnd::Ran
+    }
+
+    /// I$WritLn, as [`write_line`] answers it.
+    fn put_line(&mut self, devices: &mut Devices) -> EventEnd
+        requires chosen { self.old.chosen ≡ true }
+        requires calling { self.old.activity ≡ Activity.Calling 0x8C }
+        requires terminal { 0 < vec_len devices.old.terms }
+        ensures step { result ≢ EventEnd.NoMemory → (s : State)
+            → Stands self.old (screens ⟦<dyn CharDriver as CharDriver>⟧ devices.old.terms.items) s
+            → (t : State) × Event s result t
+            × Stands self.new (screens ⟦<dyn CharDriver as CharDriver>⟧ devices.new.terms.items) t }
+        ensures ran { result ≢ EventEnd.NoMemory → result ≡ EventEnd.Ran }
+        ensures going { result ≡ EventEnd.Ran → IsGoing self.new }
+        ensures running { result ≡ EventEnd.Ran → pending self.new ≡ 0 }
+        ensures terminals { vec_len devices.new.terms ≡ vec_len devices.old.terms }
+        ensures count { ticks self.new ≡ ticks self.old }
+        ensures drives_kept { devices.new.drives ≡ devices.old.drives }
+    {
+        match write_line(&self.memory, &self.regs, devices) {
+            LineEnd::Written(count) => {
+                self.regs.y = count;
+                self.succeed();
+            }
+            LineEnd::Refused(number) => self.refuse(number),
+            LineEnd::NoMemory => return EventEnd::NoMemory,
+        }
+        EventEnd::Ran
+    }
+
+    /// The call is done.
+    fn succeed(&mut self)
+        ensures { self.new ≡ record self.old { regs = done self.old.regs; activity = Activity.Running } }
+    {
+        self.regs.cc = carry_clear(self.regs.cc);
+        self.activity = Activity::Running;
+    }
+
+    /// The call is refused with this number.
+    fn refuse(&mut self, number: u8)
+        ensures { self.new ≡ record self.old { regs = refused self.old.regs number; activity = Activity.Running } }
+    {
+        self.regs.cc = carry_clear(self.regs.cc) + 1;
+        self.regs.b = number;
+        self.activity = Activity::Running;
+    }
+
+    fn is_living(&self) -> bool
+        ensures { result ≡ is_living (Some (process_of self.now [])) }
+    {
+        !matches!(self.activity, Activity::Finished(_))
+    }
+}
+
+/// The condition codes with carry clear.
+fn carry_clear(cc: u8) -> u8
+    ensures value { result ≡ carry_clear_lem cc }
+    ensures room { result < 255 }
+{
+    cc & 0xFE
+}

@@ -1,0 +1,137 @@
+ghost use Rattle.std.specs.Prelude.{◌≡◌, ◌≢◌, ℕ, ◌+◌, ◌-◌, ◌^◌, ◌≤◌, min, Bool, false, Option, Some, None, option_map, OnOk, OnErr, IfOk, IsOkUnless, List, [], position, string_bytes};
+ghost use Rattle.os9_outer.specs.HostFile.{file_named};
+
+use crate::failure::Failure;
+use crate::host::{Host, HostFault};
+use crate::host_file::{HostFile, bytes_of, copied, put_file};
+use std::alloc::Global;
+
+/// A host in memory for tests, whose calls fail as it was planned. It tells all that it has.
+///
+/// `calls` counts the calls of all four kinds together, and `plan` lists the numbers, from 1, of
+/// those that fail. A call that fails has no other effect than its count. Of two files of one name
+/// the first counts, and a file that is missing is a fault.
+#[derive(Debug, Drop)]
+pub struct MemHost {
+    pub files: Vec<HostFile>,
+    pub out_bytes: Vec<u8>,
+    pub err_bytes: Vec<u8>,
+    pub calls: u64,
+    pub faults: u64,
+    pub err_faults: u64,
+    pub last: Option<String>,
+    pub last_read: bool,
+    pub plan: Vec<u64>,
+}
+
+impl MemHost {
+    /// A host with these files, whose calls of these numbers fail.
+    pub fn new(alloc: Global, files: Vec<HostFile>, plan: Vec<u64>) -> MemHost
+        ensures files { result.files.items ≡ files.items }
+        ensures out_bytes { result.out_bytes.items ≡ [] }
+        ensures err_bytes { result.err_bytes.items ≡ [] }
+        ensures calls { result.calls ≡ 0 }
+        ensures faults { result.faults ≡ 0 }
+        ensures err_faults { result.err_faults ≡ 0 }
+        ensures last { result.last ≡ None }
+        ensures last_read { result.last_read ≡ false }
+        ensures plan { result.plan.items ≡ plan.items }
+    {
+        MemHost {
+            files,
+            out_bytes: Vec::new(alloc),
+            err_bytes: Vec::new(alloc),
+            calls: 0,
+            faults: 0,
+            err_faults: 0,
+            last: None,
+            last_read: false,
+            plan,
+        }
+    }
+
+    // Counts a call, and says whether it is to fail.
+    fn fails_next(&mut self) -> bool
+        ensures { self.new ≡ record self.old { calls = min (self.old.calls + 1) (2 ^ 64 - 1) } }
+    {
+        self.calls = self.calls.saturating_add(1);
+        self.plan.contains(&self.calls)
+    }
+
+    // Counts a fault, and keeps what is told of it.
+    fn fail(&mut self, failure: Failure) -> HostFault
+        ensures kept { self.new ≡ record self.old {
+          faults = min (self.old.faults + 1) (2 ^ 64 - 1);
+          last = failure.name;
+          last_read = failure.in_read;
+        } }
+        ensures failed { result ≡ HostFault.Failed }
+        ensures never_falls { self.old.faults ≤ self.new.faults }
+    {
+        let Failure { name, in_read } = failure;
+        self.faults = self.faults.saturating_add(1);
+        self.last = name;
+        self.last_read = in_read;
+        HostFault::Failed
+    }
+
+    fn alloc(&self) -> Global {
+        *self.files.allocator()
+    }
+}
+
+impl Host for MemHost {
+    ghost file_map = { λ host. Some (file_named host.files.items) };
+
+    ghost bytes_out = { λ host. Some host.out_bytes.items };
+
+    ghost bytes_err = { λ host. Some host.err_bytes.items };
+
+    ghost host_faults = { λ host. host.faults };
+
+    ghost err_stream_faults = { λ host. host.err_faults };
+
+    ghost failed_name = { λ host. option_map string_bytes host.last };
+
+    ghost failed_in_read = { λ host. host.last_read };
+
+    fn read_file(&mut self, name: &str) -> Result<Vec<u8>, HostFault> {
+        if !self.fails_next() {
+            if let Some(bytes) = bytes_of(&self.files, name) {
+                return copied(self.alloc(), bytes);
+            }
+        }
+        let failure = Failure::of_read(self.alloc(), name)?;
+        Err(self.fail(failure))
+    }
+
+    fn write_file(&mut self, name: &str, bytes: &[u8]) -> Result<(), HostFault> {
+        if self.fails_next() {
+            let failure = Failure::of_write(self.alloc(), name)?;
+            return Err(self.fail(failure));
+        }
+        match put_file(&mut self.files, name, bytes) {
+            Ok(()) => Ok(()),
+            Err(_) => Err(HostFault::OutOfMemory),
+        }
+    }
+
+    fn out(&mut self, bytes: &[u8]) -> Result<(), HostFault> {
+        if self.fails_next() {
+            return Err(self.fail(Failure::of_output()));
+        }
+        self.out_bytes
+            .extend_from_slice(bytes)
+            .map_err(|_| HostFault::OutOfMemory)
+    }
+
+    fn err(&mut self, bytes: &[u8]) -> Result<(), HostFault> {
+        if self.fails_next() {
+            self.err_faults = self.err_faults.saturating_add(1);
+            return Err(HostFault::Failed);
+        }
+        self.err_bytes
+            .extend_from_slice(bytes)
+            .map_err(|_| HostFault::OutOfMemory)
+    }
+}

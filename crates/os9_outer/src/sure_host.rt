@@ -1,0 +1,75 @@
+ghost use Rattle.std.specs.Prelude.{◌≡◌, ℕ, false, Some, None, List, []};
+ghost use Rattle.os9_outer.specs.HostFile.{file_named};
+
+use crate::host::{Host, HostFault};
+use crate::host_file::{HostFile, bytes_of, copied, put_file};
+use std::alloc::Global;
+
+/// A host in memory that never fails: its counts of faults are always 0. It tells all that it has,
+/// and reads a name that it does not hold as the empty list.
+#[derive(Debug, Drop)]
+pub struct SureHost {
+    files: Vec<HostFile>,
+    out_bytes: Vec<u8>,
+    err_bytes: Vec<u8>,
+}
+
+impl SureHost {
+    /// A host with these files, to whose streams nothing was written.
+    pub fn new(alloc: Global, files: Vec<HostFile>) -> SureHost
+        ensures files { ⟦<SureHost as Host>⟧.file_map result ≡ Some (file_named files.items) }
+        ensures no_out { ⟦<SureHost as Host>⟧.bytes_out result ≡ Some [] }
+        ensures no_err { ⟦<SureHost as Host>⟧.bytes_err result ≡ Some [] }
+        ensures no_faults { ⟦<SureHost as Host>⟧.host_faults result ≡ 0 }
+        ensures no_err_faults { ⟦<SureHost as Host>⟧.err_stream_faults result ≡ 0 }
+    {
+        SureHost {
+            files,
+            out_bytes: Vec::new(alloc),
+            err_bytes: Vec::new(alloc),
+        }
+    }
+}
+
+impl Host for SureHost {
+    ghost file_map = { λ host. Some (file_named host.files.items) };
+
+    ghost bytes_out = { λ host. Some host.out_bytes.items };
+
+    ghost bytes_err = { λ host. Some host.err_bytes.items };
+
+    ghost host_faults = { λ _. 0 };
+
+    ghost err_stream_faults = { λ _. 0 };
+
+    ghost failed_name = { λ _. None };
+
+    ghost failed_in_read = { λ _. false };
+
+    fn read_file(&mut self, name: &str) -> Result<Vec<u8>, HostFault> {
+        let alloc = *self.files.allocator();
+        match bytes_of(&self.files, name) {
+            Some(bytes) => copied(alloc, bytes),
+            None => Ok(Vec::new(alloc)),
+        }
+    }
+
+    fn write_file(&mut self, name: &str, bytes: &[u8]) -> Result<(), HostFault> {
+        match put_file(&mut self.files, name, bytes) {
+            Ok(()) => Ok(()),
+            Err(_) => Err(HostFault::OutOfMemory),
+        }
+    }
+
+    fn out(&mut self, bytes: &[u8]) -> Result<(), HostFault> {
+        self.out_bytes
+            .extend_from_slice(bytes)
+            .map_err(|_| HostFault::OutOfMemory)
+    }
+
+    fn err(&mut self, bytes: &[u8]) -> Result<(), HostFault> {
+        self.err_bytes
+            .extend_from_slice(bytes)
+            .map_err(|_| HostFault::OutOfMemory)
+    }
+}

@@ -1,0 +1,5 @@
+use Rattle.rbf_map.specs.Map.{MarkedFrom}
+use Rattle.rbf_map.proofs.bits.first_clear.Given as goal
+
+abbrev pub invariant-loop-cluster : goal.invariant-loop-cluster
+invariant-loop-cluster l = MarkedFrom l.bytes l.first l.cluster

@@ -1,0 +1,76 @@
+-- The allocation map of an RBF volume: a bit for each cluster (System Programmer's Manual, RBF,
+-- "Disk Allocation Map").
+use Rattle.std.specs.Prelude.{◌≡◌, ◌≢◌, ◌⊎◌, ℕ, ◌+◌, ◌-◌, ◌*◌, ◌/◌, ◌%◌, ◌<◌, ◌≤◌, ◌==◌, List, length, filter, slice_index, Option, Some}
+use Rattle.std.specs.List.{range_with_len}
+use Rattle.std.specs.Int.{bit_at}
+
+-- a map: how many clusters it has, how many of them, from 0 on, are whole, and its bytes
+pub record ClusterMap : Type 0 where
+  pub clusters : ℕ
+  pub whole : ℕ
+  pub bytes : List ℕ
+
+-- the mark of a cluster: its bit, the most significant first, which is 1 where the cluster is in use
+abbrev pub mark : List ℕ → ℕ → ℕ
+mark bytes cluster = bit_at (slice_index bytes (cluster / 8)) (7 - cluster % 8)
+
+-- the clusters below one that are not in use
+abbrev pub clear_below : List ℕ → ℕ → List ℕ
+clear_below bytes end = filter (λ cluster. mark bytes cluster == 0) (range_with_len 0 end)
+
+-- the clusters from one on and below another are in use
+abbrev pub MarkedFrom : List ℕ → ℕ → ℕ → Type 0
+MarkedFrom bytes first end = (cluster : ℕ) → first ≤ cluster → cluster < end → mark bytes cluster ≡ 1
+
+-- the first cluster of these that is not in use
+pub record IsFirstClear (bytes : List ℕ) (first end cluster : ℕ) : Type 0 where
+  pub after : first ≤ cluster
+  pub below : cluster < end
+  pub clear : mark bytes cluster ≡ 0
+  pub marked_before : MarkedFrom bytes first cluster
+
+-- the bytes have this mark at one cluster, and every other mark and byte is as it was
+pub record ChangesMark (old new : List ℕ) (cluster bit : ℕ) : Type 0 where
+  pub same_length : length new ≡ length old
+  pub there : mark new cluster ≡ bit
+  pub others : (other : ℕ) → other ≢ cluster → mark new other ≡ mark old other
+  pub bytes : (i : ℕ) → i ≢ cluster / 8 → slice_index new i ≡ slice_index old i
+
+-- a cluster is free where it is whole and not in use
+pub record IsFree (map : ClusterMap) (cluster : ℕ) : Type 0 where
+  pub whole : cluster < map.whole
+  pub clear : mark map.bytes cluster ≡ 0
+
+-- the list of free clusters
+abbrev pub free_clusters : ClusterMap → List ℕ
+free_clusters map = clear_below map.bytes map.whole
+
+-- every whole cluster is in use
+abbrev pub NoneIsFree : ClusterMap → Type 0
+NoneIsFree map = MarkedFrom map.bytes 0 map.whole
+
+-- a cluster before which none is free: it is the first, or the one before it is in use
+abbrev pub BeginsRun : ClusterMap → ℕ → Type 0
+BeginsRun map cluster = (cluster ≡ 0) ⊎ (mark map.bytes (cluster - 1) ≡ 1)
+
+-- a cluster is the next after the given one
+abbrev pub IsNext : Option ℕ → ℕ → Type 0
+IsNext last cluster = (at : ℕ) × (last ≡ Some at) × (cluster ≡ at + 1)
+
+-- which cluster may be taken after the given one, if one is given: a free one, the next where that is
+-- free, and elsewhere one that begins a run
+pub record MayTake (map : ClusterMap) (last : Option ℕ) (cluster : ℕ) : Type 0 where
+  pub free : IsFree map cluster
+  pub next : (at : ℕ) → last ≡ Some at → IsFree map (at + 1) → cluster ≡ at + 1
+  pub run : IsNext last cluster ⊎ BeginsRun map cluster
+
+-- the map has this mark at one cluster, and is as it was in all else
+pub record Marks (old new : ClusterMap) (cluster bit : ℕ) : Type 0 where
+  pub clusters : new.clusters ≡ old.clusters
+  pub whole : new.whole ≡ old.whole
+  pub changed : ChangesMark old.bytes new.bytes cluster bit
+
+-- the n-th sector of the map: the next 256 bytes, and zeros behind the last
+pub record IsMapSector (bytes : List ℕ) (n : ℕ) (sector : List ℕ) : Type 0 where
+  pub length : length sector ≡ 256
+  pub each : (i : ℕ) → i < 256 → slice_index sector i ≡ slice_index bytes (256 * n + i)

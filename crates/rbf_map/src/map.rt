@@ -1,0 +1,158 @@
+ghost use Rattle.std.specs.Prelude.{◌≡◌, ◌≢◌, ℕ, ◌+◌, ◌-◌, ◌*◌, ◌/◌, ◌<◌, ◌≤◌, ◌↔◌, ◌==◌, length, IsNone, IfNone, IfSome, IsTrue, MatchOption};
+ghost use Rattle.rbf_map.specs.Map.{mark, free_clusters, IsFree, IsNext, BeginsRun, NoneIsFree, MayTake, Marks, IsMapSector};
+
+use crate::bits::{clear_mark, count_clear, first_clear, is_marked, set_mark};
+use std::marker::Model;
+
+/// The allocation map of a volume: a bit for each cluster, the most significant first, set where
+/// the cluster is in use (System Programmer's Manual, RBF, "Disk Allocation Map").
+///
+/// A cluster is free where it is whole and its bit is clear. Bits behind the last cluster are kept
+/// as they were given.
+#[derive(Debug, Drop)]
+pub struct RbfMap {
+    clusters: u32,
+    whole: u32,
+    bytes: Vec<u8>,
+    free: u32,
+    first: u32,
+}
+
+impl Model for RbfMap {
+    ghost use Rattle.rbf_map.specs.Map.{ClusterMap};
+
+    ghost Value = { ClusterMap };
+
+    ghost use Rattle.rbf_map.specs.Inside.{map_of, IsInside};
+
+    ghost view = { map_of };
+
+    ghost invariant = { IsInside };
+}
+
+impl RbfMap {
+    /// The map with these bytes, of `clusters` clusters of which the first `whole` are whole.
+    pub fn new(clusters: u32, whole: u32, bytes: Vec<u8>) -> RbfMap
+        requires whole_ones { whole ≤ clusters }
+        requires bits { clusters ≤ 8 * length bytes.items }
+        ensures { result ≡ record { clusters = clusters; whole = whole; bytes = bytes.items } }
+    {
+        let free = count_clear(&bytes, whole);
+        RbfMap {
+            clusters,
+            whole,
+            bytes,
+            free,
+            first: 0,
+        }
+    }
+
+    /// Is this cluster in use?
+    pub fn is_used(&self, c: u32) -> bool
+        requires { c < self.now.clusters }
+        ensures { IsTrue result ↔ (mark self.now.bytes c ≡ 1) }
+    {
+        is_marked(&self.bytes, c)
+    }
+
+    /// How many clusters are free.
+    pub fn free_count(&self) -> u32
+        ensures { result ≡ length (free_clusters self.now) }
+    {
+        self.free
+    }
+
+    /// Takes a free cluster: the next after `c` where that is free, and elsewhere, as without a
+    /// `c`, one that begins a run. None exactly where no cluster is free.
+    pub fn take_after(&mut self, c: Option<u32>) -> Option<u32>
+        ensures none { IsNone result ↔ NoneIsFree self.old }
+        ensures taken { IfSome result (MayTake self.old c) }
+        ensures marked { IfSome result (λ cluster. Marks self.old self.new cluster 1) }
+        ensures unchanged { IfNone result (self.new ≡ self.old) }
+    {
+        if let Some(next) = self.next_of(c) {
+            self.take(next);
+            return Some(next);
+        }
+        let cluster = self.first_free()?;
+        self.take(cluster);
+        Some(cluster)
+    }
+
+    // Marks a free cluster as in use.
+    fn take(&mut self, cluster: u32)
+        requires { IsFree self.old cluster }
+        ensures { Marks self.old self.new cluster 1 }
+    {
+        set_mark(&mut self.bytes, cluster);
+        self.free -= 1;
+    }
+
+    // The first free cluster, which begins a run.
+    fn first_free(&mut self) -> Option<u32>
+        ensures found { MatchOption result (NoneIsFree self.old) (λ cluster. IsFree self.old cluster × BeginsRun self.old cluster) }
+        ensures unchanged { self.new ≡ self.old }
+    {
+        self.first = first_clear(&self.bytes, self.first, self.whole)?;
+        Some(self.first)
+    }
+
+    // The next cluster after `last`, where it is free.
+    fn next_of(&self, last: Option<u32>) -> Option<u32>
+        ensures { MatchOption result ((at : ℕ) → last ≡ Some at → ¬ IsFree self.now (at + 1)) (λ next. IsNext last next × IsFree self.now next) }
+    {
+        let next = last?.saturating_add(1);
+        if next < self.whole && !is_marked(&self.bytes, next) {
+            Some(next)
+        } else {
+            None
+        }
+    }
+
+    /// Gives a cluster back that is in use.
+    pub fn free(&mut self, c: u32)
+        requires within { c < self.old.clusters }
+        requires used { mark self.old.bytes c ≡ 1 }
+        ensures { Marks self.old self.new c 0 }
+    {
+        clear_mark(&mut self.bytes, c);
+        if c < self.whole {
+            self.free += 1;
+            self.first = self.first.min(c);
+        }
+    }
+
+    /// The bytes of the `n`-th sector of the map, with zeros behind its end.
+    pub fn sector(&self, n: u16, into: &mut [u8; 256])
+        ensures { IsMapSector self.now.bytes n into.new }
+    {
+        let start = 256 * usize::from(n);
+        for (i, byte) in into.iter_mut().enumerate() {
+            *byte = self.bytes.get(start + i).copied().unwrap_or(0);
+        }
+    }
+}
+
+#[cfg(test)]
+mod tests {
+    use super::*;
+    use std::test::Fail;
+
+    #[test]
+    fn clusters_are_taken_and_given_back(rt: HostRuntime) -> Result<(), Fail> {
+        let bytes = [0xF0, 0x00].to_vec(rt.alloc())?;
+        assert_eq!(rt; bytes.len(), 2);
+        let mut map = RbfMap::new(16, 15, bytes);
+        assert_eq!(rt; map.free_count(), 11);
+        assert_eq!(rt; map.take_after(Some(9)), Some(10));
+        assert_eq!(rt; map.take_after(Some(9)), Some(4));
+        assert_eq!(rt; map.take_after(None), Some(5));
+        assert_eq!(rt; map.free_count(), 8);
+        let mut bytes = [7; 256];
+        map.sector(0, &mut bytes);
+        assert_eq!(rt; bytes[0], 0xFC);
+        assert_eq!(rt; bytes[1], 0x20);
+        assert_eq!(rt; bytes[2], 0);
+        Ok(())
+    }
+}

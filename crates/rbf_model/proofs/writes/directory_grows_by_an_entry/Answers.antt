@@ -1,0 +1,5 @@
+use Rattle.rbf_model.proofs.ImageLaws.{append_image}
+use Rattle.rbf_model.proofs.writes.directory_grows_by_an_entry.Goals as goal
+
+pub returns : goal.returns
+returns c = λ image v d dir bytes i entry n vol whole appends. append_image image v vol d dir bytes i entry n whole appends

@@ -1,0 +1,87 @@
+-- Where the fields of RBF's sectors stand (OS-9 Technical Reference, Random Block File Manager).
+use Rattle.std.specs.Prelude.{ℕ, ◌+◌, ◌*◌, ◌==◌, Bool, not, List, map, take, drop, slice_index, take_while, Option}
+use Rattle.std.specs.List.{range_with_len}
+use Rattle.byteorder.specs.Endian.{big_from}
+use Rattle.os9_base.specs.Name.{stored_name}
+
+-- Identification sector, LSN 0 ("Identification Sector").
+
+-- DD.TOT: how many sectors the volume has
+abbrev pub total_field : List ℕ → ℕ
+total_field ident = big_from 0 3 ident
+
+-- DD.MAP: how many bytes the allocation map has
+abbrev pub map_bytes_field : List ℕ → ℕ
+map_bytes_field ident = big_from 4 2 ident
+
+-- DD.BIT: how many sectors a cluster has
+abbrev pub cluster_field : List ℕ → ℕ
+cluster_field ident = big_from 6 2 ident
+
+-- DD.DIR: the descriptor of the root directory
+abbrev pub root_field : List ℕ → ℕ
+root_field ident = big_from 8 3 ident
+
+-- DD.BT: where the bootstrap file begins
+abbrev pub boot_field : List ℕ → ℕ
+boot_field ident = big_from 21 3 ident
+
+-- DD.BSZ: how many bytes the bootstrap file has
+abbrev pub boot_size_field : List ℕ → ℕ
+boot_size_field ident = big_from 24 2 ident
+
+-- File descriptor ("File Descriptors").
+
+-- FD.ATT: the attributes
+abbrev pub attributes_field : List ℕ → ℕ
+attributes_field descriptor = slice_index descriptor 0
+
+-- FD.OWN: the owner's user number
+abbrev pub owner_field : List ℕ → ℕ
+owner_field descriptor = big_from 1 2 descriptor
+
+-- FD.DAT: when the file was last modified: year, month, day, hour, minute
+abbrev pub modified_field : List ℕ → List ℕ
+modified_field descriptor = take 5 (drop 3 descriptor)
+
+-- FD.LNK: the link count
+abbrev pub links_field : List ℕ → ℕ
+links_field descriptor = slice_index descriptor 8
+
+-- FD.SIZ: how many bytes the file has
+abbrev pub size_field : List ℕ → ℕ
+size_field descriptor = big_from 9 4 descriptor
+
+-- FD.CREAT: when the file was made: year, month, day
+abbrev pub created_field : List ℕ → List ℕ
+created_field descriptor = take 3 (drop 13 descriptor)
+
+-- FD.SEG: the pair in place i of the segment list: the first sector and the count of sectors
+abbrev pub segment_field : List ℕ → ℕ → ℕ × ℕ
+segment_field descriptor i = (big_from (16 + 5 * i) 3 descriptor, big_from (19 + 5 * i) 2 descriptor)
+
+-- a pair that stands for sectors
+abbrev pub is_segment : ℕ × ℕ → Bool
+is_segment segment = not (segment.1 == 0)
+
+-- the segments of a file: the pairs, of the 48 that there are, before the first with a zero count
+unfoldable pub segments_field : List ℕ → List (ℕ × ℕ)
+segments_field descriptor = take_while is_segment (map (segment_field descriptor) (range_with_len 0 48))
+
+-- Directory entry ("Directories").
+
+-- the entry in place i of a directory's bytes
+abbrev pub entry_at : List ℕ → ℕ → List ℕ
+entry_at contents i = take 32 (drop (32 * i) contents)
+
+-- DIR.NM: an entry is used where its name does not begin with a zero
+abbrev pub is_used : List ℕ → Bool
+is_used entry = not (slice_index entry 0 == 0)
+
+-- DIR.NM: the name, in 29 bytes, the last character with bit 7
+abbrev pub name_field : List ℕ → Option (List ℕ)
+name_field entry = stored_name (take 29 entry)
+
+-- DIR.FD: the descriptor that the entry names
+abbrev pub descriptor_field : List ℕ → ℕ
+descriptor_field entry = big_from 29 3 entry

@@ -1,0 +1,55 @@
+-- A file, and the file that a descriptor stands for.
+use Rattle.std.specs.Prelude.{ℕ, ◌*◌, ◌%◌, ◌==◌, ◌&&◌, nat_le, Bool, List, take, length, flat_map}
+use Rattle.std.specs.List.{list_all}
+use Rattle.std.specs.Int.{bit_at}
+use Rattle.rbf_model.specs.Fields.{attributes_field, owner_field, modified_field, links_field, size_field, created_field, segments_field}
+use Rattle.rbf_model.specs.Segments.{sectors_of}
+use Rattle.rbf_model.specs.Geometry.{Geometry, is_within}
+
+-- a file or directory: what its descriptor says of it, where its sectors are, and its bytes
+pub record DiskFile : Type 0 where
+  pub attributes : ℕ
+  pub owner : ℕ
+  pub modified : List ℕ
+  pub links : ℕ
+  pub created : List ℕ
+  pub segments : List (ℕ × ℕ)
+  pub contents : List ℕ
+
+-- bit 7 of the attributes says that a file is a directory ("File Descriptors", FD.ATT)
+abbrev pub is_directory : DiskFile → Bool
+is_directory file = bit_at file.attributes 7 == 1
+
+-- the bytes of the sectors of a segment list
+abbrev pub bytes_of : (ℕ → List ℕ) → List (ℕ × ℕ) → List ℕ
+bytes_of disk segments = flat_map disk (sectors_of segments)
+
+-- the file that a descriptor stands for on a disk: its contents are the first bytes of its sectors, as many as its size
+abbrev pub file_from : (ℕ → List ℕ) → List ℕ → DiskFile
+file_from disk descriptor = record {
+  attributes = attributes_field descriptor;
+  owner = owner_field descriptor;
+  modified = modified_field descriptor;
+  links = links_field descriptor;
+  created = created_field descriptor;
+  segments = segments_field descriptor;
+  contents = take (size_field descriptor) (bytes_of disk (segments_field descriptor));
+}
+
+-- the file whose descriptor is in sector n
+abbrev pub file_at : (ℕ → List ℕ) → ℕ → DiskFile
+file_at disk n = file_from disk (disk n)
+
+-- a size of bytes that the sectors of a segment list hold
+abbrev pub has_room : List (ℕ × ℕ) → ℕ → Bool
+has_room segments size = nat_le size (256 * length (sectors_of segments))
+
+-- a size that a directory may have: whole entries, and two of them at least
+abbrev pub is_directory_size : ℕ → Bool
+is_directory_size size = nat_le 64 size && (size % 32 == 0)
+
+-- a directory that can be searched: its segments are within the volume and hold its size, which is a directory's
+abbrev pub is_searched : Geometry → (ℕ → List ℕ) → ℕ → Bool
+is_searched g disk n =
+    is_directory (file_at disk n) && list_all (is_within g) (segments_field (disk n))
+    && has_room (segments_field (disk n)) (size_field (disk n)) && is_directory_size (size_field (disk n))

@@ -1,0 +1,72 @@
+-- What sector 0 says of the whole volume.
+use Rattle.std.specs.Prelude.{◌≡◌, ℕ, ◌+◌, ◌*◌, ◌/◌, ◌<◌, ◌≤◌, ◌==◌, ◌&&◌, ◌||◌, nat_le, Bool, true, List, length, take, drop, All}
+use Rattle.rbf_model.specs.Fields.{total_field, map_bytes_field, cluster_field, root_field}
+
+-- the size of the volume, of its map and of its clusters, and where its root is
+pub record Geometry : Type 0 where
+  pub total : ℕ
+  pub map_bytes : ℕ
+  pub cluster : ℕ
+  pub root : ℕ
+
+-- as the identification sector has it
+abbrev pub geometry : List ℕ → Geometry
+geometry ident =
+    record { total = total_field ident; map_bytes = map_bytes_field ident; cluster = cluster_field ident; root = root_field ident }
+
+-- the sizes of clusters that this project takes: the powers of two up to 64 sectors
+abbrev pub is_cluster_size : ℕ → Bool
+is_cluster_size k = (k == 1) || (k == 2) || (k == 4) || (k == 8) || (k == 16) || (k == 32) || (k == 64)
+
+-- how many sectors the map fills, from LSN 1 on
+abbrev pub map_sectors : Geometry → ℕ
+map_sectors g = (g.map_bytes + 255) / 256
+
+-- a volume that this project takes, as far as its size, its clusters and its root go
+pub record IsHeader (g : Geometry) : Type 0 where
+  pub least : 4 ≤ g.total
+  pub most : g.total ≤ 524280
+  pub clusters : is_cluster_size g.cluster ≡ true
+  pub root_after : 1 ≤ g.root
+  pub root_below : g.root < g.total
+
+-- the map has a bit for each cluster and ends within the volume
+pub record HasMap (g : Geometry) : Type 0 where
+  pub bits : g.total ≤ 8 * g.map_bytes * g.cluster
+  pub fits : 1 + map_sectors g ≤ g.total
+
+-- both
+pub record IsGeometry (g : Geometry) : Type 0 where
+  pub header : IsHeader g
+  pub map : HasMap g
+
+-- a number that a descriptor may have
+pub record IsNumber (g : Geometry) (n : ℕ) : Type 0 where
+  pub after : 1 ≤ n
+  pub below : n < g.total
+
+-- a segment begins after the identification sector and ends within the volume
+abbrev pub is_within : Geometry → ℕ × ℕ → Bool
+is_within g segment = nat_le 1 segment.0 && nat_le (segment.0 + segment.1) g.total
+
+-- and so does each of a list
+abbrev pub LieWithin : Geometry → List (ℕ × ℕ) → Type 0
+LieWithin g segments = All (λ segment. is_within g segment ≡ true) segments
+
+-- A disk gives the 256 bytes of each sector by its number, the LSN. That of an image:
+abbrev pub sector : List ℕ → ℕ → List ℕ
+sector image n = take 256 (drop (256 * n) image)
+
+-- what an image's sector 0 says
+abbrev pub image_geometry : List ℕ → Geometry
+image_geometry image = geometry (sector image 0)
+
+-- every sector of the volume has 256 bytes
+abbrev pub IsDisk : Geometry → (ℕ → List ℕ) → Type 0
+IsDisk g disk = (n : ℕ) → n < g.total → length (disk n) ≡ 256
+
+-- an image that holds the volume that its sector 0 speaks of
+pub record HasHeader (image : List ℕ) : Type 0 where
+  pub ident : 256 ≤ length image
+  pub header : IsHeader (image_geometry image)
+  pub fits : 256 * (image_geometry image).total ≤ length image

@@ -1,0 +1,11 @@
+pub mod Fields
+pub mod Segments
+pub mod Geometry
+pub mod File
+pub mod Space
+pub mod Tree
+pub mod Volume
+pub mod Faults
+pub mod Writes
+pub mod Laws
+pub mod Walk

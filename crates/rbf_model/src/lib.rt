@@ -1,0 +1,5 @@
+//! What RBF's disks are: the volume that an image stands for, and what one sector write makes of it.
+#![tactic(auto)]
+
+pub mod volume;
+pub mod writes;

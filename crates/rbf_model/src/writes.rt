@@ -1,0 +1,89 @@
+//! The laws of a write of one sector: each says which volume an image stands for after it.
+//!
+//! A call that changes a volume is a list of such writes, so what stands after any of them follows.
+
+ghost use Rattle.std.specs.Prelude.{◌≡◌, ℕ, ◌&&◌, ◌||◌, not, Bool, List, length, Option, Some, None};
+ghost use Rattle.rbf_model.specs.Geometry.{image_geometry, sector};
+ghost use Rattle.rbf_model.specs.File.{DiskFile, file_from, file_at};
+ghost use Rattle.rbf_model.specs.Volume.{DiskVolume, Vol};
+ghost use Rattle.rbf_model.specs.Writes.{put_sector, with_file, with_same_space, with_lost};
+ghost use Rattle.rbf_model.specs.Laws.{Takes, Frees, IsUnseen, Overwrites, with_bytes, Redescribes, Enters, Appends, Leaves, with_entry};
+
+/// Free clusters that are marked in one sector of the map are lost.
+pub fn marked_clusters_are_lost()
+    ensures { (image : List ℕ) (v : DiskVolume) (s : ℕ) (bytes : List ℕ) (taken : ℕ → Bool) →
+        Vol image v → length bytes ≡ 256
+        → Takes (image_geometry image) (sector image) v s bytes taken
+        → Vol (put_sector image s bytes) (with_lost v (λ c. v.lost c || taken c)) }
+{}
+
+/// Lost clusters whose marks are cleared in one sector of the map are lost no more. The marks of
+/// clusters that are not whole and in no file may be cleared with them.
+pub fn cleared_clusters_are_free()
+    ensures { (image : List ℕ) (v : DiskVolume) (s : ℕ) (bytes : List ℕ) (freed : ℕ → Bool) →
+        Vol image v → length bytes ≡ 256
+        → Frees (image_geometry image) (sector image) v s bytes freed
+        → Vol (put_sector image s bytes) (with_lost v (λ c. v.lost c && not (freed c))) }
+{}
+
+/// A write to a sector that nothing owns, or to one of a file's past its size, leaves the volume.
+pub fn unseen_writes_leave_the_volume()
+    ensures { (image : List ℕ) (v : DiskVolume) (s : ℕ) (bytes : List ℕ) →
+        Vol image v → length bytes ≡ 256
+        → IsUnseen (image_geometry image) (sector image) v s bytes
+        → Vol (put_sector image s bytes) v }
+{}
+
+/// A write to a sector of a file that is no directory changes those of its contents that it holds.
+pub fn data_is_overwritten()
+    ensures { (image : List ℕ) (v : DiskVolume) (n j s : ℕ) (file : DiskFile) (bytes : List ℕ) →
+        Vol image v → length bytes ≡ 256
+        → Overwrites v n file j s
+        → Vol (put_sector image s bytes) (with_same_space v n (with_bytes file j bytes)) }
+{}
+
+/// A write of a file's descriptor gives the file that it describes, and loses the whole clusters
+/// that the file gives up.
+pub fn descriptor_is_written()
+    ensures { (image : List ℕ) (v : DiskVolume) (n : ℕ) (old : DiskFile) (bytes : List ℕ) →
+        Vol image v → length bytes ≡ 256
+        → Redescribes (image_geometry image) (sector image) v n old bytes
+        → Vol (put_sector image n bytes)
+        (with_file (image_geometry image) v n (Some (file_from (sector image) bytes))) }
+{}
+
+/// A free entry of a directory that becomes used brings the file that it names into the volume.
+pub fn entry_becomes_used()
+    ensures { (image : List ℕ) (v : DiskVolume) (d : ℕ) (dir : DiskFile) (j s : ℕ)
+        (bytes : List ℕ) (i : ℕ) (entry : List ℕ) (n : ℕ) →
+        Vol image v → length bytes ≡ 256
+        → Enters (image_geometry image) (sector image) v d dir j s bytes i entry n
+        → Vol (put_sector image s bytes)
+        (with_file (image_geometry image) (with_same_space v d (with_entry dir i entry)) n
+        (Some (file_at (sector image) n))) }
+{}
+
+/// A descriptor that gives a directory one entry more brings the file that it names into the
+/// volume.
+pub fn directory_grows_by_an_entry()
+    ensures { (image : List ℕ) (v : DiskVolume) (d : ℕ) (dir : DiskFile) (bytes : List ℕ) (i : ℕ)
+        (entry : List ℕ) (n : ℕ) →
+        Vol image v → length bytes ≡ 256
+        → Appends (image_geometry image) (sector image) v d dir bytes i entry n
+        → Vol (put_sector image d bytes)
+        (with_file (image_geometry image)
+        (with_file (image_geometry image) v d (Some (file_from (sector image) bytes))) n
+        (Some (file_at (sector image) n))) }
+{}
+
+/// A used entry that becomes free takes the file that it named out of the volume, and loses its
+/// whole clusters.
+pub fn entry_becomes_free()
+    ensures { (image : List ℕ) (v : DiskVolume) (d : ℕ) (dir : DiskFile) (j s : ℕ)
+        (bytes : List ℕ) (i : ℕ) (entry : List ℕ) (n : ℕ) (file : DiskFile) →
+        Vol image v → length bytes ≡ 256
+        → Leaves (sector image) v d dir j s bytes i entry n file
+        → Vol (put_sector image s bytes)
+        (with_file (image_geometry image) (with_same_space v d (with_entry dir i entry)) n
+        None) }
+{}

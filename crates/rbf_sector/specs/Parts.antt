@@ -1,0 +1,19 @@
+-- A part of a sector, written over.
+use Rattle.std.specs.Prelude.{◌≡◌, ℕ, ◌+◌, ◌<◌, ◌≤◌, List, length, take, drop, slice_index}
+use Rattle.byteorder.specs.Endian.{big_from}
+
+-- the bytes are as they were, but for this many from a place on
+pub record KeepsBeside (old new : List ℕ) (at count : ℕ) : Type 0 where
+  pub same_length : length new ≡ length old
+  pub before : (i : ℕ) → i < at → slice_index new i ≡ slice_index old i
+  pub behind : (i : ℕ) → at + count ≤ i → slice_index new i ≡ slice_index old i
+
+-- a number has been written there, the highest byte first
+pub record PutsNumber (old new : List ℕ) (at count value : ℕ) : Type 0 where
+  pub number : big_from at count new ≡ value
+  pub beside : KeepsBeside old new at count
+
+-- bytes have been written there
+pub record PutsBytes (old new : List ℕ) (at : ℕ) (bytes : List ℕ) : Type 0 where
+  pub there : take (length bytes) (drop at new) ≡ bytes
+  pub beside : KeepsBeside old new at (length bytes)

@@ -1,0 +1,151 @@
+ghost use Rattle.std.specs.Prelude.{◌≡◌, ◌+◌, ◌*◌, ◌<◌, ◌≤◌, ℕ, length, slice_index};
+ghost use Rattle.rbf_model.specs.Fields.{attributes_field, owner_field, modified_field, links_field, size_field, created_field, segment_field, segments_field};
+ghost use Rattle.rbf_sector.specs.Parts.{KeepsBeside};
+
+use crate::parts::{put_bytes, put_u16, put_u24, put_u32, u16_at, u24_at, u32_at};
+use rbf_segs::{MAX_RUNS, Segs};
+
+/// A file descriptor (OS-9 Technical Reference, Random Block File Manager, "File Descriptors").
+///
+/// `modified` is year, month, day, hour and minute, `created` year, month and day; the year is
+/// counted from 1900. `size` is in bytes.
+#[derive(Clone, Copy, Debug, PartialEq, Eq)]
+pub struct Fd {
+    pub attr: u8,
+    pub owner: u16,
+    pub modified: [u8; 5],
+    pub links: u8,
+    pub size: u32,
+    pub created: [u8; 3],
+    pub segs: Segs,
+}
+
+/// The fields of a file descriptor; its segment list ends before the first count of 0.
+pub fn read_fd(b: &[u8; 256]) -> Fd
+    ensures attr { result.attr ≡ attributes_field b.now }
+    ensures owner { result.owner ≡ owner_field b.now }
+    ensures modified { result.modified ≡ modified_field b.now }
+    ensures links { result.links ≡ links_field b.now }
+    ensures size { result.size ≡ size_field b.now }
+    ensures created { result.created ≡ created_field b.now }
+    ensures segs { result.segs ≡ segments_field b.now }
+{
+    Fd {
+        attr: b[0],
+        owner: u16_at(b, 1),
+        modified: [b[3], b[4], b[5], b[6], b[7]],
+        links: b[8],
+        size: u32_at(b, 9),
+        created: [b[13], b[14], b[15]],
+        segs: read_segs(b),
+    }
+}
+
+/// Writes a file descriptor. Fewer than 48 segments are ended by one pair of zeros, and the bytes
+/// behind it stay.
+pub fn write_fd(f: &Fd, b: &mut [u8; 256])
+    ensures attr { attributes_field b.new ≡ f.now.attr }
+    ensures owner { owner_field b.new ≡ f.now.owner }
+    ensures modified { modified_field b.new ≡ f.now.modified }
+    ensures links { links_field b.new ≡ f.now.links }
+    ensures size { size_field b.new ≡ f.now.size }
+    ensures created { created_field b.new ≡ f.now.created }
+    ensures segs { segments_field b.new ≡ f.now.segs }
+    ensures ended { length f.now.segs < 48 → segment_field b.new (length f.now.segs) ≡ (0, 0) }
+    ensures behind { (i : ℕ) → 16 + 5 * (length f.now.segs + 1) ≤ i → slice_index b.new i ≡ slice_index b.old i }
+{
+    b[0] = f.attr;
+    put_u16(b, 1, f.owner);
+    put_bytes(b, 3, &f.modified);
+    b[8] = f.links;
+    put_u32(b, 9, f.size);
+    put_bytes(b, 13, &f.created);
+    write_segs(&f.segs, b);
+}
+
+// Writes a segment list, and one pair of zeros behind it where there is room.
+fn write_segs(segs: &Segs, b: &mut [u8; 256])
+    ensures segs { segments_field b.new ≡ segs.now }
+    ensures ended { length segs.now < 48 → segment_field b.new (length segs.now) ≡ (0, 0) }
+    ensures beside { KeepsBeside b.old b.new 16 (5 * (length segs.now + 1)) }
+{
+    let runs = segs.runs();
+    for i in 0..runs {
+        let (lsn, count) = segs.run(i);
+        put_pair(b, usize::from(i), lsn, count);
+    }
+    if usize::from(runs) < MAX_RUNS {
+        put_pair(b, usize::from(runs), 0, 0);
+    }
+}
+
+// Writes the i-th pair of a segment list.
+fn put_pair(b: &mut [u8; 256], i: usize, lsn: u32, count: u16)
+    requires within { i < 48 }
+    requires fits { lsn < 16777216 }
+    ensures pair { segment_field b.new i ≡ (lsn, count) }
+    ensures beside { KeepsBeside b.old b.new (16 + 5 * i) 5 }
+{
+    let at = 16 + 5 * i;
+    put_u24(b, at, lsn);
+    put_u16(b, at + 3, count);
+}
+
+// The segment list of a file descriptor.
+fn read_segs(b: &[u8; 256]) -> Segs
+    ensures { result ≡ segments_field b.now }
+{
+    let mut segs = Segs::empty();
+    for i in 0..MAX_RUNS {
+        let at = 16 + 5 * i;
+        let count = u16_at(b, at + 3);
+        if count == 0 {
+            return segs;
+        }
+        segs.add_run(u24_at(b, at), count).unwrap();
+    }
+    segs
+}
+
+#[cfg(test)]
+mod tests {
+    use super::*;
+    use crate::{Entry, read_entry, read_ident, write_entry};
+
+    // The sectors of the smallest volume: its identification sector, its root and an entry.
+    #[test]
+    fn sectors_of_the_smallest_volume(rt: HostRuntime) {
+        let mut b = [0; 256];
+        b[2] = 16;
+        b[5] = 2;
+        b[7] = 1;
+        b[10] = 2;
+        let ident = read_ident(&b);
+        assert_eq!(rt; (ident.total, ident.map_bytes), (16, 2));
+        assert_eq!(rt; (ident.cluster, ident.root), (1, 2));
+        let mut segs = Segs::empty();
+        assert_eq!(rt; segs.append(3, 1), Ok(()));
+        let root = Fd {
+            attr: 0xBF,
+            owner: 258,
+            modified: [89, 1, 2, 3, 4],
+            links: 1,
+            size: 64,
+            created: [88, 12, 31],
+            segs,
+        };
+        let mut b = [7; 256];
+        write_fd(&root, &mut b);
+        assert_eq!(rt; read_fd(&b), root);
+        assert_eq!(rt; (b[2], b[12], b[18], b[20]), (2, 64, 3, 1));
+        assert_eq!(rt; (b[25], b[26]), (0, 7));
+        let entry = Entry {
+            name: [0xAE; 29],
+            lsn: 0x010203,
+        };
+        let mut b = [0; 32];
+        write_entry(&entry, &mut b);
+        assert_eq!(rt; (b[28], b[29], b[30], b[31]), (0xAE, 1, 2, 3));
+        assert_eq!(rt; read_entry(&b), entry);
+    }
+}

@@ -1,0 +1,12 @@
+//! The sectors of an RBF volume as records: the identification sector, file descriptors and
+//! directory entries.
+#![tactic(auto)]
+
+pub use entry::{Entry, read_entry, write_entry};
+pub use fd::{Fd, read_fd, write_fd};
+pub use ident::{Ident, read_ident};
+
+mod entry;
+mod fd;
+mod ident;
+mod parts;

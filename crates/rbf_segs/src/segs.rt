@@ -1,0 +1,157 @@
+ghost use Rattle.std.specs.Prelude.{◌≡◌, ◌+◌, ◌-◌, ◌*◌, ◌^◌, ◌<◌, ◌≤◌, ◌↔◌, [], ◌∷◌, ◌++◌, length, take, OnOk, OnErr, IsErr, slice_get};
+ghost use Rattle.rbf_segs.specs.Segments.{segment_sectors, sectors_of, appended, shortened, IsSegment, IsSegments};
+
+use crate::run_list::{last_sector, lengthened, sector_at, shorten, total};
+use std::marker::Model;
+
+/// The most runs that a file descriptor has room for (System Programmer's Manual, FD.SEG).
+pub const MAX_RUNS: usize = 48;
+
+/// No run can be added: the list has [`MAX_RUNS`].
+#[derive(Clone, Copy, Debug, PartialEq, Eq)]
+pub struct SegsFull;
+
+/// The sectors of a file in order, as at most [`MAX_RUNS`] runs: pairs of a first sector, below
+/// 16,777,216, and a count of sectors, at least 1.
+///
+/// Clauses see the list of the pairs.
+#[derive(Clone, Copy, Debug, PartialEq, Eq)]
+pub struct Segs {
+    places: [(u32, u16); 48],
+    len: u8,
+}
+
+impl Model for Segs {
+    ghost use Rattle.std.specs.Prelude.{ℕ, List, take, length};
+
+    ghost Value = { List (ℕ × ℕ) };
+
+    ghost use Rattle.rbf_segs.specs.Places.{IsInside, in_places, inside_again};
+
+    ghost view = { λ s. take s.len s.places };
+
+    ghost invariant = { IsInside };
+
+    ghost inverse = { λ v. record { places = in_places v; len = length v } };
+
+    ghost inverse_ok = { inside_again };
+}
+
+impl Segs {
+    /// The list without runs.
+    pub fn empty() -> Segs
+        ensures { result ≡ [] }
+    {
+        Segs {
+            places: [(0, 0); 48],
+            len: 0,
+        }
+    }
+
+    /// How many sectors the runs have together.
+    pub fn sectors(&self) -> u32
+        ensures { result ≡ length (sectors_of self.now) }
+    {
+        total(&self.places[..usize::from(self.len)])
+    }
+
+    /// How many runs there are.
+    pub fn runs(&self) -> u8
+        ensures count { result ≡ length self.now }
+        ensures segments { IsSegments self.now }
+    {
+        self.len
+    }
+
+    /// The run at a place: its first sector and its count of sectors.
+    pub fn run(&self, i: u8) -> (u32, u16)
+        requires { i < length self.now }
+        ensures pair { slice_get self.now i ≡ Some result }
+        ensures segment { IsSegment result }
+    {
+        self.places[usize::from(i)]
+    }
+
+    /// Adds a run of its own, joined with no other; refused exactly where there are
+    /// [`MAX_RUNS`].
+    pub fn add_run(&mut self, lsn: u32, count: u16) -> Result<(), SegsFull>
+        requires lsn_fits { lsn < 16777216 }
+        requires some { 1 ≤ count }
+        ensures ok { OnOk result (self.new ≡ self.old ++ (lsn, count) ∷ []) }
+        ensures full { IsErr result ↔ (length self.old ≡ 48) }
+        ensures err { OnErr result (self.new ≡ self.old) }
+    {
+        if usize::from(self.len) == MAX_RUNS {
+            return Err(SegsFull);
+        }
+        self.places[usize::from(self.len)] = (lsn, count);
+        self.len += 1;
+        Ok(())
+    }
+
+    /// The sector at this place of all sectors of the list, counted from 0.
+    pub fn lsn_of(&self, sector: u32) -> Option<u32>
+        ensures { result ≡ slice_get (sectors_of self.now) sector }
+    {
+        sector_at(&self.places[..usize::from(self.len)], sector)
+    }
+
+    /// The last sector of all.
+    pub fn last(&self) -> Option<u32>
+        ensures { result ≡ slice_get (sectors_of self.now) (length (sectors_of self.now) - 1) }
+    {
+        last_sector(&self.places[..usize::from(self.len)])
+    }
+
+    /// Adds `n` sectors from `lsn` on: they lengthen the last run where they follow it and its
+    /// count stays below 65,536, and are a run of their own elsewhere. Refused exactly where they
+    /// would be one run too many.
+    pub fn append(&mut self, lsn: u32, n: u16) -> Result<(), SegsFull>
+        requires lsn_fits { lsn < 16777216 }
+        requires some { 1 ≤ n }
+        ensures sectors { OnOk result (sectors_of self.new ≡ sectors_of self.old ++ segment_sectors (lsn, n)) }
+        ensures segments { OnOk result (self.new ≡ appended self.old lsn n) }
+        ensures full { IsErr result ↔ (48 < length (appended self.old lsn n)) }
+        ensures err { OnErr result (self.new ≡ self.old) }
+    {
+        let runs = usize::from(self.len);
+        match lengthened(&self.places[..runs], lsn, n) {
+            None => self.add_run(lsn, n),
+            Some(run) => {
+                self.places[runs - 1] = run;
+                Ok(())
+            }
+        }
+    }
+
+    /// Leaves the first `sectors` sectors, and of the runs those that still have a sector.
+    pub fn cut(&mut self, sectors: u32)
+        requires { sectors ≤ length (sectors_of self.old) }
+        ensures sectors { sectors_of self.new ≡ take sectors (sectors_of self.old) }
+        ensures segments { self.new ≡ shortened sectors self.old }
+    {
+        self.len = shorten(&mut self.places, sectors) as u8;
+    }
+}
+
+#[cfg(test)]
+mod tests {
+    use super::*;
+
+    #[test]
+    fn runs_are_joined_and_cut(rt: HostRuntime) {
+        let mut segs = Segs::empty();
+        assert_eq!(rt; segs.append(3, 2), Ok(()));
+        assert_eq!(rt; segs.append(5, 65533), Ok(()));
+        assert_eq!(rt; segs.append(65538, 1), Ok(()));
+        assert_eq!(rt; segs.add_run(65539, 4), Ok(()));
+        assert_eq!(rt; segs.runs(), 3);
+        assert_eq!(rt; segs.run(0), (3, 65535));
+        assert_eq!(rt; segs.sectors(), 65540);
+        assert_eq!(rt; segs.last(), Some(65542));
+        assert_eq!(rt; segs.lsn_of(65536), Some(65539));
+        segs.cut(65536);
+        assert_eq!(rt; segs.runs(), 2);
+        assert_eq!(rt; segs.lsn_of(65536), None);
+    }
+}

@@ -1,0 +1,6 @@
+//! The texts that drive a run: the list of slices.
+#![tactic(auto)]
+
+pub mod fault;
+pub mod number;
+pub mod slices;
