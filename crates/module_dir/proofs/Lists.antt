@@ -4,7 +4,7 @@ use Rattle.std.specs.List.{list_any, prefix_len, position_or_len}
 use Rattle.std.specs.Cmp.Lexicographic.{pointwise}
 use Rattle.std.proofs.lemmas.List.{length-map, get_or-map, ext_get_or}
 use Rattle.proc_model.specs.declared.group.BlockId.{BlockId}
-use Rattle.proc_model.specs.ModuleList.{ModuleEntry, outside, without_group}
+use Rattle.proc_model.specs.ModuleList.{outside, without_group}
 use Rattle.module_dir.specs.declared.entry.Entry.{Entry}
 use Rattle.module_dir.specs.Entries.{seen, entries_of}
 

@@ -1,4 +1,4 @@
-ghost use Rattle.std.specs.Prelude.{◌≡◌, ◌+◌, ◌-◌, ◌<◌, ◌≤◌, ◌↔◌, false, IsTrue, IsSome, IsSomeAnd, IfSome, IfOk, OnErr, Option, Some, None, option_map, is_some, length, replicate};
+ghost use Rattle.std.specs.Prelude.{◌≡◌, ◌+◌, ◌-◌, ◌<◌, ◌≤◌, ◌↔◌, false, IsTrue, IsSome, IsSomeAnd, IfSome, IfOk, OnOk, OnErr, MatchOption, Option, Some, None, option_map, is_some, length, replicate};
 ghost use Rattle.proc_model.specs.Group.{blocks_of};
 ghost use Rattle.proc_model.specs.ModuleList.{ModuleEntry, entry_at, is_known as is_known_lem, room_of, free_number as free_number_lem, found, new_entry, with_entry, linked, is_in_use as is_in_use_lem, without_group, leaving_group, after_unlink};
 
@@ -66,9 +66,10 @@ impl Dir {
     /// `DirFull` where 64 modules are entered.
     pub fn enter(&mut self, info: ModuleInfo, group: Group, boot: bool) -> Result<ModId, DirFault>
         ensures known { (result ≡ Err DirFault.Known) ↔ IsTrue (is_known_lem self.old info) }
-        ensures full { (result ≡ Err DirFault.DirFull) ↔ ((is_known_lem self.old info ≡ false) × (free_number_lem self.old ≡ None)) }
+        ensures full { (result ≡ Err DirFault.DirFull) ↔ ((is_known_lem self.old info ≡ false) × (room_of self.old ≡ 0)) }
         ensures number { IfOk result (λ id. free_number_lem self.old ≡ Some id.0) }
         ensures entered { IfOk result (λ id. self.new ≡ with_entry self.old id.0 (new_entry info (blocks_of group) boot)) }
+        ensures room { OnOk result (room_of self.new + 1 ≡ room_of self.old) }
         ensures refused { OnErr result (self.new ≡ self.old) }
     {
         if self.knows(&info) {
@@ -187,6 +188,7 @@ impl Dir {
     fn free_number(&self) -> Option<ModId>
         ensures number { option_map (λ id. id.0) result ≡ free_number_lem self.now }
         ensures within { IfSome result (λ id. id.0 < length self.now) }
+        ensures room { MatchOption result (room_of self.now ≡ 0) (λ _. 0 < room_of self.now) }
     {
         free_number(&self.entries).map(|number| ModId(number as u8))
     }

@@ -1,6 +1,6 @@
-ghost use Rattle.std.specs.Prelude.{◌≡◌, ◌<◌, ◌≤◌, ◌&&◌, nat_lt, nat_le, option_map, length};
+ghost use Rattle.std.specs.Prelude.{◌≡◌, ◌<◌, ◌≤◌, ◌&&◌, nat_lt, nat_le, option_map, MatchOption, length};
 ghost use Rattle.proc_model.specs.Group.{blocks_of};
-ghost use Rattle.proc_model.specs.ModuleList.{passes, revision_of, are_namesakes as are_namesakes_lem, is_known as is_known_lem, is_shadowed as is_shadowed_lem, answers_to, found, free_number as free_number_lem, is_of_group as is_of_group_lem, is_in_use as is_in_use_lem, outside as outside_lem, without_group};
+ghost use Rattle.proc_model.specs.ModuleList.{passes, revision_of, are_namesakes as are_namesakes_lem, is_known as is_known_lem, is_shadowed as is_shadowed_lem, answers_to, found, free_number as free_number_lem, room_of, is_of_group as is_of_group_lem, is_in_use as is_in_use_lem, outside as outside_lem, without_group};
 ghost use Rattle.module_dir.specs.Entries.{seen, entries_of};
 
 use crate::entry::{Entry, are_namesakes, is_of_group, kind_matches};
@@ -34,7 +34,8 @@ pub fn find_entry(entries: &[Option<Entry>], name: &Name, kind: u8) -> Option<us
 
 /// The least number that no entry has.
 pub fn free_number(entries: &[Option<Entry>]) -> Option<usize>
-    ensures { result ≡ free_number_lem (entries_of entries.now) }
+    ensures number { result ≡ free_number_lem (entries_of entries.now) }
+    ensures room { MatchOption result (room_of (entries_of entries.now) ≡ 0) (λ _. 0 < room_of (entries_of entries.now)) }
 {
     entries.iter().position(|place| place.is_none())
 }
