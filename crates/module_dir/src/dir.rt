@@ -69,6 +69,7 @@ impl Dir {
         ensures full { (result ≡ Err DirFault.DirFull) ↔ ((is_known_lem self.old info ≡ false) × (room_of self.old ≡ 0)) }
         ensures number { IfOk result (λ id. free_number_lem self.old ≡ Some id.0) }
         ensures entered { IfOk result (λ id. self.new ≡ with_entry self.old id.0 (new_entry info (blocks_of group) boot)) }
+        ensures there { IfOk result (λ id. entry_at self.new id.0 ≡ Some (new_entry info (blocks_of group) boot)) }
         ensures room { OnOk result (room_of self.new + 1 ≡ room_of self.old) }
         ensures refused { OnErr result (self.new ≡ self.old) }
     {

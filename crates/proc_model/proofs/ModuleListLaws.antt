@@ -1,9 +1,9 @@
 -- The room of the module directory and the number that a new entry gets.
-use Rattle.std.proofs.Common.{◌≡◌, ℕ, zero, suc, ◌+◌, ◌<◌, ◌≤◌, nat_lt, cond, not, Bool, true, false, Option, Some, None, is_none, MatchOption, List, [], ◌∷◌, length, refl, sym, ◌∙◌, arith}
+use Rattle.std.proofs.Common.{◌≡◌, ℕ, zero, suc, ◌+◌, ◌<◌, ◌≤◌, nat_lt, cond, not, Bool, true, false, Option, Some, None, is_none, MatchOption, List, [], ◌∷◌, length, refl, sym, ap, ◌∙◌, arith}
 use Rattle.std.specs.List.{prefix_len}
 use Rattle.std.proofs.lemmas.List.Recursion.{is_count_by}
 use Rattle.std.proofs.lemmas.Bool.{ltb-true, ltb-false}
-use Rattle.proc_model.specs.ModuleList.{ModuleEntry, room_of, free_number, with_entry}
+use Rattle.proc_model.specs.ModuleList.{ModuleEntry, room_of, free_number, entry_at, with_entry}
 
 -- the places that no entry has, counted
 nones : List (Option ModuleEntry) → ℕ
@@ -74,3 +74,16 @@ room-with_entry entries number entry h =
     ] in
     let placed = cases (nat_lt k (length entries)) refl h in
     omega (arith, nones_are_room entries, nones_are_room (with_entry entries number entry), nones_filled entries number entry placed.0 placed.1)
+
+-- what stands at a number after an entry was put there, and at any other
+pub entry_at-with_entry_same : (entries : List (Option ModuleEntry)) (number : ℕ) (entry : ModuleEntry) → number < length entries → entry_at (with_entry entries number entry) number ≡ Some entry
+entry_at-with_entry_same [] number entry within = absurd (omega arith)
+entry_at-with_entry_same (place ∷ entries) zero entry within = refl
+entry_at-with_entry_same (place ∷ entries) (suc number) entry within = entry_at-with_entry_same entries number entry (omega arith)
+
+pub entry_at-with_entry_other : (entries : List (Option ModuleEntry)) (number other : ℕ) (entry : ModuleEntry) → (other ≡ number → ⊥) → entry_at (with_entry entries number entry) other ≡ entry_at entries other
+entry_at-with_entry_other [] number other entry apart = refl
+entry_at-with_entry_other (place ∷ entries) zero zero entry apart = absurd (apart refl)
+entry_at-with_entry_other (place ∷ entries) zero (suc other) entry apart = refl
+entry_at-with_entry_other (place ∷ entries) (suc number) zero entry apart = refl
+entry_at-with_entry_other (place ∷ entries) (suc number) (suc other) entry apart = entry_at-with_entry_other entries number other entry (λ e. apart (ap suc e))
