@@ -1,3 +1,4 @@
 pub mod CrcLaws
 pub mod ModuleLaws
+pub mod ModuleListLaws
 mod Worked

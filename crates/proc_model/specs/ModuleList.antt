@@ -57,10 +57,14 @@ half_matches wanted half = (wanted == 0) || (wanted == half)
 abbrev pub kind_matches : ℕ → ℕ → Bool
 kind_matches wanted kind = half_matches (wanted / 16) (kind / 16) && half_matches (wanted % 16) (kind % 16)
 
--- the least number whose entry has the name and matches the type and language, among those that are not shadowed
+-- an entry has the name, matches the type and language, and is not shadowed
+abbrev pub answers_to : List (Option ModuleEntry) → List ℕ → ℕ → ModuleEntry → Bool
+answers_to entries name kind entry =
+    names_agree name entry.info.name && kind_matches kind entry.info.kind && not (is_shadowed entries entry.info)
+
+-- what is found by a name and a type and language: the least number of such an entry
 abbrev pub found : List (Option ModuleEntry) → List ℕ → ℕ → Option ℕ
-found entries name kind =
-    position (passes (λ entry. names_agree name entry.info.name && kind_matches kind entry.info.kind && not (is_shadowed entries entry.info))) entries
+found entries name kind = position (passes (answers_to entries name kind)) entries
 
 -- how many more entries there may be
 abbrev pub room_of : List (Option ModuleEntry) → ℕ
@@ -93,9 +97,13 @@ is_of_group group entry = pointwise nat_eq group entry.group
 abbrev pub is_in_use : List (Option ModuleEntry) → List ℕ → Bool
 is_in_use entries group = some_entry (λ entry. is_of_group group entry && nat_lt 0 entry.links) entries
 
+-- a place without an entry of a group
+abbrev pub outside : List ℕ → Option ModuleEntry → Option ModuleEntry
+outside group place = if passes (is_of_group group) place then None else place
+
 -- the list without the entries of a group
 abbrev pub without_group : List (Option ModuleEntry) → List ℕ → List (Option ModuleEntry)
-without_group entries group = map (λ place. if passes (is_of_group group) place then None else place) entries
+without_group entries group = map (outside group) entries
 
 -- the list with one link less of the entry of this number
 abbrev pub with_unlinked : List (Option ModuleEntry) → ℕ → ModuleEntry → List (Option ModuleEntry)
@@ -111,3 +119,7 @@ after_unlink entries number entry =
     if is_leaving entries number entry
     then without_group (with_unlinked entries number entry) entry.group
     else with_unlinked entries number entry
+
+-- the group that leaves memory with this link, if it does
+abbrev pub leaving_group : List (Option ModuleEntry) → ℕ → ModuleEntry → Option (List ℕ)
+leaving_group entries number entry = if is_leaving entries number entry then Some entry.group else None

@@ -1,0 +1,219 @@
+ghost use Rattle.std.specs.Prelude.{◌≡◌, ◌+◌, ◌-◌, ◌<◌, ◌≤◌, ◌↔◌, false, IsTrue, IsSome, IsSomeAnd, IfSome, IfOk, OnOk, OnErr, MatchOption, Option, Some, None, option_map, is_some, length, replicate};
+ghost use Rattle.proc_model.specs.Group.{blocks_of};
+ghost use Rattle.proc_model.specs.ModuleList.{ModuleEntry, entry_at, is_known as is_known_lem, room_of, free_number as free_number_lem, found, new_entry, with_entry, linked, is_in_use as is_in_use_lem, without_group, leaving_group, after_unlink};
+
+use crate::entry::Entry;
+use crate::list::{find_entry, free_number, is_in_use, is_known, remove_group};
+use os9_base::call::OutOfMemory;
+use os9_base::name::Name;
+use proc_model::group::Group;
+use proc_model::module::ModuleInfo;
+use std::alloc::{AllocError, Global};
+use std::marker::Model;
+
+/// How many modules may be entered.
+const PLACES: usize = 64;
+
+/// The number of an entry of the module directory.
+#[derive(Clone, Copy, Debug, PartialEq, Eq)]
+pub struct ModId(pub u8);
+
+/// Why a module is not entered.
+#[derive(Clone, Copy, Debug, PartialEq, Eq)]
+pub enum DirFault {
+    /// An entry of its name and type has its revision or a greater one: error 231.
+    Known,
+    /// The directory is full: error 206.
+    DirFull,
+}
+
+/// The module directory: up to 64 modules by number, each with its group and the number of its
+/// links (Level Two manual, F$Link).
+#[derive(Drop)]
+pub struct Dir {
+    entries: Vec<Option<Entry>>,
+}
+
+impl Model for Dir {
+    ghost use Rattle.std.specs.Prelude.{◌≡◌, List, Option, length};
+    ghost use Rattle.proc_model.specs.ModuleList.{ModuleEntry};
+    ghost use Rattle.module_dir.specs.Entries.{entries_of};
+
+    ghost Value = { List (Option ModuleEntry) };
+
+    ghost view = { λ dir. entries_of dir.entries.items };
+
+    ghost invariant = { λ dir. length dir.entries.items ≡ 64 };
+}
+
+impl Dir {
+    ghost use Rattle.module_dir.specs.Entries.{seen};
+
+    /// A directory without entries. Only this call takes memory.
+    pub fn new(alloc: Global) -> Result<Dir, OutOfMemory>
+        ensures { IfOk result (λ dir. dir ≡ replicate 64 None) }
+    {
+        let entries = empty_places(alloc).map_err(|_| OutOfMemory)?;
+        Ok(Dir { entries })
+    }
+
+    /// Enters a module, with one link where it is the boot file's and else without links. It gets
+    /// the least number that no entry has.
+    ///
+    /// # Errors
+    ///
+    /// `Known` where an entry of its name and type has the same or a greater revision; else
+    /// `DirFull` where 64 modules are entered.
+    pub fn enter(&mut self, info: ModuleInfo, group: Group, boot: bool) -> Result<ModId, DirFault>
+        ensures known { (result ≡ Err DirFault.Known) ↔ IsTrue (is_known_lem self.old info) }
+        ensures full { (result ≡ Err DirFault.DirFull) ↔ ((is_known_lem self.old info ≡ false) × (room_of self.old ≡ 0)) }
+        ensures number { IfOk result (λ id. free_number_lem self.old ≡ Some id.0) }
+        ensures entered { IfOk result (λ id. self.new ≡ with_entry self.old id.0 (new_entry info (blocks_of group) boot)) }
+        ensures there { IfOk result (λ id. entry_at self.new id.0 ≡ Some (new_entry info (blocks_of group) boot)) }
+        ensures room { OnOk result (room_of self.new + 1 ≡ room_of self.old) }
+        ensures refused { OnErr result (self.new ≡ self.old) }
+    {
+        if self.knows(&info) {
+            return Err(DirFault::Known);
+        }
+        let id = self.free_number().ok_or(DirFault::DirFull)?;
+        let links = if boot { 1 } else { 0 };
+        self.put(
+            id,
+            Entry {
+                info,
+                group,
+                links,
+                is_boot: boot,
+            },
+        );
+        Ok(id)
+    }
+
+    /// The entry of this name whose type and language match `kind`, where a half of 0 matches any,
+    /// among those that no greater revision shadows. Of several it is the one of least number.
+    pub fn find(&self, name: &Name, kind: u8) -> Option<ModId>
+        ensures { option_map (λ id. id.0) result ≡ found self.now name.now kind }
+    {
+        find_entry(&self.entries, name, kind).map(|number| ModId(number as u8))
+    }
+
+    /// Has an entry this number?
+    pub fn is_entered(&self, id: ModId) -> bool
+        ensures { result ≡ is_some (entry_at self.now id.0) }
+    {
+        matches!(self.entries.get(id.0 as usize), Some(Some(_)))
+    }
+
+    /// How many more modules can be entered.
+    pub fn room(&self) -> u8
+        ensures { result ≡ room_of self.now }
+    {
+        self.entries.iter().filter(|place| place.is_none()).count() as u8
+    }
+
+    /// What the header of an entered module says. Its `at` is the module's offset in the group.
+    pub fn info(&self, id: ModId) -> ModuleInfo
+        requires { IsSome (entry_at self.now id.0) }
+        ensures { option_map (λ entry. entry.info) (entry_at self.now id.0) ≡ Some result }
+    {
+        self.entry(id).info
+    }
+
+    /// The group of an entered module.
+    pub fn group(&self, id: ModId) -> Group
+        requires { IsSome (entry_at self.now id.0) }
+        ensures { option_map (λ entry. entry.group) (entry_at self.now id.0) ≡ Some (blocks_of result) }
+    {
+        self.entry(id).group
+    }
+
+    /// How many links an entered module has.
+    pub fn links(&self, id: ModId) -> u32
+        requires { IsSome (entry_at self.now id.0) }
+        ensures links { option_map (λ entry. entry.links) (entry_at self.now id.0) ≡ Some result }
+        ensures most { result ≤ 65535 }
+    {
+        u32::from(self.entry(id).links)
+    }
+
+    /// Counts one link more of an entered module.
+    pub fn link(&mut self, id: ModId)
+        requires { IsSomeAnd (entry_at self.old id.0) (λ entry. entry.links < 65535) }
+        ensures { option_map (λ entry. with_entry self.old id.0 (linked entry)) (entry_at self.old id.0) ≡ Some self.new }
+    {
+        let entry = self.entry(id);
+        let links = entry.links + 1;
+        self.put(id, Entry { links, ..entry });
+    }
+
+    /// Gives up one link of an entered module, if it has one. Where no entry of its group has a
+    /// link then, and the group is not the boot file's, the entries of the group go, and the
+    /// answer is the group.
+    pub fn unlink(&mut self, id: ModId) -> Option<Group>
+        requires { IsSome (entry_at self.old id.0) }
+        ensures list { option_map (after_unlink self.old id.0) (entry_at self.old id.0) ≡ Some self.new }
+        ensures group { option_map (leaving_group self.old id.0) (entry_at self.old id.0) ≡ Some (option_map blocks_of result) }
+    {
+        let entry = self.entry(id);
+        let links = entry.links.saturating_sub(1);
+        self.put(id, Entry { links, ..entry });
+        if entry.is_boot || self.uses(&entry.group) {
+            return None;
+        }
+        self.remove(&entry.group);
+        Some(entry.group)
+    }
+
+    fn entry(&self, id: ModId) -> Entry
+        requires { IsSome (entry_at self.now id.0) }
+        ensures entry { entry_at self.now id.0 ≡ Some (seen result) }
+        ensures within { id.0 < length self.now }
+    {
+        self.entries[id.0 as usize].unwrap()
+    }
+
+    fn put(&mut self, id: ModId, entry: Entry)
+        requires { id.0 < length self.old }
+        ensures { self.new ≡ with_entry self.old id.0 (seen entry) }
+    {
+        self.entries[id.0 as usize] = Some(entry);
+    }
+
+    fn knows(&self, info: &ModuleInfo) -> bool
+        ensures { result ≡ is_known_lem self.now info.now }
+    {
+        is_known(&self.entries, info)
+    }
+
+    fn free_number(&self) -> Option<ModId>
+        ensures number { option_map (λ id. id.0) result ≡ free_number_lem self.now }
+        ensures within { IfSome result (λ id. id.0 < length self.now) }
+        ensures room { MatchOption result (room_of self.now ≡ 0) (λ _. 0 < room_of self.now) }
+    {
+        free_number(&self.entries).map(|number| ModId(number as u8))
+    }
+
+    fn uses(&self, group: &Group) -> bool
+        ensures { result ≡ is_in_use_lem self.now (blocks_of group.now) }
+    {
+        is_in_use(&self.entries, group)
+    }
+
+    fn remove(&mut self, group: &Group)
+        ensures { self.new ≡ without_group self.old (blocks_of group.now) }
+    {
+        remove_group(&mut self.entries, group);
+    }
+}
+
+/// Places without entries.
+fn empty_places(alloc: Global) -> Result<Vec<Option<Entry>>, AllocError>
+    ensures { IfOk result (λ places. places.items ≡ replicate 64 None) }
+{
+    let mut places = Vec::with_capacity(alloc, PLACES)?;
+    'fill: while places.len() < PLACES {
+        places.push(None)?;
+    }
+    Ok(places)
+}

@@ -1,0 +1,53 @@
+ghost use Rattle.std.specs.Prelude.{◌≡◌, take};
+ghost use Rattle.proc_model.specs.Group.{blocks_of};
+ghost use Rattle.proc_model.specs.ModuleList.{is_of_group as is_of_group_lem, are_namesakes as are_namesakes_lem, half_matches as half_matches_lem, kind_matches as kind_matches_lem};
+ghost use Rattle.module_dir.specs.Entries.{seen};
+
+use os9_base::name::same_name;
+use proc_model::group::{BlockId, Group};
+use proc_model::module::ModuleInfo;
+
+/// An entry of the module directory.
+#[derive(Clone, Copy, Debug)]
+pub struct Entry {
+    /// What the header says; `at` is the module's offset in its group.
+    pub info: ModuleInfo,
+    pub group: Group,
+    pub links: u16,
+    /// Is the group the boot file's?
+    pub is_boot: bool,
+}
+
+/// Have these two modules the same name, case ignored, and the same type, the language left aside?
+pub fn are_namesakes(a: &ModuleInfo, b: &ModuleInfo) -> bool
+    ensures { result ≡ are_namesakes_lem a.now b.now }
+{
+    same_name(&a.name, &b.name) && a.kind >> 4 == b.kind >> 4
+}
+
+/// Is this type and language the one that is wanted, where a half of 0 wants any?
+pub fn kind_matches(wanted: u8, kind: u8) -> bool
+    ensures { result ≡ kind_matches_lem wanted kind }
+{
+    half_matches(wanted >> 4, kind >> 4) && half_matches(wanted & 0x0f, kind & 0x0f)
+}
+
+fn half_matches(wanted: u8, half: u8) -> bool
+    ensures { result ≡ half_matches_lem wanted half }
+{
+    wanted == 0 || wanted == half
+}
+
+/// Is the entry of this group?
+pub fn is_of_group(entry: &Entry, group: &Group) -> bool
+    ensures { result ≡ is_of_group_lem (blocks_of group.now) (seen entry.now) }
+{
+    blocks(group) == blocks(&entry.group)
+}
+
+/// The blocks of a group, in order.
+fn blocks(group: &Group) -> &[BlockId]
+    ensures { result.now ≡ take group.now.len group.now.blocks }
+{
+    &group.blocks[..group.len as usize]
+}
