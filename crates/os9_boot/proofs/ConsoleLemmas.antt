@@ -51,8 +51,8 @@ passes n bytes screens before now within so_far (old, new, is, set, took) =
     record {
       emptied = set ∙ ap (λ screen. slice_set before n screen) took.none_left ∙ map_over_more without_bytes screens before n old within so_far here;
       written = λ told.
-        let tells : IsSome old.put = rw same (All-get_or IsTold screens n old within told) in
-        rw (take_more screens n old within, flat_map-append, told_bytes bytes old.put tells took.handed_over, ← same) (ap (λ rest. console_of (take n screens) ++ rest) (append-nil (unwrap_or old.put [])));
+          let tells : IsSome old.put = rw same (All-get_or IsTold screens n old within told) in
+          rw (take_more screens n old within, flat_map-append, told_bytes bytes old.put tells took.handed_over, ← same) (ap (λ rest. console_of (take n screens) ++ rest) (append-nil (unwrap_or old.put [])));
     }
 
 -- what was written after one terminal more

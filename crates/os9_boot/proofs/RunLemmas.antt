@@ -48,24 +48,24 @@ module _ (s : State) (number : ℕ) (process : Process) (end : EventEnd) (t : St
   told-writes None is = rw is told
   told-writes (Some line) answer = by_path (is_standard_path process.regs.a) answer
     where
-    by_screen : (first : Option Screen) → slice_get s.terms 0 ≡ first → MatchOption first ⊥ (λ old. PutsLine s number process line old t) → All IsTold t.terms
-    by_screen None is answer = absurd answer
-    by_screen (Some old) is answer = told-line s number process line old t is answer told
+      by_screen : (first : Option Screen) → slice_get s.terms 0 ≡ first → MatchOption first ⊥ (λ old. PutsLine s number process line old t) → All IsTold t.terms
+      by_screen None is answer = absurd answer
+      by_screen (Some old) is answer = told-line s number process line old t is answer told
 
-    by_path : (standard : Bool) → MatchBool standard (MatchOption (slice_get s.terms 0) ⊥ (λ old. PutsLine s number process line old t)) (t ≡ answered s number process (refused process.regs 201)) → All IsTold t.terms
-    by_path true answer = by_screen (slice_get s.terms 0) refl answer
-    by_path false is = rw is told
+      by_path : (standard : Bool) → MatchBool standard (MatchOption (slice_get s.terms 0) ⊥ (λ old. PutsLine s number process line old t)) (t ≡ answered s number process (refused process.regs 201)) → All IsTold t.terms
+      by_path true answer = by_screen (slice_get s.terms 0) refl answer
+      by_path false is = rw is told
 
   told-attempt : (code : ℕ) → Attempt code s number process end t → All IsTold t.terms
   told-attempt code attempt = by_exit (eqb code 0x06) attempt
     where
-    by_line : (is_line : Bool) → MatchBool is_line (WritesLine s number process end t) ((end ≡ Went) × (t ≡ answered s number process (refused process.regs 208))) → All IsTold t.terms
-    by_line true (ran, answer) = told-writes (line_at (cells_of s.inner.objects process.places) process.regs.x process.regs.y) answer
-    by_line false (ran, is) = rw is told
+      by_line : (is_line : Bool) → MatchBool is_line (WritesLine s number process end t) ((end ≡ Went) × (t ≡ answered s number process (refused process.regs 208))) → All IsTold t.terms
+      by_line true (ran, answer) = told-writes (line_at (cells_of s.inner.objects process.places) process.regs.x process.regs.y) answer
+      by_line false (ran, is) = rw is told
 
-    by_exit : (is_exit : Bool) → MatchBool is_exit (Exits s number process end t) (MatchBool (eqb code 0x8C) (WritesLine s number process end t) ((end ≡ Went) × (t ≡ answered s number process (refused process.regs 208)))) → All IsTold t.terms
-    by_exit true (ended, is) = rw is told
-    by_exit false attempt = by_line (eqb code 0x8C) attempt
+      by_exit : (is_exit : Bool) → MatchBool is_exit (Exits s number process end t) (MatchBool (eqb code 0x8C) (WritesLine s number process end t) ((end ≡ Went) × (t ≡ answered s number process (refused process.regs 208)))) → All IsTold t.terms
+      by_exit true (ended, is) = rw is told
+      by_exit false attempt = by_line (eqb code 0x8C) attempt
 
   told-acts : (activity : Activity) → Acts activity s number process end t → All IsTold t.terms
   told-acts Running acts = told-executes (step_of (cells_of s.inner.objects process.places) process.regs) acts
@@ -84,43 +84,43 @@ told-slice n s end t (ticked, chosen, states, ticks, chooses, how, goes) told =
 told-taken : (screens : List Screen) → All IsTold screens → All IsTold (taken screens)
 told-taken screens told = All-map IsTold without_bytes screens (λ k d within. told-emptied (get_or screens k d).put (told k d within))
   where
-  told-emptied : (put : Option (List ℕ)) → IsSome put → IsSome (emptied put)
-  told-emptied None tells = tells
-  told-emptied (Some bytes) tells = refl
+    told-emptied : (put : Option (List ℕ)) → IsSome put → IsSome (emptied put)
+    told-emptied None tells = tells
+    told-emptied (Some bytes) tells = refl
 
 -- ---- a kernel with other terminals
 
 pub tied-terms : (kernel : Kernel) (terms other : List Screen) (s : State) → Stands kernel terms s → Stands kernel other (record s { terms = other })
 tied-terms kernel terms other s tied = record {
-    objects = tied.objects;
-    places = tied.places;
-    is = let with_other : State → State = λ s. record s { terms = other } in ap with_other tied.is;
-    is_map = tied.is_map;
-    same_cells = tied.same_cells;
-  }
+  objects = tied.objects;
+  places = tied.places;
+  is = let with_other : State → State = λ s. record s { terms = other } in ap with_other tied.is;
+  is_map = tied.is_map;
+  same_cells = tied.same_cells;
+}
 
 -- ---- how many live
 
 counted : (process : Option Process) (processes : List (Option Process)) → count_by is_living (process ∷ processes) ≡ (if is_living process then 1 else 0) + count_by is_living processes
 counted process processes = sum_by-cons (λ p. if is_living p then 1 else 0) process processes
 
-any-none : (processes : List (Option Process)) → count_by is_living processes ≡ 0 → list_any is_living processes ≡ false
+pub any-none : (processes : List (Option Process)) → count_by is_living processes ≡ 0 → list_any is_living processes ≡ false
 any-none [] none = refl
 any-none (process ∷ processes) none =
     by_first (is_living process) (any-none processes) (sym (counted process processes) ∙ none)
   where
-  by_first : (lives : Bool) → (count_by is_living processes ≡ 0 → list_any is_living processes ≡ false) → (if lives then 1 else 0) + count_by is_living processes ≡ 0 → (lives || list_any is_living processes) ≡ false
-  by_first true others none = absurd (omega arith)
-  by_first false others none = others (omega arith)
+    by_first : (lives : Bool) → (count_by is_living processes ≡ 0 → list_any is_living processes ≡ false) → (if lives then 1 else 0) + count_by is_living processes ≡ 0 → (lives || list_any is_living processes) ≡ false
+    by_first true others none = absurd (omega arith)
+    by_first false others none = others (omega arith)
 
-any-some : (processes : List (Option Process)) → count_by is_living processes ≢ 0 → list_any is_living processes ≡ true
+pub any-some : (processes : List (Option Process)) → count_by is_living processes ≢ 0 → list_any is_living processes ≡ true
 any-some [] some = absurd (some refl)
 any-some (process ∷ processes) some =
     by_first (is_living process) (any-some processes) (λ none. some (counted process processes ∙ none))
   where
-  by_first : (lives : Bool) → (count_by is_living processes ≢ 0 → list_any is_living processes ≡ true) → ((if lives then 1 else 0) + count_by is_living processes ≡ 0 → ⊥) → (lives || list_any is_living processes) ≡ true
-  by_first true others some = refl
-  by_first false others some = others (λ none. some (omega arith))
+    by_first : (lives : Bool) → (count_by is_living processes ≢ 0 → list_any is_living processes ≡ true) → ((if lives then 1 else 0) + count_by is_living processes ≡ 0 → ⊥) → (lives || list_any is_living processes) ≡ true
+    by_first true others some = refl
+    by_first false others some = others (λ none. some (omega arith))
 
 -- ---- runs in pieces
 

@@ -1,2 +1,4 @@
 pub mod Console
 pub mod Stop
+pub mod End
+pub mod TopCall

@@ -1,1 +1,150 @@
-pub fn os9_main() {}
+ghost use Rattle.std.specs.Prelude.{◌≡◌, ◌≢◌, ◌<◌, ◌⊎◌, All, IfSome, None, map, string_bytes, length, vec_len};
+ghost use Rattle.os9_base.specs.Count.{Rose};
+ghost use Rattle.os9_words.specs.Command.{command_of};
+ghost use Rattle.device_table.specs.Screens.{screens};
+ghost use Rattle.os9_boot.specs.Console.{IsTold};
+ghost use Rattle.os9_boot.specs.End.{number_of};
+ghost use Rattle.os9_boot.specs.TopCall.{Answers, Performs, Boots, IsAnswered, IsSilent};
+
+use crate::run::{Stop, run_slices};
+use crate::status::{End, Input, tell};
+use device_table::devices::Devices;
+use os9_kernel::{BootFault, Kernel};
+use os9_outer::host::{Host, HostFault};
+use os9_outer::terminal::CharDriver;
+use os9_words::command::{Command, RunWords, WordsFault, read_words};
+use os9_words::lines::{tell_no_memory, tell_words};
+use script_text::fault::LineFault;
+use script_text::slices::read_slices;
+use std::alloc::Global;
+
+/// Does what a command line says, and answers the status (this project's own).
+///
+/// The words are those after the program's name. `run MODULES --slices SLICES` reads the slice text
+/// and the file of modules, runs the program of that file, and passes what it puts on the terminals
+/// to the output stream.
+///
+/// Statuses: 0 no process lives any more; 5 the slices are used up and a process lives; 1 the words
+/// are no command line; 2 a file could not be read; 3 the output stream could not be written;
+/// 4 memory is wanting; 7 the slice text is refused; 8 the file is no boot file.
+pub fn os9_main<H: Host>(alloc: Global, words: &[String], host: &mut H, devices: &mut Devices) -> u8
+    requires { 0 < vec_len devices.old.terms }
+    // The headline: where nothing failed and the host and the terminals tell what they hold, the
+    // output has gained the bytes of a run of the abstract machine, and the status is that run's.
+    ensures run_headline { IsAnswered result → IfSome (H.file_map host.old) (λ files.
+        All IsTold (screens ⟦<dyn CharDriver as CharDriver>⟧ devices.old.terms.items)
+        → Answers files (map string_bytes words.now)
+        (screens ⟦<dyn CharDriver as CharDriver>⟧ devices.old.terms.items)
+        (H.bytes_out host.old) (H.bytes_out host.new) result) }
+    ensures refused_words { result ≡ 1 → command_of (map string_bytes words.now) ≡ None }
+    ensures read_fault { result ≡ 2 → Rose (H.host_faults host.old) (H.host_faults host.new) }
+    ensures output_fault { result ≡ 3 → Rose (H.host_faults host.old) (H.host_faults host.new) }
+    ensures count_kept { result ≢ 2 → result ≢ 3 → H.host_faults host.new ≡ H.host_faults host.old }
+    ensures silent { IsSilent result → H.bytes_out host.new ≡ H.bytes_out host.old }
+    ensures files_kept { H.file_map host.new ≡ H.file_map host.old }
+{
+    match read_words(alloc, words) {
+        Ok(Command::Run(run)) => run_command(alloc, &run, host, devices),
+        Err(WordsFault::Refused) => {
+            let _ = tell_words(host);
+            1
+        }
+        Err(WordsFault::OutOfMemory) => {
+            let _ = tell_no_memory(host);
+            4
+        }
+    }
+}
+
+fn run_command<H: Host>(alloc: Global, run: &RunWords, host: &mut H, devices: &mut Devices) -> u8
+    requires terminals { 0 < vec_len devices.old.terms }
+    requires files { length run.now.files ≡ 1 }
+    ensures performed { IsAnswered result → IfSome (H.file_map host.old) (λ files.
+        All IsTold (screens ⟦<dyn CharDriver as CharDriver>⟧ devices.old.terms.items)
+        → Performs files run.now
+        (screens ⟦<dyn CharDriver as CharDriver>⟧ devices.old.terms.items)
+        (H.bytes_out host.old) (H.bytes_out host.new) result) }
+    ensures words { result ≢ 1 }
+    ensures read_fault { result ≡ 2 → Rose (H.host_faults host.old) (H.host_faults host.new) }
+    ensures output_fault { result ≡ 3 → Rose (H.host_faults host.old) (H.host_faults host.new) }
+    ensures count_kept { result ≢ 2 → result ≢ 3 → H.host_faults host.new ≡ H.host_faults host.old }
+    ensures silent { IsSilent result → H.bytes_out host.new ≡ H.bytes_out host.old }
+    ensures files_kept { H.file_map host.new ≡ H.file_map host.old }
+{
+    let end = perform(alloc, run, host, devices);
+    tell(host, end, run);
+    end.number()
+}
+
+/// Reads the two files and runs the program.
+fn perform<H: Host>(alloc: Global, run: &RunWords, host: &mut H, devices: &mut Devices) -> End
+    requires terminals { 0 < vec_len devices.old.terms }
+    requires files { length run.now.files ≡ 1 }
+    ensures performed { IsAnswered (number_of result) → IfSome (H.file_map host.old) (λ files.
+        All IsTold (screens ⟦<dyn CharDriver as CharDriver>⟧ devices.old.terms.items)
+        → Performs files run.now
+        (screens ⟦<dyn CharDriver as CharDriver>⟧ devices.old.terms.items)
+        (H.bytes_out host.old) (H.bytes_out host.new) (number_of result)) }
+    ensures read_fault { number_of result ≡ 2 → Rose (H.host_faults host.old) (H.host_faults host.new) }
+    ensures output_fault { number_of result ≡ 3 → Rose (H.host_faults host.old) (H.host_faults host.new) }
+    ensures count_kept { number_of result ≢ 2 → number_of result ≢ 3
+        → H.host_faults host.new ≡ H.host_faults host.old }
+    ensures silent { IsSilent (number_of result) → H.bytes_out host.new ≡ H.bytes_out host.old }
+    ensures files_kept { H.file_map host.new ≡ H.file_map host.old }
+{
+    let text = match host.read_file(run.slices.text()) {
+        Ok(text) => text,
+        Err(HostFault::Failed) => return End::CannotRead(Input::Slices),
+        Err(HostFault::OutOfMemory) => return End::NoMemory,
+    };
+    let file = match host.read_file(run.files.word(0).text()) {
+        Ok(file) => file,
+        Err(HostFault::Failed) => return End::CannotRead(Input::Modules),
+        Err(HostFault::OutOfMemory) => return End::NoMemory,
+    };
+    let slices = match read_slices(alloc, text.as_slice()) {
+        Ok(slices) => slices,
+        Err(LineFault::Line(_)) => return End::BadText,
+        Err(LineFault::OutOfMemory) => return End::NoMemory,
+    };
+    boot(alloc, file.as_slice(), slices.as_slice(), host, devices)
+}
+
+/// Runs the program of a boot file over these slices.
+fn boot<H: Host>(
+    alloc: Global,
+    file: &[u8],
+    slices: &[u32],
+    host: &mut H,
+    devices: &mut Devices,
+) -> End
+    requires terminals { 0 < vec_len devices.old.terms }
+    requires few { length slices.now < 4294000000 }
+    ensures booted { IsAnswered (number_of result)
+        → All IsTold (screens ⟦<dyn CharDriver as CharDriver>⟧ devices.old.terms.items)
+        → Boots file.now slices.now
+        (screens ⟦<dyn CharDriver as CharDriver>⟧ devices.old.terms.items)
+        (H.bytes_out host.old) (H.bytes_out host.new) (number_of result) }
+    ensures no_read { number_of result ≢ 2 }
+    ensures output_fault { number_of result ≡ 3 → Rose (H.host_faults host.old) (H.host_faults host.new) }
+    ensures count_kept { number_of result ≢ 3 → H.host_faults host.new ≡ H.host_faults host.old }
+    ensures silent { IsSilent (number_of result) → H.bytes_out host.new ≡ H.bytes_out host.old }
+    ensures files_kept { H.file_map host.new ≡ H.file_map host.old }
+{
+    let mut kernel = match Kernel::new(alloc, file) {
+        Ok(kernel) => kernel,
+        Err(BootFault::Refused) => return End::NotBootable,
+        Err(BootFault::OutOfMemory) => return End::NoMemory,
+    };
+    match run_slices(&mut kernel, slices, host, devices) {
+        Ok(()) => {
+            if kernel.living() == 0 {
+                End::Ended
+            } else {
+                End::Living
+            }
+        }
+        Err(Stop::Output) => End::CannotWrite,
+        Err(Stop::NoMemory) => End::NoMemory,
+    }
+}

@@ -26,14 +26,14 @@ get_or-zeros_with count begin file k =
     let size : length front ≡ begin + length file = simp (length-append, length-replicate) in
     elim (cases_lt k begin) [
       | inl before ↦
-        get_or_append_left front tail 0 k (omega arith) ∙ get_or_append_left (replicate begin 0) file 0 k (rw length-replicate before) ∙ get_or-zeros begin k ∙ rw (nat_le-false begin k before) refl
+          get_or_append_left front tail 0 k (omega arith) ∙ get_or_append_left (replicate begin 0) file 0 k (rw length-replicate before) ∙ get_or-zeros begin k ∙ rw (nat_le-false begin k before) refl
       | inr from ↦
-        rw (nat_le-true begin k from) (elim (cases_lt k (begin + length file)) [
-          | inl within ↦
-            get_or_append_left front tail 0 k (omega arith) ∙ get_or-append_right (replicate begin 0) file begin k 0 (length-replicate begin 0) from
-          | inr behind ↦
-            get_or-append_right front tail (begin + length file) k 0 size behind ∙ get_or-zeros (count - (begin + length file)) (k - (begin + length file)) ∙ sym (get_or_past file (k - begin) 0 (omega arith))
-        ])
+          rw (nat_le-true begin k from) (elim (cases_lt k (begin + length file)) [
+            | inl within ↦
+                get_or_append_left front tail 0 k (omega arith) ∙ get_or-append_right (replicate begin 0) file begin k 0 (length-replicate begin 0) from
+            | inr behind ↦
+                get_or-append_right front tail (begin + length file) k 0 size behind ∙ get_or-zeros (count - (begin + length file)) (k - (begin + length file)) ∙ sym (get_or_past file (k - begin) 0 (omega arith))
+          ])
     ]
 
 length-zeros_with : (count begin : ℕ) (file : List ℕ) → begin + length file ≤ count → length (zeros_with count begin file) ≡ count
@@ -47,14 +47,14 @@ slice_get-zeros_with count begin file k fits below =
 pub memory_cells-zeros_with : (named : List Bool) (bytes : List ℕ) (low from count : ℕ) (file : List ℕ) → 8192 * 8 ≤ count → 8192 * from + length file ≤ count → ((slot : ℕ) → slice_get named slot ≡ named_slot low from slot) → bytes ≡ zeros_with count (8192 * from) file → memory_cells named bytes ≡ laid_out low from file
 memory_cells-zeros_with named bytes low from count file room fits slots are = λ i address. at address i
   where
-  there : Option ℕ → ℕ → Bool → Option ℕ
-  there byte address test = if unwrap_or (if test then Some (nat_lt (address / 8192) low || nat_le from (address / 8192)) else None) false then byte else None
+    there : Option ℕ → ℕ → Bool → Option ℕ
+    there byte address test = if unwrap_or (if test then Some (nat_lt (address / 8192) low || nat_le from (address / 8192)) else None) false then byte else None
 
-  by_slot : (address : ℕ) (test : Bool) → nat_lt (address / 8192) 8 ≡ test → there (slice_get (zeros_with count (8192 * from) file) address) address test ≡ there (Some (if nat_le (8192 * from) address then unwrap_or (slice_get file (address - 8192 * from)) 0 else 0)) address test
-  by_slot address false is = refl
-  by_slot address true is =
-    let below : address / 8192 < 8 = grind (arith, nat_tests) in
-    rw (slice_get-zeros_with count (8192 * from) file address fits (omega arith)) refl
+    by_slot : (address : ℕ) (test : Bool) → nat_lt (address / 8192) 8 ≡ test → there (slice_get (zeros_with count (8192 * from) file) address) address test ≡ there (Some (if nat_le (8192 * from) address then unwrap_or (slice_get file (address - 8192 * from)) 0 else 0)) address test
+    by_slot address false is = refl
+    by_slot address true is =
+        let below : address / 8192 < 8 = grind (arith, nat_tests) in
+        rw (slice_get-zeros_with count (8192 * from) file address fits (omega arith)) refl
 
-  at : (address : ℕ) → memory_cells named bytes address ≡ laid_out low from file address
-  at address = rw (slots (address / 8192), are) (by_slot address (nat_lt (address / 8192) 8) refl)
+    at : (address : ℕ) → memory_cells named bytes address ≡ laid_out low from file address
+    at address = rw (slots (address / 8192), are) (by_slot address (nat_lt (address / 8192) 8) refl)

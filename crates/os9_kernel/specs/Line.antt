@@ -16,6 +16,6 @@ IsPut line end before now old =
 abbrev pub IsLineAnswer : Option (List ℕ) → ℕ → LineEnd → List Screen → List Screen → Type 0
 IsLineAnswer line path end before now =
     MatchOption line ((end ≡ Refused 210) × (now ≡ before))
-      (λ line. MatchBool (is_standard_path path)
-        (MatchOption (slice_get before 0) ⊥ (IsPut line end before now))
-        ((end ≡ Refused 201) × (now ≡ before)))
+    (λ line. MatchBool (is_standard_path path)
+    (MatchOption (slice_get before 0) ⊥ (IsPut line end before now))
+    ((end ≡ Refused 201) × (now ≡ before)))

@@ -16,14 +16,14 @@ process_of kernel places = record { regs = kernel.regs; places = places; activit
 -- the state of a kernel, where these are the objects, the map and the terminals
 abbrev pub state_of : Kernel → List (List ℕ) → List (Option ℕ) → List Screen → State
 state_of kernel objects places terms = record {
-    inner = record {
-      objects = objects;
-      processes = only_process (process_of kernel places);
-      tick = kernel.tick;
-      chosen = if kernel.chosen then Some 2 else None;
-    };
-    terms = terms;
-  }
+  inner = record {
+    objects = objects;
+    processes = only_process (process_of kernel places);
+    tick = kernel.tick;
+    chosen = if kernel.chosen then Some 2 else None;
+  };
+  terms = terms;
+}
 
 -- a kernel and its terminals stand for a state: there are objects and a map of them whose cells are the
 -- process's memory, and all else is equal
@@ -56,7 +56,7 @@ IsUnknownCall (Finished status) = ⊥
 abbrev pub pending : Kernel → ℕ
 pending kernel = pending_in kernel.activity
   where
-  pending_in : Activity → ℕ
-  pending_in Running = 0
-  pending_in (Calling code) = 1
-  pending_in (Finished status) = 0
+    pending_in : Activity → ℕ
+    pending_in Running = 0
+    pending_in (Calling code) = 1
+    pending_in (Finished status) = 0

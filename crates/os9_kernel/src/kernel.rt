@@ -7,8 +7,8 @@ ghost use Rattle.machine_model.specs.Run.{Tick, Choose, Slice, Goes, cost as cos
 
 use crate::line::{LineEnd, write_line};
 use crate::memory::Memory;
-use cpu6809::step;
 use cpu_model::stop::Stop;
+use cpu6809::step;
 use device_table::devices::Devices;
 use machine_model::activity::Activity;
 use machine_model::ends::{EventEnd, SliceEnd};

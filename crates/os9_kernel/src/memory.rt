@@ -62,7 +62,6 @@ impl Memory {
 }
 
 impl Bus for Memory {
-    
     ghost use Rattle.os9_kernel.specs.Memory.{memory_cells};
 
     ghost cells = { λ memory. memory_cells memory.named memory.bytes.items };

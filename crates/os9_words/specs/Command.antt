@@ -1,5 +1,5 @@
 -- Which words are a command line (this project's own).
-use Rattle.std.specs.Prelude.{ℕ, ◌==◌, ◌&&◌, ◌||◌, not, Bool, false, Option, Some, None, Result, Ok, Err, ⊤, List, [], ◌∷◌, bytes_eq, codes, if◌then◌else◌}
+use Rattle.std.specs.Prelude.{◌≡◌, ℕ, length, ◌==◌, ◌&&◌, ◌||◌, not, Bool, false, Option, Some, None, Result, Ok, Err, ⊤, List, [], ◌∷◌, bytes_eq, codes, if◌then◌else◌}
 use Rattle.os9_words.specs.declared.command.Command.{Command}
 use Rattle.os9_words.specs.declared.command.Command.TheVariants.{Run}
 use Rattle.os9_words.specs.declared.command.WordsFault.{WordsFault}
@@ -27,6 +27,10 @@ run_of command modules option slices =
 abbrev pub command_of : List (List ℕ) → Option Command
 command_of (command ∷ modules ∷ option ∷ slices ∷ []) = run_of command modules option slices
 command_of _ = None
+
+-- the command names one file of modules
+abbrev pub HasOneFile : Command → Type 0
+HasOneFile (Run run) = length run.files ≡ 1
 
 -- the fact holds where the words are refused
 abbrev pub OnRefused : {T : Type 0} → Result T WordsFault → Type 0 → Type 0

@@ -1,5 +1,5 @@
 ghost use Rattle.std.specs.Prelude.{◌≡◌, None, Some, IfOk, [], ◌∷◌, map, string_bytes};
-ghost use Rattle.os9_words.specs.Command.{command_of, is_argument as is_argument_lem, is_value as is_value_lem, OnRefused};
+ghost use Rattle.os9_words.specs.Command.{command_of, is_argument as is_argument_lem, is_value as is_value_lem, HasOneFile, OnRefused};
 
 use crate::word::{Word, Words};
 use std::alloc::{AllocError, Global};
@@ -40,6 +40,7 @@ pub enum WordsFault {
 pub fn read_words(alloc: Global, words: &[String]) -> Result<Command, WordsFault>
     ensures command { IfOk result (λ command.
         command_of (map string_bytes words.now) ≡ Some command) }
+    ensures files { IfOk result HasOneFile }
     ensures refused { OnRefused result (command_of (map string_bytes words.now) ≡ None) }
 {
     let [command, modules, option, slices] = words else {

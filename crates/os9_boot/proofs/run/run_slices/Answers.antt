@@ -6,12 +6,12 @@ use Rattle.os9_boot.proofs.run.run_slices.Goals as goal
 
 pub loop-n-init : goal.loop-n-init
 loop-n-init g c = record {
-    few = omega (arith, c.requires.few);
-    terminal = refl;
-    reaches = λ s told stood. reaches-none _ c.args.slices.now s c.args.kernel.now _ told stood;
-    count = refl;
-    files = refl;
-  }
+  few = omega (arith, c.requires.few);
+  terminal = refl;
+  reaches = λ s told stood. reaches-none _ c.args.slices.now s c.args.kernel.now _ told stood;
+  count = refl;
+  files = refl;
+}
 
 pub loop-n-preserved : goal.loop-n-preserved
 loop-n-preserved g c =
@@ -22,7 +22,7 @@ loop-n-preserved g c =
       few = omega (arith, so_far.few, c.slice.ensures.count);
       terminal = passed.terminals ∙ c.slice.ensures.terminals ∙ so_far.terminal;
       reaches = λ s told stood.
-        reaches-more c.args.slices.now s _ _ c.loop-n.kernel c.slice.new.self _ _ _ _ _ _ c.slice.result (rw next at (so_far.reaches s told stood)) (λ m tied none. c.if-living-eq0.false (c.living.ensures _ m tied ∙ none)) (c.slice.ensures.step (λ e. c.in_default.not-NoMemory e)) passed.taken passed.written;
+          reaches-more c.args.slices.now s _ _ c.loop-n.kernel c.slice.new.self _ _ _ _ _ _ c.slice.result (rw next at (so_far.reaches s told stood)) (λ m tied none. c.if-living-eq0.false (c.living.ensures _ m tied ∙ none)) (c.slice.ensures.step (λ e. c.in_default.not-NoMemory e)) passed.taken passed.written;
       count = passed.count_kept ∙ so_far.count;
       files = passed.files_kept ∙ so_far.files;
     }

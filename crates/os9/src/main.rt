@@ -1,0 +1,40 @@
+//! The program: the real host, four drives and four terminals for the top call.
+#![tactic(auto)]
+
+use device_table::devices::Devices;
+use os9_boot::os9_main;
+use os9_outer::drive::BlockDriver;
+use os9_outer::real_host::RealHost;
+use os9_outer::sure_drive::SureDrive;
+use os9_outer::sure_tty::SureTty;
+use os9_outer::terminal::CharDriver;
+use std::process::ExitCode;
+use std::{env, io};
+
+/// The status where there is no memory for the words or the devices.
+const NO_MEMORY: u8 = 4;
+
+fn main(rt: HostRuntime) -> ExitCode {
+    ExitCode::from(run(rt).unwrap_or(NO_MEMORY))
+}
+
+/// Does what the words after the program's name say.
+fn run(rt: HostRuntime) -> io::Result<u8> {
+    let alloc = rt.alloc();
+    let mut words = Vec::new(alloc);
+    for word in env::args(&rt)?.skip(1) {
+        words.push(word)?;
+    }
+    let mut drives: Vec<Box<dyn BlockDriver>> = Vec::new(alloc);
+    let mut terms: Vec<Box<dyn CharDriver>> = Vec::new(alloc);
+    for _ in 0..4 {
+        drives.push(Box::new(alloc, SureDrive::new())?)?;
+    }
+    terms.push(Box::new(alloc, SureTty::new(alloc))?)?;
+    terms.push(Box::new(alloc, SureTty::new(alloc))?)?;
+    terms.push(Box::new(alloc, SureTty::new(alloc))?)?;
+    terms.push(Box::new(alloc, SureTty::new(alloc))?)?;
+    let mut devices = Devices { drives, terms };
+    let mut host = RealHost::new(rt);
+    Ok(os9_main(alloc, words.as_slice(), &mut host, &mut devices))
+}

@@ -1,0 +1,27 @@
+-- From what the steps answer to what the top call answers.
+use Rattle.std.proofs.Common.{◌≡◌, ◌≢◌, ℕ, Bool, true, false, Option, Some, None, List, Ok, Err, slice_get, refl, sym, ap, subst, ◌∙◌, All, inl, inr}
+use Rattle.std.specs.Prelude.{IfSome, count_by}
+use Rattle.os9_outer.specs.Host.{contents_of}
+use Rattle.os9_words.specs.declared.command.RunWords.{RunWords}
+use Rattle.script_text.specs.Slices.{slices_of}
+use Rattle.device_table.specs.Screens.{Screen}
+use Rattle.machine_model.specs.State.{State, is_living}
+use Rattle.machine_model.specs.Run.{status_of}
+use Rattle.os9_boot.specs.Console.{IsTold}
+use Rattle.os9_boot.specs.TopCall.{Boots, Performs}
+use Rattle.os9_boot.proofs.RunLemmas.{any-none, any-some}
+
+-- the status of a state where nobody lives, and of one where somebody does
+pub status-idle : (t : State) (living : ℕ) → living ≡ count_by is_living t.inner.processes → living ≡ 0 → 0 ≡ status_of t
+status-idle t living counted none = rw (any-none t.inner.processes (sym counted ∙ none)) refl
+
+pub status-living : (t : State) (living : ℕ) → living ≡ count_by is_living t.inner.processes → living ≢ 0 → 5 ≡ status_of t
+status-living t living counted some = rw (any-some t.inner.processes (λ none. some (counted ∙ none))) refl
+
+-- the two files of the words were read, and the slice text gives slices
+pub performs : (told told_then : Option (List ℕ → Option (List ℕ))) (run : RunWords) (text file slices first_name second_name modules : List ℕ) (terms : List Screen) (before before_then now : Option (List ℕ)) (status : ℕ) → told_then ≡ told → IfSome told (λ files. text ≡ contents_of files first_name) → IfSome told_then (λ files. file ≡ contents_of files second_name) → first_name ≡ run.slices → second_name ≡ modules → slice_get run.files 0 ≡ Some modules → slices_of text ≡ Ok slices → before_then ≡ before → (All IsTold terms → Boots file slices terms before_then now status) → IfSome told (λ files. All IsTold terms → Performs files run terms before now status)
+performs None others run text file slices first_name second_name modules terms before before_then now status kept text_is file_is first second named read same boots =
+    tt
+performs (Some files) others run text file slices first_name second_name modules terms before before_then now status kept text_is file_is first second named read same boots =
+    let file_is_there : file ≡ contents_of files second_name = let fact : Option (List ℕ → Option (List ℕ)) → Type 0 = λ told. IfSome told (λ files. file ≡ contents_of files second_name) in subst fact kept file_is in
+    λ tells. rw (named, ← first, ← text_is, read, ← second, ← file_is_there, ← same) (boots tells)
