@@ -1,6 +1,6 @@
 -- A driver in the list is replaced by one that stands in a relation to it: of the terminals that the
 -- lists tell, exactly that one changed.
-use Rattle.std.proofs.Common.{◌≡◌, ℕ, ◌<◌, Option, option_map, List, map, length, get_or, slice_set, refl, ap, ◌∙◌}
+use Rattle.std.proofs.Common.{◌≡◌, ℕ, ◌<◌, option_map, List, map, length, get_or, slice_set, refl, ap, ◌∙◌}
 use Rattle.std.proofs.lemmas.List.{map-set}
 use Rattle.std.proofs.lemmas.Option.{slice_get-map, slice_get_read}
 use Rattle.device_table.specs.Screens.{Screen, ChangesOne}

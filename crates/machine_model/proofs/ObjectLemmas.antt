@@ -1,13 +1,12 @@
 -- A byte written at a named address of a map is the byte of that cell, and no other cell changes.
-use Rattle.std.proofs.Common.{◌≡◌, ◌≢◌, ℕ, ◌+◌, ◌/◌, ◌%◌, ◌<◌, ◌≤◌, Bool, true, false, Option, Some, None, List, [], ◌∷◌, length, slice_get, get_or, set, refl, sym, ap, ◌∙◌, subst, inl, inr, ◌⊎◌, eqb, arith, rules}
-use Rattle.std.specs.Prelude.{is_some, ◌&&◌, ◌==◌, slice_set, option_and_then, if◌then◌else◌}
+use Rattle.std.proofs.Common.{◌≡◌, ◌≢◌, ℕ, ◌/◌, ◌%◌, ◌<◌, Bool, true, false, Option, Some, None, List, [], ◌∷◌, length, slice_get, refl, sym, ap, ◌∙◌, inl, inr, ◌⊎◌, eqb, arith}
+use Rattle.std.specs.Prelude.{is_some, ◌&&◌, slice_set, option_and_then, if◌then◌else◌}
 use Rattle.std.proofs.lemmas.List.{get_or-set_same, get_or-set_other, length-set}
 use Rattle.std.proofs.lemmas.Option.{slice_get-get_or, slice_get_past, slice_get_within}
 use Rattle.std.proofs.lemmas.Bool.{cases_lt, cases_eq, eqb-true, eq-eqb}
-use Rattle.std.proofs.lemmas.Bool.Decides.{nat_tests}
 use Rattle.os9_base.specs.Cells.{put_cell}
 use Rattle.cpu_model.specs.Step.{all_named, write_cells}
-use Rattle.machine_model.specs.Objects.{slot_of, object_byte, cells_of, with_object_byte, with_cell, with_writes, IsMap}
+use Rattle.machine_model.specs.Objects.{slot_of, object_byte, cells_of, with_cell, with_writes, IsMap}
 
 module _ {X : Type 0} where
   -- what a list has at a place that was written

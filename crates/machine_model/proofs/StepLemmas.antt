@@ -1,16 +1,16 @@
 -- What an effect of an instruction writes is named.
-use Rattle.std.proofs.Common.{◌≡◌, ℕ, Bool, true, false, Option, Some, None, List, refl, sym, ap, ◌∙◌, inl, inr, Ok, Err}
+use Rattle.std.proofs.Common.{◌≡◌, ℕ, Bool, true, false, Option, Some, None, refl, Ok, Err}
 use Rattle.std.specs.Prelude.{if◌then◌else◌}
 use Rattle.os9_base.specs.declared.registers.Regs.{Regs}
 use Rattle.cpu_model.specs.declared.rows.Mode.{Mode}
 use Rattle.cpu_model.specs.declared.rows.Row.{Row}
 use Rattle.cpu_model.specs.declared.rows.Operation.{Operation}
-use Rattle.cpu_model.specs.declared.rows.Operation.TheVariants.{Unary, UnaryOn, Binary, Word, Store, StoreWord, Jmp, Jsr, Branch, Bsr, Lea, Psh, Pul, Exg, Tfr, Orcc, Andcc, Abx, Daa, Mul, Sex, Nop, Rts, Rti, Swi, Swi2, Swi3, Sync, Cwai}
+use Rattle.cpu_model.specs.declared.rows.Operation.TheVariants.{Swi, Swi2, Swi3, Sync, Cwai}
 use Rattle.cpu_model.specs.declared.instruction.Instr.{Instr}
 use Rattle.cpu_model.specs.Table.{row}
 use Rattle.cpu_model.specs.Reading.{Reading, reading}
 use Rattle.cpu_model.specs.Effects.{Effect}
-use Rattle.cpu_model.specs.Step.{Outcome, Done, Calls, Aborts, window, past, effect_of, all_named, outcome_of_effect, call_outcome, outcome_of, outcome_of_row, outcome_of_reading, step_of}
+use Rattle.cpu_model.specs.Step.{Done, Aborts, window, past, effect_of, all_named, outcome_of_effect, call_outcome, outcome_of, outcome_of_row, outcome_of_reading, step_of}
 
 from_effect : (cells : ℕ → Option ℕ) (found : Option Effect) (effect : Effect) → outcome_of_effect cells found ≡ Done effect → all_named cells effect.writes ≡ true
 from_effect cells None effect is = cc

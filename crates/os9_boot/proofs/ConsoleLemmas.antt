@@ -1,15 +1,14 @@
 -- The bytes of the terminals, one terminal after another.
-use Rattle.std.proofs.Common.{◌≡◌, ℕ, ◌+◌, ◌<◌, ◌≤◌, Option, Some, None, List, [], ◌∷◌, ◌++◌, length, map, take, drop, slice_get, slice_set, get_or, refl, sym, ap, ◌∙◌, append_assoc, append-nil, get_or-drop, length-take, All, arith, rules}
+use Rattle.std.proofs.Common.{◌≡◌, ℕ, ◌+◌, ◌<◌, Option, Some, None, List, [], ◌++◌, length, map, take, drop, slice_set, get_or, refl, sym, ap, ◌∙◌, append_assoc, append-nil, get_or-drop, length-take, All, arith}
 use Rattle.std.specs.Prelude.{IfSome, IsSome, unwrap_or}
-use Rattle.std.specs.List.{flat_map}
-use Rattle.std.proofs.lemmas.List.{take_all, take_more, drop_all, get_or-append_right, length-map}
+use Rattle.std.proofs.lemmas.List.{take_more, get_or-append_right, length-map}
 use Rattle.std.proofs.lemmas.List.Concat.{flat_map-append}
 use Rattle.std.proofs.lemmas.List.Edits.{map_over_more}
 use Rattle.std.proofs.lemmas.List.Elements.{All-get_or}
-use Rattle.std.proofs.lemmas.Option.{slice_get_within, get_or_from_slice_get}
+use Rattle.std.proofs.lemmas.Option.{get_or_from_slice_get}
 use Rattle.os9_outer.specs.Stream.{appended, emptied}
 use Rattle.device_table.specs.Screens.{Screen, ChangesOne}
-use Rattle.machine_model.specs.Run.{bytes_of, console_of, without_bytes}
+use Rattle.machine_model.specs.Run.{console_of, without_bytes}
 use Rattle.os9_boot.specs.Console.{Takes, IsTold}
 
 -- what was taken from a terminal's driver was taken from the terminal

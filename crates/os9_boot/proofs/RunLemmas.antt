@@ -1,12 +1,12 @@
 -- Slices, one after another, make a run.
-use Rattle.std.proofs.Common.{◌≡◌, ◌≢◌, ℕ, ◌+◌, ◌-◌, ◌<◌, ◌||◌, Bool, true, false, Option, Some, None, List, [], ◌∷◌, ◌++◌, length, drop, get_or, map, slice_set, slice_get, eqb, refl, sym, ap, ◌∙◌, subst, append_assoc, append-nil, All, inl, inr, arith, rules}
-use Rattle.std.specs.Prelude.{IsSome, MatchBool, MatchOption, is_some, count_by, if◌then◌else◌}
+use Rattle.std.proofs.Common.{◌≡◌, ◌≢◌, ℕ, ◌+◌, ◌-◌, ◌||◌, Bool, true, false, Option, Some, None, List, [], ◌∷◌, ◌++◌, get_or, slice_get, eqb, refl, sym, ap, ◌∙◌, append_assoc, append-nil, All, inl, inr, arith}
+use Rattle.std.specs.Prelude.{IsSome, MatchBool, MatchOption, count_by, if◌then◌else◌}
 use Rattle.std.specs.List.{list_any}
 use Rattle.std.proofs.lemmas.List.Elements.{All-set, All-map, All-get_or}
 use Rattle.std.proofs.lemmas.List.Sums.{sum_by-cons}
 use Rattle.std.proofs.lemmas.Option.{slice_get_within, get_or_from_slice_get}
 use Rattle.cpu_model.specs.Step.{Outcome, Done, Calls, Aborts, step_of}
-use Rattle.os9_outer.specs.Stream.{appended, emptied, GainsPrefix}
+use Rattle.os9_outer.specs.Stream.{appended, emptied}
 use Rattle.device_table.specs.Screens.{Screen}
 use Rattle.machine_model.specs.declared.activity.Activity.{Activity}
 use Rattle.machine_model.specs.declared.activity.Activity.TheVariants.{Running, Calling, Finished}
@@ -16,7 +16,7 @@ use Rattle.machine_model.specs.declared.ends.SliceEnd.{SliceEnd}
 use Rattle.machine_model.specs.Objects.{cells_of}
 use Rattle.machine_model.specs.State.{State, Process, is_living, has_living}
 use Rattle.machine_model.specs.Call.{Attempt, PutsLine, WritesLine, Exits, answered, refused, line_at, is_standard_path}
-use Rattle.machine_model.specs.Event.{Event, Acts, Executes}
+use Rattle.machine_model.specs.Event.{Acts, Executes}
 use Rattle.machine_model.specs.Run.{Goes, cost, Slice, Run, taken, console_of, without_bytes}
 use Rattle.os9_kernel.specs.declared.kernel.Kernel.{Kernel}
 use Rattle.os9_kernel.specs.Tie.{Stands}

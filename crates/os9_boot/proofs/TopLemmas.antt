@@ -1,5 +1,5 @@
 -- From what the steps answer to what the top call answers.
-use Rattle.std.proofs.Common.{◌≡◌, ◌≢◌, ℕ, Bool, true, false, Option, Some, None, List, Ok, Err, slice_get, refl, sym, ap, subst, ◌∙◌, All, inl, inr}
+use Rattle.std.proofs.Common.{◌≡◌, ◌≢◌, ℕ, Option, Some, None, List, Ok, slice_get, refl, sym, subst, ◌∙◌, All}
 use Rattle.std.specs.Prelude.{IfSome, count_by}
 use Rattle.os9_outer.specs.Host.{contents_of}
 use Rattle.os9_words.specs.declared.command.RunWords.{RunWords}

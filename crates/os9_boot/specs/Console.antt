@@ -1,6 +1,5 @@
 -- What becomes of the bytes that were put on terminals.
-use Rattle.std.specs.Prelude.{◌≡◌, ℕ, Option, Some, IsSome, IfSome, List}
-use Rattle.os9_outer.specs.Stream.{emptied}
+use Rattle.std.specs.Prelude.{◌≡◌, ℕ, IsSome, IfSome, List}
 use Rattle.device_table.specs.Screens.{Screen}
 use Rattle.machine_model.specs.Run.{without_bytes}
 

@@ -1,11 +1,10 @@
 -- Memory that holds zeros and a file.
-use Rattle.std.proofs.Common.{◌≡◌, ℕ, ◌+◌, ◌-◌, ◌*◌, ◌/◌, ◌%◌, ◌<◌, ◌≤◌, Bool, true, false, Option, Some, None, List, ◌++◌, length, get_or, replicate, slice_get, refl, sym, ap, ◌∙◌, inl, inr, arith, rules}
-use Rattle.std.specs.Prelude.{nat_lt, nat_le, ◌&&◌, ◌||◌, unwrap_or, if◌then◌else◌}
+use Rattle.std.proofs.Common.{◌≡◌, ℕ, ◌+◌, ◌-◌, ◌*◌, ◌/◌, ◌<◌, ◌≤◌, Bool, true, false, Option, Some, None, List, ◌++◌, length, get_or, replicate, slice_get, refl, sym, ap, ◌∙◌, inl, inr, arith, rules}
+use Rattle.std.specs.Prelude.{nat_lt, nat_le, ◌||◌, unwrap_or, if◌then◌else◌}
 use Rattle.std.proofs.lemmas.List.{get_or_append_left, get_or-append_right, get_or-replicate, get_or_past, length-append, length-replicate}
 use Rattle.std.proofs.lemmas.Option.{slice_get-get_or, unwrap_or-slice_get}
 use Rattle.std.proofs.lemmas.Bool.{cases_lt}
 use Rattle.std.proofs.lemmas.Bool.Decides.{nat_tests}
-use Rattle.std.proofs.lemmas.Grind.{common_steps}
 use Rattle.os9_kernel.specs.Memory.{memory_cells, named_slot, zeros_with, laid_out}
 
 nat_le-true : (m n : ℕ) → m ≤ n → nat_le m n ≡ true

@@ -1,16 +1,15 @@
 -- Events, one after another, make a slice.
-use Rattle.std.proofs.Common.{◌≡◌, ℕ, suc, ◌+◌, ◌-◌, ◌<◌, ◌||◌, Bool, true, false, Option, Some, None, List, [], ◌∷◌, refl, sym, ap, ◌∙◌, eqb, arith, rules}
-use Rattle.std.specs.Prelude.{is_some, not, if◌then◌else◌, option_and_then}
+use Rattle.std.proofs.Common.{◌≡◌, ℕ, ◌-◌, ◌<◌, ◌||◌, Bool, true, false, Some, None, List, [], ◌∷◌, refl, ap, ◌∙◌, eqb, rules}
+use Rattle.std.specs.Prelude.{not, if◌then◌else◌, option_and_then}
 use Rattle.std.proofs.lemmas.Bool.Decides.{nat_tests}
 use Rattle.device_table.specs.Screens.{Screen}
 use Rattle.machine_model.specs.declared.ends.EventEnd.{EventEnd}
-use Rattle.machine_model.specs.declared.ends.SliceEnd.{SliceEnd}
 use Rattle.machine_model.specs.declared.ends.SliceEnd.TheVariants.{Idle, Ran}
 use Rattle.machine_model.specs.State.{State, process_at, is_living}
 use Rattle.machine_model.specs.Event.{Event}
 use Rattle.machine_model.specs.Run.{Tick, Choose, Slice, Goes, cost, is_over, is_going}
 use Rattle.os9_kernel.specs.declared.kernel.Kernel.{Kernel}
-use Rattle.os9_kernel.specs.Tie.{Stands, IsGoing, HasFinished, state_of, process_of}
+use Rattle.os9_kernel.specs.Tie.{Stands, IsGoing, HasFinished, state_of}
 use Rattle.os9_kernel.specs.Slice.{GoesOnFrom}
 
 or_true : (b : Bool) → (b || true) ≡ true

@@ -1,11 +1,9 @@
 -- What the kernel does is an event of each state that it stands for.
-use Rattle.std.proofs.Common.{◌≡◌, ℕ, Bool, true, false, Option, Some, None, List, [], refl, sym, ap, ◌∙◌, subst, eqb, length, slice_get, slice_set, inl, inr, arith, rules}
+use Rattle.std.proofs.Common.{◌≡◌, ℕ, Bool, true, false, Option, Some, None, List, [], refl, sym, ◌∙◌, subst, eqb, length, slice_get, slice_set, inl, inr, rules}
 use Rattle.std.specs.Prelude.{MatchOption, MatchBool}
 use Rattle.std.proofs.lemmas.Bool.Decides.{nat_tests}
 use Rattle.os9_base.specs.declared.registers.Regs.{Regs}
-use Rattle.cpu_model.specs.declared.stop.Stop.{Stop}
 use Rattle.cpu_model.specs.declared.stop.Stop.TheVariants.{Next, Call, Abort}
-use Rattle.cpu_model.specs.Effects.{Effect}
 use Rattle.cpu_model.specs.Step.{Outcome, Done, Calls, Aborts, step_of, Leaves, all_named}
 use Rattle.device_table.specs.Screens.{Screen}
 use Rattle.machine_model.specs.declared.activity.Activity.{Activity}
@@ -18,7 +16,6 @@ use Rattle.machine_model.specs.Call.{answered, ended, refused, done, line_at, is
 use Rattle.machine_model.specs.Event.{Event, Acts, Executes}
 use Rattle.machine_model.proofs.ObjectLemmas.{with_writes-tied}
 use Rattle.machine_model.proofs.StepLemmas.{all_named-step}
-use Rattle.os9_kernel.specs.declared.line.LineEnd.{LineEnd}
 use Rattle.os9_kernel.specs.declared.line.LineEnd.TheVariants.{Written, Refused}
 use Rattle.os9_kernel.specs.Line.{IsLineAnswer, IsPut}
 use Rattle.os9_kernel.specs.Memory.{memory_cells}

@@ -1,5 +1,5 @@
 -- The memory of a process as the kernel keeps it.
-use Rattle.std.specs.Prelude.{◌≡◌, ℕ, ◌+◌, ◌-◌, ◌*◌, ◌/◌, ◌&&◌, ◌||◌, nat_lt, nat_le, Bool, false, Option, Some, None, unwrap_or, List, ◌++◌, length, slice_get, replicate, if◌then◌else◌}
+use Rattle.std.specs.Prelude.{ℕ, ◌+◌, ◌-◌, ◌*◌, ◌/◌, ◌||◌, nat_lt, nat_le, Bool, false, Option, Some, None, unwrap_or, List, ◌++◌, length, slice_get, replicate, if◌then◌else◌}
 
 -- the byte at an address, if its slot is named
 abbrev pub memory_cells : List Bool → List ℕ → ℕ → Option ℕ

@@ -1,5 +1,5 @@
 -- How the running kernel is tied to the abstract machine.
-use Rattle.std.specs.Prelude.{◌≡◌, ◌≢◌, ℕ, Bool, true, false, Option, Some, None, List, [], if◌then◌else◌}
+use Rattle.std.specs.Prelude.{◌≡◌, ◌≢◌, ℕ, true, false, Option, Some, None, List, [], if◌then◌else◌}
 use Rattle.device_table.specs.Screens.{Screen}
 use Rattle.machine_model.specs.declared.activity.Activity.{Activity}
 use Rattle.machine_model.specs.declared.activity.Activity.TheVariants.{Running, Calling, Finished}

@@ -1,4 +1,4 @@
-use Rattle.std.proofs.Common.{◌≡◌, ℕ, ◌+◌, ◌-◌, ◌<◌, List, drop, length, All}
+use Rattle.std.proofs.Common.{◌≡◌, ◌+◌, ◌-◌, ◌<◌, drop, length, All}
 use Rattle.std.specs.Vec.{vec_len}
 use Rattle.device_table.specs.Screens.{screens}
 use Rattle.machine_model.specs.State.{State}

@@ -1,4 +1,4 @@
-use Rattle.std.proofs.Common.{◌≡◌, ℕ, ◌<◌, ◌-◌, arith, rules, sym, ap, refl, ◌∙◌, inl, inr}
+use Rattle.std.proofs.Common.{◌≡◌, ◌-◌, arith, rules, refl, ◌∙◌, inl, inr}
 use Rattle.machine_model.specs.Run.{cost}
 use Rattle.os9_kernel.specs.Slice.{GoesOnFrom}
 use Rattle.os9_kernel.proofs.SliceLemmas.{goes_on-event, over-used_up, over-ended}

@@ -1,8 +1,7 @@
-use Rattle.std.proofs.Common.{◌≡◌, ℕ, ◌+◌, ◌*◌, ◌<◌, ◌≤◌, List}
+use Rattle.std.proofs.Common.{◌≡◌, ◌+◌, ◌*◌}
 use Rattle.std.specs.Vec.{vec_len}
 use Rattle.device_table.specs.Screens.{screens}
 use Rattle.machine_model.specs.State.{State}
-use Rattle.machine_model.specs.Run.{Goes}
 use Rattle.os9_kernel.specs.Tie.{Stands, IsGoing, ticks, pending}
 use Rattle.os9_kernel.specs.Slice.{GoesOnFrom}
 use Rattle.os9_kernel.proofs.kernel.Kernel.events.Given as goal

@@ -1,7 +1,3 @@
-use Rattle.std.proofs.Common.{◌≡◌, ℕ, sym, subst}
-use Rattle.machine_model.specs.State.{State}
-use Rattle.machine_model.specs.Event.{Event}
-use Rattle.os9_kernel.specs.Tie.{Stands}
 use Rattle.os9_kernel.proofs.TieLemmas.{next, calls, aborts}
 use Rattle.os9_kernel.proofs.kernel.Kernel.instruction.Goals as goal
 

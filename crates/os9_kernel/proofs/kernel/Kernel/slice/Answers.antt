@@ -1,4 +1,3 @@
-use Rattle.std.proofs.Common.{◌≡◌, sym, ap}
 use Rattle.os9_kernel.proofs.SliceLemmas.{slice-idle, slice-ran}
 use Rattle.os9_kernel.proofs.kernel.Kernel.slice.Goals as goal
 

@@ -1,4 +1,4 @@
-use Rattle.std.proofs.Common.{◌≡◌, ◌*◌, arith, rules}
+use Rattle.std.proofs.Common.{◌≡◌, ◌*◌, arith}
 use Rattle.os9_kernel.specs.Memory.{zeros_with}
 use Rattle.os9_kernel.proofs.MemoryLemmas.{memory_cells-zeros_with}
 use Rattle.os9_kernel.proofs.memory.Memory.new.Goals as goal
