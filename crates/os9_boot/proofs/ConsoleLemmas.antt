@@ -1,5 +1,5 @@
 -- The bytes of the terminals, one terminal after another.
-use Rattle.std.proofs.Common.{◌≡◌, ℕ, ◌+◌, ◌<◌, Option, Some, None, List, [], ◌++◌, length, map, take, drop, slice_set, get_or, refl, sym, ap, ◌∙◌, append_assoc, append-nil, get_or-drop, length-take, All, arith}
+use Rattle.std.proofs.Common.{◌≡◌, ℕ, ◌+◌, ◌<◌, Option, Some, None, List, [], ◌++◌, length, map, take, drop, slice_set, get_or, sym, ap, ◌∙◌, append-nil, get_or-drop, length-take, All, arith}
 use Rattle.std.specs.Prelude.{IfSome, IsSome, unwrap_or}
 use Rattle.std.proofs.lemmas.List.{take_more, get_or-append_right, length-map}
 use Rattle.std.proofs.lemmas.List.Concat.{flat_map-append}
@@ -7,6 +7,7 @@ use Rattle.std.proofs.lemmas.List.Edits.{map_over_more}
 use Rattle.std.proofs.lemmas.List.Elements.{All-get_or}
 use Rattle.std.proofs.lemmas.Option.{get_or_from_slice_get}
 use Rattle.os9_outer.specs.Stream.{appended, emptied}
+use Rattle.device_table.proofs.StreamLemmas.{appended-twice}
 use Rattle.device_table.specs.Screens.{Screen, ChangesOne}
 use Rattle.machine_model.specs.Run.{console_of, without_bytes}
 use Rattle.os9_boot.specs.Console.{Takes, IsTold}
@@ -23,14 +24,6 @@ Takes-from bytes old new handed none keys faults =
 -- the terminals, of which the first so many were emptied
 abbrev pub emptied_front : ℕ → List Screen → List Screen
 emptied_front n screens = map without_bytes (take n screens) ++ drop n screens
-
-appended-nothing : (stream : Option (List ℕ)) → appended stream [] ≡ stream
-appended-nothing None = refl
-appended-nothing (Some bytes) = rw append-nil refl
-
-appended-twice : (stream : Option (List ℕ)) (first second : List ℕ) → appended (appended stream first) second ≡ appended stream (first ++ second)
-appended-twice None first second = refl
-appended-twice (Some bytes) first second = rw append_assoc refl
 
 told_bytes : (bytes : List ℕ) (put : Option (List ℕ)) → IsSome put → IfSome put (λ put. bytes ≡ put) → bytes ≡ unwrap_or put []
 told_bytes bytes None told is = cc

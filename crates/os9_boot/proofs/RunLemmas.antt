@@ -7,6 +7,7 @@ use Rattle.std.proofs.lemmas.List.Sums.{sum_by-cons}
 use Rattle.std.proofs.lemmas.Option.{slice_get_within, get_or_from_slice_get}
 use Rattle.cpu_model.specs.Step.{Outcome, Done, Calls, Aborts, step_of}
 use Rattle.os9_outer.specs.Stream.{appended, emptied}
+use Rattle.device_table.proofs.StreamLemmas.{appended-twice, appended-nothing}
 use Rattle.device_table.specs.Screens.{Screen}
 use Rattle.machine_model.specs.declared.activity.Activity.{Activity}
 use Rattle.machine_model.specs.declared.activity.Activity.TheVariants.{Running, Calling, Finished}
@@ -154,17 +155,9 @@ abbrev pub Reaches : Option (List ℕ) → List ℕ → State → Kernel → Lis
 Reaches first slices s kernel screens out rest =
     (m : State) × (written : List ℕ) × All IsTold screens × Stands kernel screens m × (out ≡ appended first written) × RunsFrom slices s written rest m
 
-appended-twice : (stream : Option (List ℕ)) (one two : List ℕ) → appended (appended stream one) two ≡ appended stream (one ++ two)
-appended-twice None one two = refl
-appended-twice (Some bytes) one two = rw append_assoc refl
-
-appended-nothing : (stream : Option (List ℕ)) → stream ≡ appended stream []
-appended-nothing None = refl
-appended-nothing (Some bytes) = rw append-nil refl
-
 pub reaches-none : (first : Option (List ℕ)) (slices : List ℕ) (s : State) (kernel : Kernel) (screens : List Screen) → All IsTold screens → Stands kernel screens s → Reaches first slices s kernel screens first slices
 reaches-none first slices s kernel screens told tied =
-    (s, [], told, tied, appended-nothing first, runs-none slices s)
+    (s, [], told, tied, sym (appended-nothing first), runs-none slices s)
 
 pub reaches-more : (slices : List ℕ) (s : State) (n : ℕ) (rest : List ℕ) (kernel after : Kernel) (screens mid now : List Screen) (first out next : Option (List ℕ)) (end : SliceEnd) → Reaches first slices s kernel screens out (n ∷ rest) → ((m : State) → Stands kernel screens m → count_by is_living m.inner.processes ≢ 0) → ((m : State) → Stands kernel screens m → (t : State) × Slice n m end t × Stands after mid t) → now ≡ taken mid → (All IsTold mid → next ≡ appended out (console_of mid)) → Reaches first slices s after now next rest
 reaches-more slices s n rest kernel after screens mid now first out next end (m, written, told, tied, is, so_far) some steps emptied gained =

@@ -4,6 +4,8 @@
 mod console;
 mod run;
 mod status;
+#[cfg(test)]
+mod tests;
 mod top;
 
 pub use os9_words::command::read_words;

@@ -37,6 +37,8 @@ pub fn os9_main<H: Host>(alloc: Global, words: &[String], host: &mut H, devices:
         (screens ⟦<dyn CharDriver as CharDriver>⟧ devices.old.terms.items)
         (H.bytes_out host.old) (H.bytes_out host.new) result) }
     ensures refused_words { result ≡ 1 → command_of (map string_bytes words.now) ≡ None }
+    ensures words_refused { command_of (map string_bytes words.now) ≡ None
+        → (result ≡ 1) ⊎ (result ≡ 4) }
     ensures read_fault { result ≡ 2 → Rose (H.host_faults host.old) (H.host_faults host.new) }
     ensures output_fault { result ≡ 3 → Rose (H.host_faults host.old) (H.host_faults host.new) }
     ensures count_kept { result ≢ 2 → result ≢ 3 → H.host_faults host.new ≡ H.host_faults host.old }

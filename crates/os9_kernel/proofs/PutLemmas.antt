@@ -1,5 +1,5 @@
 -- What is put on a terminal in pieces.
-use Rattle.std.proofs.Common.{◌≡◌, ℕ, ◌+◌, Bool, true, false, Option, Some, None, Result, Ok, Err, List, [], ◌∷◌, ◌++◌, length, take, refl, ◌∙◌, inl, inr, append_assoc, arith}
+use Rattle.std.proofs.Common.{◌≡◌, ℕ, ◌+◌, Bool, true, false, Option, Result, Ok, Err, List, [], ◌∷◌, ◌++◌, length, take, refl, ◌∙◌, inl, inr, arith}
 use Rattle.std.proofs.lemmas.List.{take_all, take-append-le, set-set}
 use Rattle.std.proofs.lemmas.Option.{slice_get_within}
 use Rattle.std.proofs.lemmas.Bool.{cases_lt}
@@ -10,14 +10,10 @@ use Rattle.os9_outer.specs.Stream.{appended, GainsPrefix}
 use Rattle.os9_outer.specs.declared.terminal.PutFault.{PutFault}
 use Rattle.os9_outer.specs.declared.terminal.PutFault.TheVariants.{Fault, OutOfMemory}
 use Rattle.os9_outer.specs.Terminal.{OnFault, UnlessFault}
+use Rattle.device_table.proofs.StreamLemmas.{appended-twice}
 use Rattle.device_table.specs.Screens.{Screen, ChangesOne, Puts}
 use Rattle.machine_model.specs.Call.{shown, ends_in_return}
 use Rattle.machine_model.proofs.ObjectLemmas.{slice_get-set_same}
-
--- what is given to a stream twice
-appended-twice : (stream : Option (List ℕ)) (first next : List ℕ) → appended (appended stream first) next ≡ appended stream (first ++ next)
-appended-twice None first next = refl
-appended-twice (Some bytes) first next = rw append_assoc refl
 
 -- the first bytes of a list are first bytes of a longer one
 GainsPrefix-longer : (before now : Option (List ℕ)) (bytes more : List ℕ) → GainsPrefix before bytes now → GainsPrefix before (bytes ++ more) now

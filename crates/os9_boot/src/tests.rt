@@ -1,0 +1,110 @@
+use crate::os9_main;
+use device_table::devices::Devices;
+use os9_outer::host_file::HostFile;
+use os9_outer::mem_host::MemHost;
+use os9_outer::sure_tty::SureTty;
+use os9_outer::terminal::CharDriver;
+use std::alloc::{AllocError, Global};
+use std::test::Fail;
+
+/// A program that writes `Hello` and a carriage return, and exits with 0.
+const HELLO: [u8; 43] = [
+    0x87, 0xCD, 0x00, 0x2B, 0x00, 0x0D, 0x11, 0x81, 0x03, 0x00, 0x12, 0x00, 0xC8, 0x53, 0x79, 0x73,
+    0x47, 0xEF, 0x30, 0x8C, 0x0D, 0x10, 0x8E, 0x00, 0x50, 0x86, 0x01, 0x10, 0x3F, 0x8C, 0x5F, 0x10,
+    0x3F, 0x06, 0x48, 0x65, 0x6C, 0x6C, 0x6F, 0x0D, 0x84, 0x92, 0xD7,
+];
+
+/// What a call of the program shows.
+#[derive(Drop)]
+struct Shown {
+    status: u8,
+    out: Vec<u8>,
+    err: Vec<u8>,
+}
+
+fn file(alloc: Global, name: &str, bytes: &[u8]) -> Result<HostFile, AllocError> {
+    Ok(HostFile {
+        name: String::from_str(alloc, name)?,
+        bytes: Vec::from_slice(alloc, bytes)?,
+    })
+}
+
+/// Calls the program on the files `h` and `s` over a host whose calls of these numbers fail.
+fn call(
+    alloc: Global,
+    words: &[&str],
+    module: &[u8],
+    slices: &[u8],
+    plan: &[u64],
+) -> Result<Shown, AllocError> {
+    let mut files = Vec::new(alloc);
+    files.push(file(alloc, "h", module)?)?;
+    files.push(file(alloc, "s", slices)?)?;
+    let mut given = Vec::new(alloc);
+    for word in words {
+        given.push(String::from_str(alloc, word)?)?;
+    }
+    let mut terms: Vec<Box<dyn CharDriver>> = Vec::new(alloc);
+    terms.push(Box::new(alloc, SureTty::new(alloc))?)?;
+    let mut devices = Devices {
+        drives: Vec::new(alloc),
+        terms,
+    };
+    let mut host = MemHost::new(alloc, files, Vec::from_slice(alloc, plan)?);
+    let status = os9_main(alloc, given.as_slice(), &mut host, &mut devices);
+    Ok(Shown {
+        status,
+        out: Vec::from_slice(alloc, host.out_bytes.as_slice())?,
+        err: Vec::from_slice(alloc, host.err_bytes.as_slice())?,
+    })
+}
+
+const RUN: [&str; 4] = ["run", "h", "--slices", "s"];
+
+const LINE: &[u8] = b"Hello\r\n";
+
+#[test]
+fn hello_and_slice_budget(rt: HostRuntime) -> Result<(), Fail> {
+    let rows: [(&[u8], u8, &[u8]); 5] = [
+        (b"100", 0, LINE),
+        (b"4", 5, b""),
+        (b"6\n", 5, LINE),
+        (b"7", 0, LINE),
+        (b"0", 7, b""),
+    ];
+    for (slices, status, out) in rows {
+        let shown = call(rt.alloc(), &RUN, &HELLO, slices, &[])?;
+        assert_eq!(rt; shown.status, status);
+        assert!(rt; shown.out.as_slice() == out);
+        assert!(rt; shown.err.is_empty());
+    }
+    Ok(())
+}
+
+#[test]
+fn host_faults(rt: HostRuntime) -> Result<(), Fail> {
+    let unread = call(rt.alloc(), &RUN, &HELLO, b"100", &[1])?;
+    assert_eq!(rt; unread.status, 2);
+    assert!(rt; unread.err.as_slice() == b"os9: cannot read s\n".as_slice());
+    let no_module = call(rt.alloc(), &RUN, &HELLO, b"100", &[2])?;
+    assert_eq!(rt; no_module.status, 2);
+    assert!(rt; no_module.err.as_slice() == b"os9: cannot read h\n".as_slice());
+    let unwritten = call(rt.alloc(), &RUN, &HELLO, b"100", &[3])?;
+    assert_eq!(rt; unwritten.status, 3);
+    assert!(rt; unwritten.err.as_slice() == b"os9: cannot write output\n".as_slice());
+    assert!(rt; unwritten.out.is_empty());
+    Ok(())
+}
+
+#[test]
+fn bad_words_and_bad_module(rt: HostRuntime) -> Result<(), Fail> {
+    let no_words = call(rt.alloc(), &[], &HELLO, b"100", &[])?;
+    assert_eq!(rt; no_words.status, 1);
+    assert!(rt; no_words.err.as_slice() == b"os9: words\n".as_slice());
+    let mut module = HELLO;
+    module[34] = 0x68;
+    let bad_module = call(rt.alloc(), &RUN, &module, b"100", &[])?;
+    assert_eq!(rt; bad_module.status, 8);
+    assert!(rt; bad_module.out.is_empty());
+    Ok(())
+}
