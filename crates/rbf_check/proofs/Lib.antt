@@ -1,5 +1,9 @@
+pub mod Cases
 pub mod Least
+pub mod Leasts
 pub mod MapRule
+pub mod Owned
+pub mod Runs
 pub mod Searched
 pub mod Visits
 pub mod Walked

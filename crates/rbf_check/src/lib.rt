@@ -5,4 +5,7 @@
 mod descriptors;
 mod directory;
 mod header;
+mod lesser;
+mod marks;
+mod owners;
 mod walk;
