@@ -1,7 +1,10 @@
+pub mod Again
 pub mod Cases
+pub mod Clusters
 pub mod Least
 pub mod Leasts
 pub mod MapRule
+pub mod Noted
 pub mod Owned
 pub mod Runs
 pub mod Searched

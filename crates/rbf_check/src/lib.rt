@@ -8,4 +8,6 @@ mod header;
 mod lesser;
 mod marks;
 mod owners;
+mod shares;
+mod uses;
 mod walk;

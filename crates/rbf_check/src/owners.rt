@@ -1,4 +1,4 @@
-ghost use Rattle.std.specs.Prelude.{◌≡◌, ◌+◌, ◌<◌, ◌==◌, ◌++◌, OnOk, if◌then◌else◌};
+ghost use Rattle.std.specs.Prelude.{◌≡◌, ℕ, ◌+◌, ◌<◌, ◌==◌, ◌++◌, OnOk, IfOk, Some, None, length, slice_index_or, if◌then◌else◌};
 ghost use Rattle.std.specs.List.{range_with_len};
 ghost use Rattle.rbf_model.specs.Geometry.{map_sectors, sector as sector_of};
 ghost use Rattle.rbf_model.specs.Segments.{sectors_of};
@@ -8,7 +8,7 @@ ghost use Rattle.rbf_check.specs.Used.{used_by};
 use crate::header::sector;
 use rbf_sector::{Ident, read_fd};
 use rbf_segs::Segs;
-use std::alloc::AllocError;
+use std::alloc::{AllocError, Global};
 
 // How many of the system's sectors, which begin at LSN 0, are this file's: the root's has them.
 fn system_count(ident: &Ident, n: u32) -> u32
@@ -62,4 +62,16 @@ pub fn list_used(
     sectors.push(n)?;
     push_segments(sectors, &fd.segs)?;
     Ok(())
+}
+
+/// A table of so many places, none of which has an owner yet.
+pub fn no_owners(alloc: Global, n: u32) -> Result<Vec<Option<usize>>, AllocError>
+    ensures size { IfOk result (λ owners. length owners.items ≡ n) }
+    ensures none { IfOk result (λ owners. (s m : ℕ) → slice_index_or owners.items s None ≡ Some m → ⊥) }
+{
+    let mut owners = Vec::new(alloc);
+    for i in 0..n {
+        owners.push(None)?;
+    }
+    Ok(owners)
 }
