@@ -3,7 +3,9 @@ pub mod Cases
 pub mod Clusters
 pub mod Least
 pub mod Leasts
+pub mod Linking
 pub mod MapRule
+pub mod Naming
 pub mod Noted
 pub mod Owned
 pub mod Runs

@@ -35,7 +35,7 @@ fn find(search: &mut Search, n: u32) -> Result<(), AllocError>
 
 // The descriptor that an entry after the first two names, if it is used and the number is one of
 // the volume.
-fn named(image: &[u8], ident: &Ident, dir: &Directory, i: u32) -> Option<u32>
+pub fn named(image: &[u8], ident: &Ident, dir: &Directory, i: u32) -> Option<u32>
     requires ident { IsIdent image.now ident.now }
     requires directory { IsDirectory image.now ident.now dir.now }
     requires after { 2 ≤ i }
