@@ -1,3 +1,4 @@
+pub mod Dots
 pub mod Found
 pub mod Least
 pub mod Linked

@@ -4,10 +4,12 @@
 
 mod descriptors;
 mod directory;
+mod dots;
 mod header;
 mod lesser;
 mod links;
 mod marks;
+mod names;
 mod namings;
 mod owners;
 mod shares;
