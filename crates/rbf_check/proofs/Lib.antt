@@ -2,6 +2,7 @@ pub mod Again
 pub mod Cases
 pub mod Clusters
 pub mod Dotting
+pub mod Keyed
 pub mod Least
 pub mod Leasts
 pub mod Linking

@@ -1,5 +1,6 @@
 pub mod Dots
 pub mod Found
+pub mod Keys
 pub mod Least
 pub mod Linked
 pub mod Named

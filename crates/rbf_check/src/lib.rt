@@ -5,7 +5,9 @@
 mod descriptors;
 mod directory;
 mod dots;
+mod entries;
 mod header;
+mod keys;
 mod lesser;
 mod links;
 mod marks;

@@ -4,7 +4,7 @@ ghost use Rattle.os9_base.specs.Name.{stored_name};
 use os9_base::name::{Name, header_name};
 
 // Is the name this text?
-fn is_text(name: &Name, text: &[u8]) -> bool
+pub fn is_text(name: &Name, text: &[u8]) -> bool
     ensures { MatchBool result (name.now ≡ text.now) (name.now ≡ text.now → ⊥) }
 {
     if usize::from(name.len()) != text.len() {
