@@ -1,7 +1,7 @@
 -- Directories that begin with themselves and their parents.
 use Rattle.std.proofs.Common.{◌≡◌, ◌≢◌, ◌⊎◌, ℕ, ◌+◌, ◌*◌, ◌<◌, ◌≤◌, Bool, true, false, List, [], length, take, drop, get_or, set, replicate, zero, suc, Option, Some, None, refl, sym, ap, ◌∙◌, subst, inl, inr, ⊎_elim, arith}
 use Rattle.std.specs.Prelude.{Contains, MatchBool}
-use Rattle.std.proofs.lemmas.Bool.{cases_lt, cases_eq, false≢true}
+use Rattle.std.proofs.lemmas.Bool.{cases_lt, cases_eq, cases_Bool, false≢true}
 use Rattle.std.proofs.lemmas.List.{get_or_default, get_or-set_same, get_or-set_other, length-set, drop_all}
 use Rattle.os9_base.specs.Name.{stored_name}
 use Rattle.rbf_model.specs.Segments.{has}
@@ -22,7 +22,7 @@ use Rattle.rbf_check.specs.Linked.{AreLinks}
 use Rattle.rbf_check.specs.Least.{IsLeast, Before}
 use Rattle.rbf_check.specs.Rules.{IsLeastBreach}
 use Rattle.rbf_check.specs.Named.{link_at}
-use Rattle.rbf_check.specs.Dots.{NamesSo, AreDots, BeginsWithDots, MarksDots, AreDotted, IsWithoutDots}
+use Rattle.rbf_check.specs.Dots.{NamesSo, AreDots, BeginsWithDots, MarksDots, AreDotted, IsWithoutDots, AreDotsDecided}
 use Rattle.rbf_check.proofs.Cases.{dots_of}
 use Rattle.rbf_check.proofs.Leasts.{least_along, least_in_list}
 
@@ -202,3 +202,10 @@ number_after image ident found i whole is low =
 pub number_linked : (g : Geometry) (disk : ℕ → List ℕ) (links : List Link) (k : ℕ) → AreLinks g disk links → k < length links → IsNumber g (link_at links k).descriptor
 number_linked g disk links k are low =
     (are.each (link_at links k) (k, low, get_or_default links k (link_at links k) (record { directory = 0; entry = 0; descriptor = 0 }) low)).1
+
+-- the marks decide
+pub dots_decided : (g : Geometry) (disk : ℕ → List ℕ) (dotted : List Bool) → AreDotted g disk dotted → AreDotsDecided g disk
+dots_decided g disk dotted are = λ n number. ⊎_elim
+    (λ marked. inl (are.only n marked))
+    (λ not_marked. inr (λ dots. false≢true (sym not_marked ∙ are.there n number dots)))
+    (cases_Bool (get_or dotted n false))

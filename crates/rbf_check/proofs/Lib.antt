@@ -12,5 +12,6 @@ pub mod Noted
 pub mod Owned
 pub mod Runs
 pub mod Searched
+pub mod Verdicts
 pub mod Visits
 pub mod Walked

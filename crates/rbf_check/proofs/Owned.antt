@@ -29,7 +29,7 @@ unfolding is_marked
 mark_is image c = ap (λ b. bit_at b (7 - c % 8) == 1) (sym (map_byte_is image (c / 8)))
 
 module _ (g : Geometry) (disk : ℕ → List ℕ) (header : IsHeader g) (kept : (lsn : ℕ) → Breaks g disk 1 lsn → ⊥) (map : HasMap g) where
-  lie_within : (n : ℕ) → Reaches g disk n → LieWithin g (segments_field (disk n))
+  pub lie_within : (n : ℕ) → Reaches g disk n → LieWithin g (segments_field (disk n))
   lie_within n reached =
       let segments = segments_field (disk n) in
       All-from_get_or (λ s. is_within g s ≡ true) segments (0, 0) (λ i low. ⊎_elim

@@ -38,3 +38,7 @@ pub record AreDotted (g : Geometry) (disk : ℕ → List ℕ) (dotted : List Boo
 -- the descriptor is that of a directory that does not begin so
 abbrev pub IsWithoutDots : Geometry → (ℕ → List ℕ) → ℕ → ℕ → Type 0
 IsWithoutDots g disk n s = (s ≡ n) × ((is_directory (file_at disk n) ≡ true) × (HasDots g (searched g disk) n → ⊥))
+
+-- each number of the volume begins so or does not
+abbrev pub AreDotsDecided : Geometry → (ℕ → List ℕ) → Type 0
+AreDotsDecided g disk = (n : ℕ) → IsNumber g n → HasDots g (searched g disk) n ⊎ (HasDots g (searched g disk) n → ⊥)

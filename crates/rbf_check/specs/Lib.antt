@@ -7,3 +7,4 @@ pub mod Named
 pub mod Reading
 pub mod Rules
 pub mod Used
+pub mod Verdict

@@ -6,7 +6,7 @@ ghost use Rattle.rbf_check.specs.Reading.{geometry_of, IsIdent, IsDirectory, lis
 ghost use Rattle.rbf_check.specs.Linked.{AreLinks};
 ghost use Rattle.rbf_check.specs.Least.{IsLeast};
 ghost use Rattle.rbf_check.specs.Rules.{IsLeastBreach};
-ghost use Rattle.rbf_check.specs.Dots.{AreDots, BeginsWithDots, MarksDots, AreDotted, IsWithoutDots};
+ghost use Rattle.rbf_check.specs.Dots.{AreDots, BeginsWithDots, MarksDots, AreDotted, IsWithoutDots, AreDotsDecided};
 
 use crate::directory::{Directory, entry_bytes, read_directory};
 use crate::header::sector;
@@ -121,7 +121,8 @@ pub fn least_without_dots(
     requires ident { IsIdent image.now ident.now }
     requires found { IsFound (geometry_of ident.now) (sector_of image.now) found.now }
     requires links { AreLinks (geometry_of ident.now) (sector_of image.now) links.now }
-    ensures { IfOk result (IsLeastBreach (geometry_of ident.now) (sector_of image.now) 7) }
+    ensures least { IfOk result (IsLeastBreach (geometry_of ident.now) (sector_of image.now) 7) }
+    ensures decided { IfOk result (λ least. AreDotsDecided (geometry_of ident.now) (sector_of image.now)) }
 {
     let dotted = list_dotted(alloc, image, ident, links)?;
     let mut least = None;

@@ -6,6 +6,7 @@ mod descriptors;
 mod directory;
 mod dots;
 mod entries;
+mod faults;
 mod header;
 mod keys;
 mod lesser;
