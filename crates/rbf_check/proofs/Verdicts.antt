@@ -58,9 +58,9 @@ module _ (g : Geometry) (disk : ℕ → List ℕ) where
     least = λ other at b. ⊎_elim
         (λ less. absurd (before other at less b))
         (λ more. ⊎_elim
-            (λ above. inl above)
-            (λ not_above. let P : ℕ → Type 0 = λ r. Breaks g disk r at in let same : other ≡ rule = omega arith in inr (sym same, is.1 at (subst P same b)))
-            (cases_lt rule other))
+        (λ above. inl above)
+        (λ not_above. let P : ℕ → Type 0 = λ r. Breaks g disk r at in let same : other ≡ rule = omega arith in inr (sym same, is.1 at (subst P same b)))
+        (cases_lt rule other))
         (cases_lt other rule);
   }
 
@@ -73,9 +73,9 @@ module _ (g : Geometry) (disk : ℕ → List ℕ) where
       ⊎_elim
       (λ bad. absurd (kept 1 (bad_map (λ map. let bits = map.bits in absurd (omega arith)))))
       (λ bits. ⊎_elim
-          (λ bad. absurd (kept 1 (bad_map (λ map. let fits = map.fits in absurd (omega arith)))))
-          (λ fits. record { bits = bits; fits = fits })
-          (cases_lt g.total (1 + map_sectors g)))
+      (λ bad. absurd (kept 1 (bad_map (λ map. let fits = map.fits in absurd (omega arith)))))
+      (λ fits. record { bits = bits; fits = fits })
+      (cases_lt g.total (1 + map_sectors g)))
       (cases_lt (8 * g.map_bytes * g.cluster) g.total)
 
   pub not_broken : (rule : ℕ) (least : Option ℕ) → IsLeastBreach g disk rule least → least ≡ None → NotBroken rule
@@ -149,9 +149,9 @@ module _ (g : Geometry) (disk : ℕ → List ℕ) where
         ⊎_elim
         (λ zero. absurd (none 1 d (bad_number reached entry (λ number. let after = number.after in absurd (omega arith)))))
         (λ after. ⊎_elim
-            (λ below. record { after = after; below = below })
-            (λ past. absurd (none 1 d (bad_number reached entry (λ number. let below = number.below in absurd (omega arith)))))
-            (cases_lt n g.total))
+        (λ below. record { after = after; below = below })
+        (λ past. absurd (none 1 d (bad_number reached entry (λ number. let below = number.below in absurd (omega arith)))))
+        (cases_lt n g.total))
         (cases_lt n 1)
 
     names_kept : (d : ℕ) → Reaches g disk d → HasNames (searched g disk d)
@@ -198,9 +198,9 @@ module _ (g : Geometry) (disk : ℕ → List ℕ) where
           let number : IsNumber g n = subst P one.names.descriptor (number_kept d i one.from one.names.entry) in
           ⊎_elim
           (λ d_e. ⊎_elim
-              (λ i_j. (d_e, i_j))
-              (λ differ. absurd (none 9 n (named_twice number one other (λ same. differ same.1))))
-              (cases_eq i j))
+          (λ i_j. (d_e, i_j))
+          (λ differ. absurd (none 9 n (named_twice number one other (λ same. differ same.1))))
+          (cases_eq i j))
           (λ differ. absurd (none 9 n (named_twice number one other (λ same. differ same.0))))
           (cases_eq d e);
       root_free = λ d i link. none 9 g.root (named_root link);

@@ -77,3 +77,52 @@ pub fn find_fault(alloc: Global, image: &[u8]) -> Result<Option<CheckFault>, All
     let fault = least_fault(alloc, image, &ident, &found)?;
     Ok(fault)
 }
+
+#[cfg(test)]
+mod tests {
+    use super::*;
+    use std::test::Fail;
+
+    // The smallest volume: 16 sectors, whose root is its only file.
+    fn smallest(alloc: Global) -> Result<Vec<u8>, AllocError> {
+        let mut image = vec![in alloc; 0u8; 4096]?;
+        let bytes = [
+            (2, 16),
+            (5, 2),
+            (7, 1),
+            (10, 2),
+            (256, 0xF0),
+            (512, 0xBF),
+            (524, 64),
+            (530, 3),
+            (532, 1),
+        ];
+        let entries = [(768, 0x2E), (769, 0xAE), (799, 2), (800, 0xAE), (831, 2)];
+        for (at, byte) in bytes {
+            if at < image.len() {
+                image[at] = byte;
+            }
+        }
+        for (at, byte) in entries {
+            if at < image.len() {
+                image[at] = byte;
+            }
+        }
+        Ok(image)
+    }
+
+    #[test]
+    fn check_faults(rt: HostRuntime) -> Result<(), Fail> {
+        let mut image = smallest(rt.alloc())?;
+        assert_eq!(rt; find_fault(rt.alloc(), &image)?, None);
+        let cut = image.len().min(4095);
+        let fault = find_fault(rt.alloc(), &image[..cut])?;
+        assert_eq!(rt; fault, Some(CheckFault { rule: 1, lsn: 0 }));
+        if 256 < image.len() {
+            image[256] = 0xE0;
+        }
+        let fault = find_fault(rt.alloc(), &image)?;
+        assert_eq!(rt; fault, Some(CheckFault { rule: 3, lsn: 3 }));
+        Ok(())
+    }
+}
