@@ -1,5 +1,17 @@
+pub mod Again
+pub mod Cases
+pub mod Clusters
+pub mod Dotting
+pub mod Keyed
 pub mod Least
+pub mod Leasts
+pub mod Linking
 pub mod MapRule
+pub mod Naming
+pub mod Noted
+pub mod Owned
+pub mod Runs
 pub mod Searched
+pub mod Verdicts
 pub mod Visits
 pub mod Walked

@@ -1,3 +1,10 @@
+pub mod Dots
 pub mod Found
+pub mod Keys
+pub mod Least
+pub mod Linked
+pub mod Named
 pub mod Reading
 pub mod Rules
+pub mod Used
+pub mod Verdict

@@ -35,7 +35,7 @@ fn find(search: &mut Search, n: u32) -> Result<(), AllocError>
 
 // The descriptor that an entry after the first two names, if it is used and the number is one of
 // the volume.
-fn named(image: &[u8], ident: &Ident, dir: &Directory, i: u32) -> Option<u32>
+pub fn named(image: &[u8], ident: &Ident, dir: &Directory, i: u32) -> Option<u32>
     requires ident { IsIdent image.now ident.now }
     requires directory { IsDirectory image.now ident.now dir.now }
     requires after { 2 ≤ i }
@@ -93,51 +93,4 @@ pub fn walk(alloc: Global, image: &[u8], ident: &Ident) -> Result<Vec<u32>, Allo
     }
     let Search { seen: _, found } = search;
     Ok(found)
-}
-
-#[cfg(test)]
-mod tests {
-    use super::*;
-    use crate::descriptors::{OwnRule, least_breach};
-    use crate::header::{map_breach, read_header};
-    use std::test::Fail;
-
-    // The smallest volume, whose root is the only descriptor that is reached, and what a size that
-    // is no multiple of 32 breaks.
-    #[test]
-    fn the_smallest_volume(rt: HostRuntime) -> Result<(), Fail> {
-        let mut image = vec![in rt.alloc(); 0u8; 4096]?;
-        let bytes = [
-            (2, 16),
-            (5, 2),
-            (7, 1),
-            (10, 2),
-            (256, 0xF0),
-            (512, 0xBF),
-            (524, 64),
-            (530, 3),
-            (532, 1),
-        ];
-        let entries = [(768, 0x2E), (769, 0xAE), (799, 2), (800, 0xAE), (831, 2)];
-        for (at, byte) in bytes {
-            if at < image.len() {
-                image[at] = byte;
-            }
-        }
-        for (at, byte) in entries {
-            if at < image.len() {
-                image[at] = byte;
-            }
-        }
-        let ident = read_header(&image).ok_or("no header")?;
-        let found = walk(rt.alloc(), &image, &ident)?;
-        assert_eq!(rt; found.as_slice(), [2].as_slice());
-        assert_eq!(rt; map_breach(&image, &ident), None);
-        for rule in [OwnRule::Numbers, OwnRule::Room, OwnRule::Size] {
-            assert_eq!(rt; least_breach(&image, &ident, &found, rule), None);
-        }
-        let cut = image.len().min(4095);
-        assert_eq!(rt; read_header(&image[..cut]), None);
-        Ok(())
-    }
 }

@@ -1,0 +1,16 @@
+-- The least of the numbers that have a property.
+use Rattle.std.specs.Prelude.{ℕ, ◌<◌, ◌≤◌, min, Option, Some, None, MatchOption}
+
+-- it is the least of them, and where there is none no number has the property
+abbrev pub IsLeast : (ℕ → Type 0) → Option ℕ → Type 0
+IsLeast B least = MatchOption least ((s : ℕ) → B s → ⊥) (λ low. B low × ((s : ℕ) → B s → low ≤ s))
+
+-- the lesser of two numbers of which either may be missing
+abbrev pub lesser_of : Option ℕ → Option ℕ → Option ℕ
+lesser_of None other = other
+lesser_of (Some one) None = Some one
+lesser_of (Some one) (Some other) = Some (min one other)
+
+-- the number has the property of one of the first places
+abbrev pub Before : (ℕ → ℕ → Type 0) → ℕ → ℕ → Type 0
+Before B i s = (k : ℕ) × (k < i) × B k s
