@@ -1,8 +1,7 @@
 -- What is used again breaks rule 4.
-use Rattle.std.proofs.Common.{◌≡◌, ◌⊎◌, ℕ, ◌*◌, ◌/◌, ◌<◌, true, List, length, get_or, Option, sym, ap, ◌∙◌, subst, inl, inr, ⊎_elim, arith}
+use Rattle.std.proofs.Common.{◌≡◌, ◌⊎◌, ℕ, ◌/◌, true, List, length, get_or, Option, sym, ap, ◌∙◌, subst, inl, inr, ⊎_elim, arith}
 use Rattle.std.proofs.lemmas.List.{get_or_default}
 use Rattle.rbf_model.specs.Geometry.{Geometry}
-use Rattle.rbf_model.specs.Segments.{has}
 use Rattle.rbf_model.specs.File.{file_at}
 use Rattle.rbf_model.specs.Space.{owns, has_cluster}
 use Rattle.rbf_model.specs.Faults.{Breaks, IsFound}
@@ -11,7 +10,7 @@ use Rattle.rbf_model.proofs.Bytes.{has_place, place_of}
 use Rattle.rbf_model.proofs.Space.{cluster_from_owns, owns_from_cluster}
 use Rattle.rbf_check.specs.Rules.{IsLeastBreach}
 use Rattle.rbf_check.specs.Least.{IsLeast, lesser_of}
-use Rattle.rbf_check.specs.Used.{used_by, StandsTwice, IsTwiceOfOne, HasCluster, IsOfTwo}
+use Rattle.rbf_check.specs.Used.{used_by, IsTwiceOfOne, HasCluster, IsOfTwo}
 use Rattle.rbf_check.proofs.Cases.{UsedTwice, Shared, used_of}
 use Rattle.rbf_check.proofs.Leasts.{least_along, least_either}
 

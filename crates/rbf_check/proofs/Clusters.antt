@@ -1,12 +1,11 @@
 -- Clusters that are given to their owners.
-use Rattle.std.proofs.Common.{◌≡◌, ◌≢◌, ◌⊎◌, ℕ, zero, suc, ◌+◌, ◌*◌, ◌/◌, ◌<◌, true, List, [], ◌∷◌, ◌++◌, All, length, get_or, set, Option, Some, None, refl, sym, ap, ◌∙◌, subst, inl, inr, ⊎_elim, arith}
+use Rattle.std.proofs.Common.{◌≡◌, ◌≢◌, ◌⊎◌, ℕ, zero, suc, ◌+◌, ◌*◌, ◌/◌, ◌<◌, List, [], ◌∷◌, ◌++◌, All, length, get_or, set, Option, Some, None, refl, sym, ap, ◌∙◌, subst, inl, inr, ⊎_elim, arith}
 use Rattle.std.proofs.lemmas.Bool.{cases_lt, cases_eq}
 use Rattle.std.proofs.Math.Nat.{div-le_self}
 use Rattle.std.proofs.lemmas.List.{get_or-set_same, get_or-set_other, length-set}
 use Rattle.rbf_model.specs.Geometry.{Geometry}
-use Rattle.rbf_model.specs.Segments.{has}
 use Rattle.rbf_check.specs.Least.{IsLeast, Before}
-use Rattle.rbf_check.specs.Used.{used_by, IsGiven, HasBefore, IsOwned, IsSharedAt, IsShared, HasCluster, IsOfTwo}
+use Rattle.rbf_check.specs.Used.{used_by, IsGiven, IsOwned, IsSharedAt, IsShared, HasCluster, IsOfTwo}
 use Rattle.rbf_check.proofs.Leasts.{least_along, least_either}
 use Rattle.rbf_check.specs.Least.{lesser_of}
 

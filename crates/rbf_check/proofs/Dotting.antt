@@ -6,9 +6,8 @@ use Rattle.std.proofs.lemmas.List.{get_or_default, get_or-set_same, get_or-set_o
 use Rattle.os9_base.specs.Name.{stored_name}
 use Rattle.rbf_model.specs.Segments.{has}
 use Rattle.rbf_model.specs.Fields.{entry_at, name_field, descriptor_field}
-use Rattle.rbf_model.specs.Geometry.{Geometry, IsNumber, IsHeader, sector}
-use Rattle.rbf_model.specs.File.{file_at, is_directory}
-use Rattle.rbf_model.specs.Tree.{dot, dot_dot, IsEntry, IsParent, of_root, of_other, HasDots, self_first, parent_first, Links}
+use Rattle.rbf_model.specs.Geometry.{Geometry, IsNumber, sector}
+use Rattle.rbf_model.specs.Tree.{dot, dot_dot, IsEntry, IsParent, of_root, of_other, HasDots, self_first, parent_first}
 use Rattle.rbf_model.specs.Faults.{Breaks, IsFound, searched}
 use Rattle.rbf_model.specs.Faults.Breaks.{no_dots}
 use Rattle.rbf_model.proofs.Bytes.{has_place}

@@ -1,13 +1,10 @@
 -- Sectors that are noted as used.
-use Rattle.std.proofs.Common.{◌≡◌, ◌≢◌, ◌⊎◌, ℕ, ◌+◌, ◌<◌, true, List, All, length, get_or, set, Option, Some, None, refl, sym, ap, ◌∙◌, subst, inl, inr, ⊎_elim, arith}
+use Rattle.std.proofs.Common.{◌≡◌, ◌≢◌, ◌⊎◌, ℕ, ◌+◌, ◌<◌, List, length, get_or, set, Option, Some, None, refl, sym, ap, ◌∙◌, subst, inl, inr, ⊎_elim, arith}
 use Rattle.std.proofs.lemmas.Bool.{cases_lt, cases_eq}
-use Rattle.std.proofs.lemmas.List.{get_or-set_same, get_or-set_other, length-set, get_or_default}
-use Rattle.rbf_model.specs.Geometry.{Geometry}
-use Rattle.rbf_model.specs.Segments.{has}
-use Rattle.rbf_model.specs.Faults.{IsFound}
+use Rattle.std.proofs.lemmas.List.{get_or-set_same, get_or-set_other, length-set}
 use Rattle.rbf_check.specs.Least.{IsLeast, Before}
-use Rattle.rbf_check.specs.Used.{used_by, StandsBefore, IsTwiceAt, StandsTwice, IsTwiceOfOne, IsNotedAt}
-use Rattle.rbf_check.proofs.Leasts.{least_along, least_in_list}
+use Rattle.rbf_check.specs.Used.{StandsBefore, IsTwiceAt, StandsTwice, IsNotedAt}
+use Rattle.rbf_check.proofs.Leasts.{least_along}
 
 -- what is noted of the first j sectors of owner i
 pub record IsNoted (xs : List ℕ) (i : ℕ) (old users : List (Option ℕ)) (j : ℕ) : Type 0 where

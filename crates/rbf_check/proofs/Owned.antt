@@ -1,5 +1,5 @@
 -- The sectors that are in use, and those whose cluster is not marked.
-use Rattle.std.proofs.Common.{◌≡◌, ℕ, ◌+◌, ◌-◌, ◌*◌, ◌/◌, ◌%◌, ◌<◌, ◌==◌, true, false, List, All, length, get_or, Option, refl, sym, ap, ◌∙◌, subst, ⊎_elim, arith}
+use Rattle.std.proofs.Common.{◌≡◌, ℕ, ◌+◌, ◌-◌, ◌/◌, ◌%◌, ◌<◌, ◌==◌, true, List, All, length, get_or, Option, refl, sym, ap, ◌∙◌, subst, ⊎_elim, arith}
 use Rattle.std.specs.Int.{bit_at}
 use Rattle.std.proofs.lemmas.Bool.{cases_Bool}
 use Rattle.std.proofs.lemmas.List.{get_or_default}
@@ -8,7 +8,7 @@ use Rattle.rbf_model.specs.Fields.{segments_field}
 use Rattle.rbf_model.specs.Geometry.{Geometry, sector, is_within, LieWithin, IsHeader, HasMap}
 use Rattle.rbf_model.specs.Segments.{has}
 use Rattle.rbf_model.specs.File.{file_at}
-use Rattle.rbf_model.specs.Space.{is_marked, owned, owns}
+use Rattle.rbf_model.specs.Space.{is_marked, owns}
 use Rattle.rbf_model.specs.Faults.{Breaks, IsFound, Reaches, searched}
 use Rattle.rbf_model.specs.Faults.Breaks.{bad_segment, unmarked}
 use Rattle.rbf_model.proofs.Bytes.{has_place}

@@ -1,5 +1,5 @@
 -- The least fault, and what holds where there is none.
-use Rattle.std.proofs.Common.{◌≡◌, ◌≢◌, ◌⊎◌, ℕ, ◌+◌, ◌*◌, ◌/◌, ◌<◌, ◌≤◌, true, false, List, length, get_or, Option, Some, None, refl, sym, ap, ◌∙◌, subst, inl, inr, ⊎_elim, arith}
+use Rattle.std.proofs.Common.{◌≡◌, ◌⊎◌, ℕ, ◌+◌, ◌*◌, ◌/◌, ◌<◌, ◌≤◌, List, get_or, Option, Some, None, refl, sym, ◌∙◌, subst, inl, inr, ⊎_elim, arith}
 use Rattle.std.specs.Prelude.{MatchOption}
 use Rattle.std.proofs.lemmas.Bool.{cases_lt, cases_eq, cases_Bool}
 use Rattle.rbf_check.specs.declared.faults.CheckFault.{CheckFault}
@@ -7,9 +7,8 @@ use Rattle.std.proofs.lemmas.List.{get_or_default}
 use Rattle.rbf_model.specs.Fields.{entry_at, name_field, descriptor_field, segments_field, size_field}
 use Rattle.rbf_model.specs.Geometry.{Geometry, IsNumber, IsHeader, HasMap, HasHeader, image_geometry, map_sectors, sector}
 use Rattle.rbf_model.specs.File.{file_at, is_directory, is_directory_size, has_room}
-use Rattle.rbf_model.specs.Space.{is_marked, owned, owns, has_cluster}
-use Rattle.rbf_model.specs.Segments.{AreDistinct}
-use Rattle.rbf_model.specs.Tree.{dot, dot_dot, HasEntry, IsProper, HasNames, HasDifferentNames, Links, HasDots}
+use Rattle.rbf_model.specs.Space.{is_marked, owned}
+use Rattle.rbf_model.specs.Tree.{HasEntry, HasNames}
 use Rattle.rbf_model.specs.Faults.{Breaks, Reaches, Keeps, IsFound, IsFault, ImageBreaks, searched, image_volume}
 use Rattle.rbf_model.specs.Faults.Breaks.{bad_number, bad_segment, bad_map, unmarked, used_twice, shared, no_room, no_root, bad_size, no_dots, bad_name, same_name, named_twice, named_root}
 use Rattle.rbf_model.specs.Faults.ImageBreaks.{bad_header, breaks}

@@ -1,5 +1,5 @@
 -- The first two entries of a directory, for rule 7.
-use Rattle.std.specs.Prelude.{◌≡◌, ◌≢◌, ◌⊎◌, ℕ, ◌<◌, true, false, Bool, List, length, get_or, Some}
+use Rattle.std.specs.Prelude.{◌≡◌, ◌≢◌, ◌⊎◌, ℕ, true, false, Bool, List, length, get_or, Some}
 use Rattle.os9_base.specs.Name.{stored_name}
 use Rattle.rbf_model.specs.Fields.{entry_at}
 use Rattle.rbf_model.specs.Geometry.{Geometry, IsNumber}

@@ -1,5 +1,5 @@
 -- The links of the reached directories: their used entries after the first two, which name descriptors.
-use Rattle.std.specs.Prelude.{◌≡◌, ◌⊎◌, ℕ, ◌<◌, List, length, Contains}
+use Rattle.std.specs.Prelude.{◌≡◌, ◌⊎◌, ℕ, ◌<◌, List, Contains}
 use Rattle.rbf_model.specs.Geometry.{Geometry, IsNumber}
 use Rattle.rbf_model.specs.Tree.{NamesIn, Links}
 use Rattle.rbf_model.specs.Faults.{searched}

@@ -1,5 +1,5 @@
 -- Which links name a descriptor that another link names too, for rule 9.
-use Rattle.std.specs.Prelude.{◌≡◌, ◌⊎◌, ℕ, ◌<◌, ◌≤◌, List, length, get_or, Option, Some, None}
+use Rattle.std.specs.Prelude.{◌≡◌, ◌⊎◌, ℕ, ◌<◌, ◌≤◌, List, get_or, Option, Some, None}
 use Rattle.rbf_check.specs.declared.links.Link.{Link}
 
 -- the link in a place of the list

@@ -1,4 +1,4 @@
-use Rattle.std.proofs.Common.{◌≡◌, ℕ, Bool, refl, subst, arith, rules, length, replicate, false}
+use Rattle.std.proofs.Common.{◌≡◌, ℕ, refl, subst, arith, rules, length, replicate, false}
 use Rattle.std.specs.Prelude.{MatchBool}
 use Rattle.rbf_model.specs.Geometry.{sector}
 use Rattle.rbf_check.specs.Reading.{geometry_of, listed}

@@ -1,5 +1,5 @@
 use Rattle.std.proofs.Common.{◌≡◌, ℕ, ◌<◌, ◌≤◌, get_or, length}
-use Rattle.os9_base.specs.Name.{lower, IsName}
+use Rattle.os9_base.specs.Name.{lower}
 use Rattle.rbf_check.proofs.keys.key_of.Given as goal
 
 abbrev pub invariant-loop-i : goal.invariant-loop-i

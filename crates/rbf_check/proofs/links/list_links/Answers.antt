@@ -1,4 +1,4 @@
-use Rattle.std.proofs.Common.{◌∙◌, arith}
+use Rattle.std.proofs.Common.{arith}
 use Rattle.rbf_model.specs.Geometry.{sector}
 use Rattle.rbf_check.specs.Reading.{geometry_of}
 use Rattle.rbf_check.proofs.Least.{number_found}

@@ -1,4 +1,4 @@
-use Rattle.std.proofs.Common.{◌<◌, ◌≤◌, arith, rules, length}
+use Rattle.std.proofs.Common.{◌<◌, arith, rules, length}
 use Rattle.rbf_check.proofs.Naming.{noted_more, noted_first, again_is, again_not}
 use Rattle.rbf_check.proofs.namings.named_again.Goals as goal
 

@@ -1,4 +1,4 @@
-use Rattle.std.proofs.Common.{◌≡◌, ◌∙◌, ◌+◌, ap, arith, length, length-append, List, [], ◌∷◌, Option, ℕ, None}
+use Rattle.std.proofs.Common.{◌≡◌, ◌+◌, ap, arith, length, length-append, List, [], ◌∷◌, Option, ℕ, None}
 use Rattle.rbf_check.proofs.Clusters.{none_behind, none_in}
 use Rattle.rbf_check.proofs.owners.no_owners.Goals as goal
 

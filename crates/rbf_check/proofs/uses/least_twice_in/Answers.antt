@@ -1,4 +1,4 @@
-use Rattle.std.proofs.Common.{refl, ap, ◌≡◌, ◌<◌, arith, length, get_or}
+use Rattle.std.proofs.Common.{refl, ◌<◌, arith, length, get_or}
 use Rattle.rbf_check.specs.Used.{IsTwiceAt}
 use Rattle.rbf_check.proofs.Leasts.{least_before, least_next}
 use Rattle.rbf_check.proofs.Noted.{noted_none, noted_more, twice_at, twice_at_length}

@@ -1,4 +1,3 @@
-use Rattle.std.proofs.Common.{◌≡◌}
 use Rattle.rbf_check.specs.Least.{IsLeast, Before}
 use Rattle.rbf_check.specs.Used.{IsTwiceAt}
 use Rattle.rbf_check.proofs.Noted.{IsNoted}

@@ -1,4 +1,4 @@
-use Rattle.std.proofs.Common.{◌≡◌, ◌∙◌, ℕ, ◌<◌, List, All, arith, get_or, length, subst, Some, None}
+use Rattle.std.proofs.Common.{◌≡◌, ◌∙◌, ℕ, ◌<◌, List, All, arith, get_or, length, subst}
 use Rattle.rbf_model.specs.Geometry.{sector}
 use Rattle.rbf_check.specs.Reading.{geometry_of}
 use Rattle.rbf_check.specs.Least.{IsLeast}
