@@ -1,0 +1,240 @@
+-- The least fault, and what holds where there is none.
+use Rattle.std.proofs.Common.{◌≡◌, ◌⊎◌, ℕ, ◌+◌, ◌*◌, ◌/◌, ◌<◌, ◌≤◌, List, get_or, Option, Some, None, refl, sym, ◌∙◌, subst, inl, inr, ⊎_elim, arith}
+use Rattle.std.specs.Prelude.{MatchOption}
+use Rattle.std.proofs.lemmas.Bool.{cases_lt, cases_eq, cases_Bool}
+use Rattle.rbf_rules.specs.declared.faults.CheckFault.{CheckFault}
+use Rattle.std.proofs.lemmas.List.{get_or_default}
+use Rattle.rbf_model.specs.Fields.{entry_at, name_field, descriptor_field, segments_field, size_field}
+use Rattle.rbf_model.specs.Geometry.{Geometry, IsNumber, IsHeader, HasMap, HasHeader, image_geometry, map_sectors, sector}
+use Rattle.rbf_model.specs.File.{file_at, is_directory, is_directory_size, has_room}
+use Rattle.rbf_model.specs.Space.{is_marked, owned}
+use Rattle.rbf_model.specs.Tree.{HasEntry, HasNames}
+use Rattle.rbf_model.specs.Faults.{Breaks, Reaches, Keeps, IsFound, IsFault, ImageBreaks, searched, image_volume}
+use Rattle.rbf_model.specs.Faults.Breaks.{bad_number, bad_segment, bad_map, unmarked, used_twice, shared, no_room, no_root, bad_size, no_dots, bad_name, same_name, named_twice, named_root}
+use Rattle.rbf_model.specs.Faults.ImageBreaks.{bad_header, breaks}
+use Rattle.rbf_model.proofs.Images.{vol_from_keeps}
+use Rattle.rbf_model.proofs.Keeps.{number_of_reached}
+use Rattle.rbf_sector.specs.declared.ident.Ident.{Ident}
+use Rattle.rbf_rules.specs.Reading.{geometry_of, IsIdent}
+use Rattle.rbf_rules.specs.Rules.{IsLeastBreach}
+use Rattle.rbf_rules.specs.Dots.{AreDotsDecided}
+use Rattle.rbf_rules.specs.Verdict.{IsLeastFault, IsWellFormed}
+use Rattle.rbf_rules.proofs.Owned.{lie_within}
+
+module _ (g : Geometry) (disk : ℕ → List ℕ) where
+  rule_positive : {rule lsn : ℕ} → Breaks g disk rule lsn → 1 ≤ rule
+  rule_positive (bad_map bad) = omega arith
+  rule_positive (bad_number a b c) = omega arith
+  rule_positive (bad_segment a b c) = omega arith
+  rule_positive (unmarked a b c) = omega arith
+  rule_positive (used_twice a b c d f) = omega arith
+  rule_positive (shared a b c d f h k) = omega arith
+  rule_positive (no_room a b) = omega arith
+  rule_positive (no_root a) = omega arith
+  rule_positive (bad_size a b c) = omega arith
+  rule_positive (no_dots a b c) = omega arith
+  rule_positive (bad_name a b) = omega arith
+  rule_positive (same_name a b) = omega arith
+  rule_positive (named_twice a b c d) = omega arith
+  rule_positive (named_root a) = omega arith
+
+  -- no rule before this one is broken
+  abbrev pub NoneBefore : ℕ → Type 0
+  NoneBefore rule = (q at : ℕ) → q < rule → Breaks g disk q at → ⊥
+
+  pub none_first : NoneBefore 1
+  none_first q at low b = let positive = rule_positive b in absurd (omega arith)
+
+  pub none_next : (rule next : ℕ) → next ≡ rule + 1 → NoneBefore rule → ((at : ℕ) → Breaks g disk rule at → ⊥) → NoneBefore next
+  none_next rule next is before here q at low b = ⊎_elim
+      (λ less. before q at less b)
+      (λ more. let P : ℕ → Type 0 = λ r. Breaks g disk r at in let same : q ≡ rule = omega arith in here at (subst P same b))
+      (cases_lt q rule)
+
+  pub least_at : (rule lsn : ℕ) → NoneBefore rule → IsLeastBreach g disk rule (Some lsn) → IsLeastFault g disk rule lsn
+  least_at rule lsn before is = record {
+    broken = is.0;
+    least = λ other at b. ⊎_elim
+        (λ less. absurd (before other at less b))
+        (λ more. ⊎_elim
+        (λ above. inl above)
+        (λ not_above. let P : ℕ → Type 0 = λ r. Breaks g disk r at in let same : other ≡ rule = omega arith in inr (sym same, is.1 at (subst P same b)))
+        (cases_lt rule other))
+        (cases_lt other rule);
+  }
+
+  -- a rule that is not broken
+  abbrev pub NotBroken : ℕ → Type 0
+  NotBroken rule = (at : ℕ) → Breaks g disk rule at → ⊥
+
+  pub has_map : NotBroken 2 → HasMap g
+  has_map kept =
+      ⊎_elim
+      (λ bad. absurd (kept 1 (bad_map (λ map. let bits = map.bits in absurd (omega arith)))))
+      (λ bits. ⊎_elim
+      (λ bad. absurd (kept 1 (bad_map (λ map. let fits = map.fits in absurd (omega arith)))))
+      (λ fits. record { bits = bits; fits = fits })
+      (cases_lt g.total (1 + map_sectors g)))
+      (cases_lt (8 * g.map_bytes * g.cluster) g.total)
+
+  pub not_broken : (rule : ℕ) (least : Option ℕ) → IsLeastBreach g disk rule least → least ≡ None → NotBroken rule
+  not_broken rule least is none =
+      let P : Option ℕ → Type 0 = λ o. IsLeastBreach g disk rule o in subst P none is
+
+  pub fault_at : (rule lsn : ℕ) (least : Option ℕ) → NoneBefore rule → IsLeastBreach g disk rule least → least ≡ Some lsn → IsLeastFault g disk rule lsn
+  fault_at rule lsn least before is some =
+      let P : Option ℕ → Type 0 = λ o. IsLeastBreach g disk rule o in least_at rule lsn before (subst P some is)
+
+  pub before_two : NotBroken 1 → NoneBefore 2
+  before_two one = none_next 1 2 (omega arith) none_first one
+
+  pub before_three : NotBroken 1 → NotBroken 2 → NoneBefore 3
+  before_three one two = none_next 2 3 (omega arith) (before_two one) two
+
+  pub before_four : NotBroken 1 → NotBroken 2 → NotBroken 3 → NoneBefore 4
+  before_four one two three = none_next 3 4 (omega arith) (before_three one two) three
+
+  pub before_five : NotBroken 1 → NotBroken 2 → NotBroken 3 → NotBroken 4 → NoneBefore 5
+  before_five one two three four = none_next 4 5 (omega arith) (before_four one two three) four
+
+  pub before_six : NoneBefore 5 → NotBroken 5 → NoneBefore 6
+  before_six before five = none_next 5 6 (omega arith) before five
+
+  pub before_seven : NoneBefore 5 → NotBroken 5 → NotBroken 6 → NoneBefore 7
+  before_seven before five six = none_next 6 7 (omega arith) (before_six before five) six
+
+  pub before_eight : NoneBefore 7 → NotBroken 7 → NoneBefore 8
+  before_eight before seven = none_next 7 8 (omega arith) before seven
+
+  pub before_nine : NoneBefore 7 → NotBroken 7 → NotBroken 8 → NoneBefore 9
+  before_nine before seven eight = none_next 8 9 (omega arith) (before_eight before seven) eight
+
+  rule_most : {rule lsn : ℕ} → Breaks g disk rule lsn → rule < 10
+  rule_most (bad_map bad) = omega arith
+  rule_most (bad_number a b c) = omega arith
+  rule_most (bad_segment a b c) = omega arith
+  rule_most (unmarked a b c) = omega arith
+  rule_most (used_twice a b c d f) = omega arith
+  rule_most (shared a b c d f h k) = omega arith
+  rule_most (no_room a b) = omega arith
+  rule_most (no_root a) = omega arith
+  rule_most (bad_size a b c) = omega arith
+  rule_most (no_dots a b c) = omega arith
+  rule_most (bad_name a b) = omega arith
+  rule_most (same_name a b) = omega arith
+  rule_most (named_twice a b c d) = omega arith
+  rule_most (named_root a) = omega arith
+
+  pub none_at_all : NoneBefore 9 → NotBroken 9 → (q at : ℕ) → Breaks g disk q at → ⊥
+  none_at_all before nine q at b = none_next 9 10 (omega arith) before nine q at (rule_most b) b
+
+  none_some : (name : List ℕ) (o : Option (List ℕ)) → o ≡ None → o ≡ Some name → ⊥
+  none_some name o none some = cc
+
+  some_same : (a b : List ℕ) (o : Option (List ℕ)) → o ≡ Some a → o ≡ Some b → a ≡ b
+  some_same a b o one other = cc
+
+  option_cases : (o : Option (List ℕ)) → (o ≡ None) ⊎ ((name : List ℕ) × (o ≡ Some name))
+  option_cases None = inl refl
+  option_cases (Some name) = inr (name, refl)
+
+  module _ (header : IsHeader g) (none : (q at : ℕ) → Breaks g disk q at → ⊥) (decided : AreDotsDecided g disk) where
+    map_kept : HasMap g
+    map_kept = has_map (λ at b. none 2 at b)
+
+    number_kept : (d i : ℕ) → Reaches g disk d → HasEntry (searched g disk d) i → IsNumber g (descriptor_field (entry_at (searched g disk d) i))
+    number_kept d i reached entry =
+        let n = descriptor_field (entry_at (searched g disk d) i) in
+        ⊎_elim
+        (λ zero. absurd (none 1 d (bad_number reached entry (λ number. let after = number.after in absurd (omega arith)))))
+        (λ after. ⊎_elim
+        (λ below. record { after = after; below = below })
+        (λ past. absurd (none 1 d (bad_number reached entry (λ number. let below = number.below in absurd (omega arith)))))
+        (cases_lt n g.total))
+        (cases_lt n 1)
+
+    names_kept : (d : ℕ) → Reaches g disk d → HasNames (searched g disk d)
+    names_kept d reached i after entry =
+        let field = name_field (entry_at (searched g disk d) i) in
+        let bad = λ (wrong : HasNames (searched g disk d) → ⊥). none 8 d (bad_name reached wrong) in
+        ⊎_elim
+        (λ missing. absurd (bad (λ names. let w = names i after entry in none_some w.0 field missing w.1)))
+        (λ there. (
+          there.0,
+          there.1,
+          record {
+            not_self = λ is. bad (λ names. let w = names i after entry in w.2.not_self (some_same w.0 there.0 field w.1 there.1 ∙ is));
+            not_parent = λ is. bad (λ names. let w = names i after entry in w.2.not_parent (some_same w.0 there.0 field w.1 there.1 ∙ is));
+          },
+        ))
+        (option_cases field)
+
+    pub keeps : Keeps g disk
+    keeps = record {
+      numbers = number_kept;
+      segments = λ n reached. lie_within g disk header (λ lsn b. none 1 lsn b) map_kept n reached;
+      map = map_kept;
+      marks = λ n s reached used. ⊎_elim (λ marked. marked) (λ free. absurd (none 3 s (unmarked reached used free))) (cases_Bool (is_marked disk (s / g.cluster)));
+      once = λ n reached i j d low high same.
+          let xs = owned g n (file_at disk n) in
+          let s = get_or xs i d in
+          none 4 s (used_twice reached low high (get_or_default xs i s d (omega arith)) (get_or_default xs j s d high ∙ sym same));
+      apart = λ n m c one other has_one has_other. ⊎_elim
+          (λ same. same)
+          (λ differ. absurd (none 4 (c * g.cluster) (shared c one other differ has_one has_other refl)))
+          (cases_eq n m);
+      room = λ n reached. ⊎_elim (λ room. room) (λ wrong. absurd (none 5 n (no_room reached wrong))) (cases_Bool (has_room (segments_field (disk n)) (size_field (disk n))));
+      root = ⊎_elim (λ directory. directory) (λ wrong. absurd (none 6 g.root (no_root wrong))) (cases_Bool (is_directory (file_at disk g.root)));
+      sizes = λ n reached directory. ⊎_elim (λ size. size) (λ wrong. absurd (none 6 n (bad_size reached directory wrong))) (cases_Bool (is_directory_size (size_field (disk n))));
+      dots = λ n reached directory. ⊎_elim (λ dots. dots) (λ wrong. absurd (none 7 n (no_dots reached directory wrong))) (decided n (number_of_reached g (searched g disk) header reached));
+      names = names_kept;
+      different = λ d reached i j one other i_after j_after i_entry j_entry i_is j_is same. ⊎_elim
+          (λ e. e)
+          (λ differ. absurd (none 8 d (same_name reached (λ different. differ (different i j one other i_after j_after i_entry j_entry i_is j_is same)))))
+          (cases_eq i j);
+      named_once = λ d e i j n one other.
+          let P : ℕ → Type 0 = λ m. IsNumber g m in
+          let number : IsNumber g n = subst P one.names.descriptor (number_kept d i one.from one.names.entry) in
+          ⊎_elim
+          (λ d_e. ⊎_elim
+          (λ i_j. (d_e, i_j))
+          (λ differ. absurd (none 9 n (named_twice number one other (λ same. differ same.1))))
+          (cases_eq i j))
+          (λ differ. absurd (none 9 n (named_twice number one other (λ same. differ same.0))))
+          (cases_eq d e);
+      root_free = λ d i link. none 9 g.root (named_root link);
+    }
+
+-- an image without a header
+header_first : (image : List ℕ) → (HasHeader image → ⊥) → (other at : ℕ) → ImageBreaks image other at → (1 < other) ⊎ ((1 ≡ other) × (0 ≤ at))
+header_first image wrong other at (bad_header w) = inr (refl, omega arith)
+header_first image wrong other at (breaks header b) = absurd (wrong header)
+
+pub no_header : (image : List ℕ) → (HasHeader image → ⊥) → IsFault image 1 0
+no_header image wrong = record { broken = bad_header wrong; least = header_first image wrong }
+
+-- one with a header
+module _ (image : List ℕ) (ident : Ident) (whole : IsIdent image ident) where
+  fault_there : (g : Geometry) → image_geometry image ≡ g → (rule lsn : ℕ) → IsLeastFault g (sector image) rule lsn → IsLeastFault (image_geometry image) (sector image) rule lsn
+  fault_there g same rule lsn fault =
+      let P : Geometry → Type 0 = λ h. IsLeastFault h (sector image) rule lsn in
+      subst P (sym same) fault
+
+  least_image : (rule lsn : ℕ) → IsLeastFault (image_geometry image) (sector image) rule lsn → (other at : ℕ) → ImageBreaks image other at → (rule < other) ⊎ ((rule ≡ other) × (lsn ≤ at))
+  least_image rule lsn fault other at (bad_header wrong) = absurd (wrong whole.header)
+  least_image rule lsn fault other at (breaks header b) = fault.least other at b
+
+  pub fault_is : (rule lsn : ℕ) → IsLeastFault (geometry_of ident) (sector image) rule lsn → IsFault image rule lsn
+  fault_is rule lsn fault =
+      let there = fault_there (geometry_of ident) whole.geometry rule lsn fault in
+      record { broken = breaks whole.header there.broken; least = least_image rule lsn there }
+
+  pub well_formed : (found : List ℕ) → IsFound (geometry_of ident) (sector image) found → Keeps (geometry_of ident) (sector image) → IsWellFormed image
+  well_formed found are kept =
+      let P : Geometry → Type 0 = λ h. Keeps h (sector image) in
+      let Q : Geometry → Type 0 = λ h. IsFound h (sector image) found in
+      (image_volume image found, vol_from_keeps image whole.header (subst P (sym whole.geometry) kept) found (subst Q (sym whole.geometry) are))
+
+  pub verdict : (found : List ℕ) → IsFound (geometry_of ident) (sector image) found → (fault : Option CheckFault) → MatchOption fault (Keeps (geometry_of ident) (sector image)) (λ f. IsLeastFault (geometry_of ident) (sector image) f.rule f.lsn) → MatchOption fault (IsWellFormed image) (λ f. IsFault image f.rule f.lsn)
+  verdict found are None kept = well_formed found are kept
+  verdict found are (Some f) fault = fault_is f.rule f.lsn fault
