@@ -9,7 +9,7 @@ use Rattle.std.proofs.lemmas.Option.{same_Some, none-some}
 use Rattle.std.proofs.lemmas.Bool.{cases_eq, cases_lt, cond-false, ne_eqb}
 use Rattle.block_pool.specs.Blocks.{Blocks, IsLive, IsFree, count_of, free_count, taken, shared, given}
 use Rattle.proc_model.specs.declared.group.BlockId.{BlockId}
-use Rattle.block_map.specs.Slots.{naming, named_in}
+use Rattle.proc_model.specs.Slots.{naming, named_in}
 use Rattle.block_map.specs.Takes.{Takes, AreNew, shared_all, given_all}
 use Rattle.block_map.proofs.Places.{at, Once, at-within, at_rest, All-named_in, same_id}
 

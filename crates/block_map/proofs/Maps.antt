@@ -6,7 +6,7 @@ use Rattle.std.proofs.lemmas.Bool.{cases_eq, cases_lt}
 use borrow.Rule.Slice.PartMut.{put_mid}
 use Rattle.block_pool.specs.Blocks.{Blocks, IsLive}
 use Rattle.proc_model.specs.declared.group.BlockId.{BlockId}
-use Rattle.block_map.specs.Slots.{put_places, naming, named_in}
+use Rattle.proc_model.specs.Slots.{put_places, naming, named_in}
 use Rattle.block_map.specs.Takes.{AreNew, shared_all, given_all}
 use Rattle.block_map.proofs.Places.{at, Once, Once-put, Once-naming, at-naming, at-put, at-cleared, at-within, All-named_in, same_id}
 use Rattle.block_map.proofs.Counts.{Takes-live, Takes-free, Takes-named, Takes-once, count_of-shared_all, count_of-given_all}

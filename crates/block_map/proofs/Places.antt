@@ -4,7 +4,7 @@ use Rattle.std.proofs.lemmas.List.{get_or_append_left, get_or-append_right, get_
 use Rattle.std.proofs.lemmas.Option.{same_Some, none-some}
 use Rattle.std.proofs.lemmas.Bool.{cases_lt, cases_order}
 use Rattle.proc_model.specs.declared.group.BlockId.{BlockId}
-use Rattle.block_map.specs.Slots.{put_places, named_in, naming}
+use Rattle.proc_model.specs.Slots.{put_places, named_in, naming}
 
 -- what stands at a place
 abbrev pub at : List (Option BlockId) → ℕ → Option BlockId

@@ -7,7 +7,7 @@ use Rattle.std.proofs.lemmas.Bool.{cond-true, cond-false, cases_eq, cases_lt, ca
 use Rattle.os9_base.specs.Cells.{put_cell}
 use Rattle.block_pool.specs.Blocks.{Blocks, IsPool, IsLive, is_live, count_of, block_bytes, with_bytes, overwritten}
 use Rattle.proc_model.specs.declared.group.BlockId.{BlockId}
-use Rattle.block_map.specs.Slots.{Slots, IsMap, place_of}
+use Rattle.proc_model.specs.Slots.{Slots, IsMap, place_of}
 use Rattle.block_map.proofs.Places.{same_id}
 use Rattle.block_map.specs.Window.{live_byte, cells_of, AllSlotsLive}
 

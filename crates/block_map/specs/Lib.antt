@@ -1,4 +1,3 @@
-pub mod Slots
 pub mod Takes
 pub mod Window
 pub mod Beside

@@ -3,7 +3,7 @@ use Rattle.std.specs.Prelude.{◌≡◌, ℕ, List, [], ◌∷◌, length, take,
 use Rattle.block_pool.specs.Blocks.{Blocks, IsLive, IsFree, taken, shared, given}
 use Rattle.proc_model.specs.declared.group.BlockId.{BlockId}
 use Rattle.proc_model.specs.declared.group.Group.{Group}
-use Rattle.block_map.specs.Slots.{Slots, place_of, naming, with_low}
+use Rattle.proc_model.specs.Slots.{Slots, place_of, naming, with_low}
 
 -- these blocks are taken one after another, each of them free at its turn
 abbrev pub Takes : Blocks → List BlockId → Blocks → Type 0

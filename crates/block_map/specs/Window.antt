@@ -1,9 +1,9 @@
 -- The bytes that a process sees through its map.
 use Rattle.std.specs.Prelude.{◌≡◌, ℕ, ◌/◌, ◌%◌, ◌≤◌, IsSomeAnd, Option, None, option_and_then, length, if◌then◌else◌, slice_get}
 use Rattle.std.proofs.Common.{◌∙◌, subst, sym, refl}
-use Rattle.block_pool.specs.Blocks.{Blocks, IsLive, is_live, block_bytes}
+use Rattle.block_pool.specs.Blocks.{Blocks, IsPool, IsLive, is_live, block_bytes}
 use Rattle.proc_model.specs.declared.group.BlockId.{BlockId}
-use Rattle.block_map.specs.Slots.{Slots, place_of, Names}
+use Rattle.proc_model.specs.Slots.{Slots, place_of, Names}
 
 -- a byte of a block that is live
 abbrev pub live_byte : Blocks → ℕ → BlockId → Option ℕ
@@ -21,17 +21,19 @@ IsSlotLive slots pool slot = IsSomeAnd (place_of slots slot) (λ id. IsLive pool
 abbrev pub AllSlotsLive : Slots BlockId → Blocks → ℕ → ℕ → Type 0
 AllSlotsLive slots pool first last = (slot : ℕ) → first ≤ slot → slot ≤ last → IsSlotLive slots pool slot
 
--- the pool has the counts that it had, and the bytes of each block that the map does not name
+-- the pool is one still, with the counts that it had, and with the bytes of each block that the map does not name
 pub record SameBeyond (slots : Slots BlockId) (before after : Blocks) : Type 0 where
+  pub shape : IsPool before → IsPool after
   pub counts : after.counts ≡ before.counts
   pub blocks : length after.bytes ≡ length before.bytes
   pub bytes : (id : BlockId) → (Names slots id → ⊥) → block_bytes after id.0 ≡ block_bytes before id.0
 
 pub SameBeyond-self : (slots : Slots BlockId) (pool : Blocks) → SameBeyond slots pool pool
-SameBeyond-self slots pool = record { counts = refl; blocks = refl; bytes = λ id apart. refl }
+SameBeyond-self slots pool = record { shape = λ pool. pool; counts = refl; blocks = refl; bytes = λ id apart. refl }
 
 pub SameBeyond-then : (slots other : Slots BlockId) (first middle last : Blocks) → other ≡ slots → SameBeyond slots first middle → SameBeyond other middle last → SameBeyond slots first last
 SameBeyond-then slots other first middle last same one two = record {
+  shape = λ pool. two.shape (one.shape pool);
   counts = two.counts ∙ one.counts;
   blocks = two.blocks ∙ one.blocks;
   bytes = λ id apart. two.bytes id (subst (λ m. Names m id → ⊥) (sym same) apart) ∙ one.bytes id apart;

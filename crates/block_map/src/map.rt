@@ -2,7 +2,7 @@ ghost use Rattle.std.specs.Prelude.{◌≡◌, ◌≢◌, ℕ, ◌+◌, ◌-◌,
 ghost use Rattle.std.specs.Option.{ForSome};
 ghost use Rattle.proc_model.specs.declared.group.BlockId.{BlockId};
 ghost use Rattle.block_pool.specs.Blocks.{Blocks, IsLive, count_of, free_count};
-ghost use Rattle.block_map.specs.Slots.{Slots, naming, named_in};
+ghost use Rattle.proc_model.specs.Slots.{Slots, naming, named_in};
 ghost use Rattle.block_map.specs.Takes.{AreNew, shared_all, given_all, NamesLive, GainsLow, group_blocks};
 
 use block_pool::pool::Pool;
@@ -32,7 +32,7 @@ pub struct Map {
 
 impl Model for Map {
     ghost use Rattle.proc_model.specs.declared.group.BlockId.{BlockId};
-    ghost use Rattle.block_map.specs.Slots.{Slots, IsMap};
+    ghost use Rattle.proc_model.specs.Slots.{Slots, IsMap};
 
     ghost Value = { Slots BlockId };
 
@@ -42,7 +42,7 @@ impl Model for Map {
 }
 
 impl Map {
-    ghost use Rattle.block_map.specs.Slots.{IsMap, no_slots, place_of, group_of, Names, IsFreeRun, IsHighestFreeRun, named_from, cut_low_to, with_group, without_group};
+    ghost use Rattle.proc_model.specs.Slots.{IsMap, no_slots, place_of, group_of, Names, IsFreeRun, IsHighestFreeRun, named_from, cut_low_to, with_group, without_group};
 
     /// A map that names nothing.
     pub fn empty() -> Map
@@ -154,6 +154,16 @@ impl Map {
             give_back(&mut self.places[first..first + len as usize], pool);
             self.groups[first] = None;
         }
+    }
+
+    /// Gives back every block that the map names: it names nothing then.
+    pub fn clear(&mut self, pool: &mut Pool)
+        requires { NamesLive self.old pool.old }
+        ensures empty { self.new ≡ no_slots }
+        ensures given { pool.new ≡ given_all pool.old (named_in self.old.places) }
+    {
+        give_back(&mut self.places, pool);
+        *self = Map::empty();
     }
 
     // Do so many slots from `first` on exist and name nothing?

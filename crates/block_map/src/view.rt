@@ -86,7 +86,7 @@ impl UserMem for View<'_> {
 }
 
 impl View<'_> {
-    ghost use Rattle.block_map.specs.Slots.{IsMap, place_of};
+    ghost use Rattle.proc_model.specs.Slots.{IsMap, place_of};
     ghost use Rattle.block_pool.specs.Blocks.{IsPool, IsLive};
     ghost use Rattle.block_map.specs.Window.{IsSlotLive, AllSlotsLive};
 

@@ -3,6 +3,8 @@ use Rattle.std.specs.Prelude.{◌≡◌, ℕ, zero, suc, ◌+◌, ◌-◌, ◌%�
 use Rattle.os9_base.specs.declared.registers.Regs.{Regs}
 use Rattle.os9_base.specs.Count.{Rose}
 use Rattle.os9_outer.specs.Stream.{appended, GainsPrefix}
+use Rattle.proc_model.specs.Slots.{no_slots}
+use Rattle.proc_model.specs.ModuleList.{without_link}
 use Rattle.device_table.specs.Screens.{Screen}
 use Rattle.machine_model.specs.declared.activity.Activity.TheVariants.{Running, Finished}
 use Rattle.machine_model.specs.declared.ends.EventEnd.{EventEnd}
@@ -29,19 +31,24 @@ refused regs number = record regs { cc = carry_set regs.cc; b = number }
 abbrev pub goes_on : Process → Regs → Process
 goes_on process regs = record process { regs = regs; activity = Running }
 
--- the process has ended with this status, and names no memory any more
+-- the process has ended with this status, and names no memory and no module any more
 abbrev pub finished : Process → ℕ → Process
-finished process status = record process { places = []; activity = Finished status }
+finished process status = record process { map = no_slots; primary = None; activity = Finished status }
 
 -- the state after an attempt of a call that touches no device
 abbrev pub answered : State → ℕ → Process → Regs → State
 answered s number process regs = with_inner s (with_process s.inner number (goes_on process regs))
 
--- the state after the process has ended
+-- the state after the process has ended: it has given up its whole map and one link to its primary module
 abbrev pub ended : State → ℕ → Process → ℕ → State
-ended s number process status = with_inner s (with_process s.inner number (finished process status))
+ended s number process status =
+    with_inner s (record (with_process s.inner number (finished process status)) { modules = without_link s.inner.modules process.primary })
 
 -- ---- I$WritLn
+
+-- the byte at an address that a call may use: its addresses do not go round
+abbrev pub user_cell : (ℕ → Option ℕ) → ℕ → Option ℕ
+user_cell cells at = if nat_lt at 65536 then cells at else None
 
 abbrev line_with : (ℕ → Option (List ℕ)) → ℕ → Option ℕ → Option (List ℕ)
 line_with rest at None = None
@@ -51,7 +58,7 @@ line_with rest at (Some byte) = if byte == 13 then Some (13 ∷ []) else option_
 -- where one of them is in no named slot or past FFFF
 abbrev pub line_at : (ℕ → Option ℕ) → ℕ → ℕ → Option (List ℕ)
 line_at cells at zero = Some []
-line_at cells at (suc most) = line_with (λ next. line_at cells next most) at (cells at)
+line_at cells at (suc most) = line_with (λ next. line_at cells next most) at (user_cell cells at)
 
 -- the line ends in a carriage return
 abbrev pub ends_in_return : List ℕ → Bool
@@ -77,7 +84,7 @@ PutsLine s number process line old t =
 -- I$WritLn (System Programmer's Manual): path A, the line at X of at most Y bytes
 abbrev pub WritesLine : State → ℕ → Process → EventEnd → State → Type 0
 WritesLine s number process end t =
-    (end ≡ Ran) × MatchOption (line_at (cells_of s.inner.objects process.places) process.regs.x process.regs.y)
+    (end ≡ Ran) × MatchOption (line_at (cells_of s.inner.objects process.map.places) process.regs.x process.regs.y)
     (t ≡ answered s number process (refused process.regs 210))
     (λ line. MatchBool (is_standard_path process.regs.a)
     (MatchOption (slice_get s.terms 0) ⊥ (λ old. PutsLine s number process line old t))

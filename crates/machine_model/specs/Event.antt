@@ -13,7 +13,7 @@ use Rattle.machine_model.specs.Call.{Attempt, ended}
 -- ends by it with a status
 abbrev pub Executes : Outcome → State → ℕ → Process → EventEnd → State → Type 0
 Executes (Done effect) s number process end t =
-    (end ≡ Ran) × (t ≡ with_inner s (record (with_process s.inner number (record process { regs = effect.regs })) { objects = with_writes s.inner.objects process.places effect.writes }))
+    (end ≡ Ran) × (t ≡ with_inner s (record (with_process s.inner number (record process { regs = effect.regs })) { objects = with_writes s.inner.objects process.map.places effect.writes }))
 Executes (Calls code regs) s number process end t =
     (end ≡ Ran) × (t ≡ with_inner s (with_process s.inner number (record process { regs = regs; activity = Calling code })))
 Executes (Aborts status) s number process end t = (end ≡ Ended) × (t ≡ ended s number process status)
@@ -21,7 +21,7 @@ Executes (Aborts status) s number process end t = (end ≡ Ended) × (t ≡ ende
 -- what the process does next: an attempt of its call, else an instruction
 abbrev pub Acts : Activity → State → ℕ → Process → EventEnd → State → Type 0
 Acts Running s number process end t =
-    Executes (step_of (cells_of s.inner.objects process.places) process.regs) s number process end t
+    Executes (step_of (cells_of s.inner.objects process.map.places) process.regs) s number process end t
 Acts (Calling code) s number process end t = Attempt code s number process end t
 Acts (Finished _) s number process end t = ⊥
 

@@ -1,11 +1,14 @@
 -- The state in which a boot file starts (Level Two manual, "Booting"; the first process is this project's own).
-use Rattle.std.specs.Prelude.{◌≡◌, ℕ, ◌+◌, ◌-◌, ◌*◌, ◌/◌, ◌≤◌, max, Option, Some, None, IfSome, List, ◌∷◌, ◌++◌, length, map, take, drop, replicate, codes}
+use Rattle.std.specs.Prelude.{◌≡◌, ◌⊎◌, ℕ, ◌+◌, ◌-◌, ◌*◌, ◌/◌, ◌<◌, ◌≤◌, true, max, min, Option, Some, None, Result, Ok, Err, List, [], ◌∷◌, ◌++◌, length, map, take, drop, replicate, codes}
 use Rattle.std.specs.List.{range_with_len}
 use Rattle.os9_base.specs.declared.registers.Regs.{Regs}
-use Rattle.os9_base.specs.Name.{SameName}
-use Rattle.proc_model.specs.Module.{IsModule, module_kind, module_name, module_entry, module_storage}
+use Rattle.proc_model.specs.Slots.{Slots}
+use Rattle.proc_model.specs.ModuleList.{ModuleEntry, entry_at, found, linked, with_entry}
+use Rattle.proc_model.specs.Loading.{Enters, no_entries}
 use Rattle.device_table.specs.Screens.{Screen}
 use Rattle.machine_model.specs.declared.activity.Activity.TheVariants.{Running}
+use Rattle.machine_model.specs.declared.ends.BootFault.{BootFault}
+use Rattle.machine_model.specs.declared.ends.BootFault.TheVariants.{OutOfMemory, BadModule, NoFirst, TooLarge}
 use Rattle.machine_model.specs.State.{State, Process}
 
 -- so many bytes are so many pages of 256, and so many blocks of 8,192
@@ -16,22 +19,56 @@ abbrev pub blocks_of : ℕ → ℕ
 blocks_of bytes = (bytes + 8191) / 8192
 
 -- the size of a program's data area in bytes: its storage in whole pages, and at least one page
-abbrev pub data_size : List ℕ → ℕ
-data_size program = 256 * max 1 (pages_of (module_storage program))
+abbrev pub data_size : ModuleEntry → ℕ
+data_size program = 256 * max 1 (pages_of program.info.storage)
 
 -- the blocks of a program's data area, and of the file that holds it
-abbrev pub data_blocks : List ℕ → ℕ
+abbrev pub data_blocks : ModuleEntry → ℕ
 data_blocks program = blocks_of (data_size program)
 
 abbrev pub file_blocks : List ℕ → ℕ
 file_blocks file = blocks_of (length file)
 
--- the file is one module, the program SysGo in 6809 code, and it fits into eight slots with its data area
-pub record IsBootFile (file : List ℕ) : Type 0 where
-  pub is_module : IsModule file
-  pub is_program : module_kind file ≡ 0x11
-  pub is_first : IfSome (module_name file) (λ name. SameName name (codes "SysGo"))
-  pub fits : data_blocks file + file_blocks file ≤ 8
+-- the numbers of the objects that hold the boot file: they are the first to appear
+abbrev pub boot_group : List ℕ → List ℕ
+boot_group file = range_with_len 0 (file_blocks file)
+
+-- what comes of the modules of the boot file, entered in a directory without entries: its entries, or the place and the error of
+-- the first module that is refused
+abbrev pub EntersBoot : List ℕ → Result (List (Option ModuleEntry)) (ℕ × ℕ) → Type 0
+EntersBoot file outcome = Enters file (boot_group file) true 0 no_entries outcome
+
+-- the most bytes of a group of modules: seven blocks
+abbrev pub longest_file : ℕ
+longest_file = 57344
+
+-- the first program that is run: the name SysGo, case ignored, and the type and language of a program in 6809 code
+abbrev pub first_program : List (Option ModuleEntry) → Option ℕ
+first_program entries = found entries (codes "SysGo") 0x11
+
+-- how many slots of a map, of a machine with so many blocks, there are for the boot file and the data area
+abbrev pub room_for : ℕ → ℕ
+room_for blocks = min 8 blocks
+
+-- the modules of the file are entered, and one of them is the first program, which has this entry and this number
+pub record HasFirst (file : List ℕ) (entries : List (Option ModuleEntry)) (number : ℕ) (program : ModuleEntry) : Type 0 where
+  pub short : length file ≤ longest_file
+  pub entered : EntersBoot file (Ok entries)
+  pub found_it : first_program entries ≡ Some number
+  pub is : entry_at entries number ≡ Some program
+
+-- Why a boot file does not start a machine with so many blocks: the first cause of those below.
+abbrev pub Refuses : List ℕ → ℕ → BootFault → Type 0
+-- it has more bytes than a group; or it and the first program's data area need more blocks or slots than there are
+Refuses file blocks TooLarge =
+    (longest_file < length file) ⊎ ((entries : List (Option ModuleEntry)) × (number : ℕ) × (program : ModuleEntry) × HasFirst file entries number program × (room_for blocks < data_blocks program + file_blocks file))
+-- one of its modules is refused: where it begins, and the error
+Refuses file blocks (BadModule at error) =
+    (length file ≤ longest_file) × EntersBoot file (Err (at, error))
+-- it has no first program
+Refuses file blocks NoFirst =
+    (length file ≤ longest_file) × ((entries : List (Option ModuleEntry)) × EntersBoot file (Ok entries) × (first_program entries ≡ None))
+Refuses file blocks OutOfMemory = ⊥
 
 -- a new object
 abbrev pub zero_object : List ℕ
@@ -41,46 +78,60 @@ zero_object = replicate 8192 0
 abbrev pub block_of : List ℕ → ℕ → List ℕ
 block_of file k = take 8192 (drop (8192 * k) file ++ zero_object)
 
--- the blocks of a file, as a group of modules has them
-abbrev pub group_of : List ℕ → List (List ℕ)
-group_of file = map (block_of file) (range_with_len 0 (file_blocks file))
+-- the objects that hold a file
+abbrev pub objects_of : List ℕ → List (List ℕ)
+objects_of file = map (block_of file) (range_with_len 0 (file_blocks file))
 
--- the objects of the start: the group of the boot file, then the data area of the first process
-abbrev pub first_objects : List ℕ → List (List ℕ)
-first_objects file = group_of file ++ replicate (data_blocks file) zero_object
+-- the objects of the start: those of the boot file, then the data area of the first process
+abbrev pub first_objects : List ℕ → ModuleEntry → List (List ℕ)
+first_objects file program = objects_of file ++ replicate (data_blocks program) zero_object
 
--- the first process's map: its data area from slot 0 up, the group from the top down
-abbrev pub first_places : List ℕ → List (Option ℕ)
-first_places file =
-    map Some (range_with_len (file_blocks file) (data_blocks file)) ++ replicate (8 - (data_blocks file + file_blocks file)) None ++ map Some (range_with_len 0 (file_blocks file))
+-- the first process's map: its data area from slot 0 up, the group of the boot file in the highest slots
+abbrev pub first_map : List ℕ → ModuleEntry → Slots ℕ
+first_map file program = record {
+  places =
+    map Some (range_with_len (file_blocks file) (data_blocks program)) ++ replicate (8 - (data_blocks program + file_blocks file)) None ++ map Some (boot_group file);
+  low = data_blocks program;
+  groups = replicate (8 - file_blocks file) None ++ Some (file_blocks file) ∷ replicate (file_blocks file - 1) None;
+}
 
 -- the first process's registers: Y is the size of its data area, whose end X and S name, since there are
 -- no parameters; PC is where the program begins
-abbrev pub first_regs : List ℕ → Regs
-first_regs file = record {
+abbrev pub first_regs : List ℕ → ModuleEntry → Regs
+first_regs file program = record {
   a = 0;
   b = 0;
   dp = 0;
   cc = 0;
-  x = data_size file;
-  y = data_size file;
+  x = data_size program;
+  y = data_size program;
   u = 0;
-  s = data_size file;
-  pc = 8192 * (8 - file_blocks file) + module_entry file;
+  s = data_size program;
+  pc = 8192 * (8 - file_blocks file) + program.info.at + program.info.entry;
 }
 
 -- the only process, number 2
 abbrev pub only_process : Process → List (Option Process)
 only_process process = replicate 2 None ++ Some process ∷ replicate 30 None
 
--- the state in which the boot file starts, with these terminals
-abbrev pub start_of : List ℕ → List Screen → State
-start_of file terms = record {
+-- the state in which the first program starts, with these terminals: its entry has one link more
+abbrev pub start_of : List ℕ → List (Option ModuleEntry) → ℕ → ModuleEntry → List Screen → State
+start_of file entries number program terms = record {
   inner = record {
-    objects = first_objects file;
-    processes = only_process (record { regs = first_regs file; places = first_places file; activity = Running });
+    objects = first_objects file program;
+    modules = with_entry entries number (linked program);
+    processes = only_process (record { regs = first_regs file program; map = first_map file program; primary = Some number; activity = Running });
     tick = 0;
     chosen = None;
   };
   terms = terms;
 }
+
+-- a machine with so many blocks and these terminals starts a boot file in this state
+pub record Starts (file : List ℕ) (blocks : ℕ) (terms : List Screen) (s : State) : Type 0 where
+  pub entries : List (Option ModuleEntry)
+  pub number : ℕ
+  pub program : ModuleEntry
+  pub has : HasFirst file entries number program
+  pub fits : data_blocks program + file_blocks file ≤ room_for blocks
+  pub is : s ≡ start_of file entries number program terms

@@ -3,19 +3,23 @@
 use Rattle.std.specs.Prelude.{ℕ, Bool, true, false, Option, Some, None, option_and_then, List, slice_get, slice_set}
 use Rattle.std.specs.List.{list_any}
 use Rattle.os9_base.specs.declared.registers.Regs.{Regs}
+use Rattle.proc_model.specs.Slots.{Slots}
+use Rattle.proc_model.specs.ModuleList.{ModuleEntry}
 use Rattle.device_table.specs.Screens.{Screen}
 use Rattle.machine_model.specs.declared.activity.Activity.{Activity}
 use Rattle.machine_model.specs.declared.activity.Activity.TheVariants.{Running, Calling, Finished}
 
--- a process: its registers, its map (eight slots, each an object's number or nothing), and what it does
+-- a process: its registers, its map of objects by their numbers, the number of its primary module's entry, and what it does
 pub record Process : Type 0 where
   pub regs : Regs
-  pub places : List (Option ℕ)
+  pub map : Slots ℕ
+  pub primary : Option ℕ
   pub activity : Activity
 
 -- the state of everything but the devices
 pub record Inner : Type 0 where
   pub objects : List (List ℕ)  -- by number: all objects that ever appeared
+  pub modules : List (Option ModuleEntry)  -- by number: the module directory, whose groups are lists of objects' numbers
   pub processes : List (Option Process)  -- by number, from 0 to 32
   pub tick : ℕ
   pub chosen : Option ℕ  -- the process that was chosen last
@@ -37,14 +41,14 @@ abbrev pub with_inner : State → Inner → State
 with_inner s inner = record s { inner = inner }
 
 -- a process lives until it has finished
+abbrev pub lives : Activity → Bool
+lives Running = true
+lives (Calling _) = true
+lives (Finished _) = false
+
 abbrev pub is_living : Option Process → Bool
 is_living None = false
 is_living (Some process) = lives process.activity
-  where
-    lives : Activity → Bool
-    lives Running = true
-    lives (Calling _) = true
-    lives (Finished _) = false
 
 -- some process lives
 abbrev pub has_living : State → Bool

@@ -21,3 +21,17 @@ pub enum SliceEnd {
     /// Memory is wanting, and the run ends.
     NoMemory,
 }
+
+/// Why a boot file does not start.
+#[derive(Clone, Copy, Debug, PartialEq, Eq)]
+pub enum BootFault {
+    /// Memory is wanting.
+    OutOfMemory,
+    /// A module of the file is refused: where it begins, and the number of the error.
+    BadModule(u32, u8),
+    /// The file has no program `SysGo` in 6809 code.
+    NoFirst,
+    /// The file is longer than a group of modules may be, or there are too few blocks or slots for
+    /// it and the data area of `SysGo`.
+    TooLarge,
+}

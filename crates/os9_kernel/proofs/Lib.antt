@@ -1,6 +1,1 @@
-pub mod LineLemmas
-pub mod MemoryLemmas
-pub mod PutLemmas
-pub mod TieLemmas
-pub mod SliceLemmas
-pub mod StartLemmas
+

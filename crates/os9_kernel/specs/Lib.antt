@@ -1,4 +1,4 @@
-pub mod Memory
 pub mod Line
-pub mod Tie
+pub mod Namings
 pub mod Slice
+pub mod Tie

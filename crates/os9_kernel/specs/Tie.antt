@@ -1,46 +1,71 @@
 -- How the running kernel is tied to the abstract machine.
-use Rattle.std.specs.Prelude.{◌≡◌, ◌≢◌, ℕ, true, false, Option, Some, None, List, [], if◌then◌else◌}
+use Rattle.std.specs.Prelude.{◌≡◌, ◌≢◌, ℕ, true, false, Option, Some, None, option_map, List, map, slice_get, if◌then◌else◌}
+use Rattle.block_pool.specs.Blocks.{Blocks, IsLive, block_bytes}
 use Rattle.device_table.specs.Screens.{Screen}
 use Rattle.machine_model.specs.declared.activity.Activity.{Activity}
 use Rattle.machine_model.specs.declared.activity.Activity.TheVariants.{Running, Calling, Finished}
-use Rattle.machine_model.specs.Objects.{cells_of, IsMap}
-use Rattle.machine_model.specs.State.{State, Process, is_living}
+use Rattle.machine_model.specs.State.{State, Process, lives}
 use Rattle.machine_model.specs.Start.{only_process}
-use Rattle.os9_kernel.specs.Memory.{memory_cells}
+use Rattle.module_dir.specs.declared.dir.ModId.{ModId}
+use Rattle.proc_model.specs.declared.group.BlockId.{BlockId}
+use Rattle.proc_model.specs.ModuleList.{ModuleEntry}
+use Rattle.proc_model.specs.Slots.{Slots}
 use Rattle.os9_kernel.specs.declared.kernel.Kernel.{Kernel}
 
--- the process of a kernel, with this map
-abbrev pub process_of : Kernel → List (Option ℕ) → Process
-process_of kernel places = record { regs = kernel.regs; places = places; activity = kernel.activity }
+-- Live blocks stand for objects by their numbers: each has the object's bytes, and different blocks stand for different objects.
+pub record StandFor (number : ℕ → ℕ) (pool : Blocks) (objects : List (List ℕ)) : Type 0 where
+  pub same_bytes : (block : ℕ) → IsLive pool block → slice_get objects (number block) ≡ Some (block_bytes pool block)
+  pub apart : (one other : ℕ) → IsLive pool one → IsLive pool other → number one ≡ number other → one ≡ other
 
--- the state of a kernel, where these are the objects, the map and the terminals
-abbrev pub state_of : Kernel → List (List ℕ) → List (Option ℕ) → List Screen → State
-state_of kernel objects places terms = record {
+-- a map of blocks as a map of the objects that they stand for
+abbrev pub renamed_map : (ℕ → ℕ) → Slots BlockId → Slots ℕ
+renamed_map number slots =
+    record { places = map (option_map (λ (id : BlockId). number id.0)) slots.places; low = slots.low; groups = slots.groups }
+
+-- an entry whose group is one of objects
+abbrev pub renamed_entry : (ℕ → ℕ) → ModuleEntry → ModuleEntry
+renamed_entry number entry = record entry { group = map number entry.group }
+
+-- the module directory with groups of objects
+abbrev pub renamed_modules : (ℕ → ℕ) → List (Option ModuleEntry) → List (Option ModuleEntry)
+renamed_modules number entries = map (option_map (renamed_entry number)) entries
+
+-- the process of a kernel
+abbrev pub process_of : Kernel → (ℕ → ℕ) → Process
+process_of kernel number = record {
+  regs = kernel.regs;
+  map = renamed_map number kernel.map;
+  primary = option_map (λ (id : ModId). id.0) kernel.primary;
+  activity = kernel.activity;
+}
+
+-- the state of a kernel, where these are the objects, and these the numbers of those that blocks stand for
+abbrev pub state_of : Kernel → (ℕ → ℕ) → List (List ℕ) → List Screen → State
+state_of kernel number objects terms = record {
   inner = record {
     objects = objects;
-    processes = only_process (process_of kernel places);
+    modules = renamed_modules number kernel.dir;
+    processes = only_process (process_of kernel number);
     tick = kernel.tick;
     chosen = if kernel.chosen then Some 2 else None;
   };
   terms = terms;
 }
 
--- a kernel and its terminals stand for a state: there are objects and a map of them whose cells are the
--- process's memory, and all else is equal
+-- A kernel and its terminals stand for a state: its live blocks stand for objects, and all else is equal but for the numbers of these.
 pub record Stands (kernel : Kernel) (terms : List Screen) (s : State) : Type 0 where
+  pub number : ℕ → ℕ
   pub objects : List (List ℕ)
-  pub places : List (Option ℕ)
-  pub is : s ≡ state_of kernel objects places terms
-  pub is_map : IsMap objects places
-  pub same_cells : cells_of objects places ≡ memory_cells kernel.memory.named kernel.memory.bytes.items
+  pub stand_for : StandFor number kernel.pool objects
+  pub is : s ≡ state_of kernel number objects terms
 
 -- the process was chosen, and lives
 abbrev pub IsGoing : Kernel → Type 0
-IsGoing kernel = (kernel.chosen ≡ true) × (is_living (Some (process_of kernel [])) ≡ true)
+IsGoing kernel = (kernel.chosen ≡ true) × (lives kernel.activity ≡ true)
 
 -- the process has ended
 abbrev pub HasFinished : Kernel → Type 0
-HasFinished kernel = is_living (Some (process_of kernel [])) ≡ false
+HasFinished kernel = lives kernel.activity ≡ false
 
 -- the slices that were begun
 abbrev pub ticks : Kernel → ℕ

@@ -1,17 +1,23 @@
-ghost use Rattle.std.specs.Prelude.{◌≡◌, ◌≢◌, ◌+◌, ◌<◌, ◌≤◌, ◌↔◌, IsTrue, true, count_by, option_map, vec_len, List, [], Some, IsSome};
+ghost use Rattle.std.specs.Prelude.{◌≡◌, ◌≢◌, ◌+◌, ◌<◌, ◌≤◌, ◌↔◌, ◌∷◌, [], IsTrue, true, count_by, option_map, vec_len, List, Some, IsSome};
+ghost use Rattle.std.specs.Option.{ForSome};
+ghost use Rattle.block_pool.specs.Blocks.{IsPool};
+ghost use Rattle.proc_model.specs.ModuleList.{entry_at};
+ghost use Rattle.os9_kernel.specs.Namings.{AreCounted, AreBoot};
 ghost use Rattle.device_table.specs.Screens.{Screen, screens};
-ghost use Rattle.machine_model.specs.State.{State, is_living};
-ghost use Rattle.machine_model.specs.Call.{done, refused, carry_clear as carry_clear_lem};
+ghost use Rattle.machine_model.specs.State.{State, is_living, lives};
+ghost use Rattle.machine_model.specs.Call.{done, ended, refused, carry_clear as carry_clear_lem};
 ghost use Rattle.machine_model.specs.Event.{Event};
 ghost use Rattle.machine_model.specs.Run.{Tick, Choose, Slice, Goes, cost as cost_lem};
 
 use crate::line::{LineEnd, write_line};
-use crate::memory::Memory;
+use block_map::map::Map;
+use block_pool::pool::Pool;
 use cpu_model::stop::Stop;
 use cpu6809::step;
 use device_table::devices::Devices;
 use machine_model::activity::Activity;
 use machine_model::ends::{EventEnd, SliceEnd};
+use module_dir::{Dir, ModId};
 use os9_base::registers::{Pid, Regs};
 use os9_outer::terminal::CharDriver;
 
@@ -21,11 +27,22 @@ const FIRST: Pid = Pid(2);
 /// The kernel and the process that it runs.
 #[derive(Drop)]
 pub struct Kernel {
-    pub(crate) memory: Memory,
+    pub(crate) pool: Pool,
+    pub(crate) dir: Dir,
     pub(crate) regs: Regs,
+    pub(crate) map: Map,
+    /// The primary module of the process: the one that it runs.
+    pub(crate) primary: Option<ModId>,
     pub(crate) activity: Activity,
     pub(crate) tick: u32,
     pub(crate) chosen: bool,
+    /// Room for the longest range of a process's memory.
+    pub(crate) buffer: Vec<u8>,
+    ghost shape: { IsPool pool },
+    ghost counted: { AreCounted pool (map ∷ []) dir },
+    ghost all_boot: { AreBoot dir },
+    ghost linked: { ForSome primary (λ id. IsSome (entry_at dir id.0)) },
+    ghost room: { vec_len buffer ≡ 65536 },
 }
 
 impl Kernel {
@@ -154,15 +171,14 @@ impl Kernel {
         ensures ended { result ≢ EventEnd.Ran → (result ≡ EventEnd.Ended) × HasFinished self.new }
         ensures count { ticks self.new ≡ ticks self.old }
     {
-        match step(&mut self.regs, &mut self.memory) {
+        match step(&mut self.regs, &mut self.map.view(&mut self.pool)) {
             Stop::Next => EventEnd::Ran,
             Stop::Call(code) => {
                 self.activity = Activity::Calling(code);
                 EventEnd::Ran
             }
             Stop::Abort(status) => {
-                self.memory.give_up();
-                self.activity = Activity::Finished(status);
+                self.end(status);
                 EventEnd::Ended
             }
         }
@@ -178,8 +194,7 @@ impl Kernel {
         ensures finished { HasFinished self.new }
         ensures count { ticks self.new ≡ ticks self.old }
     {
-        self.memory.give_up();
-        self.activity = Activity::Finished(self.regs.b);
+        self.end(self.regs.b);
         EventEnd::Ended
     }
 
@@ -214,7 +229,8 @@ impl Kernel {
         ensures count { ticks self.new ≡ ticks self.old }
         ensures drives_kept { devices.new.drives ≡ devices.old.drives }
     {
-        match write_line(&self.memory, &self.regs, devices) {
+        let memory = self.map.view(&mut self.pool);
+        match write_line(&memory, &self.regs, &mut self.buffer, devices) {
             LineEnd::Written(count) => {
                 self.regs.y = count;
                 self.succeed();
@@ -223,6 +239,22 @@ impl Kernel {
             LineEnd::NoMemory => return EventEnd::NoMemory,
         }
         EventEnd::Ran
+    }
+
+    /// The process ends with this status. It gives up its whole map, and one link to its primary
+    /// module.
+    fn end(&mut self, status: u8)
+        ensures ended { (terms : List Screen) (s : State) (stood : Stands self.old terms s)
+            → Stands self.new terms (ended s 2 (process_of self.old stood.number) status) }
+        ensures finished { HasFinished self.new }
+        ensures chosen { self.new.chosen ≡ self.old.chosen }
+        ensures count { ticks self.new ≡ ticks self.old }
+    {
+        self.map.clear(&mut self.pool);
+        if let Some(id) = self.primary.take() {
+            let _ = self.dir.unlink(id);
+        }
+        self.activity = Activity::Finished(status);
     }
 
     /// The call is done.
@@ -243,7 +275,7 @@ impl Kernel {
     }
 
     fn is_living(&self) -> bool
-        ensures { result ≡ is_living (Some (process_of self.now [])) }
+        ensures { result ≡ lives self.now.activity }
     {
         !matches!(self.activity, Activity::Finished(_))
     }

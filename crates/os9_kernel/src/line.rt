@@ -1,15 +1,17 @@
-ghost use Rattle.std.specs.Prelude.{◌≡◌, ◌≢◌, ◌<◌, OnOk, vec_len};
+ghost use Rattle.std.specs.Prelude.{◌≡◌, ◌≢◌, ◌<◌, ◌≤◌, None, Some, IfNone, IfSome, OnOk, length, take, vec_len};
 ghost use Rattle.os9_base.specs.declared.registers.Regs.{Regs};
 ghost use Rattle.device_table.specs.Screens.{screens, ChangesOne, Puts};
 ghost use Rattle.machine_model.specs.Call.{line_at, shown, ends_in_return as ends_in_return_lem};
-ghost use Rattle.os9_kernel.specs.Memory.{memory_cells};
 ghost use Rattle.os9_kernel.specs.Line.{IsLineAnswer};
 
-use crate::memory::{Memory, RETURN};
 use device_table::devices::Devices;
 use device_table::put::put_on;
+use os9_base::memory::Bus;
 use os9_base::registers::Regs;
 use os9_outer::terminal::{CharDriver, PutFault};
+
+/// The code of a carriage return, which ends a line.
+const RETURN: u8 = 0x0D;
 
 /// What an attempt of I$WritLn came to.
 #[derive(Clone, Copy, Debug, PartialEq, Eq)]
@@ -20,6 +22,29 @@ pub enum LineEnd {
     Refused(u8),
     /// Memory is wanting.
     NoMemory,
+}
+
+/// Reads the bytes from an address on, up to and with the first carriage return, but at most
+/// `most`, into the front of a buffer, and answers how many they are; None where one of them is in
+/// no named slot or past `FFFF`.
+fn read_line<B: Bus>(memory: &B, at: u16, most: u16, into: &mut [u8]) -> Option<usize>
+    requires { most ≤ length into.old }
+    ensures none { IfNone result (line_at (B.cells memory.now) at most ≡ None) }
+    ensures some { IfSome result (λ count. line_at (B.cells memory.now) at most ≡ Some (take count into.new)) }
+    ensures short { IfSome result (λ count. count ≤ most) }
+{
+    for count in 0..most {
+        let address = at.checked_add(count)?;
+        if !memory.named(address) {
+            return None;
+        }
+        let byte = memory.get(address);
+        into[count as usize] = byte;
+        if byte == RETURN {
+            return Some(count as usize + 1);
+        }
+    }
+    Some(most as usize)
 }
 
 /// Puts the line on TERM, and a line feed behind the carriage return at its end.
@@ -52,25 +77,32 @@ fn ends_in_return(line: &[u8]) -> bool
 }
 
 /// I$WritLn by the registers of a process with this memory (System Programmer's Manual): the line
-/// at X of at most Y bytes is put on path A, which has to be one of the standard paths.
-pub fn write_line(memory: &Memory, regs: &Regs, devices: &mut Devices) -> LineEnd
-    requires { 0 < vec_len devices.old.terms }
+/// at X of at most Y bytes is put on path A, which has to be one of the standard paths. The line
+/// passes through a buffer, which has room for the longest one.
+pub fn write_line<B: Bus>(
+    memory: &B,
+    regs: &Regs,
+    buffer: &mut [u8],
+    devices: &mut Devices,
+) -> LineEnd
+    requires terminal { 0 < vec_len devices.old.terms }
+    requires room { length buffer.old ≡ 65536 }
     ensures answer { result ≢ LineEnd.NoMemory → IsLineAnswer
-        (line_at (memory_cells memory.now.named memory.now.bytes.items) regs.now.x regs.now.y)
+        (line_at (B.cells memory.now) regs.now.x regs.now.y)
         regs.now.a result
         (screens ⟦<dyn CharDriver as CharDriver>⟧ devices.old.terms.items)
         (screens ⟦<dyn CharDriver as CharDriver>⟧ devices.new.terms.items) }
     ensures terminals { vec_len devices.new.terms ≡ vec_len devices.old.terms }
     ensures drives_kept { devices.new.drives ≡ devices.old.drives }
 {
-    let Some(line) = memory.line(regs.x, regs.y) else {
+    let Some(count) = read_line(memory, regs.x, regs.y, buffer) else {
         return LineEnd::Refused(210);
     };
     if regs.a > 2 {
         return LineEnd::Refused(201);
     }
-    match put_line(devices, line) {
-        Ok(()) => LineEnd::Written(line.len() as u16),
+    match put_line(devices, &buffer[..count]) {
+        Ok(()) => LineEnd::Written(count as u16),
         Err(PutFault::Fault) => LineEnd::Refused(245),
         Err(PutFault::OutOfMemory) => LineEnd::NoMemory,
     }

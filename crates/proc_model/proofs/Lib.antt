@@ -1,4 +1,5 @@
 pub mod CrcLaws
+pub mod LoadingLemmas
 pub mod ModuleLaws
 pub mod ModuleListLaws
 mod Worked

@@ -1,7 +1,8 @@
 -- The module directory (Level Two manual, "Module directory"; F$Link, F$Load, F$UnLink, F$UnLoad).
 -- It is a list by number: place n has the entry of number n, or nothing.
-use Rattle.std.specs.Prelude.{ℕ, ◌+◌, ◌-◌, ◌/◌, ◌%◌, ◌==◌, ◌&&◌, ◌||◌, not, nat_eq, nat_lt, nat_le, Bool, false, Option, Some, None, is_none, option_and_then, List, map, position, count_by, slice_get, slice_set, if◌then◌else◌}
+use Rattle.std.specs.Prelude.{ℕ, ◌+◌, ◌-◌, ◌/◌, ◌%◌, ◌==◌, ◌&&◌, ◌||◌, not, nat_eq, nat_lt, nat_le, Bool, false, Option, Some, None, is_none, option_and_then, List, [], ◌∷◌, map, position, count_by, slice_get, slice_set, if◌then◌else◌}
 use Rattle.std.specs.List.{list_any}
+use Rattle.std.specs.Option.{option_map_or}
 use Rattle.std.specs.Cmp.Lexicographic.{pointwise}
 use Rattle.std.specs.Str.{bytes_eq}
 use Rattle.os9_base.specs.Name.{lower}
@@ -123,3 +124,15 @@ after_unlink entries number entry =
 -- the group that leaves memory with this link, if it does
 abbrev pub leaving_group : List (Option ModuleEntry) → ℕ → ModuleEntry → Option (List ℕ)
 leaving_group entries number entry = if is_leaving entries number entry then Some entry.group else None
+
+-- the list after a link of the entry of this number, if there is one, is given up
+abbrev pub without_link : List (Option ModuleEntry) → Option ℕ → List (Option ModuleEntry)
+without_link entries None = entries
+without_link entries (Some number) = option_map_or (after_unlink entries number) (entry_at entries number) entries
+
+-- the groups of the entries, each once
+abbrev pub entered_groups : List (Option ModuleEntry) → List (List ℕ)
+entered_groups [] = []
+entered_groups (None ∷ entries) = entered_groups entries
+entered_groups (Some entry ∷ entries) =
+    if list_any (pointwise nat_eq entry.group) (entered_groups entries) then entered_groups entries else entry.group ∷ entered_groups entries

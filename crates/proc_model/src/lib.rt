@@ -3,4 +3,5 @@
 #![tactic(auto)]
 
 pub mod group;
+pub mod loading;
 pub mod module;

@@ -2,7 +2,7 @@ use Rattle.std.proofs.Common.{◌+◌, List, Option, None, ◌∷◌, [], ◌++�
 use Rattle.std.proofs.lemmas.List.{take_more_set, replicate_more, drop-set-lt}
 use Rattle.std.proofs.lemmas.Grind.{drop_more_same}
 use Rattle.proc_model.specs.declared.group.BlockId.{BlockId}
-use Rattle.block_map.specs.Slots.{named_in}
+use Rattle.proc_model.specs.Slots.{named_in}
 use Rattle.block_map.specs.Takes.{given_all}
 use Rattle.block_map.proofs.Places.{at_rest}
 use Rattle.block_map.proofs.Counts.{gives_next, gives_more}

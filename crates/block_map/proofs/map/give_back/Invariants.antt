@@ -1,6 +1,6 @@
 use Rattle.std.proofs.Common.{◌≡◌, Option, None, take, drop, replicate}
 use Rattle.proc_model.specs.declared.group.BlockId.{BlockId}
-use Rattle.block_map.specs.Slots.{named_in}
+use Rattle.proc_model.specs.Slots.{named_in}
 use Rattle.block_map.specs.Takes.{given_all}
 use Rattle.block_map.proofs.map.give_back.Given as goal
 

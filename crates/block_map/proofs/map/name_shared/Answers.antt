@@ -3,7 +3,7 @@ use Rattle.std.proofs.lemmas.List.{take_more, take_more_set, take_all, map_push,
 use Rattle.std.proofs.lemmas.List.Sums.{fold_more}
 use Rattle.proc_model.specs.declared.group.BlockId.{BlockId}
 use Rattle.block_pool.specs.Blocks.{Blocks, count_of, shared}
-use Rattle.block_map.specs.Slots.{naming}
+use Rattle.proc_model.specs.Slots.{naming}
 use Rattle.block_map.specs.Takes.{shared_all}
 use Rattle.block_map.proofs.Counts.{count_of-shared_all}
 use Rattle.block_map.proofs.map.name_shared.Goals as goal

@@ -1,5 +1,5 @@
 use Rattle.std.proofs.Common.{◌≡◌, take}
-use Rattle.block_map.specs.Slots.{naming}
+use Rattle.proc_model.specs.Slots.{naming}
 use Rattle.block_map.specs.Takes.{shared_all}
 use Rattle.block_map.proofs.map.name_shared.Given as goal
 

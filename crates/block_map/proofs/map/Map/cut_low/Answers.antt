@@ -2,7 +2,7 @@ use Rattle.std.proofs.Common.{◌≡◌, ◌-◌, ℕ, List, Option, Some, None,
 use Rattle.std.proofs.lemmas.List.{length-replicate}
 use Rattle.proc_model.specs.declared.group.BlockId.{BlockId}
 use Rattle.block_pool.specs.Blocks.{Blocks, IsLive}
-use Rattle.block_map.specs.Slots.{Slots, place_of}
+use Rattle.proc_model.specs.Slots.{Slots, place_of}
 use Rattle.block_map.proofs.Places.{at, Once, length-put}
 use Rattle.block_map.proofs.Maps.{cleared-put, Once-part, Once-clear, live-clear}
 use Rattle.block_map.proofs.map.Map.cut_low.Goals as goal

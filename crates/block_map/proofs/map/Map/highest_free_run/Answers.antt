@@ -1,6 +1,6 @@
 use Rattle.std.proofs.Common.{◌-◌, ℕ, arith, sym, ◌∙◌, subst, inl, inr}
 use Rattle.std.proofs.lemmas.Bool.{cases_lt, cases_eq, false≢true}
-use Rattle.block_map.specs.Slots.{IsFreeRun}
+use Rattle.proc_model.specs.Slots.{IsFreeRun}
 use Rattle.block_map.proofs.map.Map.highest_free_run.Goals as goal
 
 pub returns-then-is_free_run-clause-highest : goal.returns-then-is_free_run-clause-highest

@@ -1,5 +1,5 @@
 use Rattle.std.proofs.Common.{ℕ, ◌≤◌}
-use Rattle.block_map.specs.Slots.{IsFreeRun}
+use Rattle.proc_model.specs.Slots.{IsFreeRun}
 use Rattle.block_map.proofs.map.Map.highest_free_run.Given as goal
 
 abbrev pub invariant-loop-first : goal.invariant-loop-first

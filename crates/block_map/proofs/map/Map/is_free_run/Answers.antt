@@ -1,6 +1,6 @@
 use Rattle.std.proofs.Common.{List, Option, arith, ap, ◌∙◌, sym}
 use Rattle.proc_model.specs.declared.group.BlockId.{BlockId}
-use Rattle.block_map.specs.Slots.{Slots}
+use Rattle.proc_model.specs.Slots.{Slots}
 use Rattle.block_map.proofs.Places.{at, free_part, part_free}
 use Rattle.block_map.proofs.map.Map.is_free_run.Goals as goal
 

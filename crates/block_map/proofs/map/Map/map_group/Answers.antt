@@ -3,7 +3,7 @@ use Rattle.std.proofs.lemmas.List.{length-set, length-map}
 use Rattle.std.proofs.lemmas.Grind.{common_steps}
 use Rattle.proc_model.specs.declared.group.BlockId.{BlockId}
 use Rattle.block_pool.specs.Blocks.{Blocks, IsLive}
-use Rattle.block_map.specs.Slots.{Slots, place_of, put_places, naming}
+use Rattle.proc_model.specs.Slots.{Slots, place_of, put_places, naming}
 use Rattle.block_map.specs.Takes.{group_blocks, shared_all}
 use Rattle.block_map.proofs.Places.{at, Once, length-put}
 use Rattle.block_map.proofs.Maps.{put_mid-put, Once-group, live-group, GroupsFit-set}

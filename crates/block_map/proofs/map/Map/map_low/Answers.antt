@@ -2,7 +2,7 @@ use Rattle.std.proofs.Common.{◌≡◌, ◌+◌, ◌-◌, ◌≤◌, ℕ, List,
 use Rattle.std.proofs.lemmas.Grind.{common_steps}
 use Rattle.proc_model.specs.declared.group.BlockId.{BlockId}
 use Rattle.block_pool.specs.Blocks.{IsLive}
-use Rattle.block_map.specs.Slots.{Slots, place_of}
+use Rattle.proc_model.specs.Slots.{Slots, place_of}
 use Rattle.block_map.proofs.Places.{at, Once, length-put}
 use Rattle.block_map.proofs.Maps.{put_mid-put, Once-new, live-new}
 use Rattle.block_map.proofs.map.Map.map_low.Goals as goal

@@ -1,6 +1,6 @@
 use Rattle.std.proofs.Common.{◌≡◌, ◌/◌, ◌%◌, Option, Some, IsSome, option_and_then, get_or, sym, ap, ◌∙◌, subst}
 use Rattle.proc_model.specs.declared.group.BlockId.{BlockId}
-use Rattle.block_map.specs.Slots.{place_of}
+use Rattle.proc_model.specs.Slots.{place_of}
 use Rattle.block_map.specs.Window.{live_byte}
 use Rattle.block_map.proofs.Windows.{live_byte-Some}
 use Rattle.block_map.proofs.view.ViewBus.get.Goals as goal

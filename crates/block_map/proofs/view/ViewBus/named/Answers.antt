@@ -2,7 +2,7 @@ use Rattle.std.specs.Bool.{⊤}
 use Rattle.std.proofs.Common.{◌/◌, ◌%◌, is_some, inl, inr, arith, sym, ◌∙◌, subst}
 use Rattle.std.proofs.lemmas.Bool.{MatchBool-at_true, cases_Bool, false_from_ne_true, false≢true}
 use Rattle.block_pool.specs.Blocks.{IsPool}
-use Rattle.block_map.specs.Slots.{place_of}
+use Rattle.proc_model.specs.Slots.{place_of}
 use Rattle.block_map.specs.Window.{IsSlotLive, cells_of}
 use Rattle.block_map.proofs.Windows.{byte_of_live, live_of_byte}
 use Rattle.block_map.proofs.view.ViewBus.named.Goals as goal

@@ -1,6 +1,6 @@
 use Rattle.std.proofs.Common.{◌≡◌, ◌/◌, ◌∷◌, [], sym, ap, ◌∙◌, Some}
 use Rattle.block_pool.specs.Blocks.{block_bytes, with_bytes, overwritten}
-use Rattle.block_map.specs.Slots.{place_of}
+use Rattle.proc_model.specs.Slots.{place_of}
 use Rattle.block_map.specs.Window.{cells_of}
 use Rattle.block_map.proofs.Windows.{cells_of-put}
 use Rattle.block_map.proofs.view.ViewBus.put.Goals as goal
