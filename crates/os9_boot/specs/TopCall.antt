@@ -1,42 +1,59 @@
 -- What the top call answers.
-use Rattle.std.specs.Prelude.{◌≡◌, ◌≢◌, ℕ, ◌⊎◌, Option, List, slice_get, MatchOption, MatchResult}
+use Rattle.std.specs.Prelude.{◌≡◌, ◌≢◌, ℕ, ◌⊎◌, Option, List, length, slice_get, MatchOption, MatchResult}
 use Rattle.os9_outer.specs.Host.{contents_of}
 use Rattle.os9_outer.specs.Stream.{appended}
 use Rattle.device_table.specs.Screens.{Screen}
 use Rattle.script_text.specs.Slices.{slices_of}
 use Rattle.os9_words.specs.declared.command.Command.{Command}
-use Rattle.os9_words.specs.declared.command.Command.TheVariants.{Run as RunCommand}
+use Rattle.os9_words.specs.declared.command.Command.TheVariants.{Run as RunCommand, Check as CheckCommand}
 use Rattle.os9_words.specs.declared.command.RunWords.{RunWords}
 use Rattle.os9_words.specs.Command.{command_of}
+use Rattle.os9_words.specs.Lines.{counts_line}
+use Rattle.rbf_model.specs.Geometry.{Geometry, image_geometry}
+use Rattle.rbf_model.specs.Volume.{DiskVolume, Vol, free_clusters, lost_clusters}
+use Rattle.rbf_model.specs.Counts.{file_count, directory_count}
+use Rattle.rbf_model.specs.Faults.{IsFault}
 use Rattle.machine_model.specs.State.{State}
-use Rattle.machine_model.specs.Start.{IsBootFile, start_of}
+use Rattle.machine_model.specs.declared.ends.BootFault.{BootFault}
+use Rattle.machine_model.specs.Start.{Starts, Refuses}
 use Rattle.machine_model.specs.Run.{Run, status_of}
 
--- the boot file is run over these slices: the output gains what the run writes, and the status is the run's
-abbrev pub Runs : List ℕ → List ℕ → List Screen → Option (List ℕ) → Option (List ℕ) → ℕ → Type 0
-Runs file slices terms before now status =
-    (written : List ℕ) × (t : State) × Run slices (start_of file terms) written t × (status ≡ status_of t) × (now ≡ appended before written)
+-- the machine goes on from this state over these slices: the output gains what the run writes, and the status is the run's
+abbrev pub Runs : State → List ℕ → Option (List ℕ) → Option (List ℕ) → ℕ → Type 0
+Runs s slices before now status =
+    (written : List ℕ) × (t : State) × Run slices s written t × (status ≡ status_of t) × (now ≡ appended before written)
 
--- the boot file is run where it is one, and else refused with 8
-abbrev pub Boots : List ℕ → List ℕ → List Screen → Option (List ℕ) → Option (List ℕ) → ℕ → Type 0
-Boots file slices terms before now status =
-    (IsBootFile file × Runs file slices terms before now status) ⊎ ((IsBootFile file → ⊥) × (status ≡ 8) × (now ≡ before))
+-- the boot file starts a machine with so many blocks, which is run; or it is refused with 8
+abbrev pub Boots : List ℕ → ℕ → List ℕ → List Screen → Option (List ℕ) → Option (List ℕ) → ℕ → Type 0
+Boots file blocks slices terms before now status =
+    ((s : State) × Starts file blocks terms s × Runs s slices before now status) ⊎ ((fault : BootFault) × Refuses file blocks fault × (status ≡ 8) × (now ≡ before))
 
 -- the slice text gives slices, or is refused with 7
-abbrev pub Slices : List ℕ → List ℕ → List Screen → Option (List ℕ) → Option (List ℕ) → ℕ → Type 0
-Slices text file terms before now status =
+abbrev pub Slices : List ℕ → List ℕ → ℕ → List Screen → Option (List ℕ) → Option (List ℕ) → ℕ → Type 0
+Slices text file blocks terms before now status =
     MatchResult (slices_of text)
-    (λ slices. Boots file slices terms before now status)
+    (λ slices. Boots file blocks slices terms before now status)
     (λ line. (status ≡ 7) × (now ≡ before))
 
 -- the files that the words name are those of the host
 abbrev pub Performs : (List ℕ → Option (List ℕ)) → RunWords → List Screen → Option (List ℕ) → Option (List ℕ) → ℕ → Type 0
 Performs files run terms before now status =
     MatchOption (slice_get run.files 0) ⊥
-    (λ modules. Slices (contents_of files run.slices) (contents_of files modules) terms before now status)
+    (λ modules. Slices (contents_of files run.slices) (contents_of files modules) run.blocks terms before now status)
 
+-- the line of the counts of a volume
+abbrev pub counts_of : Geometry → DiskVolume → List ℕ
+counts_of g v = counts_line (file_count g v) (directory_count g v) (length (free_clusters g v)) (length (lost_clusters g v))
+
+-- the image stands for a volume, whose counts are printed; or it is refused with 6
+abbrev pub Checks : List ℕ → Option (List ℕ) → Option (List ℕ) → ℕ → Type 0
+Checks image before now status =
+    ((v : DiskVolume) × Vol image v × (status ≡ 0) × (now ≡ appended before (counts_of (image_geometry image) v))) ⊎ ((rule : ℕ) × (lsn : ℕ) × IsFault image rule lsn × (status ≡ 6) × (now ≡ before))
+
+-- what a command does with the files
 abbrev pub PerformsCommand : (List ℕ → Option (List ℕ)) → List Screen → Option (List ℕ) → Option (List ℕ) → ℕ → Command → Type 0
 PerformsCommand files terms before now status (RunCommand run) = Performs files run terms before now status
+PerformsCommand files terms before now status (CheckCommand image) = Checks (contents_of files image) before now status
 
 -- the words spell a command, or are refused with 1
 abbrev pub Answers : (List ℕ → Option (List ℕ)) → List (List ℕ) → List Screen → Option (List ℕ) → Option (List ℕ) → ℕ → Type 0
@@ -49,4 +66,4 @@ IsAnswered status = (status ≢ 2) × (status ≢ 3) × (status ≢ 4)
 
 -- the command ended before anything ran
 abbrev pub IsSilent : ℕ → Type 0
-IsSilent status = (status ≡ 1) ⊎ (status ≡ 2) ⊎ (status ≡ 7) ⊎ (status ≡ 8)
+IsSilent status = (status ≡ 1) ⊎ (status ≡ 2) ⊎ (status ≡ 6) ⊎ (status ≡ 7) ⊎ (status ≡ 8)

@@ -1,6 +1,7 @@
 //! The top call: a command line, a host and devices in, a status out.
 #![tactic(auto)]
 
+mod check;
 mod console;
 mod run;
 mod status;

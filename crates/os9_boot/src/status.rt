@@ -1,24 +1,31 @@
-ghost use Rattle.std.specs.Prelude.{◌≡◌, ◌<◌, length};
+ghost use Rattle.std.specs.Prelude.{◌≡◌};
+ghost use Rattle.os9_words.specs.Command.{HasOneFile};
 ghost use Rattle.os9_words.specs.Lines.{ChangesErrOnly};
 ghost use Rattle.os9_boot.specs.End.{number_of};
 
 use os9_outer::host::Host;
-use os9_words::command::RunWords;
-use os9_words::lines::{tell_cannot_read, tell_cannot_write_output, tell_no_memory};
+use os9_words::command::Command;
+use os9_words::lines::{
+    tell_boot_module, tell_boot_too_large, tell_cannot_read, tell_cannot_write_output,
+    tell_image_fault, tell_no_first, tell_no_memory,
+};
+use rbf_check::CheckFault;
 
-/// A file that the words of `run` give to be read.
+/// A file that the words of a command give to be read.
 #[derive(Clone, Copy, Debug, PartialEq, Eq)]
 pub enum Input {
     /// The list of slices.
     Slices,
     /// The file of modules.
     Modules,
+    /// The image of a disk.
+    Image,
 }
 
 /// How a command ended.
 #[derive(Clone, Copy, Debug, PartialEq, Eq)]
 pub enum End {
-    /// No process lives.
+    /// The command is done, and no process lives.
     Ended,
     /// The slices are used up, and a process lives.
     Living,
@@ -28,10 +35,16 @@ pub enum End {
     CannotWrite,
     /// Memory is wanting.
     NoMemory,
+    /// The image is not well formed.
+    BadImage(CheckFault),
     /// The slice text is refused.
     BadText,
-    /// The file of modules is no boot file.
-    NotBootable,
+    /// A module of the boot file is refused: where it begins, and the number of the error.
+    BadModule(u32, u8),
+    /// The boot file has no program `SysGo`.
+    NoFirst,
+    /// The boot file is too long, or there is no room for it and the data area of `SysGo`.
+    TooLarge,
 }
 
 impl End {
@@ -45,30 +58,39 @@ impl End {
             End::CannotRead(_) => 2,
             End::CannotWrite => 3,
             End::NoMemory => 4,
+            End::BadImage(_) => 6,
             End::BadText => 7,
-            End::NotBootable => 8,
+            End::BadModule(..) | End::NoFirst | End::TooLarge => 8,
         }
     }
 }
 
 /// Tells on the error stream why the command ended, where a line says so.
-pub fn tell<H: Host>(host: &mut H, end: End, run: &RunWords)
-    requires { 0 < length run.now.files }
+pub fn tell<H: Host>(host: &mut H, end: End, command: &Command)
+    requires { HasOneFile command.now }
     ensures { ChangesErrOnly ⟦<H as Host>⟧ host.old host.new }
 {
-    match end {
-        End::CannotRead(Input::Slices) => {
-            let _ = tell_cannot_read(host, run.slices.text());
+    let _ = match end {
+        End::CannotRead(input) => tell_cannot_read(host, name_of(command, input)),
+        End::CannotWrite => tell_cannot_write_output(host),
+        End::NoMemory => tell_no_memory(host),
+        End::BadImage(fault) => {
+            tell_image_fault(host, name_of(command, Input::Image), fault.rule, fault.lsn)
         }
-        End::CannotRead(Input::Modules) => {
-            let _ = tell_cannot_read(host, run.files.word(0).text());
-        }
-        End::CannotWrite => {
-            let _ = tell_cannot_write_output(host);
-        }
-        End::NoMemory => {
-            let _ = tell_no_memory(host);
-        }
-        End::Ended | End::Living | End::BadText | End::NotBootable => {}
+        End::BadModule(at, error) => tell_boot_module(host, error, at),
+        End::NoFirst => tell_no_first(host),
+        End::TooLarge => tell_boot_too_large(host),
+        End::Ended | End::Living | End::BadText => Ok(()),
+    };
+}
+
+/// The name of a file that the words give.
+fn name_of(command: &Command, input: Input) -> &str
+    requires { HasOneFile command.now }
+{
+    match (command, input) {
+        (Command::Check(image), _) => image.text(),
+        (Command::Run(run), Input::Slices) => run.slices.text(),
+        (Command::Run(run), Input::Modules | Input::Image) => run.files.word(0).text(),
     }
 }

@@ -1,15 +1,16 @@
 ghost use Rattle.std.specs.Prelude.{◌≡◌, ◌≢◌, ◌<◌, ◌⊎◌, All, IfSome, None, map, string_bytes, length, vec_len};
 ghost use Rattle.os9_base.specs.Count.{Rose};
-ghost use Rattle.os9_words.specs.Command.{command_of};
+ghost use Rattle.os9_words.specs.Command.{command_of, HasOneFile, HasBlocks};
 ghost use Rattle.device_table.specs.Screens.{screens};
 ghost use Rattle.os9_boot.specs.Console.{IsTold};
 ghost use Rattle.os9_boot.specs.End.{number_of};
-ghost use Rattle.os9_boot.specs.TopCall.{Answers, Performs, Boots, IsAnswered, IsSilent};
+ghost use Rattle.os9_boot.specs.TopCall.{Answers, Performs, PerformsCommand, Boots, IsAnswered, IsSilent};
 
+use crate::check::check_image;
 use crate::run::{Stop, run_slices};
 use crate::status::{End, Input, tell};
 use device_table::devices::Devices;
-use os9_kernel::{BootFault, Kernel};
+use os9_kernel::{BootFault, Config, Kernel};
 use os9_outer::host::{Host, HostFault};
 use os9_outer::terminal::CharDriver;
 use os9_words::command::{Command, RunWords, WordsFault, read_words};
@@ -20,13 +21,15 @@ use std::alloc::Global;
 
 /// Does what a command line says, and answers the status (this project's own).
 ///
-/// The words are those after the program's name. `run MODULES --slices SLICES` reads the slice text
-/// and the file of modules, runs the program of that file, and passes what it puts on the terminals
-/// to the output stream.
+/// The words are those after the program's name. `run MODULES --slices SLICES`, with `--blocks N`
+/// behind it or not, reads the slice text and the file of modules, runs the program `SysGo` of that
+/// file, and passes what it puts on the terminals to the output stream. `check IMAGE` reads the
+/// image of a disk and passes the counts of its volume to the output stream.
 ///
-/// Statuses: 0 no process lives any more; 5 the slices are used up and a process lives; 1 the words
-/// are no command line; 2 a file could not be read; 3 the output stream could not be written;
-/// 4 memory is wanting; 7 the slice text is refused; 8 the file is no boot file.
+/// Statuses: 0 the command is done, and no process lives; 5 the slices are used up and a process
+/// lives; 1 the words are no command line; 2 a file could not be read; 3 the output stream could
+/// not be written; 4 memory is wanting; 6 the image is not well formed; 7 the slice text is
+/// refused; 8 the file of modules is refused.
 pub fn os9_main<H: Host>(alloc: Global, words: &[String], host: &mut H, devices: &mut Devices) -> u8
     requires { 0 < vec_len devices.old.terms }
     // The headline: where nothing failed and the host and the terminals tell what they hold, the
@@ -46,7 +49,7 @@ pub fn os9_main<H: Host>(alloc: Global, words: &[String], host: &mut H, devices:
     ensures files_kept { H.file_map host.new ≡ H.file_map host.old }
 {
     match read_words(alloc, words) {
-        Ok(Command::Run(run)) => run_command(alloc, &run, host, devices),
+        Ok(command) => do_command(alloc, &command, host, devices),
         Err(WordsFault::Refused) => {
             let _ = tell_words(host);
             1
@@ -58,14 +61,21 @@ pub fn os9_main<H: Host>(alloc: Global, words: &[String], host: &mut H, devices:
     }
 }
 
-fn run_command<H: Host>(alloc: Global, run: &RunWords, host: &mut H, devices: &mut Devices) -> u8
+/// Does a command, and tells why it ended.
+fn do_command<H: Host>(
+    alloc: Global,
+    command: &Command,
+    host: &mut H,
+    devices: &mut Devices,
+) -> u8
     requires terminals { 0 < vec_len devices.old.terms }
-    requires files { length run.now.files ≡ 1 }
+    requires files { HasOneFile command.now }
+    requires blocks { HasBlocks command.now }
     ensures performed { IsAnswered result → IfSome (H.file_map host.old) (λ files.
         All IsTold (screens ⟦<dyn CharDriver as CharDriver>⟧ devices.old.terms.items)
-        → Performs files run.now
+        → PerformsCommand files
         (screens ⟦<dyn CharDriver as CharDriver>⟧ devices.old.terms.items)
-        (H.bytes_out host.old) (H.bytes_out host.new) result) }
+        (H.bytes_out host.old) (H.bytes_out host.new) result command.now) }
     ensures words { result ≢ 1 }
     ensures read_fault { result ≡ 2 → Rose (H.host_faults host.old) (H.host_faults host.new) }
     ensures output_fault { result ≡ 3 → Rose (H.host_faults host.old) (H.host_faults host.new) }
@@ -73,15 +83,20 @@ fn run_command<H: Host>(alloc: Global, run: &RunWords, host: &mut H, devices: &m
     ensures silent { IsSilent result → H.bytes_out host.new ≡ H.bytes_out host.old }
     ensures files_kept { H.file_map host.new ≡ H.file_map host.old }
 {
-    let end = perform(alloc, run, host, devices);
-    tell(host, end, run);
+    let end = match command {
+        Command::Run(run) => run_modules(alloc, run, host, devices),
+        Command::Check(image) => check_image(alloc, image, host),
+    };
+    tell(host, end, command);
     end.number()
 }
 
-/// Reads the two files and runs the program.
-fn perform<H: Host>(alloc: Global, run: &RunWords, host: &mut H, devices: &mut Devices) -> End
+/// `run MODULES --slices SLICES`: reads the two files and runs the program.
+fn run_modules<H: Host>(alloc: Global, run: &RunWords, host: &mut H, devices: &mut Devices) -> End
     requires terminals { 0 < vec_len devices.old.terms }
     requires files { length run.now.files ≡ 1 }
+    requires least { 8 ≤ run.now.blocks }
+    requires most { run.now.blocks ≤ 256 }
     ensures performed { IsAnswered (number_of result) → IfSome (H.file_map host.old) (λ files.
         All IsTold (screens ⟦<dyn CharDriver as CharDriver>⟧ devices.old.terms.items)
         → Performs files run.now
@@ -109,22 +124,26 @@ fn perform<H: Host>(alloc: Global, run: &RunWords, host: &mut H, devices: &mut D
         Err(LineFault::Line(_)) => return End::BadText,
         Err(LineFault::OutOfMemory) => return End::NoMemory,
     };
-    boot(alloc, file.as_slice(), slices.as_slice(), host, devices)
+    let config = Config { blocks: run.blocks };
+    boot(alloc, config, file.as_slice(), slices.as_slice(), host, devices)
 }
 
 /// Runs the program of a boot file over these slices.
 fn boot<H: Host>(
     alloc: Global,
+    config: Config,
     file: &[u8],
     slices: &[u32],
     host: &mut H,
     devices: &mut Devices,
 ) -> End
     requires terminals { 0 < vec_len devices.old.terms }
+    requires least { 8 ≤ config.blocks }
+    requires most { config.blocks ≤ 256 }
     requires few { length slices.now < 4294000000 }
     ensures booted { IsAnswered (number_of result)
         → All IsTold (screens ⟦<dyn CharDriver as CharDriver>⟧ devices.old.terms.items)
-        → Boots file.now slices.now
+        → Boots file.now config.blocks slices.now
         (screens ⟦<dyn CharDriver as CharDriver>⟧ devices.old.terms.items)
         (H.bytes_out host.old) (H.bytes_out host.new) (number_of result) }
     ensures no_read { number_of result ≢ 2 }
@@ -133,10 +152,12 @@ fn boot<H: Host>(
     ensures silent { IsSilent (number_of result) → H.bytes_out host.new ≡ H.bytes_out host.old }
     ensures files_kept { H.file_map host.new ≡ H.file_map host.old }
 {
-    let mut kernel = match Kernel::new(alloc, file) {
+    let mut kernel = match Kernel::new(alloc, config, file) {
         Ok(kernel) => kernel,
-        Err(BootFault::Refused) => return End::NotBootable,
         Err(BootFault::OutOfMemory) => return End::NoMemory,
+        Err(BootFault::BadModule(at, error)) => return End::BadModule(at, error),
+        Err(BootFault::NoFirst) => return End::NoFirst,
+        Err(BootFault::TooLarge) => return End::TooLarge,
     };
     match run_slices(&mut kernel, slices, host, devices) {
         Ok(()) => {
