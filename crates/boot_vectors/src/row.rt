@@ -1,0 +1,63 @@
+use hex::{FromHexError, decode};
+use std::alloc::{AllocError, Global};
+
+/// The most zero bytes that a row has behind its file.
+const MOST_ZEROS: usize = 65_536;
+
+/// A boot file, and what `run` answers to it.
+#[derive(Drop)]
+pub(crate) struct Row {
+    /// The number of blocks, as the words give it.
+    pub(crate) blocks: String,
+    pub(crate) file: Vec<u8>,
+    pub(crate) status: u8,
+    pub(crate) out: Vec<u8>,
+    /// The line on the error stream, without its line feed; none where it is empty.
+    pub(crate) err: String,
+}
+
+/// The row of a line: the number of blocks, the file in hexadecimal digits, the number of zero
+/// bytes behind it, the status, the bytes written and the line on the error stream, separated by
+/// tabs, with `-` for what is empty. None where it has other fields.
+pub(crate) fn parse(alloc: Global, line: &str) -> Result<Option<Row>, AllocError> {
+    let mut fields = line.split('\t');
+    let Some(blocks) = fields.next() else {
+        return Ok(None);
+    };
+    let (Some(file), Some(zeros)) = (fields.next(), fields.next()) else {
+        return Ok(None);
+    };
+    let (Some(status), Some(out), Some(err)) = (fields.next(), fields.next(), fields.next()) else {
+        return Ok(None);
+    };
+    let (Ok(zeros), Ok(status)) = (zeros.parse::<usize>(), status.parse::<u8>()) else {
+        return Ok(None);
+    };
+    let (Some(mut file), Some(out)) = (bytes(alloc, file)?, bytes(alloc, out)?) else {
+        return Ok(None);
+    };
+    for _ in 0..zeros.min(MOST_ZEROS) {
+        file.push(0)?;
+    }
+    Ok(Some(Row {
+        blocks: String::from_str(alloc, blocks)?,
+        file,
+        status,
+        out,
+        err: String::from_str(alloc, text(err))?,
+    }))
+}
+
+/// The field, where `-` stands for what is empty.
+fn text(field: &str) -> &str {
+    if field == "-" { "" } else { field }
+}
+
+/// The bytes of a field, or None where it is no hexadecimal digits.
+fn bytes(alloc: Global, field: &str) -> Result<Option<Vec<u8>>, AllocError> {
+    match decode(alloc, text(field)) {
+        Ok(bytes) => Ok(Some(bytes)),
+        Err(FromHexError::OutOfMemory) => Err(AllocError),
+        Err(_) => Ok(None),
+    }
+}
