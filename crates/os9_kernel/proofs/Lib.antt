@@ -1,3 +1,5 @@
+mod EndLemmas
 mod LineLemmas
 mod PutLemmas
 mod SliceLemmas
+mod StoreLemmas
