@@ -1,4 +1,5 @@
 use Rattle.std.proofs.Common.{refl, sym}
+use Rattle.proc_model.specs.Slots.{named_in}
 use Rattle.os9_kernel.proofs.EndLemmas.{NamesLive-counted, IsPool-given_all, AreCounted-ended, AreBoot-without_link, Stands-ended}
 use Rattle.os9_kernel.proofs.kernel.Kernel.end.Goals as goal
 
@@ -7,8 +8,20 @@ clear-requires c =
     let old = c.args.self.now in
     NamesLive-counted old.pool old.map old.dir old.counted
 
-pub invariant_of-self : goal.invariant_of-self
-invariant_of-self c = ?
+pub invariant_of-self-clause-shape : goal.invariant_of-self-clause-shape
+invariant_of-self-clause-shape c =
+    let old = c.args.self.now in
+    rw c.clear.ensures.given (IsPool-given_all old.pool (named_in old.map.places) old.shape)
+
+pub invariant_of-self-clause-counted : goal.invariant_of-self-clause-counted
+invariant_of-self-clause-counted c =
+    let old = c.args.self.now in
+    rw (c.clear.ensures.given, c.clear.ensures.empty, c.give_up_link.ensures) (AreCounted-ended old.pool old.map old.dir _ old.counted old.all_boot)
+
+pub invariant_of-self-clause-all_boot : goal.invariant_of-self-clause-all_boot
+invariant_of-self-clause-all_boot c =
+    let old = c.args.self.now in
+    rw c.give_up_link.ensures (AreBoot-without_link old.dir old.all_boot _)
 
 pub returns-clause-ended : goal.returns-clause-ended
 returns-clause-ended c =
