@@ -3,3 +3,4 @@ mod LineLemmas
 mod PutLemmas
 mod SliceLemmas
 mod StoreLemmas
+mod TieLemmas
