@@ -55,6 +55,17 @@ pub record KeepsRest (old new : Kernel) (before after : View) : Type 0 where
   pub pool : after.pool.now ≡ new.pool
   pub beside : SameBeside before after
 
+-- what a call that the process goes on from leaves
+pub record IsAnswered (old new : Kernel) (regs : Regs) : Type 0 where
+  pub regs_are : new.regs ≡ regs
+  pub activity : new.activity ≡ Running
+  pub pool : new.pool ≡ old.pool
+  pub map : new.map ≡ old.map
+  pub dir : new.dir ≡ old.dir
+  pub primary : new.primary ≡ old.primary
+  pub tick : new.tick ≡ old.tick
+  pub chosen : new.chosen ≡ old.chosen
+
 module _ (old : Kernel) (terms : List Screen) (number : ℕ → ℕ) (objects : List (List ℕ)) (stand_for : StandFor number old.pool objects) (chosen : old.chosen ≡ true) where
   abbrev here : State
   here = state_of old number objects terms
@@ -76,9 +87,14 @@ module _ (old : Kernel) (terms : List Screen) (number : ℕ → ℕ) (objects : 
   acts activity is end t does =
       (2, process_of old number, rw chosen refl, refl, subst (λ activity. Acts activity here 2 (process_of old number) end t) (sym is) does)
 
-  -- the process goes on after a call
-  goes_on_tied : (regs : Regs) → Stands (record old { regs = regs; activity = Running }) terms (answered here 2 (process_of old number) regs)
-  goes_on_tied regs = record { number = number; objects = objects; stand_for = stand_for; is = refl }
+  -- the process goes on after a call, which may have changed the terminals
+  goes_on_tied : (new : Kernel) (regs : Regs) → IsAnswered old new regs → (now screens : List Screen) → now ≡ screens → Stands new now (record (answered here 2 (process_of old number) regs) { terms = screens })
+  goes_on_tied new regs has now screens is = record {
+    number = number;
+    objects = objects;
+    stand_for = rw has.pool stand_for;
+    is = rw (is, has.regs_are, has.activity, has.map, has.dir, has.primary, has.tick, has.chosen) refl;
+  }
 
   module _ (running : old.activity ≡ Running) (new : Kernel) (before after : View) (kept : KeepsRest old new before after) where
     beyond : SameBeyond old.map old.pool new.pool
@@ -162,27 +178,24 @@ module _ (old : Kernel) (terms : List Screen) (number : ℕ → ℕ) (objects : 
   exits calling last stands = (ended here 2 (process_of old number) old.regs.b, acts (Calling 0x06) calling Ended _ (refl, refl), stands)
 
   -- a code that is no call's
-  pub refuses : IsUnknownCall old.activity → Goes_on Ran (record old { regs = refused old.regs 208; activity = Running })
-  refuses unknown = by_activity old.activity refl unknown
+  pub refuses : IsUnknownCall old.activity → (new : Kernel) → IsAnswered old new (refused old.regs 208) → Goes_on Ran new
+  refuses unknown new has = by_activity old.activity refl unknown
     where
-      by_activity : (activity : Activity) → old.activity ≡ activity → IsUnknownCall activity → Goes_on Ran (record old { regs = refused old.regs 208; activity = Running })
+      by_activity : (activity : Activity) → old.activity ≡ activity → IsUnknownCall activity → Goes_on Ran new
       by_activity Running is unknown = absurd unknown
       by_activity (Finished status) is unknown = absurd unknown
       by_activity (Calling code) is unknown =
           let no_exit : eqb code 0x06 ≡ false = search (nat_tests, rules) in
           let no_line : eqb code 0x8C ≡ false = search (nat_tests, rules) in
-          (answered here 2 (process_of old number) (refused old.regs 208), acts (Calling code) is Ran _ (rw (no_exit, no_line) (refl, refl)), goes_on_tied (refused old.regs 208))
+          (answered here 2 (process_of old number) (refused old.regs 208), acts (Calling code) is Ran _ (rw (no_exit, no_line) (refl, refl)), goes_on_tied new (refused old.regs 208) has terms terms refl)
 
   -- I$WritLn
-  module _ (calling : old.activity ≡ Calling 0x8C) (now : List Screen) where
-    abbrev Goes_on_with : Kernel → Type 0
-    Goes_on_with new = (t : State) × Event here Ran t × Stands new now t
+  module _ (calling : old.activity ≡ Calling 0x8C) (now : List Screen) (new : Kernel) where
+    abbrev Goes_on_now : Type 0
+    Goes_on_now = (t : State) × Event here Ran t × Stands new now t
 
     abbrev the_line : Option (List ℕ)
     the_line = line_at (cells old) old.regs.x old.regs.y
-
-    line_event : (t : State) → WritesLine here 2 (process_of old number) Ran t → Event here Ran t
-    line_event t does = acts (Calling 0x8C) calling Ran t does
 
     -- how the call answers a line that can be read, or that cannot
     abbrev Answer : Option (List ℕ) → State → Type 0
@@ -193,49 +206,46 @@ module _ (old : Kernel) (terms : List Screen) (number : ℕ → ℕ) (objects : 
         (t ≡ answered here 2 (process_of old number) (refused old.regs 201)))
 
     answers : (line : Option (List ℕ)) → the_line ≡ line → (t : State) → Answer line t → Event here Ran t
-    answers line is t answer = line_event t (refl, rw (same, is) answer)
+    answers line is t answer = acts (Calling 0x8C) calling Ran t (refl, rw (same, is) answer)
 
-    tied_with : (screens : List Screen) → now ≡ screens → (regs : Regs) → Stands (record old { regs = regs; activity = Running }) now (record (answered here 2 (process_of old number) regs) { terms = screens })
-    tied_with screens is regs = record { number = number; objects = objects; stand_for = stand_for; is = rw is refl }
-
-    pub written : (count : ℕ) → IsLineAnswer the_line old.regs.a (Written count) terms now → Goes_on_with (record old { regs = done (record old.regs { y = count }); activity = Running })
-    written count = by_line the_line refl
+    pub written : (count : ℕ) → IsLineAnswer the_line old.regs.a (Written count) terms now → IsAnswered old new (done (record old.regs { y = count })) → Goes_on_now
+    written count answer has = by_line the_line refl answer
       where
-        by_screen : (line : List ℕ) → the_line ≡ Some line → is_standard_path old.regs.a ≡ true → (screen : Option Screen) → slice_get terms 0 ≡ screen → MatchOption screen ⊥ (IsPut line (Written count) terms now) → Goes_on_with (record old { regs = done (record old.regs { y = count }); activity = Running })
+        by_screen : (line : List ℕ) → the_line ≡ Some line → is_standard_path old.regs.a ≡ true → (screen : Option Screen) → slice_get terms 0 ≡ screen → MatchOption screen ⊥ (IsPut line (Written count) terms now) → Goes_on_now
         by_screen line is standard None first answer = absurd answer
         by_screen line is standard (Some before) first (screen, keys, set, inr (end, gained, rose)) = cc end
         by_screen line is standard (Some before) first (screen, keys, set, inl (end, put, faults)) =
             let size : count ≡ length line = cc end in
-            let t : State = with_term (answered here 2 (process_of old number) (done (record old.regs { y = length line }))) screen in
-            (t, answers (Some line) is t (rw (standard, first) (screen, keys, inl (put, faults, refl))), rw size (tied_with (slice_set terms 0 screen) set (done (record old.regs { y = length line }))))
+            let regs : Regs = done (record old.regs { y = length line }) in
+            let t : State = with_term (answered here 2 (process_of old number) regs) screen in
+            (t, answers (Some line) is t (rw (standard, first) (screen, keys, inl (put, faults, refl))), goes_on_tied new regs (subst (λ n. IsAnswered old new (done (record old.regs { y = n }))) size has) now (slice_set terms 0 screen) set)
 
-        by_path : (line : List ℕ) → the_line ≡ Some line → (standard : Bool) → is_standard_path old.regs.a ≡ standard → MatchBool standard (MatchOption (slice_get terms 0) ⊥ (IsPut line (Written count) terms now)) ((Written count ≡ Refused 201) × (now ≡ terms)) → Goes_on_with (record old { regs = done (record old.regs { y = count }); activity = Running })
+        by_path : (line : List ℕ) → the_line ≡ Some line → (standard : Bool) → is_standard_path old.regs.a ≡ standard → MatchBool standard (MatchOption (slice_get terms 0) ⊥ (IsPut line (Written count) terms now)) ((Written count ≡ Refused 201) × (now ≡ terms)) → Goes_on_now
         by_path line is true standard answer = by_screen line is standard (slice_get terms 0) refl answer
         by_path line is false standard answer = cc (answer.0)
 
-        by_line : (line : Option (List ℕ)) → the_line ≡ line → IsLineAnswer line old.regs.a (Written count) terms now → Goes_on_with (record old { regs = done (record old.regs { y = count }); activity = Running })
+        by_line : (line : Option (List ℕ)) → the_line ≡ line → IsLineAnswer line old.regs.a (Written count) terms now → Goes_on_now
         by_line None is answer = cc (answer.0)
         by_line (Some line) is answer = by_path line is (is_standard_path old.regs.a) refl answer
 
-    pub refused_line : (error : ℕ) → IsLineAnswer the_line old.regs.a (Refused error) terms now → Goes_on_with (record old { regs = refused old.regs error; activity = Running })
-    refused_line error = by_line the_line refl
+    pub refused_line : (error : ℕ) → IsLineAnswer the_line old.regs.a (Refused error) terms now → IsAnswered old new (refused old.regs error) → Goes_on_now
+    refused_line error answer has = by_line the_line refl answer
       where
-        by_screen : (line : List ℕ) → the_line ≡ Some line → is_standard_path old.regs.a ≡ true → (screen : Option Screen) → slice_get terms 0 ≡ screen → MatchOption screen ⊥ (IsPut line (Refused error) terms now) → Goes_on_with (record old { regs = refused old.regs error; activity = Running })
+        refused_with : (which : ℕ) → error ≡ which → (screens : List Screen) → now ≡ screens → Stands new now (record (answered here 2 (process_of old number) (refused old.regs which)) { terms = screens })
+        refused_with which is screens set = goes_on_tied new (refused old.regs which) (subst (λ n. IsAnswered old new (refused old.regs n)) is has) now screens set
+
+        by_screen : (line : List ℕ) → the_line ≡ Some line → is_standard_path old.regs.a ≡ true → (screen : Option Screen) → slice_get terms 0 ≡ screen → MatchOption screen ⊥ (IsPut line (Refused error) terms now) → Goes_on_now
         by_screen line is standard None first answer = absurd answer
         by_screen line is standard (Some before) first (screen, keys, set, inl (end, put, faults)) = cc end
         by_screen line is standard (Some before) first (screen, keys, set, inr (end, gained, rose)) =
-            let which : error ≡ 245 = cc end in
             let t : State = with_term (answered here 2 (process_of old number) (refused old.regs 245)) screen in
-            (t, answers (Some line) is t (rw (standard, first) (screen, keys, inr (gained, rose, refl))), rw which (tied_with (slice_set terms 0 screen) set (refused old.regs 245)))
+            (t, answers (Some line) is t (rw (standard, first) (screen, keys, inr (gained, rose, refl))), refused_with 245 (cc end) (slice_set terms 0 screen) set)
 
-        by_path : (line : List ℕ) → the_line ≡ Some line → (standard : Bool) → is_standard_path old.regs.a ≡ standard → MatchBool standard (MatchOption (slice_get terms 0) ⊥ (IsPut line (Refused error) terms now)) ((Refused error ≡ Refused 201) × (now ≡ terms)) → Goes_on_with (record old { regs = refused old.regs error; activity = Running })
+        by_path : (line : List ℕ) → the_line ≡ Some line → (standard : Bool) → is_standard_path old.regs.a ≡ standard → MatchBool standard (MatchOption (slice_get terms 0) ⊥ (IsPut line (Refused error) terms now)) ((Refused error ≡ Refused 201) × (now ≡ terms)) → Goes_on_now
         by_path line is true standard answer = by_screen line is standard (slice_get terms 0) refl answer
         by_path line is false standard (end, kept) =
-            let which : error ≡ 201 = cc end in
-            (answered here 2 (process_of old number) (refused old.regs 201), answers (Some line) is _ (rw standard refl), rw which (tied_with terms kept (refused old.regs 201)))
+            (answered here 2 (process_of old number) (refused old.regs 201), answers (Some line) is _ (rw standard refl), refused_with 201 (cc end) terms kept)
 
-        by_line : (line : Option (List ℕ)) → the_line ≡ line → IsLineAnswer line old.regs.a (Refused error) terms now → Goes_on_with (record old { regs = refused old.regs error; activity = Running })
-        by_line None is (end, kept) =
-            let which : error ≡ 210 = cc end in
-            (answered here 2 (process_of old number) (refused old.regs 210), answers None is _ refl, rw which (tied_with terms kept (refused old.regs 210)))
+        by_line : (line : Option (List ℕ)) → the_line ≡ line → IsLineAnswer line old.regs.a (Refused error) terms now → Goes_on_now
+        by_line None is (end, kept) = (answered here 2 (process_of old number) (refused old.regs 210), answers None is _ refl, refused_with 210 (cc end) terms kept)
         by_line (Some line) is answer = by_path line is (is_standard_path old.regs.a) refl answer
