@@ -1,6 +1,6 @@
 -- What a process that ends gives up: its whole map, and one link to its primary module.
-use Rattle.std.proofs.Common.{◌≡◌, ◌≢◌, ℕ, zero, suc, ◌+◌, ◌-◌, ◌<◌, ◌≤◌, ◌==◌, true, cond, Option, Some, None, List, [], ◌∷◌, ◌++◌, length, get_or, map, set, count_by, All, refl, sym, ap, ◌∙◌, inl, inr, ◌⊎◌, arith}
-use Rattle.std.specs.Prelude.{option_map, slice_set, flat_map, if◌then◌else◌}
+use Rattle.std.proofs.Common.{◌≡◌, ◌≢◌, ℕ, zero, suc, ◌+◌, ◌-◌, ◌<◌, ◌==◌, true, cond, Option, Some, None, List, [], ◌∷◌, ◌++◌, length, get_or, map, count_by, refl, sym, ap, ◌∙◌, inl, inr, ◌⊎◌, arith}
+use Rattle.std.specs.Prelude.{option_map, flat_map, if◌then◌else◌}
 use Rattle.std.specs.List.{list_any}
 use Rattle.std.specs.Cmp.Lexicographic.{pointwise}
 use Rattle.std.specs.Prelude.{nat_eq}
@@ -11,7 +11,7 @@ use Rattle.std.proofs.lemmas.Bool.{cases_eq, cases_lt, cond-true, cond-false, eq
 use Rattle.block_pool.specs.Blocks.{Blocks, IsPool, IsLive, count_of, given}
 use Rattle.proc_model.specs.declared.group.BlockId.{BlockId}
 use Rattle.proc_model.specs.ModuleList.{ModuleEntry, entry_at, unlinked, with_unlinked, without_link, entered_groups}
-use Rattle.proc_model.specs.Slots.{Slots, no_slots, place_of, named_in}
+use Rattle.proc_model.specs.Slots.{Slots, no_slots, named_in}
 use Rattle.proc_model.proofs.ModuleListLaws.{entry_at-with_entry_same, entry_at-with_entry_other}
 use Rattle.block_map.specs.Takes.{NamesLive, given_all}
 use Rattle.block_map.proofs.Places.{at}
@@ -178,7 +178,6 @@ module _ (entries : List (Option ModuleEntry)) (all_boot : AreBoot entries) wher
           let boot = all_boot number entry is in
           ap (renamed_modules rename) (without_link-boot entries number entry is boot) ∙ map-set (option_map (renamed_entry rename)) entries number (Some (unlinked entry))
           ∙ sym (without_link-boot (renamed_modules rename entries) number (renamed_entry rename entry) (entry_at-renamed rename entries number ∙ ap (option_map (renamed_entry rename)) is) boot)
-
 
 -- after the map and a link were given up, each block is counted as often as it is named
 pub AreCounted-ended : (pool : Blocks) (slots : Slots BlockId) (entries : List (Option ModuleEntry)) (primary : Option ℕ) → AreCounted pool (slots ∷ []) entries → AreBoot entries → AreCounted (given_all pool (named_in slots.places)) (no_slots ∷ []) (without_link entries primary)

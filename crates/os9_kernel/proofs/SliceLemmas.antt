@@ -29,7 +29,7 @@ not_over left s some going = let test : eqb left 0 ≡ false = search (nat_tests
 over-finished : (left : ℕ) (kernel : Kernel) (terms : List Screen) (s : State) → Stands kernel terms s → HasFinished kernel → is_over left s ≡ true
 over-finished left kernel terms s tied finished = rw tied.is (by_choice kernel.chosen)
   where
-    by_choice : (chosen : Bool) → (eqb left 0 || not (is_living (option_and_then (process_at (state_of kernel tied.objects tied.places terms).inner) (if chosen then Some 2 else None)))) ≡ true
+    by_choice : (chosen : Bool) → (eqb left 0 || not (is_living (option_and_then (process_at (state_of kernel tied.number tied.objects terms).inner) (if chosen then Some 2 else None)))) ≡ true
     by_choice true = rw finished (or_true (eqb left 0))
     by_choice false = or_true (eqb left 0)
 

@@ -1,11 +1,11 @@
 -- What a process stores is stored in the objects that its blocks stand for.
 use Rattle.std.proofs.Common.{◌≡◌, ◌≢◌, ℕ, zero, suc, ◌+◌, ◌*◌, ◌/◌, ◌%◌, ◌<◌, true, Option, Some, None, List, [], ◌∷◌, length, get_or, map, slice_get, refl, sym, ap, ◌∙◌, subst, inl, inr, ◌⊎◌, arith}
-use Rattle.std.specs.Prelude.{option_map, option_and_then, slice_set, if◌then◌else◌}
+use Rattle.std.specs.Prelude.{option_map, slice_set}
 use Rattle.std.proofs.Math.Path.{fun_ext}
 use Rattle.std.proofs.lemmas.Grind.{same_number_lists}
 use Rattle.std.proofs.lemmas.List.{length-set}
 use Rattle.std.proofs.lemmas.Option.{same_Some, none-some, slice_get-get_or, slice_get_within}
-use Rattle.std.proofs.lemmas.Bool.{cases_eq, cond-true, lt-ltb}
+use Rattle.std.proofs.lemmas.Bool.{cases_eq, lt-ltb}
 use Rattle.cpu_model.specs.Step.{all_named, write_cells}
 use Rattle.block_pool.specs.Blocks.{Blocks, IsPool, IsLive, is_live, count_of, block_bytes}
 use Rattle.proc_model.specs.declared.group.BlockId.{BlockId}
@@ -201,8 +201,8 @@ module _ (number : ℕ → ℕ) (slots : Slots BlockId) (pool : Blocks) (objects
     same_unnamed block live unnamed =
         let id : BlockId = record { 0 = block } in
         let alone = λ (slot : ℕ) (at_slot : slot_of places slot ≡ Some (number block)).
-            let here = names slot (number block) at_slot in
-            unnamed (slot, here.id, here.place, stand_for.apart here.id.0 block (names_live slot here.id here.place) live here.is) in
+        let here = names slot (number block) at_slot in
+        unnamed (slot, here.id, here.place, stand_for.apart here.id.0 block (names_live slot here.id here.place) live here.is) in
         with_writes-other objects places writes (number block) alone ∙ stand_for.same_bytes block live ∙ ap Some (sym (beyond.bytes id (λ at_slot. unnamed (at_slot.0, id, at_slot.1, refl))))
 
     pub StandFor-stored : StandFor number after objects_after

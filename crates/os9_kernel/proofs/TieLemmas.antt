@@ -1,5 +1,5 @@
 -- What the kernel does is an event of each state that it stands for.
-use Rattle.std.proofs.Common.{◌≡◌, ℕ, true, false, Option, Some, None, List, [], ◌∷◌, refl, sym, ap, ◌∙◌, subst, eqb, length, slice_get, slice_set, inl, inr, rules}
+use Rattle.std.proofs.Common.{◌≡◌, ℕ, true, false, Option, Some, None, List, [], refl, sym, ap, ◌∙◌, subst, eqb, length, slice_get, slice_set, inl, inr, rules}
 use Rattle.std.specs.Prelude.{MatchOption, MatchBool, Bool}
 use Rattle.std.proofs.lemmas.Bool.Decides.{nat_tests}
 use Rattle.os9_base.specs.declared.registers.Regs.{Regs}
@@ -18,7 +18,7 @@ use Rattle.machine_model.specs.declared.ends.EventEnd.{EventEnd}
 use Rattle.machine_model.specs.declared.ends.EventEnd.TheVariants.{Ran, Ended}
 use Rattle.machine_model.specs.Objects.{cells_of, with_writes}
 use Rattle.machine_model.specs.State.{State}
-use Rattle.machine_model.specs.Call.{answered, ended, refused, done, line_at, is_standard_path, with_term, PutsLine, WritesLine}
+use Rattle.machine_model.specs.Call.{answered, ended, refused, done, line_at, is_standard_path, with_term, PutsLine}
 use Rattle.machine_model.specs.Event.{Event, Acts, Executes}
 use Rattle.machine_model.proofs.StepLemmas.{all_named-step}
 use Rattle.os9_kernel.specs.declared.kernel.Kernel.{Kernel}

@@ -1,4 +1,4 @@
-use Rattle.std.proofs.Common.{refl, sym}
+use Rattle.std.proofs.Common.{refl}
 use Rattle.proc_model.specs.Slots.{named_in}
 use Rattle.os9_kernel.proofs.EndLemmas.{NamesLive-counted, IsPool-given_all, AreCounted-ended, AreBoot-without_link, Stands-ended}
 use Rattle.os9_kernel.proofs.kernel.Kernel.end.Goals as goal
