@@ -1,1 +1,6 @@
-
+mod EndLemmas
+mod LineLemmas
+mod PutLemmas
+mod SliceLemmas
+mod StoreLemmas
+mod TieLemmas
