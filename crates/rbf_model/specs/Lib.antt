@@ -5,6 +5,7 @@ pub mod File
 pub mod Space
 pub mod Tree
 pub mod Volume
+pub mod Counts
 pub mod Faults
 pub mod Writes
 pub mod Laws

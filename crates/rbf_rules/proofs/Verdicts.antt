@@ -1,25 +1,30 @@
 -- The least fault, and what holds where there is none.
 use Rattle.std.proofs.Common.{◌≡◌, ◌⊎◌, ℕ, ◌+◌, ◌*◌, ◌/◌, ◌<◌, ◌≤◌, List, get_or, Option, Some, None, refl, sym, ◌∙◌, subst, inl, inr, ⊎_elim, arith}
-use Rattle.std.specs.Prelude.{MatchOption}
+use Rattle.std.specs.Prelude.{Result, Ok, Err, MatchOption, IfErr, IsErrAnd}
 use Rattle.std.proofs.lemmas.Bool.{cases_lt, cases_eq, cases_Bool}
-use Rattle.rbf_rules.specs.declared.faults.CheckFault.{CheckFault}
+use Rattle.rbf_rules.specs.declared.faults.CheckError.{CheckError}
+use Rattle.rbf_rules.specs.declared.faults.CheckError.TheVariants.{Fault, OutOfMemory}
 use Rattle.std.proofs.lemmas.List.{get_or_default}
 use Rattle.rbf_model.specs.Fields.{entry_at, name_field, descriptor_field, segments_field, size_field}
 use Rattle.rbf_model.specs.Geometry.{Geometry, IsNumber, IsHeader, HasMap, HasHeader, image_geometry, map_sectors, sector}
 use Rattle.rbf_model.specs.File.{file_at, is_directory, is_directory_size, has_room}
 use Rattle.rbf_model.specs.Space.{is_marked, owned}
 use Rattle.rbf_model.specs.Tree.{HasEntry, HasNames}
-use Rattle.rbf_model.specs.Faults.{Breaks, Reaches, Keeps, IsFound, IsFault, ImageBreaks, searched, image_volume}
+use Rattle.rbf_model.specs.Faults.{Breaks, Reaches, Keeps, IsFault, ImageBreaks, searched}
 use Rattle.rbf_model.specs.Faults.Breaks.{bad_number, bad_segment, bad_map, unmarked, used_twice, shared, no_room, no_root, bad_size, no_dots, bad_name, same_name, named_twice, named_root}
 use Rattle.rbf_model.specs.Faults.ImageBreaks.{bad_header, breaks}
-use Rattle.rbf_model.proofs.Images.{vol_from_keeps}
 use Rattle.rbf_model.proofs.Keeps.{number_of_reached}
 use Rattle.rbf_sector.specs.declared.ident.Ident.{Ident}
 use Rattle.rbf_rules.specs.Reading.{geometry_of, IsIdent}
 use Rattle.rbf_rules.specs.Rules.{IsLeastBreach}
 use Rattle.rbf_rules.specs.Dots.{AreDotsDecided}
-use Rattle.rbf_rules.specs.Verdict.{IsLeastFault, IsWellFormed}
+use Rattle.rbf_rules.specs.Verdict.{KeepsBefore, IsLeastFault, IsLeastError, IsErrorOf}
 use Rattle.rbf_rules.proofs.Owned.{lie_within}
+
+-- an error that is handed on as it is
+pub handed_on : {T : Type 0} (r : Result T CheckError) (e : CheckError) (P : CheckError → Type 0) → IsErrAnd r (λ y. y ≡ e) → P e → IfErr r P
+handed_on (Ok x) e P same h = tt
+handed_on (Err y) e P same h = subst P (sym same) h
 
 module _ (g : Geometry) (disk : ℕ → List ℕ) where
   rule_positive : {rule lsn : ℕ} → Breaks g disk rule lsn → 1 ≤ rule
@@ -38,20 +43,16 @@ module _ (g : Geometry) (disk : ℕ → List ℕ) where
   rule_positive (named_twice a b c d) = omega arith
   rule_positive (named_root a) = omega arith
 
-  -- no rule before this one is broken
-  abbrev pub NoneBefore : ℕ → Type 0
-  NoneBefore rule = (q at : ℕ) → q < rule → Breaks g disk q at → ⊥
-
-  pub none_first : NoneBefore 1
+  pub none_first : KeepsBefore g disk 1
   none_first q at low b = let positive = rule_positive b in absurd (omega arith)
 
-  pub none_next : (rule next : ℕ) → next ≡ rule + 1 → NoneBefore rule → ((at : ℕ) → Breaks g disk rule at → ⊥) → NoneBefore next
+  pub none_next : (rule next : ℕ) → next ≡ rule + 1 → KeepsBefore g disk rule → ((at : ℕ) → Breaks g disk rule at → ⊥) → KeepsBefore g disk next
   none_next rule next is before here q at low b = ⊎_elim
       (λ less. before q at less b)
       (λ more. let P : ℕ → Type 0 = λ r. Breaks g disk r at in let same : q ≡ rule = omega arith in here at (subst P same b))
       (cases_lt q rule)
 
-  pub least_at : (rule lsn : ℕ) → NoneBefore rule → IsLeastBreach g disk rule (Some lsn) → IsLeastFault g disk rule lsn
+  pub least_at : (rule lsn : ℕ) → KeepsBefore g disk rule → IsLeastBreach g disk rule (Some lsn) → IsLeastFault g disk rule lsn
   least_at rule lsn before is = record {
     broken = is.0;
     least = λ other at b. ⊎_elim
@@ -81,33 +82,14 @@ module _ (g : Geometry) (disk : ℕ → List ℕ) where
   not_broken rule least is none =
       let P : Option ℕ → Type 0 = λ o. IsLeastBreach g disk rule o in subst P none is
 
-  pub fault_at : (rule lsn : ℕ) (least : Option ℕ) → NoneBefore rule → IsLeastBreach g disk rule least → least ≡ Some lsn → IsLeastFault g disk rule lsn
-  fault_at rule lsn least before is some =
-      let P : Option ℕ → Type 0 = λ o. IsLeastBreach g disk rule o in least_at rule lsn before (subst P some is)
+  -- a rule that is passed, and one that is not
+  pub passed : (rule next : ℕ) (breach : Option ℕ) → next ≡ rule + 1 → KeepsBefore g disk rule → IsLeastBreach g disk rule breach → breach ≡ None → KeepsBefore g disk next
+  passed rule next breach is before least none = none_next rule next is before (not_broken rule breach least none)
 
-  pub before_two : NotBroken 1 → NoneBefore 2
-  before_two one = none_next 1 2 (omega arith) none_first one
-
-  pub before_three : NotBroken 1 → NotBroken 2 → NoneBefore 3
-  before_three one two = none_next 2 3 (omega arith) (before_two one) two
-
-  pub before_four : NotBroken 1 → NotBroken 2 → NotBroken 3 → NoneBefore 4
-  before_four one two three = none_next 3 4 (omega arith) (before_three one two) three
-
-  pub before_five : NotBroken 1 → NotBroken 2 → NotBroken 3 → NotBroken 4 → NoneBefore 5
-  before_five one two three four = none_next 4 5 (omega arith) (before_four one two three) four
-
-  pub before_six : NoneBefore 5 → NotBroken 5 → NoneBefore 6
-  before_six before five = none_next 5 6 (omega arith) before five
-
-  pub before_seven : NoneBefore 5 → NotBroken 5 → NotBroken 6 → NoneBefore 7
-  before_seven before five six = none_next 6 7 (omega arith) (before_six before five) six
-
-  pub before_eight : NoneBefore 7 → NotBroken 7 → NoneBefore 8
-  before_eight before seven = none_next 7 8 (omega arith) before seven
-
-  pub before_nine : NoneBefore 7 → NotBroken 7 → NotBroken 8 → NoneBefore 9
-  before_nine before seven eight = none_next 8 9 (omega arith) (before_eight before seven) eight
+  pub stopped : (rule : ℕ) (breach : Option ℕ) (error : CheckError) → KeepsBefore g disk rule → IsLeastBreach g disk rule breach → MatchOption breach ⊥ (λ lsn. error ≡ Fault (record { rule = rule; lsn = lsn })) → IsLeastError g disk error
+  stopped rule None error before least is = absurd is
+  stopped rule (Some lsn) error before least is =
+      let P : CheckError → Type 0 = λ e. IsLeastError g disk e in subst P (sym is) (least_at rule lsn before least)
 
   rule_most : {rule lsn : ℕ} → Breaks g disk rule lsn → rule < 10
   rule_most (bad_map bad) = omega arith
@@ -125,8 +107,8 @@ module _ (g : Geometry) (disk : ℕ → List ℕ) where
   rule_most (named_twice a b c d) = omega arith
   rule_most (named_root a) = omega arith
 
-  pub none_at_all : NoneBefore 9 → NotBroken 9 → (q at : ℕ) → Breaks g disk q at → ⊥
-  none_at_all before nine q at b = none_next 9 10 (omega arith) before nine q at (rule_most b) b
+  none_at_all : KeepsBefore g disk 10 → (q at : ℕ) → Breaks g disk q at → ⊥
+  none_at_all before q at b = before q at (rule_most b) b
 
   none_some : (name : List ℕ) (o : Option (List ℕ)) → o ≡ None → o ≡ Some name → ⊥
   none_some name o none some = cc
@@ -138,7 +120,10 @@ module _ (g : Geometry) (disk : ℕ → List ℕ) where
   option_cases None = inl refl
   option_cases (Some name) = inr (name, refl)
 
-  module _ (header : IsHeader g) (none : (q at : ℕ) → Breaks g disk q at → ⊥) (decided : AreDotsDecided g disk) where
+  module _ (header : IsHeader g) (before : KeepsBefore g disk 10) (decided : AreDotsDecided g disk) where
+    none : (q at : ℕ) → Breaks g disk q at → ⊥
+    none = none_at_all before
+
     map_kept : HasMap g
     map_kept = has_map (λ at b. none 2 at b)
 
@@ -224,17 +209,11 @@ module _ (image : List ℕ) (ident : Ident) (whole : IsIdent image ident) where
   least_image rule lsn fault other at (bad_header wrong) = absurd (wrong whole.header)
   least_image rule lsn fault other at (breaks header b) = fault.least other at b
 
-  pub fault_is : (rule lsn : ℕ) → IsLeastFault (geometry_of ident) (sector image) rule lsn → IsFault image rule lsn
+  fault_is : (rule lsn : ℕ) → IsLeastFault (geometry_of ident) (sector image) rule lsn → IsFault image rule lsn
   fault_is rule lsn fault =
       let there = fault_there (geometry_of ident) whole.geometry rule lsn fault in
       record { broken = breaks whole.header there.broken; least = least_image rule lsn there }
 
-  pub well_formed : (found : List ℕ) → IsFound (geometry_of ident) (sector image) found → Keeps (geometry_of ident) (sector image) → IsWellFormed image
-  well_formed found are kept =
-      let P : Geometry → Type 0 = λ h. Keeps h (sector image) in
-      let Q : Geometry → Type 0 = λ h. IsFound h (sector image) found in
-      (image_volume image found, vol_from_keeps image whole.header (subst P (sym whole.geometry) kept) found (subst Q (sym whole.geometry) are))
-
-  pub verdict : (found : List ℕ) → IsFound (geometry_of ident) (sector image) found → (fault : Option CheckFault) → MatchOption fault (Keeps (geometry_of ident) (sector image)) (λ f. IsLeastFault (geometry_of ident) (sector image) f.rule f.lsn) → MatchOption fault (IsWellFormed image) (λ f. IsFault image f.rule f.lsn)
-  verdict found are None kept = well_formed found are kept
-  verdict found are (Some f) fault = fault_is f.rule f.lsn fault
+  pub error_is : (error : CheckError) → IsLeastError (geometry_of ident) (sector image) error → IsErrorOf image error
+  error_is (Fault fault) least = fault_is fault.rule fault.lsn least
+  error_is OutOfMemory wanting = tt

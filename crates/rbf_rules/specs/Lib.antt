@@ -6,5 +6,6 @@ pub mod Linked
 pub mod Named
 pub mod Reading
 pub mod Rules
+pub mod Survey
 pub mod Used
 pub mod Verdict

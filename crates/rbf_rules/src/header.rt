@@ -5,7 +5,7 @@ ghost use Rattle.rbf_rules.specs.Rules.{IsLeastBreach};
 
 use rbf_sector::{Ident, read_ident};
 
-// The 256 bytes of a sector.
+/// The 256 bytes of a sector.
 pub fn sector(image: &[u8], n: u32) -> [u8; 256]
     requires { 256 * (n + 1) ≤ length image.now }
     ensures { result ≡ sector_of image.now n }

@@ -1,8 +1,11 @@
-//! The test of an image: which rule of well formed RBF volumes it breaks first, and where, or that
-//! it stands for a volume.
+//! The survey of an image: which rule of well formed RBF volumes it breaks first, and where, or what
+//! is found of the volume that it stands for.
 #![tactic(auto)]
 
-pub use faults::{CheckFault, find_fault};
+pub use faults::{CheckError, CheckFault};
+pub use header::sector;
+pub use links::{Link, link_entry};
+pub use survey::{Survey, survey_image};
 
 mod descriptors;
 mod directory;
@@ -18,5 +21,6 @@ mod names;
 mod namings;
 mod owners;
 mod shares;
+mod survey;
 mod uses;
 mod walk;

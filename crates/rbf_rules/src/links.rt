@@ -1,12 +1,14 @@
-ghost use Rattle.std.specs.Prelude.{OnOk, IfOk};
+ghost use Rattle.std.specs.Prelude.{◌≡◌, take, OnOk, IfOk};
+ghost use Rattle.rbf_model.specs.Fields.{entry_at, descriptor_field};
 ghost use Rattle.rbf_model.specs.Geometry.{sector as sector_of};
-ghost use Rattle.rbf_model.specs.Faults.{IsFound};
+ghost use Rattle.rbf_model.specs.Tree.{Links};
+ghost use Rattle.rbf_model.specs.Faults.{IsFound, searched};
 ghost use Rattle.rbf_rules.specs.Reading.{geometry_of, IsIdent, IsDirectory, listed};
 ghost use Rattle.rbf_rules.specs.Linked.{AreAdded, AreLinks};
 
-use crate::directory::{Directory, read_directory};
+use crate::directory::{Directory, entry_bytes, read_directory};
 use crate::walk::named;
-use rbf_sector::Ident;
+use rbf_sector::{Entry, Ident, read_entry};
 use std::alloc::{AllocError, Global};
 
 /// A used entry of a directory, after the first two, and the descriptor that it names.
@@ -57,4 +59,15 @@ pub fn list_links(
         add_links(image, ident, &dir, &mut links)?;
     }
     Ok(links)
+}
+
+/// The entry of a link of the image.
+pub fn link_entry(image: &[u8], ident: &Ident, link: &Link) -> Entry
+    requires ident { IsIdent image.now ident.now }
+    requires link { Links (geometry_of ident.now) (searched (geometry_of ident.now) (sector_of image.now)) link.now.directory link.now.entry link.now.descriptor }
+    ensures name { result.name ≡ take 29 (entry_at (listed image.now ident.now link.now.directory) link.now.entry) }
+    ensures lsn { result.lsn ≡ descriptor_field (entry_at (listed image.now ident.now link.now.directory) link.now.entry) }
+{
+    let dir = read_directory(image, ident, link.directory);
+    read_entry(&entry_bytes(image, ident, &dir, link.entry))
 }

@@ -1,0 +1,7 @@
+pub mod Copied
+pub mod Counted
+pub mod Listed
+pub mod Noted
+pub mod Surveys
+pub mod Told
+pub mod Whole

@@ -1,0 +1,4 @@
+pub mod Clusters
+pub mod Places
+pub mod Surveyed
+pub mod Tree

@@ -1,0 +1,78 @@
+ghost use Rattle.std.specs.Prelude.{◌≡◌, ◌+◌, ◌<◌, ◌≤◌, ◌==◌, All, IfOk, length, if◌then◌else◌};
+ghost use Rattle.std.specs.List.{range_with_len};
+ghost use Rattle.rbf_model.specs.Geometry.{map_sectors, sector as sector_of};
+ghost use Rattle.rbf_model.specs.Segments.{sectors_of};
+ghost use Rattle.rbf_model.specs.File.{file_at};
+ghost use Rattle.rbf_model.specs.Space.{owned};
+ghost use Rattle.rbf_model.specs.Faults.{Reaches};
+ghost use Rattle.rbf_rules.specs.Reading.{geometry_of};
+ghost use Rattle.rbf_rules.specs.Survey.{IsSurvey};
+ghost use Rattle.rbf_check.specs.Clusters.{NotesClusters, AreUsed};
+
+use rbf_rules::{Survey, sector};
+use rbf_sector::{Ident, read_fd};
+use rbf_segs::Segs;
+use std::alloc::{AllocError, Global};
+
+// Notes the clusters of a run of sectors as used.
+fn note_run(used: &mut Vec<bool>, cluster: u32, first: u32, count: u32)
+    requires cluster { 0 < cluster }
+    requires within { first + count ≤ length used.old.items }
+    requires fits { first + count < 4294967296 }
+    ensures { NotesClusters cluster (range_with_len first count) used.old.items used.new.items }
+{
+    for s in first..first + count {
+        used[(s / cluster) as usize] = true;
+    }
+}
+
+// Notes the clusters of a segment list.
+fn note_segments(used: &mut Vec<bool>, cluster: u32, segs: &Segs)
+    requires cluster { 0 < cluster }
+    requires within { All (λ segment. segment.0 + segment.1 ≤ length used.old.items) segs.now }
+    ensures { NotesClusters cluster (sectors_of segs.now) used.old.items used.new.items }
+{
+    for i in 0..segs.runs() {
+        let (first, count) = segs.run(i);
+        note_run(used, cluster, first, u32::from(count));
+    }
+}
+
+// How many of the system's sectors, which begin at LSN 0, are this file's: the root's has them.
+fn system_count(ident: &Ident, n: u32) -> u32
+    ensures count { result ≡ (if n == ident.now.root then 1 + map_sectors (geometry_of ident.now) else 0) }
+    ensures few { result < 1000 }
+{
+    if n == ident.root {
+        1 + u32::from(ident.map_bytes).div_ceil(256)
+    } else {
+        0
+    }
+}
+
+// Notes the clusters of a file, and with the root's those of the system.
+fn note_file(used: &mut Vec<bool>, image: &[u8], survey: &Survey, n: u32)
+    requires survey { IsSurvey image.now survey.now }
+    requires reached { Reaches (geometry_of survey.now.ident) (sector_of image.now) n }
+    requires size { length used.old.items ≡ survey.now.ident.total }
+    ensures { NotesClusters survey.now.ident.cluster (owned (geometry_of survey.now.ident) n (file_at (sector_of image.now) n)) used.old.items used.new.items }
+{
+    let cluster = u32::from(survey.ident.cluster);
+    let fd = read_fd(&sector(image, n));
+    note_run(used, cluster, 0, system_count(&survey.ident, n));
+    note_run(used, cluster, n, 1);
+    note_segments(used, cluster, &fd.segs);
+}
+
+/// Which clusters the files use: a mark for each, in a table of as many places as there are
+/// sectors.
+pub fn list_used(alloc: Global, image: &[u8], survey: &Survey) -> Result<Vec<bool>, AllocError>
+    requires { IsSurvey image.now survey.now }
+    ensures { IfOk result (λ used. AreUsed (geometry_of survey.now.ident) (sector_of image.now) survey.now.found.items used.items) }
+{
+    let mut used = vec![in alloc; false; survey.ident.total as usize]?;
+    for n in &survey.found {
+        note_file(&mut used, image, survey, *n);
+    }
+    Ok(used)
+}

@@ -1,0 +1,14 @@
+//! The check of an image: the tree of the volume that it stands for, or its fault.
+#![tactic(auto)]
+
+pub use rbf_rules::{CheckError, CheckFault};
+pub use tree::{FileBytes, Node, Nodes, Tree};
+pub use verdict::check;
+
+mod clusters;
+mod contents;
+mod nodes;
+mod places;
+mod space;
+mod tree;
+mod verdict;

@@ -1,0 +1,53 @@
+ghost use Rattle.std.specs.Prelude.{◌≡◌, ◌+◌, ◌*◌, ◌≤◌, All, IfOk, length};
+ghost use Rattle.rbf_model.specs.Fields.{segments_field};
+ghost use Rattle.rbf_model.specs.Geometry.{sector as sector_of};
+ghost use Rattle.rbf_model.specs.File.{file_at};
+ghost use Rattle.rbf_rules.specs.Survey.{IsSurvey};
+ghost use Rattle.rbf_check.specs.Surveyed.{AreNodesBelow};
+ghost use Rattle.rbf_check.specs.Tree.{TellsFile};
+
+use crate::contents::read_contents;
+use crate::places::{Place, list_places, place_of};
+use crate::tree::{Node, Nodes};
+use rbf_rules::{Survey, sector};
+use rbf_sector::read_fd;
+use std::alloc::{AllocError, Global};
+
+// The node of a descriptor that has this place.
+fn read_node(alloc: Global, image: &[u8], n: u32, place: Place) -> Result<Node, AllocError>
+    requires descriptor { 256 * (n + 1) ≤ length image.now }
+    requires segments { All (λ segment. 256 * (segment.0 + segment.1) ≤ length image.now) (segments_field (sector_of image.now n)) }
+    ensures number { IfOk result (λ node. node.fd ≡ n) }
+    ensures parent { IfOk result (λ node. node.parent ≡ place.parent) }
+    ensures name { IfOk result (λ node. node.name ≡ place.name) }
+    ensures tells { IfOk result (λ node. TellsFile node (file_at (sector_of image.now) n)) }
+{
+    let fd = read_fd(&sector(image, n));
+    let bytes = read_contents(alloc, image, &fd.segs, fd.size)?;
+    Ok(Node {
+        fd: n,
+        parent: place.parent,
+        name: place.name,
+        attr: fd.attr,
+        owner: fd.owner,
+        modified: fd.modified,
+        created: fd.created,
+        links: fd.links,
+        bytes,
+    })
+}
+
+/// The nodes of all files of an image that was surveyed.
+pub fn read_nodes(alloc: Global, image: &[u8], survey: &Survey) -> Result<Nodes, AllocError>
+    requires { IsSurvey image.now survey.now }
+    ensures { IfOk result (λ nodes. AreNodesBelow image.now survey.now nodes survey.now.ident.total) }
+{
+    let places = list_places(alloc, survey.ident.total, &survey.links)?;
+    let mut nodes = Vec::with_capacity(alloc, survey.found.len())?;
+    for n in 0..survey.ident.total {
+        if let Some(place) = place_of(image, survey, &places, n) {
+            nodes.push(read_node(alloc, image, n, place)?)?;
+        }
+    }
+    Ok(Nodes::of(nodes))
+}

@@ -1,0 +1,77 @@
+ghost use Rattle.std.specs.Prelude.{◌≡◌, ◌<◌, All, IfOk, IfSome, None, Some};
+ghost use Rattle.rbf_model.specs.Fields.{entry_at, name_field};
+ghost use Rattle.rbf_model.specs.Geometry.{sector as sector_of};
+ghost use Rattle.rbf_model.specs.File.{file_at};
+ghost use Rattle.rbf_model.specs.Faults.{searched};
+ghost use Rattle.rbf_model.specs.Tree.{dot, Links};
+ghost use Rattle.rbf_rules.specs.Reading.{geometry_of, listed};
+ghost use Rattle.rbf_rules.specs.Survey.{IsSurvey};
+ghost use Rattle.rbf_check.specs.Places.{ArePlaces};
+ghost use Rattle.rbf_check.specs.Surveyed.{volume_from};
+ghost use Rattle.rbf_check.specs.Tree.{IsPlaced};
+
+use os9_base::name::{Name, header_name, parse_name};
+use rbf_rules::{Link, Survey, link_entry};
+use std::alloc::{AllocError, Global};
+
+/// Where a file stands in the tree: its directory, and its name there.
+#[derive(Clone, Copy, Debug)]
+pub struct Place {
+    pub parent: u32,
+    pub name: Name,
+}
+
+/// A table that has for each descriptor the link that names it.
+pub fn list_places(
+    alloc: Global,
+    total: u32,
+    links: &[Link],
+) -> Result<Vec<Option<Link>>, AllocError>
+    requires { All (λ link. link.descriptor < total) links.now }
+    ensures { IfOk result (λ places. ArePlaces links.now total places.items) }
+{
+    let mut places = vec![in alloc; None; total as usize]?;
+    for link in links {
+        places[link.descriptor as usize] = Some(*link);
+    }
+    Ok(places)
+}
+
+// The name of the root.
+fn root_name() -> Name
+    ensures { result ≡ dot }
+{
+    parse_name(b".").unwrap()
+}
+
+// The name that a link gives.
+fn link_name(image: &[u8], survey: &Survey, link: &Link) -> Name
+    requires survey { IsSurvey image.now survey.now }
+    requires link { Links (geometry_of survey.now.ident) (searched (geometry_of survey.now.ident) (sector_of image.now)) link.now.directory link.now.entry link.now.descriptor }
+    ensures { name_field (entry_at (listed image.now survey.now.ident link.now.directory) link.now.entry) ≡ Some result }
+{
+    let entry = link_entry(image, &survey.ident, link);
+    header_name(&entry.name).unwrap()
+}
+
+/// Where the file of a descriptor stands, if it is reached.
+pub fn place_of(image: &[u8], survey: &Survey, places: &[Option<Link>], n: u32) -> Option<Place>
+    requires survey { IsSurvey image.now survey.now }
+    requires places { ArePlaces survey.now.links.items survey.now.ident.total places.now }
+    requires number { n < survey.now.ident.total }
+    ensures none { result ≡ None → (volume_from image.now survey.now).files n ≡ None }
+    ensures file { IfSome result (λ place. (volume_from image.now survey.now).files n ≡ Some (file_at (sector_of image.now) n)) }
+    ensures place { IfSome result (λ place. IsPlaced (geometry_of survey.now.ident) (volume_from image.now survey.now) n place.parent place.name) }
+{
+    if n == survey.ident.root {
+        return Some(Place {
+            parent: n,
+            name: root_name(),
+        });
+    }
+    let link = places[n as usize]?;
+    Some(Place {
+        parent: link.directory,
+        name: link_name(image, survey, &link),
+    })
+}

@@ -1,0 +1,76 @@
+ghost use Rattle.std.specs.Prelude.{◌≡◌, ◌+◌, ◌/◌, ◌<◌, ◌&&◌, not, IfOk, length};
+ghost use Rattle.rbf_model.specs.Geometry.{sector as sector_of};
+ghost use Rattle.rbf_model.specs.Space.{is_marked as is_marked_lem, is_whole as is_whole_lem};
+ghost use Rattle.rbf_model.specs.Volume.{free_clusters, lost_clusters};
+ghost use Rattle.rbf_rules.specs.Reading.{geometry_of};
+ghost use Rattle.rbf_rules.specs.Survey.{IsSurvey};
+ghost use Rattle.rbf_check.specs.Clusters.{AreUsed};
+ghost use Rattle.rbf_check.specs.Surveyed.{volume_from};
+
+use crate::clusters::list_used;
+use rbf_rules::Survey;
+use rbf_sector::Ident;
+use std::alloc::{AllocError, Global};
+
+/// How many clusters are free, and how many are lost.
+#[derive(Clone, Copy, Debug)]
+pub struct Space {
+    pub free: u32,
+    pub lost: u32,
+}
+
+// Does the map mark this cluster?
+fn is_marked(image: &[u8], c: u32) -> bool
+    requires { 256 + c / 8 < length image.now }
+    ensures { result ≡ is_marked_lem (sector_of image.now) c }
+{
+    image[256 + c as usize / 8] >> (7 - c % 8) & 1 == 1
+}
+
+// Are the sectors of this cluster all below the total?
+fn is_whole(ident: &Ident, c: u32) -> bool
+    ensures { result ≡ is_whole_lem (geometry_of ident.now) c }
+{
+    (u64::from(c) + 1) * u64::from(ident.cluster) <= u64::from(ident.total)
+}
+
+fn is_free(image: &[u8], survey: &Survey, c: u32) -> bool
+    requires { IsSurvey image.now survey.now }
+    ensures { result ≡ (is_whole_lem (geometry_of survey.now.ident) c && not (is_marked_lem (sector_of image.now) c)) }
+{
+    is_whole(&survey.ident, c) && !is_marked(image, c)
+}
+
+fn is_lost(image: &[u8], survey: &Survey, used: &[bool], c: u32) -> bool
+    requires survey { IsSurvey image.now survey.now }
+    requires used { AreUsed (geometry_of survey.now.ident) (sector_of image.now) survey.now.found.items used.now }
+    ensures { result ≡ (volume_from image.now survey.now).lost c }
+{
+    is_whole(&survey.ident, c) && is_marked(image, c) && !used[c as usize]
+}
+
+// Counts the clusters that are free, and those that are lost.
+fn count_clusters(image: &[u8], survey: &Survey, used: &[bool]) -> Space
+    requires survey { IsSurvey image.now survey.now }
+    requires used { AreUsed (geometry_of survey.now.ident) (sector_of image.now) survey.now.found.items used.now }
+    ensures free { result.free ≡ length (free_clusters (geometry_of survey.now.ident) (volume_from image.now survey.now)) }
+    ensures lost { result.lost ≡ length (lost_clusters (geometry_of survey.now.ident) (volume_from image.now survey.now)) }
+{
+    let clusters = survey.ident.total.div_ceil(u32::from(survey.ident.cluster));
+    let mut space = Space { free: 0, lost: 0 };
+    for c in 0..clusters {
+        space.free += u32::from(is_free(image, survey, c));
+        space.lost += u32::from(is_lost(image, survey, used, c));
+    }
+    space
+}
+
+/// How many clusters of an image that was surveyed are free, and how many are lost.
+pub fn measure_space(alloc: Global, image: &[u8], survey: &Survey) -> Result<Space, AllocError>
+    requires { IsSurvey image.now survey.now }
+    ensures free { IfOk result (λ space. space.free ≡ length (free_clusters (geometry_of survey.now.ident) (volume_from image.now survey.now))) }
+    ensures lost { IfOk result (λ space. space.lost ≡ length (lost_clusters (geometry_of survey.now.ident) (volume_from image.now survey.now))) }
+{
+    let used = list_used(alloc, image, survey)?;
+    Ok(count_clusters(image, survey, &used))
+}

@@ -1,0 +1,30 @@
+ghost use Rattle.std.specs.Prelude.{IfErr, IfOk};
+ghost use Rattle.rbf_rules.specs.Verdict.{IsErrorOf};
+ghost use Rattle.rbf_check.specs.Tree.{IsTreeOf};
+
+use crate::nodes::read_nodes;
+use crate::space::measure_space;
+use crate::tree::Tree;
+use rbf_rules::{CheckError, survey_image};
+use std::alloc::Global;
+
+/// Checks an image against the rules of well formed RBF volumes, and hands out the tree of the
+/// volume that it stands for.
+///
+/// # Errors
+///
+/// The fault of the image: the least rule that it breaks, at the least sector. It comes exactly
+/// where the image stands for no volume.
+pub fn check(alloc: Global, image: &[u8]) -> Result<Tree, CheckError>
+    ensures tree { IfOk result (IsTreeOf image.now) }
+    ensures fault { IfErr result (IsErrorOf image.now) }
+{
+    let survey = survey_image(alloc, image)?;
+    let nodes = read_nodes(alloc, image, &survey)?;
+    let space = measure_space(alloc, image, &survey)?;
+    Ok(Tree {
+        nodes,
+        free: space.free,
+        lost: space.lost,
+    })
+}
