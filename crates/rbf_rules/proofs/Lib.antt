@@ -1,6 +1,4 @@
-pub mod Again
 pub mod Cases
-pub mod Clusters
 pub mod Dotting
 pub mod Keyed
 pub mod Least
@@ -9,9 +7,11 @@ pub mod Linking
 pub mod MapRule
 pub mod Naming
 pub mod Noted
+pub mod NotedRuns
 pub mod Owned
-pub mod Runs
 pub mod Searched
+pub mod Tables
+pub mod Unmarked
 pub mod Verdicts
 pub mod Visits
 pub mod Walked

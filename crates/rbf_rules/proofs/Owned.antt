@@ -19,7 +19,7 @@ use Rattle.rbf_sector.specs.declared.ident.Ident.{Ident}
 use Rattle.rbf_rules.specs.Reading.{geometry_of, IsIdent}
 use Rattle.rbf_rules.specs.Rules.{IsLeastBreach}
 use Rattle.rbf_rules.specs.Least.{IsLeast, Before}
-use Rattle.rbf_rules.specs.Used.{used_by, IsUnmarkedAt, IsUnmarkedIn}
+use Rattle.rbf_rules.specs.Used.{used_by}
 use Rattle.rbf_rules.proofs.Cases.{unmarked_of}
 use Rattle.rbf_rules.proofs.Leasts.{least_along, least_in_list}
 
@@ -56,21 +56,3 @@ header_of image ident whole =
 pub all_used_below : (image : List ℕ) (ident : Ident) (found : List ℕ) (i : ℕ) → IsIdent image ident → IsFound (geometry_of ident) (sector image) found → ((lsn : ℕ) → Breaks (geometry_of ident) (sector image) 1 lsn → ⊥) → HasMap (geometry_of ident) → i < length found → (xs : List ℕ) → xs ≡ used_by (geometry_of ident) (sector image) (get_or found i 0) → All (λ s. s < ident.total) xs
 all_used_below image ident found i whole is kept map low xs listed =
     all_below (geometry_of ident) (sector image) (header_of image ident whole) kept map (get_or found i 0) xs ((is (get_or found i 0)).0 (has_place found i low)) listed
-
-module _ (g : Geometry) (disk : ℕ → List ℕ) where
-  -- the least of a list of sectors
-  pub unmarked_in : (xs : List ℕ) (i : ℕ) → i ≡ length xs → (least : Option ℕ) → IsLeast (Before (λ k. IsUnmarkedAt g disk (get_or xs k 0)) i) least → IsLeast (IsUnmarkedIn g disk xs) least
-  unmarked_in xs i all least is =
-      least_along (λ s. (n : ℕ) × (has xs n ≡ true) × IsUnmarkedAt g disk n s) (IsUnmarkedIn g disk xs)
-      (λ s h. let P : ℕ → Type 0 = λ n. IsUnmarkedIn g disk xs n in subst P (sym h.2.0) (h.1, h.2.1))
-      (λ s h. (s, h.0, (refl, h.1)))
-      least (least_in_list (IsUnmarkedAt g disk) xs i all least is)
-
-  -- and of all that are in use
-  pub least_unmarked_of : (found : List ℕ) → IsFound g disk found → (i : ℕ) → i ≡ length found → (least : Option ℕ) → IsLeast (Before (λ k. IsUnmarkedIn g disk (used_by g disk (get_or found k 0))) i) least → IsLeastBreach g disk 3 least
-  unfolding owns
-  least_unmarked_of found are i all least is =
-      least_along (λ s. (n : ℕ) × (has found n ≡ true) × IsUnmarkedIn g disk (used_by g disk n) s) (Breaks g disk 3)
-      (λ s h. unmarked ((are h.0).0 h.1) h.2.0 h.2.1)
-      (λ s b. let u = unmarked_of g disk s b in (u.0, (are u.0).1 u.1, (u.2, u.3)))
-      least (least_in_list (λ n. IsUnmarkedIn g disk (used_by g disk n)) found i all least is)
