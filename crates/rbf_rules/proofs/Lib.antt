@@ -1,3 +1,4 @@
+pub mod Again
 pub mod Cases
 pub mod Dotting
 pub mod Keyed
@@ -5,6 +6,7 @@ pub mod Least
 pub mod Leasts
 pub mod Linking
 pub mod MapRule
+pub mod Listed
 pub mod Naming
 pub mod Noted
 pub mod NotedRuns

@@ -1,5 +1,5 @@
 -- Sectors of an owner that are noted, one list after the other.
-use Rattle.std.proofs.Common.{◌≡◌, ◌≢◌, ◌⊎◌, ℕ, ◌*◌, ◌/◌, ◌<◌, ◌≤◌, ◌==◌, true, List, [], ◌∷◌, ◌++◌, length, get_or, set, min, Some, None, refl, sym, ap, ◌∙◌, subst, inl, inr, ⊎_elim, arith, eqb-true, eq-eqb}
+use Rattle.std.proofs.Common.{◌≡◌, ◌≢◌, ◌⊎◌, ℕ, ◌/◌, ◌<◌, ◌≤◌, ◌==◌, true, List, [], ◌∷◌, ◌++◌, length, get_or, set, min, Some, None, refl, sym, ap, ◌∙◌, subst, inl, inr, ⊎_elim, arith, eqb-true, eq-eqb}
 use Rattle.std.proofs.lemmas.Bool.{cases_lt, cases_eq, or_cases, or_left, or_right, false≢true}
 use Rattle.std.proofs.Math.Nat.{div-mul-le_self}
 use Rattle.std.proofs.lemmas.List.{get_or-set_same, get_or-set_other, length-set}
@@ -8,7 +8,8 @@ use Rattle.rbf_model.proofs.Segments.{has_cases, has_left, has_right}
 use Rattle.rbf_rules.specs.declared.uses.Owner.{Owner}
 use Rattle.rbf_rules.specs.declared.uses.Uses.{Uses}
 use Rattle.rbf_rules.specs.Used.{IsGiven}
-use Rattle.rbf_rules.specs.Noted.{HasUser, HasOwner, cluster_begin, StandsTwice, IsUsedAgain, IsLeastWithin, IsNoted}
+use Rattle.rbf_rules.specs.Least.{IsLeastWithin}
+use Rattle.rbf_rules.specs.Noted.{HasUser, HasOwner, cluster_begin, StandsTwice, IsUsedAgain, IsNoted}
 use Rattle.rbf_rules.specs.Noted.IsUsedAgain.{twice, again, shared}
 use Rattle.rbf_rules.proofs.Tables.{same_owner}
 

@@ -1,17 +1,16 @@
 -- Runs of sectors of an owner that are noted.
-use Rattle.std.proofs.Common.{◌≡◌, ℕ, zero, suc, ◌+◌, ◌-◌, ◌*◌, ◌/◌, ◌<◌, ◌≤◌, ◌==◌, true, List, [], ◌∷◌, ◌++◌, length, take, get_or, sym, ap, ◌∙◌, subst, refl, arith, eq-eqb}
+use Rattle.std.proofs.Common.{◌≡◌, ℕ, zero, suc, ◌+◌, ◌-◌, ◌/◌, ◌<◌, ◌≤◌, ◌==◌, true, List, [], ◌∷◌, ◌++◌, length, take, get_or, ap, ◌∙◌, subst, refl, arith, eq-eqb}
 use Rattle.std.specs.List.{range_with_len}
 use Rattle.std.proofs.Math.Nat.{div-mul-le_self, mul-le-mul_right}
 use Rattle.std.proofs.lemmas.Nat.{le-div}
 use Rattle.std.proofs.lemmas.Bool.{or_left}
-use Rattle.std.proofs.lemmas.Grind.{flat_map-append}
-use Rattle.std.proofs.lemmas.List.{take_more, take_all, append-nil}
 use Rattle.rbf_model.specs.Segments.{has, run, sectors_of}
-use Rattle.rbf_model.proofs.Segments.{range_has, has_range}
+use Rattle.rbf_model.proofs.Segments.{range_has}
 use Rattle.rbf_rules.specs.declared.uses.Owner.{Owner}
 use Rattle.rbf_rules.specs.declared.uses.Uses.{Uses}
 use Rattle.rbf_rules.specs.Noted.{HasOwner, cluster_begin, IsNoted}
-use Rattle.rbf_rules.proofs.Noted.{noted_none, noted_past, noted_then}
+use Rattle.rbf_rules.proofs.Noted.{noted_past, noted_then}
+use Rattle.rbf_rules.proofs.Listed.{sectors_more}
 
 -- two runs of which one begins where the other ends
 range_then : (a m n : ℕ) → range_with_len a m ++ range_with_len (a + m) n ≡ range_with_len a (m + n)
@@ -79,16 +78,7 @@ module _ (k : ℕ) (positive : 0 < k) (owner : Owner) (old : Uses) where
           (noted_then k owner (range_with_len first (s + 1 - first)) rest old new new run_grown (noted_past k owner rest new (λ t h. let low = behind t h in omega arith) owned))
 
   -- one run more
-  pub runs_more : (runs : List (ℕ × ℕ)) (i : ℕ) (one : ℕ × ℕ) (cur new : Uses) → i < length runs → get_or runs i (0, 0) ≡ one → IsNoted k owner (sectors_of (take i runs)) old cur → IsNoted k owner (run one) cur new
-      → IsNoted k owner (sectors_of (take (i + 1) runs)) old new
-  runs_more runs i one cur new low at noted here =
-      let front : take (i + 1) runs ≡ take i runs ++ one ∷ [] = take_more runs i (0, 0) low ∙ ap (λ r. take i runs ++ r ∷ []) at in
-      let sectors : sectors_of (take i runs) ++ run one ≡ sectors_of (take (i + 1) runs) =
-      ap (λ xs. sectors_of (take i runs) ++ xs) (sym (append-nil (run one))) ∙ sym (flat_map-append run (take i runs) (one ∷ [])) ∙ ap sectors_of (sym front) in
+  pub runs_more : (runs : List (ℕ × ℕ)) (i : ℕ) (cur new : Uses) → i < length runs → IsNoted k owner (sectors_of (take i runs)) old cur → IsNoted k owner (run (get_or runs i (0, 0))) cur new → IsNoted k owner (sectors_of (take (i + 1) runs)) old new
+  runs_more runs i cur new low noted here =
       let P : List ℕ → Type 0 = λ xs. IsNoted k owner xs old new in
-      subst P sectors (noted_then k owner (sectors_of (take i runs)) (run one) old cur new noted here)
-
--- all runs
-pub runs_all : (k : ℕ) (owner : Owner) (old new : Uses) (runs : List (ℕ × ℕ)) (i : ℕ) → length runs ≤ i → IsNoted k owner (sectors_of (take i runs)) old new → IsNoted k owner (sectors_of runs) old new
-runs_all k owner old new runs i all noted =
-    let P : List (ℕ × ℕ) → Type 0 = λ rs. IsNoted k owner (sectors_of rs) old new in subst P (take_all i runs all) noted
+      subst P (sectors_more runs i low) (noted_then k owner (sectors_of (take i runs)) (run (get_or runs i (0, 0))) old cur new noted here)

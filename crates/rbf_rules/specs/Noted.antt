@@ -3,6 +3,7 @@ use Rattle.std.specs.Prelude.{◌≡◌, ◌≢◌, ◌⊎◌, ℕ, ◌*◌, ◌
 use Rattle.rbf_model.specs.Segments.{has}
 use Rattle.rbf_rules.specs.declared.uses.Owner.{Owner}
 use Rattle.rbf_rules.specs.declared.uses.Uses.{Uses}
+use Rattle.rbf_rules.specs.Least.{IsLeastWithin}
 
 -- the owner in place p is noted as the last to use sector s
 abbrev pub HasUser : Uses → ℕ → ℕ → Type 0
@@ -29,12 +30,6 @@ pub data IsUsedAgain (k : ℕ) (owner : Owner) (sectors : List ℕ) (uses : Uses
   again : has sectors s ≡ true → HasUser uses s owner.place → IsUsedAgain k owner sectors uses s
   -- it is the first of the cluster of one of them, and another owner has that
   shared : (t n : ℕ) → has sectors t ≡ true → s ≡ cluster_begin k t → HasOwner uses (t / k) n → n ≢ owner.descriptor → IsUsedAgain k owner sectors uses s
-
--- the least of a limit and of the numbers that have the property
-pub record IsLeastWithin (B : ℕ → Type 0) (limit low : ℕ) : Type 0 where
-  pub within : low ≤ limit
-  pub is : (low ≡ limit) ⊎ B low
-  pub least : (s : ℕ) → B s → low ≤ s
 
 -- these sectors of an owner have been gone over
 pub record IsNoted (k : ℕ) (owner : Owner) (sectors : List ℕ) (old new : Uses) : Type 0 where

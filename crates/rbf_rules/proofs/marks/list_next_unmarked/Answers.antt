@@ -1,4 +1,4 @@
-use Rattle.std.proofs.Common.{ℕ, ◌-◌, length, subst, sym, ◌∙◌, arith, rules}
+use Rattle.std.proofs.Common.{ℕ, ◌-◌, subst, sym, ◌∙◌, arith, rules}
 use Rattle.rbf_model.specs.Geometry.{sector}
 use Rattle.rbf_rules.specs.Reading.{geometry_of}
 use Rattle.rbf_rules.specs.Used.{IsNextUnmarked}

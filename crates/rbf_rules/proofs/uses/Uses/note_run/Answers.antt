@@ -1,4 +1,4 @@
-use Rattle.std.proofs.Common.{◌≡◌, ◌+◌, ◌-◌, ◌≤◌, ◌<◌, ℕ, subst, arith}
+use Rattle.std.proofs.Common.{◌≡◌, ◌-◌, ℕ, subst, arith}
 use Rattle.std.specs.List.{range_with_len}
 use Rattle.rbf_rules.specs.Noted.{IsNoted}
 use Rattle.rbf_rules.proofs.Noted.{noted_none}
