@@ -146,3 +146,7 @@ number_found image ident found i whole is low =
     let P : Geometry → Type 0 = λ g. IsHeader g in
     let header : IsHeader (geometry_of ident) = subst P whole.geometry whole.header.header in
     (number_of_reached (geometry_of ident) (searched (geometry_of ident) (sector image)) header ((is (get_or found i 0)).0 (has_place found i low))).below
+
+-- and is reached
+pub reached_found : (g : Geometry) (disk : ℕ → List ℕ) (found : List ℕ) (i : ℕ) → IsFound g disk found → i < length found → Reaches g disk (get_or found i 0)
+reached_found g disk found i is low = (is (get_or found i 0)).0 (has_place found i low)

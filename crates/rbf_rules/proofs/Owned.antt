@@ -1,27 +1,24 @@
--- The sectors that are in use, and those whose cluster is not marked.
-use Rattle.std.proofs.Common.{◌≡◌, ℕ, ◌+◌, ◌-◌, ◌/◌, ◌%◌, ◌<◌, ◌==◌, true, List, All, length, get_or, Option, refl, sym, ap, ◌∙◌, subst, ⊎_elim, arith}
+-- The sectors of owners, which are within the volume.
+use Rattle.std.proofs.Common.{◌≡◌, ℕ, ◌+◌, ◌-◌, ◌/◌, ◌%◌, ◌<◌, ◌≤◌, ◌==◌, true, List, All, get_or, sym, ap, ◌∙◌, subst, ⊎_elim}
 use Rattle.std.specs.Int.{bit_at}
 use Rattle.std.proofs.lemmas.Bool.{cases_Bool}
 use Rattle.std.proofs.lemmas.List.{get_or_default}
 use Rattle.std.proofs.lemmas.List.Elements.{All-from_get_or}
 use Rattle.rbf_model.specs.Fields.{segments_field}
 use Rattle.rbf_model.specs.Geometry.{Geometry, sector, is_within, LieWithin, IsHeader, HasMap}
-use Rattle.rbf_model.specs.Segments.{has}
+use Rattle.rbf_model.specs.Segments.{sectors_of, has}
 use Rattle.rbf_model.specs.File.{file_at}
 use Rattle.rbf_model.specs.Space.{is_marked, owns}
-use Rattle.rbf_model.specs.Faults.{Breaks, IsFound, Reaches, searched}
-use Rattle.rbf_model.specs.Faults.Breaks.{bad_segment, unmarked}
-use Rattle.rbf_model.proofs.Bytes.{has_place}
+use Rattle.rbf_model.specs.Faults.{Breaks, Reaches, searched}
+use Rattle.rbf_model.specs.Faults.Breaks.{bad_segment}
 use Rattle.rbf_model.proofs.Keeps.{number_of_reached}
 use Rattle.rbf_model.proofs.Owners.{owned_below}
 use Rattle.rbf_model.proofs.SectorBytes.{map_byte_is}
+use Rattle.rbf_segs.specs.Segments.{IsSegment}
 use Rattle.rbf_sector.specs.declared.ident.Ident.{Ident}
 use Rattle.rbf_rules.specs.Reading.{geometry_of, IsIdent}
-use Rattle.rbf_rules.specs.Rules.{IsLeastBreach}
-use Rattle.rbf_rules.specs.Least.{IsLeast, Before}
-use Rattle.rbf_rules.specs.Used.{used_by, IsUnmarkedAt, IsUnmarkedIn}
-use Rattle.rbf_rules.proofs.Cases.{unmarked_of}
-use Rattle.rbf_rules.proofs.Leasts.{least_along, least_in_list}
+use Rattle.rbf_rules.specs.Used.{used_by}
+use Rattle.rbf_rules.proofs.Listed.{runs_within}
 
 -- a mark is a bit of the image
 pub mark_is : (image : List ℕ) (c : ℕ) → (bit_at (get_or image (256 + c / 8) 0) (7 - c % 8) == 1) ≡ is_marked (sector image) c
@@ -43,34 +40,24 @@ module _ (g : Geometry) (disk : ℕ → List ℕ) (header : IsHeader g) (kept : 
   used_below n s reached h =
       owned_below g (record { header = header; map = map }) n (file_at disk n) s (number_of_reached g (searched g disk) header reached).below (lie_within n reached) h
 
-  pub all_below : (n : ℕ) (xs : List ℕ) → Reaches g disk n → xs ≡ used_by g disk n → All (λ s. s < g.total) xs
-  all_below n xs reached is = λ k d low.
-      let first : get_or xs k d ≡ get_or xs k 0 = get_or_default xs k d 0 low in
-      let below = used_below n (get_or xs k 0) reached (sym (ap (λ l. has l (get_or xs k 0)) is) ∙ has_place xs k low) in
-      omega (arith, below)
+-- the runs of an owner's sectors, which are within the volume
+pub record AreRuns (g : Geometry) (disk : ℕ → List ℕ) (n : ℕ) (runs : List (ℕ × ℕ)) : Type 0 where
+  pub sectors : sectors_of runs ≡ used_by g disk n
+  pub segments : All IsSegment runs
+  pub within : All (λ r. r.0 + r.1 ≤ g.total) runs
 
 pub header_of : (image : List ℕ) (ident : Ident) → IsIdent image ident → IsHeader (geometry_of ident)
 header_of image ident whole =
     let P : Geometry → Type 0 = λ g. IsHeader g in subst P whole.geometry whole.header.header
 
-pub all_used_below : (image : List ℕ) (ident : Ident) (found : List ℕ) (i : ℕ) → IsIdent image ident → IsFound (geometry_of ident) (sector image) found → ((lsn : ℕ) → Breaks (geometry_of ident) (sector image) 1 lsn → ⊥) → HasMap (geometry_of ident) → i < length found → (xs : List ℕ) → xs ≡ used_by (geometry_of ident) (sector image) (get_or found i 0) → All (λ s. s < ident.total) xs
-all_used_below image ident found i whole is kept map low xs listed =
-    all_below (geometry_of ident) (sector image) (header_of image ident whole) kept map (get_or found i 0) xs ((is (get_or found i 0)).0 (has_place found i low)) listed
-
-module _ (g : Geometry) (disk : ℕ → List ℕ) where
-  -- the least of a list of sectors
-  pub unmarked_in : (xs : List ℕ) (i : ℕ) → i ≡ length xs → (least : Option ℕ) → IsLeast (Before (λ k. IsUnmarkedAt g disk (get_or xs k 0)) i) least → IsLeast (IsUnmarkedIn g disk xs) least
-  unmarked_in xs i all least is =
-      least_along (λ s. (n : ℕ) × (has xs n ≡ true) × IsUnmarkedAt g disk n s) (IsUnmarkedIn g disk xs)
-      (λ s h. let P : ℕ → Type 0 = λ n. IsUnmarkedIn g disk xs n in subst P (sym h.2.0) (h.1, h.2.1))
-      (λ s h. (s, h.0, (refl, h.1)))
-      least (least_in_list (IsUnmarkedAt g disk) xs i all least is)
-
-  -- and of all that are in use
-  pub least_unmarked_of : (found : List ℕ) → IsFound g disk found → (i : ℕ) → i ≡ length found → (least : Option ℕ) → IsLeast (Before (λ k. IsUnmarkedIn g disk (used_by g disk (get_or found k 0))) i) least → IsLeastBreach g disk 3 least
-  unfolding owns
-  least_unmarked_of found are i all least is =
-      least_along (λ s. (n : ℕ) × (has found n ≡ true) × IsUnmarkedIn g disk (used_by g disk n) s) (Breaks g disk 3)
-      (λ s h. unmarked ((are h.0).0 h.1) h.2.0 h.2.1)
-      (λ s b. let u = unmarked_of g disk s b in (u.0, (are u.0).1 u.1, (u.2, u.3)))
-      least (least_in_list (λ n. IsUnmarkedIn g disk (used_by g disk n)) found i all least is)
+pub runs_are : (image : List ℕ) (ident : Ident) (n : ℕ) (listed runs : List (ℕ × ℕ)) → IsIdent image ident → ((lsn : ℕ) → Breaks (geometry_of ident) (sector image) 1 lsn → ⊥) → HasMap (geometry_of ident) → Reaches (geometry_of ident) (sector image) n
+    → sectors_of listed ≡ used_by (geometry_of ident) (sector image) n → All IsSegment listed → runs ≡ listed → AreRuns (geometry_of ident) (sector image) n runs
+runs_are image ident n listed runs whole kept map reached sectors segments is =
+    let g = geometry_of ident in
+    let disk = sector image in
+    let P : List (ℕ × ℕ) → Type 0 = λ rs. AreRuns g disk n rs in
+    subst P (sym is) (record {
+      sectors = sectors;
+      segments = segments;
+      within = runs_within listed g.total segments (λ s h. used_below g disk (header_of image ident whole) kept map n s reached (sym (ap (λ xs. has xs s) sectors) ∙ h));
+    })

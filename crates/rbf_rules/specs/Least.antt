@@ -1,5 +1,5 @@
 -- The least of the numbers that have a property.
-use Rattle.std.specs.Prelude.{ℕ, ◌<◌, ◌≤◌, min, Option, Some, None, MatchOption}
+use Rattle.std.specs.Prelude.{◌≡◌, ◌⊎◌, ℕ, ◌<◌, ◌≤◌, min, Option, Some, None, MatchOption}
 
 -- it is the least of them, and where there is none no number has the property
 abbrev pub IsLeast : (ℕ → Type 0) → Option ℕ → Type 0
@@ -14,3 +14,9 @@ lesser_of (Some one) (Some other) = Some (min one other)
 -- the number has the property of one of the first places
 abbrev pub Before : (ℕ → ℕ → Type 0) → ℕ → ℕ → Type 0
 Before B i s = (k : ℕ) × (k < i) × B k s
+
+-- the least of a limit and of the numbers that have the property
+pub record IsLeastWithin (B : ℕ → Type 0) (limit low : ℕ) : Type 0 where
+  pub within : low ≤ limit
+  pub is : (low ≡ limit) ⊎ B low
+  pub least : (s : ℕ) → B s → low ≤ s

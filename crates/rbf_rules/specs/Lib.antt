@@ -4,6 +4,7 @@ pub mod Keys
 pub mod Least
 pub mod Linked
 pub mod Named
+pub mod Noted
 pub mod Reading
 pub mod Rules
 pub mod Survey

@@ -1,6 +1,6 @@
 use Rattle.std.proofs.Common.{sym, ◌∙◌, None}
 use Rattle.std.proofs.lemmas.List.{get_or_read}
-use Rattle.rbf_rules.proofs.Clusters.{given_new}
+use Rattle.rbf_rules.proofs.Tables.{given_new}
 use Rattle.rbf_rules.proofs.namings.first_of.Goals as goal
 
 pub returns-in-None-clause-noted : goal.returns-in-None-clause-noted

@@ -1,5 +1,5 @@
 use Rattle.std.proofs.Common.{◌≡◌, ◌+◌, ap, arith, length, length-append, List, [], ◌∷◌, Option, ℕ, None}
-use Rattle.rbf_rules.proofs.Clusters.{none_behind, none_in}
+use Rattle.rbf_rules.proofs.Tables.{none_behind, none_in}
 use Rattle.rbf_rules.proofs.owners.no_owners.Goals as goal
 
 pub loop-i-init : goal.loop-i-init

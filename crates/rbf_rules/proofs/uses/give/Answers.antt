@@ -1,7 +1,7 @@
 use Rattle.std.proofs.Common.{sym, ◌∙◌, None}
 use Rattle.std.proofs.lemmas.List.{get_or_read}
-use Rattle.rbf_rules.proofs.Clusters.{given_new}
-use Rattle.rbf_rules.proofs.shares.give.Goals as goal
+use Rattle.rbf_rules.proofs.Tables.{given_new}
+use Rattle.rbf_rules.proofs.uses.give.Goals as goal
 
 pub returns-in-None-clause-given : goal.returns-in-None-clause-given
 returns-in-None-clause-given c =

@@ -1,0 +1,11 @@
+use Rattle.std.proofs.Common.{take}
+use Rattle.rbf_model.specs.Geometry.{sector}
+use Rattle.rbf_model.specs.Segments.{sectors_of}
+use Rattle.rbf_rules.specs.Reading.{geometry_of}
+use Rattle.rbf_rules.specs.Least.{IsLeast}
+use Rattle.rbf_rules.specs.Used.{IsUnmarkedIn}
+use Rattle.rbf_rules.proofs.marks.least_unmarked_of.Given as goal
+
+abbrev pub invariant-loop-run : goal.invariant-loop-run
+invariant-loop-run l =
+    IsLeast (IsUnmarkedIn (geometry_of l.ident) (sector l.image) (sectors_of (take l.run-index l.run-items))) l.least
