@@ -1,5 +1,5 @@
--- The lines on the error stream.
-use Rattle.std.specs.Prelude.{◌≡◌, ℕ, List, [], ◌∷◌, ◌++◌, codes}
+-- The lines on the error stream, and the line of `check` on the output stream.
+use Rattle.std.specs.Prelude.{◌≡◌, ℕ, List, [], ◌∷◌, ◌++◌, codes, decimal}
 use Rattle.os9_outer.specs.declared.host.Host.{Ghosts}
 
 -- the line with this text
@@ -21,6 +21,30 @@ cannot_write_output_line = line_of (codes "os9: cannot write output")
 -- memory is wanting
 abbrev pub no_memory_line : List ℕ
 no_memory_line = line_of (codes "os9: no memory")
+
+-- the image in the file of this name breaks this rule at the sector of this number
+abbrev pub image_fault_line : List ℕ → ℕ → ℕ → List ℕ
+image_fault_line name rule lsn =
+    line_of (codes "os9: " ++ name ++ codes ": rule " ++ decimal rule ++ codes " at LSN " ++ decimal lsn)
+
+-- the module at this byte of the boot file is refused with this error number
+abbrev pub boot_module_line : ℕ → ℕ → List ℕ
+boot_module_line number at =
+    line_of (codes "os9: boot module " ++ decimal number ++ codes " at " ++ decimal at)
+
+-- the boot file and its first process need more memory than there is
+abbrev pub boot_too_large_line : List ℕ
+boot_too_large_line = line_of (codes "os9: boot too large")
+
+-- the boot file has no program `SysGo`
+abbrev pub no_first_line : List ℕ
+no_first_line = line_of (codes "os9: boot no SysGo")
+
+-- what `check` counts: files that are no directories, directories with the root, free clusters and
+-- lost clusters
+abbrev pub counts_line : ℕ → ℕ → ℕ → ℕ → List ℕ
+counts_line files directories free lost =
+    line_of (codes "files " ++ decimal files ++ codes " dirs " ++ decimal directories ++ codes " free " ++ decimal free ++ codes " lost " ++ decimal lost)
 
 -- of what a host tells, only its error stream and the count of that stream's faults changed
 pub record ChangesErrOnly {Host : Type 0} (members : Ghosts Host) (before now : Host) : Type 0 where

@@ -1,7 +1,7 @@
 -- The list of slices.
 use Rattle.std.specs.Prelude.{ℕ, ◌-◌, nat_eq, Option, Some, None, Result, Ok, Err, List, [], ◌∷◌, length, take, if◌then◌else◌}
 use Rattle.std.specs.List.{ends_with}
-use Rattle.script_text.specs.Number.{number_of, within}
+use Rattle.number_text.specs.Number.{number_of, within}
 
 -- the text without the line feed that may end it
 abbrev pub without_line_end : List ℕ → List ℕ

@@ -3,7 +3,7 @@ ghost use Rattle.script_text.specs.Fault.{OnLine};
 ghost use Rattle.script_text.specs.Slices.{slices_of};
 
 use crate::fault::LineFault;
-use crate::number::read_number;
+use number_text::read_number;
 use std::alloc::Global;
 
 /// The most instructions of a slice.

@@ -1,7 +1,7 @@
 -- The digits below the index spell some value, of which the number is the value or the cap.
 use Rattle.std.proofs.Common.{◌≡◌, ℕ, drop, min}
-use Rattle.script_text.specs.Number.{number_after}
-use Rattle.script_text.proofs.number.capped_number.Given as goal
+use Rattle.number_text.specs.Number.{number_after}
+use Rattle.number_text.proofs.number.capped_number.Given as goal
 
 abbrev pub invariant-loop-byte : goal.invariant-loop-byte
 invariant-loop-byte l =

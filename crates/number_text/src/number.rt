@@ -1,0 +1,68 @@
+ghost use Rattle.std.specs.Prelude.{◌≡◌, option_map, min};
+ghost use Rattle.number_text.specs.Number.{number_after, number_of, within};
+
+// What every number that does not fit 32 bits counts as.
+const TOO_LARGE: u64 = 1 << 32;
+
+/// The number that the bytes spell, where it lies from `least` to `most`; else none.
+///
+/// A number is one or more decimal digits, of any length, and may begin with zeros (this project's
+/// own). So it is refused where it is out of range, and never because it is long.
+pub fn read_number(digits: &[u8], least: u32, most: u32) -> Option<u32>
+    ensures { result ≡ within least most (number_of digits.now) }
+{
+    if digits.is_empty() {
+        return None;
+    }
+    let number = capped_number(digits)?;
+    if number < u64::from(least) || u64::from(most) < number {
+        return None;
+    }
+    Some(number as u32)
+}
+
+// The number that decimal digits spell, or `TOO_LARGE` where it is more.
+fn capped_number(digits: &[u8]) -> Option<u64>
+    ensures { result ≡ option_map (min 4294967296) (number_after 0 digits.now) }
+{
+    let mut number: u64 = 0;
+    for byte in digits {
+        if *byte < b'0' || b'9' < *byte {
+            return None;
+        }
+        number = (10 * number + u64::from(*byte - b'0')).min(TOO_LARGE);
+    }
+    Some(number)
+}
+
+#[cfg(test)]
+mod tests {
+    use super::*;
+
+    #[test]
+    fn numbers(rt: HostRuntime) {
+        for (digits, number) in [
+            (b"8".as_slice(), Some(8)),
+            (b"256", Some(256)),
+            (b"0000256", Some(256)),
+            (b"7", None),
+            (b"257", None),
+            (b"4294967304", None),
+            (b"18446744073709551624", None),
+            (b"", None),
+            (b"-8", None),
+            (b"+8", None),
+            (b" 8", None),
+            (b"8 ", None),
+            (b"1f", None),
+        ] {
+            assert_eq!(rt; read_number(digits, 8, 256), number);
+        }
+        assert_eq!(rt;
+            read_number(b"4294967295", 0, u32::MAX),
+            Some(4_294_967_295)
+        );
+        assert_eq!(rt; read_number(b"4294967296", 0, u32::MAX), None);
+        assert_eq!(rt; read_number(b"00", 0, u32::MAX), Some(0));
+    }
+}

@@ -1,0 +1,95 @@
+ghost use Rattle.std.specs.Prelude.{◌≡◌, None, false, OnOk};
+ghost use Rattle.os9_base.specs.Count.{Rose};
+ghost use Rattle.os9_outer.specs.Host.{OnFailed, UnlessFailed};
+ghost use Rattle.os9_outer.specs.Stream.{appended, GainsPrefix};
+ghost use Rattle.os9_words.specs.Lines.{counts_line};
+
+use crate::pieces::put_pieces;
+use itoa::Buffer;
+use os9_outer::host::{Host, HostFault};
+
+/// What `check` counts in an image.
+#[derive(Clone, Copy, Debug, PartialEq, Eq)]
+pub struct Counts {
+    /// Files that are no directories.
+    pub files: u32,
+    /// Directories, with the root.
+    pub directories: u32,
+    /// Free clusters.
+    pub free: u32,
+    /// Lost clusters: whole, marked as used, and in no file.
+    pub lost: u32,
+}
+
+/// Writes the counts to the output stream: `files F dirs D free E lost X`, in decimal digits, and
+/// a line feed (this project's own).
+///
+/// `Failed` comes only with a count. After a refusal a part of the line may be out.
+pub fn put_counts<H: Host>(host: &mut H, counts: &Counts) -> Result<(), HostFault>
+    ensures written { OnOk result (H.bytes_out host.new ≡ appended (H.bytes_out host.old)
+        (counts_line counts.now.files counts.now.directories counts.now.free counts.now.lost)) }
+    ensures prefix { GainsPrefix (H.bytes_out host.old)
+        (counts_line counts.now.files counts.now.directories counts.now.free counts.now.lost)
+        (H.bytes_out host.new) }
+
+    ensures fault_counted { OnFailed result (Rose (H.host_faults host.old) (H.host_faults host.new)) }
+    ensures fault_unnamed { OnFailed result (H.failed_name host.new ≡ None) }
+    ensures fault_in_out { OnFailed result (H.failed_in_read host.new ≡ false) }
+    ensures count_kept { UnlessFailed result (H.host_faults host.new ≡ H.host_faults host.old) }
+    ensures name_kept { UnlessFailed result (H.failed_name host.new ≡ H.failed_name host.old) }
+    ensures read_kept { UnlessFailed result (H.failed_in_read host.new ≡ H.failed_in_read host.old) }
+
+    ensures files_kept { H.file_map host.new ≡ H.file_map host.old }
+    ensures err_kept { H.bytes_err host.new ≡ H.bytes_err host.old }
+    ensures err_count_kept { H.err_stream_faults host.new ≡ H.err_stream_faults host.old }
+{
+    let mut files_text = Buffer::new();
+    let mut directories_text = Buffer::new();
+    let mut free_text = Buffer::new();
+    let mut lost_text = Buffer::new();
+    put_pieces(
+        host,
+        &[
+            b"files ",
+            files_text.format(counts.files).as_bytes(),
+            b" dirs ",
+            directories_text.format(counts.directories).as_bytes(),
+            b" free ",
+            free_text.format(counts.free).as_bytes(),
+            b" lost ",
+            lost_text.format(counts.lost).as_bytes(),
+            b"\n",
+        ],
+    )
+}
+
+#[cfg(test)]
+mod tests {
+    use super::*;
+    use os9_outer::mem_host::MemHost;
+    use std::test::Fail;
+
+    #[test]
+    fn counts_on_out(rt: HostRuntime) -> Result<(), Fail> {
+        let alloc = rt.alloc();
+        let mut host = MemHost::new(alloc, Vec::new(alloc), Vec::new(alloc));
+        let smallest = Counts {
+            files: 0,
+            directories: 1,
+            free: 12,
+            lost: 0,
+        };
+        let largest = Counts {
+            files: 4_294_967_295,
+            directories: 524_280,
+            free: 10,
+            lost: 9,
+        };
+        put_counts(&mut host, &smallest)?;
+        put_counts(&mut host, &largest)?;
+        let lines = b"files 0 dirs 1 free 12 lost 0\n\
+            files 4294967295 dirs 524280 free 10 lost 9\n";
+        assert_eq!(rt; host.out_bytes.as_slice(), lines.as_slice());
+        Ok(())
+    }
+}
