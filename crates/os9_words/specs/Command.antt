@@ -29,19 +29,20 @@ abbrev pub run_of : List ℕ → List ℕ → List ℕ → List ℕ → ℕ → 
 run_of command modules option slices blocks =
     if bytes_eq command (codes "run") && is_argument modules && bytes_eq option (codes "--slices") && is_value slices then Some (Run (record { files = modules ∷ []; slices = slices; blocks = blocks })) else None
 
--- the number of blocks that `--blocks N` gives, from 8 to 256
-abbrev pub blocks_of : List ℕ → List ℕ → Option ℕ
-blocks_of option number =
+-- the number of blocks that the words behind `run MODULES --slices SLICES` give: 64 where there are
+-- none, and N, from 8 to 256, by `--blocks N`
+abbrev pub blocks_of : List (List ℕ) → Option ℕ
+blocks_of [] = Some 64
+blocks_of (option ∷ number ∷ []) =
     if bytes_eq option (codes "--blocks") then within 8 256 (number_of number) else None
+blocks_of _ = None
 
--- the command that the words spell, or nothing where they spell none: `check IMAGE`,
--- `run MODULES --slices SLICES` over 64 blocks, or `run MODULES --slices SLICES --blocks N` over N
+-- the command that the words spell, or nothing where they spell none: `check IMAGE`, or
+-- `run MODULES --slices SLICES` and behind it nothing or `--blocks N`
 abbrev pub command_of : List (List ℕ) → Option Command
 command_of (command ∷ image ∷ []) = check_of command image
-command_of (command ∷ modules ∷ slices_option ∷ slices ∷ []) =
-    run_of command modules slices_option slices 64
-command_of (command ∷ modules ∷ slices_option ∷ slices ∷ blocks_option ∷ number ∷ []) =
-    option_and_then (run_of command modules slices_option slices) (blocks_of blocks_option number)
+command_of (command ∷ modules ∷ option ∷ slices ∷ options) =
+    option_and_then (run_of command modules option slices) (blocks_of options)
 command_of _ = None
 
 -- a command that runs programs names one file of modules

@@ -61,11 +61,8 @@ pub fn read_words(alloc: Global, words: &[String]) -> Result<Command, WordsFault
 {
     match words {
         [command, image] => read_check(alloc, command, image),
-        [command, modules, option, slices] => {
-            read_run(alloc, command, modules, option, slices, DEFAULT_BLOCKS)
-        }
-        [command, modules, option, slices, blocks_option, number] => {
-            let Some(blocks) = read_blocks(blocks_option, number) else {
+        [command, modules, option, slices, options @ ..] => {
+            let Some(blocks) = read_blocks(options) else {
                 return Err(WordsFault::Refused);
             };
             read_run(alloc, command, modules, option, slices, blocks)
@@ -128,15 +125,18 @@ fn run_words(
     })
 }
 
-// Reads `--blocks N`.
-fn read_blocks(option: &str, number: &str) -> Option<u16>
-    ensures { result ≡ blocks_of option.now number.now }
+// Reads the words behind `--slices SLICES`: none, or `--blocks N`.
+fn read_blocks(options: &[String]) -> Option<u16>
+    ensures { result ≡ blocks_of (map string_bytes options.now) }
 {
-    if option != "--blocks" {
-        return None;
+    match options {
+        [] => Some(DEFAULT_BLOCKS),
+        [option, number] if option.as_str() == "--blocks" => {
+            let blocks = read_number(number.as_bytes(), FEWEST_BLOCKS, MOST_BLOCKS)?;
+            Some(blocks as u16)
+        }
+        _ => None,
     }
-    let blocks = read_number(number.as_bytes(), FEWEST_BLOCKS, MOST_BLOCKS)?;
-    Some(blocks as u16)
 }
 
 // Is the word an argument: does it not begin with `-`, or is it `-` alone?
