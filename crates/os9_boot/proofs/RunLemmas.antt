@@ -61,7 +61,7 @@ module _ (s : State) (number : ℕ) (process : Process) (end : EventEnd) (t : St
   told-attempt code attempt = by_exit (eqb code 0x06) attempt
     where
       by_line : (is_line : Bool) → MatchBool is_line (WritesLine s number process end t) ((end ≡ Went) × (t ≡ answered s number process (refused process.regs 208))) → All IsTold t.terms
-      by_line true (ran, answer) = told-writes (line_at (cells_of s.inner.objects process.places) process.regs.x process.regs.y) answer
+      by_line true (ran, answer) = told-writes (line_at (cells_of s.inner.objects process.map.places) process.regs.x process.regs.y) answer
       by_line false (ran, is) = rw is told
 
       by_exit : (is_exit : Bool) → MatchBool is_exit (Exits s number process end t) (MatchBool (eqb code 0x8C) (WritesLine s number process end t) ((end ≡ Went) × (t ≡ answered s number process (refused process.regs 208)))) → All IsTold t.terms
@@ -69,7 +69,7 @@ module _ (s : State) (number : ℕ) (process : Process) (end : EventEnd) (t : St
       by_exit false attempt = by_line (eqb code 0x8C) attempt
 
   told-acts : (activity : Activity) → Acts activity s number process end t → All IsTold t.terms
-  told-acts Running acts = told-executes (step_of (cells_of s.inner.objects process.places) process.regs) acts
+  told-acts Running acts = told-executes (step_of (cells_of s.inner.objects process.map.places) process.regs) acts
   told-acts (Calling code) acts = told-attempt code acts
   told-acts (Finished status) acts = absurd acts
 
@@ -93,11 +93,10 @@ told-taken screens told = All-map IsTold without_bytes screens (λ k d within. t
 
 pub tied-terms : (kernel : Kernel) (terms other : List Screen) (s : State) → Stands kernel terms s → Stands kernel other (record s { terms = other })
 tied-terms kernel terms other s tied = record {
+  number = tied.number;
   objects = tied.objects;
-  places = tied.places;
+  stand_for = tied.stand_for;
   is = let with_other : State → State = λ s. record s { terms = other } in ap with_other tied.is;
-  is_map = tied.is_map;
-  same_cells = tied.same_cells;
 }
 
 -- ---- how many live

@@ -1,14 +1,18 @@
 -- From what the steps answer to what the top call answers.
-use Rattle.std.proofs.Common.{◌≡◌, ◌≢◌, ℕ, Option, Some, None, List, Ok, slice_get, refl, sym, subst, ◌∙◌, All}
+use Rattle.std.proofs.Common.{◌≡◌, ◌≢◌, ℕ, Option, Some, None, List, Ok, slice_get, refl, sym, subst, ◌∙◌, inl, inr, All}
 use Rattle.std.specs.Prelude.{IfSome, count_by}
 use Rattle.os9_outer.specs.Host.{contents_of}
+use Rattle.os9_outer.specs.Stream.{appended}
+use Rattle.rbf_model.specs.Faults.{IsFault}
+use Rattle.rbf_check.specs.declared.tree.Tree.{Tree}
+use Rattle.rbf_check.specs.Tree.{IsTreeOf}
 use Rattle.os9_words.specs.declared.command.RunWords.{RunWords}
 use Rattle.script_text.specs.Slices.{slices_of}
 use Rattle.device_table.specs.Screens.{Screen}
 use Rattle.machine_model.specs.State.{State, is_living}
 use Rattle.machine_model.specs.Run.{status_of}
 use Rattle.os9_boot.specs.Console.{IsTold}
-use Rattle.os9_boot.specs.TopCall.{Boots, Performs}
+use Rattle.os9_boot.specs.TopCall.{Boots, Performs, Checks, tree_line}
 use Rattle.os9_boot.proofs.RunLemmas.{any-none, any-some}
 
 -- the status of a state where nobody lives, and of one where somebody does
@@ -19,9 +23,20 @@ pub status-living : (t : State) (living : ℕ) → living ≡ count_by is_living
 status-living t living counted some = rw (any-some t.inner.processes (λ none. some (counted ∙ none))) refl
 
 -- the two files of the words were read, and the slice text gives slices
-pub performs : (told told_then : Option (List ℕ → Option (List ℕ))) (run : RunWords) (text file slices first_name second_name modules : List ℕ) (terms : List Screen) (before before_then now : Option (List ℕ)) (status : ℕ) → told_then ≡ told → IfSome told (λ files. text ≡ contents_of files first_name) → IfSome told_then (λ files. file ≡ contents_of files second_name) → first_name ≡ run.slices → second_name ≡ modules → slice_get run.files 0 ≡ Some modules → slices_of text ≡ Ok slices → before_then ≡ before → (All IsTold terms → Boots file slices terms before_then now status) → IfSome told (λ files. All IsTold terms → Performs files run terms before now status)
+pub performs : (told told_then : Option (List ℕ → Option (List ℕ))) (run : RunWords) (text file slices first_name second_name modules : List ℕ) (terms : List Screen) (before before_then now : Option (List ℕ)) (status : ℕ) → told_then ≡ told → IfSome told (λ files. text ≡ contents_of files first_name) → IfSome told_then (λ files. file ≡ contents_of files second_name) → first_name ≡ run.slices → second_name ≡ modules → slice_get run.files 0 ≡ Some modules → slices_of text ≡ Ok slices → before_then ≡ before → (All IsTold terms → Boots file run.blocks slices terms before_then now status) → IfSome told (λ files. All IsTold terms → Performs files run terms before now status)
 performs None others run text file slices first_name second_name modules terms before before_then now status kept text_is file_is first second named read same boots =
     tt
 performs (Some files) others run text file slices first_name second_name modules terms before before_then now status kept text_is file_is first second named read same boots =
     let file_is_there : file ≡ contents_of files second_name = let fact : Option (List ℕ → Option (List ℕ)) → Type 0 = λ told. IfSome told (λ files. file ≡ contents_of files second_name) in subst fact kept file_is in
     λ tells. rw (named, ← first, ← text_is, read, ← second, ← file_is_there, ← same) (boots tells)
+
+-- the image was read, and its tree's counts were printed
+pub checks : (told : Option (List ℕ → Option (List ℕ))) (image bytes name : List ℕ) (tree : Tree) (before before_then now : Option (List ℕ)) (status : ℕ) → IfSome told (λ files. bytes ≡ contents_of files name) → name ≡ image → IsTreeOf bytes tree → before_then ≡ before → (status ≡ 0) × (now ≡ appended before_then (tree_line tree)) → IfSome told (λ files. Checks (contents_of files image) before now status)
+checks None image bytes name tree before before_then now status read named is same printed = tt
+checks (Some files) image bytes name tree before before_then now status read named is same printed =
+    rw (← named, ← read) (inl (is.volume, is.stands, printed.0, printed.1 ∙ rw (same, is.counts.files, is.counts.directories, is.tells.free, is.tells.lost) refl))
+
+-- it was read, and has a fault
+pub faults : (told : Option (List ℕ → Option (List ℕ))) (image bytes name : List ℕ) (rule lsn : ℕ) (before now : Option (List ℕ)) → IfSome told (λ files. bytes ≡ contents_of files name) → name ≡ image → IsFault bytes rule lsn → now ≡ before → IfSome told (λ files. Checks (contents_of files image) before now 6)
+faults None image bytes name rule lsn before now read named is same = tt
+faults (Some files) image bytes name rule lsn before now read named is same = rw (← named, ← read) (inr (rule, lsn, is, refl, same))

@@ -1,5 +1,5 @@
 -- What the top call answers.
-use Rattle.std.specs.Prelude.{◌≡◌, ◌≢◌, ℕ, ◌⊎◌, Option, List, length, slice_get, MatchOption, MatchResult}
+use Rattle.std.specs.Prelude.{◌≡◌, ◌≢◌, ℕ, ◌⊎◌, not, Option, List, length, count_by, slice_get, MatchOption, MatchResult}
 use Rattle.os9_outer.specs.Host.{contents_of}
 use Rattle.os9_outer.specs.Stream.{appended}
 use Rattle.device_table.specs.Screens.{Screen}
@@ -13,6 +13,8 @@ use Rattle.rbf_model.specs.Geometry.{Geometry, image_geometry}
 use Rattle.rbf_model.specs.Volume.{DiskVolume, Vol, free_clusters, lost_clusters}
 use Rattle.rbf_model.specs.Counts.{file_count, directory_count}
 use Rattle.rbf_model.specs.Faults.{IsFault}
+use Rattle.rbf_check.specs.declared.tree.Tree.{Tree}
+use Rattle.rbf_check.specs.Tree.{is_directory_node}
 use Rattle.machine_model.specs.State.{State}
 use Rattle.machine_model.specs.declared.ends.BootFault.{BootFault}
 use Rattle.machine_model.specs.Start.{Starts, Refuses}
@@ -44,6 +46,11 @@ Performs files run terms before now status =
 -- the line of the counts of a volume
 abbrev pub counts_of : Geometry → DiskVolume → List ℕ
 counts_of g v = counts_line (file_count g v) (directory_count g v) (length (free_clusters g v)) (length (lost_clusters g v))
+
+-- the line of the counts of a tree
+abbrev pub tree_line : Tree → List ℕ
+tree_line tree =
+    counts_line (count_by (λ node. not (is_directory_node node)) tree.nodes) (count_by is_directory_node tree.nodes) tree.free tree.lost
 
 -- the image stands for a volume, whose counts are printed; or it is refused with 6
 abbrev pub Checks : List ℕ → Option (List ℕ) → Option (List ℕ) → ℕ → Type 0

@@ -1,4 +1,4 @@
-ghost use Rattle.std.specs.Prelude.{◌≡◌, ◌≢◌, ◌<◌, ◌⊎◌, All, IfSome, None, map, string_bytes, length, vec_len};
+ghost use Rattle.std.specs.Prelude.{◌≡◌, ◌≢◌, ◌<◌, ◌≤◌, ◌⊎◌, All, IfSome, None, map, string_bytes, length, vec_len};
 ghost use Rattle.os9_base.specs.Count.{Rose};
 ghost use Rattle.os9_words.specs.Command.{command_of, HasOneFile, HasBlocks};
 ghost use Rattle.device_table.specs.Screens.{screens};
@@ -45,6 +45,13 @@ pub fn os9_main<H: Host>(alloc: Global, words: &[String], host: &mut H, devices:
     ensures read_fault { result ≡ 2 → Rose (H.host_faults host.old) (H.host_faults host.new) }
     ensures output_fault { result ≡ 3 → Rose (H.host_faults host.old) (H.host_faults host.new) }
     ensures count_kept { result ≢ 2 → result ≢ 3 → H.host_faults host.new ≡ H.host_faults host.old }
+    // Where no count of faults rose, the status is as the machine or the disk says, or 4.
+    ensures complete { ¬ Rose (H.host_faults host.old) (H.host_faults host.new) → result ≢ 4
+        → IfSome (H.file_map host.old) (λ files.
+        All IsTold (screens ⟦<dyn CharDriver as CharDriver>⟧ devices.old.terms.items)
+        → Answers files (map string_bytes words.now)
+        (screens ⟦<dyn CharDriver as CharDriver>⟧ devices.old.terms.items)
+        (H.bytes_out host.old) (H.bytes_out host.new) result) }
     ensures silent { IsSilent result → H.bytes_out host.new ≡ H.bytes_out host.old }
     ensures files_kept { H.file_map host.new ≡ H.file_map host.old }
 {

@@ -3,6 +3,8 @@
 
 pub use kernel::Kernel;
 pub use machine_model::ends::{BootFault, EventEnd, SliceEnd};
+pub use start::Config;
 
 mod kernel;
 mod line;
+mod start;

@@ -1,7 +1,7 @@
 use Rattle.std.proofs.Common.{sym, ap, ◌∙◌}
 use Rattle.script_text.specs.Slices.{slices_of}
 use Rattle.os9_boot.proofs.TopLemmas.{performs}
-use Rattle.os9_boot.proofs.top.perform.Goals as goal
+use Rattle.os9_boot.proofs.top.run_modules.Goals as goal
 
 pub returns-clause-performed : goal.returns-clause-performed
 returns-clause-performed g c answered =
