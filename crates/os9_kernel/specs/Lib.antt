@@ -1,4 +1,5 @@
 pub mod Line
+pub mod Load
 pub mod Namings
 pub mod Slice
 pub mod Tie

@@ -6,3 +6,4 @@ pub use machine_model::ends::{BootFault, EventEnd, SliceEnd};
 
 mod kernel;
 mod line;
+mod load;
