@@ -1,14 +1,14 @@
 -- New blocks, one group of them after another.
-use Rattle.std.proofs.Common.{◌≡◌, ◌≢◌, ◌+◌, ◌-◌, ◌<◌, ◌≤◌, ◌==◌, ℕ, zero, suc, true, false, Option, Some, None, IfNone, IfSome, List, [], ◌∷◌, ◌++◌, length, get_or, set, take, drop, replicate, map, cond, count_by, All, AllPairs, ◌⊎◌, inl, inr, refl, sym, ap, ◌∙◌, subst, arith}
+use Rattle.std.proofs.Common.{◌≡◌, ◌≢◌, ◌+◌, ◌-◌, ◌<◌, ◌*◌, ◌≤◌, ◌==◌, min, ℕ, zero, suc, true, false, Option, Some, None, IfNone, IfSome, List, [], ◌∷◌, ◌++◌, length, get_or, set, take, drop, replicate, map, cond, count_by, All, AllPairs, ◌⊎◌, inl, inr, refl, sym, ap, ◌∙◌, subst, arith}
 use Rattle.std.proofs.Common.{zero-add}
 use Rattle.std.proofs.Math.Seq.{take-append-add}
-use Rattle.std.proofs.lemmas.List.{length-replicate, take-replicate, drop-replicate, set-set, length-set, length-append, get_or-set_same, get_or-set_other, map-append, get_or_past}
+use Rattle.std.proofs.lemmas.List.{append-nil, nil_from_length, take_all, drop_all, take_at, drop_at, take-take, take-append-le, length-take-le, length-replicate, take-replicate, drop-replicate, set-set, length-set, length-append, get_or-set_same, get_or-set_other, map-append, get_or_past}
 use Rattle.std.proofs.lemmas.List.Elements.{All-nil, All-cons, All-head, All-tail, All-append, All-weaker}
 use Rattle.std.proofs.lemmas.List.Kept.{AllPairs-cons}
 use Rattle.std.proofs.lemmas.List.Sums.{sum_by-cons, sum_by-append, get_or-le-sum_by}
 use Rattle.std.proofs.lemmas.Bool.{cases_eq, cases_lt, cond-true, cond-false, eq-eqb, ne_eqb}
 use Rattle.block_pool.specs.Blocks.{Blocks, IsPool, IsFree, IsLive, count_of, block_bytes, free_count, with_count, with_bytes, taken, overwritten}
-use Rattle.machine_model.specs.Start.{block_of}
+use Rattle.machine_model.specs.Start.{block_of, zero_object}
 use Rattle.block_map.specs.Takes.{Takes}
 use Rattle.proc_model.specs.declared.group.BlockId.{BlockId}
 use Rattle.os9_kernel.specs.Load.{times_in, Gains}
@@ -163,3 +163,32 @@ Gains-written pool id bytes free shape short =
     let within = taken_within pool id.0 free shape in
     let whole : length pool.bytes ≡ length pool.counts = sym (length-set pool.bytes id.0 (replicate (length (block_bytes pool id.0)) 0)) ∙ shape.whole ∙ length-set pool.counts id.0 1 in
     subst (Gains pool (id ∷ []) (block_of bytes 0 ∷ [])) (sym (written 8192 pool id.0 bytes (taken_length pool id.0 free shape) within short)) (Gains-one pool id (block_of bytes 0) whole free)
+
+-- ---- the parts of a file
+
+-- a part of at most n at the front of a list, and the rest of it
+pub part-of : (n : ℕ) (xs part rest : List ℕ) → xs ≡ part ++ rest → length part ≡ min n (length xs) → (part ≡ take n xs) × (rest ≡ drop n xs)
+part-of n xs part rest whole size =
+    let lengths : length xs ≡ length part + length rest = ap length whole ∙ length-append part rest in
+    elim (cases_lt (length xs) n) [
+      | inl short ↦
+          let nothing : rest ≡ [] = nil_from_length rest (omega arith) in
+          let all : part ≡ xs = sym (append-nil part) ∙ ap (λ (back : List ℕ). part ++ back) (sym nothing) ∙ sym whole in
+          (all ∙ sym (take_all n xs (omega arith)), nothing ∙ sym (drop_all n xs (omega arith)))
+      | inr long ↦
+          let many : length part ≡ n = omega arith in
+          (sym (ap (take n) whole ∙ take_at part rest n many), sym (ap (drop n) whole ∙ drop_at part rest n many))
+    ]
+
+front-filled : (n : ℕ) (xs zeros : List ℕ) → take n (take n xs ++ zeros) ≡ take n (xs ++ zeros)
+front-filled n xs zeros =
+    elim (cases_lt (length xs) n) [
+      | inl short ↦ ap (λ (front : List ℕ). take n (front ++ zeros)) (take_all n xs (omega arith))
+      | inr long ↦
+          let many = length-take-le n xs long in
+          take-append-le n (take n xs) zeros (omega arith) ∙ take-take n n xs (omega arith) ∙ sym (take-append-le n xs zeros long)
+    ]
+
+-- the only block of a part of a file is a block of the file
+pub block_of-part : (file part : List ℕ) (k : ℕ) → part ≡ take 8192 (drop (8192 * k) file) → block_of part 0 ≡ block_of file k
+block_of-part file part k is = ap (λ (xs : List ℕ). take 8192 (xs ++ zero_object)) is ∙ front-filled 8192 (drop (8192 * k) file) zero_object
