@@ -3,7 +3,7 @@ use Rattle.std.proofs.Common.{◌≡◌, ◌≢◌, ◌+◌, ◌-◌, ◌<◌, �
 use Rattle.std.proofs.Common.{zero-add}
 use Rattle.std.proofs.Math.Seq.{take-append-add}
 use Rattle.std.proofs.lemmas.List.{append-nil, nil_from_length, take_all, drop_all, take_at, drop_at, take-take, take-append-le, length-take-le, length-replicate, take-replicate, drop-replicate, set-set, length-set, length-append, get_or-set_same, get_or-set_other, map-append, get_or_past}
-use Rattle.std.proofs.lemmas.List.Elements.{All-nil, All-cons, All-head, All-tail, All-append, All-weaker}
+use Rattle.std.proofs.lemmas.List.Elements.{All-nil, All-set, All-cons, All-head, All-tail, All-append, All-weaker}
 use Rattle.std.proofs.lemmas.List.Kept.{AllPairs-cons}
 use Rattle.std.proofs.lemmas.List.Sums.{sum_by-cons, sum_by-append, get_or-le-sum_by}
 use Rattle.std.proofs.lemmas.Bool.{cases_eq, cases_lt, cond-true, cond-false, eq-eqb, ne_eqb}
@@ -77,6 +77,13 @@ Gains-live gains block live = omega (arith, gains.counts block)
 -- a block that was gained is live
 pub Gains-new : {before : Blocks} {group : List BlockId} {contents : List (List ℕ)} {after : Blocks} → Gains before group contents after → All (λ id. IsLive after id.0) group
 Gains-new {group = group} gains = λ k d within. omega (arith, gains.counts (get_or group k d).0, times_in-one group k d within)
+
+-- a block that was live is none of those that are gained, and its count stays
+pub Gains-old : {before : Blocks} {group : List BlockId} {contents : List (List ℕ)} {after : Blocks} → Gains before group contents after → (block : ℕ) → IsLive before block → All (λ id. id.0 ≢ block) group
+Gains-old {before} gains block live = λ k d within same. absurd (omega (arith, gains.were_free k d within, ap (count_of before) same))
+
+pub count_of-old : {before : Blocks} {group : List BlockId} {contents : List (List ℕ)} {after : Blocks} → Gains before group contents after → (block : ℕ) → IsLive before block → count_of after block ≡ count_of before block
+count_of-old {group = group} gains block live = omega (arith, gains.counts block, times_in-none group block (Gains-old gains block live))
 
 -- none is gained
 pub Gains-none : (pool : Blocks) → Gains pool [] [] pool
@@ -192,3 +199,26 @@ front-filled n xs zeros =
 -- the only block of a part of a file is a block of the file
 pub block_of-part : (file part : List ℕ) (k : ℕ) → part ≡ take 8192 (drop (8192 * k) file) → block_of part 0 ≡ block_of file k
 block_of-part file part k is = ap (λ (xs : List ℕ). take 8192 (xs ++ zero_object)) is ∙ front-filled 8192 (drop (8192 * k) file) zero_object
+
+-- ---- blocks that are taken
+
+IsPool-taken : (pool : Blocks) (block : ℕ) → IsPool pool → block < length pool.counts → IsPool (taken pool block)
+IsPool-taken pool block shape within =
+    let zeros : List ℕ = replicate (length (block_bytes pool block)) 0 in
+    let counts = length-set pool.counts block 1 in
+    record {
+      least = omega (arith, counts, shape.least);
+      most = omega (arith, counts, shape.most);
+      whole = length-set pool.bytes block zeros ∙ shape.whole ∙ sym counts;
+      full = All-set (λ bytes. length bytes ≡ 8192) pool.bytes block zeros (length-replicate (length (block_bytes pool block)) 0 ∙ shape.full block [] (omega (arith, shape.whole))) shape.full;
+    }
+
+-- blocks that are taken have zeros
+pub Takes-Gains : (pool after : Blocks) (ids : List BlockId) → IsPool pool → Takes pool ids after → Gains pool ids (replicate (length ids) zero_object) after × IsPool after
+Takes-Gains pool after [] shape took = (subst (Gains pool [] []) (sym took) (Gains-none pool), subst IsPool (sym took) shape)
+Takes-Gains pool after (id ∷ ids) shape took =
+    let zeros : List ℕ = replicate (length (block_bytes pool id.0)) 0 in
+    let clear : zeros ≡ zero_object = ap (λ (n : ℕ). replicate n 0) (shape.full id.0 [] (omega (arith, shape.whole, took.0.0))) in
+    let one : Gains pool (id ∷ []) (zero_object ∷ []) (taken pool id.0) = subst (λ (bytes : List ℕ). Gains pool (id ∷ []) (bytes ∷ []) (taken pool id.0)) clear (Gains-one pool id zeros shape.whole took.0) in
+    let rest = Takes-Gains (taken pool id.0) after ids (IsPool-taken pool id.0 shape took.0.0) took.1 in
+    (Gains-then one rest.0, rest.1)

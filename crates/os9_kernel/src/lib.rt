@@ -3,7 +3,9 @@
 
 pub use kernel::Kernel;
 pub use machine_model::ends::{BootFault, EventEnd, SliceEnd};
+pub use start::Config;
 
 mod kernel;
 mod line;
 mod load;
+mod start;

@@ -27,14 +27,14 @@ pub fn load_group(pool: &mut Pool, file: &[u8]) -> Group
     ensures blocks { result.len ≡ file_blocks file.now }
     ensures shape { IsPool pool.new }
 {
-    let mut blocks = [BlockId(0); 7];
+    let mut ids = [BlockId(0); 7];
     let mut len = 0;
     for part in file.chunks(BLOCK_LEN) {
-        blocks[len] = load_block(pool, part);
+        ids[len] = load_block(pool, part);
         len += 1;
     }
     Group {
-        blocks,
+        blocks: ids,
         len: len as u8,
     }
 }

@@ -9,10 +9,10 @@ use Rattle.os9_kernel.proofs.load.load_group.Given as goal
 -- the first blocks of the file are loaded, and the others are to come
 abbrev pub invariant-loop-part : goal.invariant-loop-part
 invariant-loop-part l = record {
-  loaded : Gains l.initial.pool (take l.len l.blocks) (map (block_of l.file) (range_with_len 0 l.len)) l.pool;
+  loaded : Gains l.initial.pool (take l.len l.ids) (map (block_of l.file) (range_with_len 0 l.len)) l.pool;
   room : free_count l.pool + l.len ≡ free_count l.initial.pool;
   shape : IsPool l.pool;
-  places : length l.blocks ≡ 7;
+  places : length l.ids ≡ 7;
   within : l.len ≤ file_blocks l.file;
   rest : chunks_rest l.part-iterator ≡ drop (8192 * l.len) l.file;
   size : chunks_size l.part-iterator ≡ 8192;
