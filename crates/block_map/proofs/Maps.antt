@@ -1,14 +1,14 @@
 -- Maps stay maps, and what they name stays live.
-use Rattle.std.proofs.Common.{◌≡◌, ◌≢◌, ℕ, ◌+◌, ◌-◌, ◌<◌, ◌≤◌, Option, Some, None, List, ◌++◌, length, get_or, set, take, drop, replicate, All, AllPairs, arith, sym, ap, ◌∙◌, subst, inl, inr, ◌⊎◌}
-use Rattle.std.proofs.lemmas.List.{drop-drop, get_or_past, length-take-le, length-drop, get_or-take, get_or-drop, length-replicate, length-map, get_or-set_same, get_or-set_other}
+use Rattle.std.proofs.Common.{◌≡◌, ◌≢◌, ℕ, ◌+◌, ◌-◌, ◌<◌, ◌≤◌, Option, Some, None, List, ◌++◌, length, get_or, set, take, drop, replicate, All, AllPairs, arith, sym, ap, ◌∙◌, subst, refl, inl, inr, ◌⊎◌}
+use Rattle.std.proofs.lemmas.List.{drop-drop, get_or_past, length-take-le, length-drop, get_or-take, get_or-drop, length-replicate, length-map, length-set, get_or-set_same, get_or-set_other}
 use Rattle.std.proofs.lemmas.Option.{same_Some, none-some}
 use Rattle.std.proofs.lemmas.Bool.{cases_eq, cases_lt}
 use borrow.Rule.Slice.PartMut.{put_mid}
 use Rattle.block_pool.specs.Blocks.{Blocks, IsLive}
 use Rattle.proc_model.specs.declared.group.BlockId.{BlockId}
-use Rattle.proc_model.specs.Slots.{put_places, naming, named_in}
-use Rattle.block_map.specs.Takes.{AreNew, shared_all, given_all}
-use Rattle.block_map.proofs.Places.{at, Once, Once-put, Once-naming, at-naming, at-put, at-cleared, at-within, All-named_in, same_id}
+use Rattle.proc_model.specs.Slots.{Slots, IsMap, Names, put_places, naming, named_in}
+use Rattle.block_map.specs.Takes.{AreNew, NamesLive, shared_all, given_all}
+use Rattle.block_map.proofs.Places.{at, Once, Once-put, length-put, Once-naming, at-naming, at-put, at-cleared, at-within, All-named_in, same_id}
 use Rattle.block_map.proofs.Counts.{Takes-live, Takes-free, Takes-named, Takes-once, count_of-shared_all, count_of-given_all}
 
 -- what a write to a part of the places leaves
@@ -127,6 +127,54 @@ cleared-put places new first len count fits counted cleared =
     let many : count ≡ len = counted ∙ length-part places first len fits in
     let clear : new ≡ replicate len None = cleared ∙ ap (λ (n : ℕ). replicate {A = Option BlockId} n None) many in
     put_mid-put places new first len (ap (λ (list : List (Option BlockId)). length list) clear ∙ length-replicate {A = Option BlockId} len None) ∙ ap (put_places places first) clear
+
+-- ---- whole maps
+
+-- these places, this low area and these groups
+abbrev pub slots_of : List (Option BlockId) → ℕ → List (Option ℕ) → Slots BlockId
+slots_of places low groups = record { places = places; low = low; groups = groups }
+
+-- the low area grows by new blocks
+pub IsMap-low : (slots : Slots BlockId) (new : List (Option BlockId)) (len : ℕ) (before after : Blocks) → IsMap slots → slots.low + len ≤ 8 → length new ≡ slots.low + len - slots.low → NamesLive slots before → AreNew new before after → IsMap (slots_of (put_mid slots.low (slots.low + len - slots.low) slots.places new) (slots.low + len) slots.groups)
+IsMap-low slots new len before after map fits many live news =
+    let eight = map.eight_places in
+    let mid = put_mid-put slots.places new slots.low (slots.low + len - slots.low) many in
+    record {
+      eight_places = ap (λ (list : List (Option BlockId)). length list) mid ∙ length-put slots.places new slots.low (omega arith) ∙ eight;
+      eight_groups = map.eight_groups;
+      low_fits = fits;
+      group_fits = map.group_fits;
+      once = subst Once (sym mid) (Once-new slots.places new before after slots.low (omega arith) map.once live news);
+    }
+
+-- a group is named
+pub IsMap-group : (slots : Slots BlockId) (new : List (Option BlockId)) (ids : List BlockId) (first len : ℕ) → IsMap slots → 1 ≤ len → first + len ≤ 8 → new ≡ naming ids → length ids ≡ len → AllPairs (λ a b. a ≢ b) ids → All (λ id. Names slots id → ⊥) ids → IsMap (slots_of (put_mid first (first + len - first) slots.places new) slots.low (set slots.groups first (Some len)))
+IsMap-group slots new ids first len map some fits named count different unnamed =
+    let eight = map.eight_places in
+    let length-naming = length-map ids (λ (block : BlockId). Some block) in
+    let many : length new ≡ first + len - first = ap (λ (list : List (Option BlockId)). length list) named ∙ length-naming ∙ omega arith in
+    let mid = put_mid-put slots.places new first (first + len - first) many ∙ ap (put_places slots.places first) named in
+    record {
+      eight_places = ap (λ (list : List (Option BlockId)). length list) mid ∙ length-put slots.places (naming ids) first (omega (arith, length-naming)) ∙ eight;
+      eight_groups = length-set slots.groups first (Some len) ∙ map.eight_groups;
+      low_fits = map.low_fits;
+      group_fits = GroupsFit-set slots.groups first len map.eight_groups (omega arith) fits map.group_fits;
+      once = subst Once (sym mid) (Once-group slots.places ids first (omega arith) map.once different unnamed);
+    }
+
+-- some slots are cleared
+pub IsMap-clear : (slots : Slots BlockId) (new : List (Option BlockId)) (first len low : ℕ) (groups : List (Option ℕ)) → IsMap slots → first + len ≤ 8 → new ≡ replicate (length (take len (drop first slots.places))) None → length groups ≡ 8 → low ≤ 8 → GroupsFit groups → IsMap (slots_of (put_mid first len slots.places new) low groups)
+IsMap-clear slots new first len low groups map fits cleared eight_groups low_fits group_fits =
+    let eight = map.eight_places in
+    let none : Option BlockId = None in
+    let mid = cleared-put slots.places new first len _ (omega arith) refl cleared in
+    record {
+      eight_places = ap (λ (list : List (Option BlockId)). length list) mid ∙ length-put slots.places (replicate len none) first (omega (arith, length-replicate len none)) ∙ eight;
+      eight_groups = eight_groups;
+      low_fits = low_fits;
+      group_fits = group_fits;
+      once = subst Once (sym mid) (Once-clear slots.places first len (omega arith) map.once);
+    }
 
 -- a slot where a group begins is one of the slots
 pub group-within : (groups : List (Option ℕ)) (slot len : ℕ) → get_or groups slot None ≡ Some len → slot < length groups

@@ -46,7 +46,8 @@ impl Map {
 
     /// A map that names nothing.
     pub fn empty() -> Map
-        ensures { result ≡ no_slots }
+        ensures nothing { result ≡ no_slots }
+        ensures shape { IsMap result }
     {
         Map {
             places: [None; SLOTS],
@@ -78,6 +79,7 @@ impl Map {
 
         ensures gains { OnOk result (GainsLow n self.old pool.old self.new pool.new) }
         ensures live { NamesLive self.new pool.new }
+        ensures shape { IsMap self.new }
     {
         let first = self.low as usize;
         let len = n as usize;
@@ -101,6 +103,7 @@ impl Map {
         ensures cut { n < self.old.low → self.new ≡ cut_low_to self.old n }
         ensures given { n < self.old.low → pool.new ≡ given_all pool.old (named_from self.old n self.old.low) }
         ensures live { NamesLive self.new pool.new }
+        ensures shape { IsMap self.new }
     {
         if n < self.low {
             give_back(&mut self.places[n as usize..self.low as usize], pool);
@@ -128,6 +131,7 @@ impl Map {
         ensures grouped { IfOk result (λ first. self.new ≡ with_group self.old first (group_blocks g.now)) }
         ensures shared { OnOk result (pool.new ≡ shared_all pool.old (group_blocks g.now)) }
         ensures live { NamesLive self.new pool.new }
+        ensures shape { IsMap self.new }
     {
         let len = g.len as usize;
         let Some(slot) = self.highest_free_run(g.len) else {
@@ -148,6 +152,7 @@ impl Map {
         ensures given { IfSome (group_of self.old slot)
             (λ len. pool.new ≡ given_all pool.old (named_from self.old slot (slot + len))) }
         ensures live { NamesLive self.new pool.new }
+        ensures shape { IsMap self.new }
     {
         let first = slot as usize;
         if let Some(len) = self.groups[first] {
@@ -161,6 +166,7 @@ impl Map {
         requires { NamesLive self.old pool.old }
         ensures empty { self.new ≡ no_slots }
         ensures given { pool.new ≡ given_all pool.old (named_in self.old.places) }
+        ensures shape { IsMap self.new }
     {
         give_back(&mut self.places, pool);
         *self = Map::empty();

@@ -1,7 +1,8 @@
 ghost use Rattle.std.specs.Prelude.{◌≡◌, ◌≢◌, ◌+◌, ◌<◌, ◌≤◌, ◌↔◌, ◌∷◌, [], IsTrue, true, count_by, option_map, vec_len, List, Some, IsSome};
 ghost use Rattle.std.specs.Option.{ForSome};
 ghost use Rattle.block_pool.specs.Blocks.{IsPool};
-ghost use Rattle.proc_model.specs.ModuleList.{entry_at};
+ghost use Rattle.proc_model.specs.ModuleList.{entry_at, without_link};
+ghost use Rattle.proc_model.specs.Slots.{IsMap};
 ghost use Rattle.os9_kernel.specs.Namings.{AreCounted, AreBoot};
 ghost use Rattle.device_table.specs.Screens.{Screen, screens};
 ghost use Rattle.machine_model.specs.State.{State, is_living, lives};
@@ -39,6 +40,7 @@ pub struct Kernel {
     /// Room for the longest range of a process's memory.
     pub(crate) buffer: Vec<u8>,
     ghost shape: { IsPool pool },
+    ghost whole: { IsMap map },
     ghost counted: { AreCounted pool (map ∷ []) dir },
     ghost all_boot: { AreBoot dir },
     ghost linked: { ForSome primary (λ id. IsSome (entry_at dir id.0)) },
@@ -251,9 +253,8 @@ impl Kernel {
         ensures count { ticks self.new ≡ ticks self.old }
     {
         self.map.clear(&mut self.pool);
-        if let Some(id) = self.primary.take() {
-            let _ = self.dir.unlink(id);
-        }
+        give_up_link(&mut self.dir, self.primary);
+        self.primary = None;
         self.activity = Activity::Finished(status);
     }
 
@@ -278,6 +279,16 @@ impl Kernel {
         ensures { result ≡ lives self.now.activity }
     {
         !matches!(self.activity, Activity::Finished(_))
+    }
+}
+
+/// Gives up one link to a primary module, if there is one.
+fn give_up_link(dir: &mut Dir, primary: Option<ModId>)
+    requires { ForSome primary (λ id. IsSome (entry_at dir.old id.0)) }
+    ensures { dir.new ≡ without_link dir.old (option_map (λ id. id.0) primary) }
+{
+    if let Some(id) = primary {
+        let _ = dir.unlink(id);
     }
 }
 

@@ -60,7 +60,9 @@ pub struct Refusal {
 }
 
 impl From<Refusal> for BootFault {
-    ghost from_gives = { λ refusal fault. fault ≡ BootFault.BadModule refusal.at refusal.error };
+    ghost use Rattle.machine_model.specs.declared.ends.BootFault.TheVariants.{BadModule};
+
+    ghost from_gives = { λ refusal fault. fault ≡ BadModule refusal.at refusal.error };
 
     fn from(refusal: Refusal) -> BootFault {
         BootFault::BadModule(refusal.at, refusal.error)

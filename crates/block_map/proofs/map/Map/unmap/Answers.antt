@@ -1,10 +1,10 @@
-use Rattle.std.proofs.Common.{◌≡◌, ◌+◌, ◌-◌, ◌≤◌, ℕ, List, Option, Some, None, length, replicate, arith, rules, sym, ap, ◌∙◌, subst, refl}
-use Rattle.std.proofs.lemmas.List.{length-replicate, length-set}
+use Rattle.std.proofs.Common.{◌≡◌, ◌<◌, set, ◌+◌, ◌-◌, ◌≤◌, ℕ, List, Option, Some, None, arith, rules, sym, ap, ◌∙◌, subst, refl}
+use Rattle.std.proofs.lemmas.List.{length-set}
 use Rattle.proc_model.specs.declared.group.BlockId.{BlockId}
 use Rattle.block_pool.specs.Blocks.{Blocks, IsLive}
 use Rattle.proc_model.specs.Slots.{Slots, place_of}
-use Rattle.block_map.proofs.Places.{at, Once, length-put}
-use Rattle.block_map.proofs.Maps.{cleared-put, Once-part, Once-clear, live-clear, GroupsFit-clear, group-within}
+use Rattle.block_map.proofs.Places.{at}
+use Rattle.block_map.proofs.Maps.{cleared-put, Once-part, live-clear, GroupsFit-clear, group-within, slots_of, IsMap-clear}
 use Rattle.block_map.proofs.map.Map.unmap.Goals as goal
 
 pub give_back-requires-clause-once : goal.give_back-requires-clause-once
@@ -15,20 +15,12 @@ give_back-requires-clause-once c =
 
 pub invariant_of-self : goal.invariant_of-self
 invariant_of-self c =
-    let places = c.self.inside.places in
     let first = c.args.slot in
-    let len = first + c.in-Some.len - first in
+    let groups = c.self.inside.groups in
+    let eight_groups = c.self.invariant.eight_groups in
     let fits : first + c.in-Some.len ≤ 8 = c.self.invariant.group_fits first c.in-Some.len (search rules) in
-    let eight = c.self.invariant.eight_places in
-    let none : Option BlockId = None in
-    let mid = cleared-put places c.give_back.new.places first len _ (omega arith) refl c.give_back.ensures.cleared in
-    record {
-      eight_places = ap (λ (list : List (Option BlockId)). length list) mid ∙ length-put places (replicate len none) first (omega (arith, length-replicate len none)) ∙ eight;
-      eight_groups = length-set c.self.inside.groups first None ∙ c.self.invariant.eight_groups;
-      low_fits = c.self.invariant.low_fits;
-      group_fits = GroupsFit-clear c.self.inside.groups first c.self.invariant.eight_groups (omega (arith, group-within c.self.inside.groups first c.in-Some.len (search rules), c.self.invariant.eight_groups)) c.self.invariant.group_fits;
-      once = subst Once (sym mid) (Once-clear places first len (omega arith) c.self.invariant.once);
-    }
+    let within : first < 8 = omega (arith, group-within groups first c.in-Some.len (search rules)) in
+    IsMap-clear (slots_of c.self.inside.places c.self.inside.low groups) c.give_back.new.places first (first + c.in-Some.len - first) c.self.inside.low (set groups first None) c.self.invariant (omega arith) c.give_back.ensures.cleared (length-set groups first None ∙ eight_groups) c.self.invariant.low_fits (GroupsFit-clear groups first eight_groups within c.self.invariant.group_fits)
 
 pub returns-in-Some-clause-live : goal.returns-in-Some-clause-live
 returns-in-Some-clause-live c =
@@ -41,3 +33,12 @@ returns-in-Some-clause-live c =
     let live = λ (slot : ℕ) (id : BlockId) (here : at places slot ≡ Some id). c.requires.live slot id (ap (λ (slots : Slots BlockId). place_of slots slot) (sym c.self.view_is) ∙ here) in
     subst (λ (list : List (Option BlockId)). (slot : ℕ) (id : BlockId) → at list slot ≡ Some id → IsLive c.give_back.new.pool id.0) (sym mid)
     (λ slot id here. subst (λ (pool : Blocks). IsLive pool id.0) (sym c.give_back.ensures.given) (live-clear places first len c.args.pool.now (omega arith) c.self.invariant.once live slot id here))
+
+pub returns-in-Some-clause-shape : goal.returns-in-Some-clause-shape
+returns-in-Some-clause-shape c =
+    let first = c.args.slot in
+    let groups = c.self.inside.groups in
+    let eight_groups = c.self.invariant.eight_groups in
+    let fits : first + c.in-Some.len ≤ 8 = c.self.invariant.group_fits first c.in-Some.len (search rules) in
+    let within : first < 8 = omega (arith, group-within groups first c.in-Some.len (search rules)) in
+    IsMap-clear (slots_of c.self.inside.places c.self.inside.low groups) c.give_back.new.places first (first + c.in-Some.len - first) c.self.inside.low (set groups first None) c.self.invariant (omega arith) c.give_back.ensures.cleared (length-set groups first None ∙ eight_groups) c.self.invariant.low_fits (GroupsFit-clear groups first eight_groups within c.self.invariant.group_fits)
