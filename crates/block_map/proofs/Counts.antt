@@ -66,7 +66,7 @@ Takes-once pool after (x ∷ ids) took (suc k) zero id here there =
 Takes-once pool after (x ∷ ids) took (suc k) (suc other) id here there = ap suc (Takes-once (taken pool x.0) after ids took.1 k other id here there)
 
 -- the count of a block after one was shared
-count_of-shared : (pool : Blocks) (block other : ℕ) → (count_of pool other ≤ count_of (shared pool block) other) × (count_of (shared pool block) other ≤ count_of pool other + 1)
+pub count_of-shared : (pool : Blocks) (block other : ℕ) → (count_of pool other ≤ count_of (shared pool block) other) × (count_of (shared pool block) other ≤ count_of pool other + 1)
 count_of-shared pool block other =
     let count = count_of pool block + 1 in
     elim (cases_eq other block) [

@@ -12,26 +12,7 @@ use Rattle.machine_model.specs.Start.{block_of, zero_object}
 use Rattle.block_map.specs.Takes.{Takes}
 use Rattle.proc_model.specs.declared.group.BlockId.{BlockId}
 use Rattle.os9_kernel.specs.Load.{times_in, Gains}
-
--- ---- lists
-
-module _ {X : Type 0} (R : X → X → Type 0) where
-  AllPairs-head : (x : X) (xs : List X) → AllPairs R (x ∷ xs) → All (R x) xs
-  AllPairs-head x xs pairs = λ k d within. pairs 0 (suc k) d (omega arith) (omega arith)
-
-  AllPairs-tail : (x : X) (xs : List X) → AllPairs R (x ∷ xs) → AllPairs R xs
-  AllPairs-tail x xs pairs = λ i j d below within. pairs (suc i) (suc j) d (omega arith) (omega arith)
-
-  AllPairs-append : (xs ys : List X) → AllPairs R xs → AllPairs R ys → All (λ x. All (R x) ys) xs → AllPairs R (xs ++ ys)
-  AllPairs-append [] ys one two cross = two
-  AllPairs-append (x ∷ xs) ys one two cross =
-      AllPairs-cons R x (xs ++ ys) (All-append (R x) xs ys (AllPairs-head x xs one) (All-head (λ x. All (R x) ys) x xs cross))
-      (AllPairs-append xs ys (AllPairs-tail x xs one) two (All-tail (λ x. All (R x) ys) x xs cross))
-
-map_same : {X Y : Type 0} (f g : X → Y) (xs : List X) → All (λ x. f x ≡ g x) xs → map f xs ≡ map g xs
-map_same f g [] same = refl
-map_same f g (x ∷ xs) same =
-    ap (λ y. y ∷ map f xs) (All-head (λ x. f x ≡ g x) x xs same) ∙ ap (λ ys. g x ∷ ys) (map_same f g xs (All-tail (λ x. f x ≡ g x) x xs same))
+use Rattle.os9_kernel.proofs.ListLemmas.{AllPairs-append, map_same}
 
 -- ---- how often a block is among others
 

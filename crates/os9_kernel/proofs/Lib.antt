@@ -4,6 +4,8 @@ mod PutLemmas
 mod SliceLemmas
 mod StoreLemmas
 mod TieLemmas
-pub mod GainLemmas
-pub mod LoadLemmas
-pub mod MapLemmas
+mod GainLemmas
+mod LoadLemmas
+mod MapLemmas
+mod ListLemmas
+mod StandLemmas

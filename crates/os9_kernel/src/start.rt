@@ -7,6 +7,7 @@ ghost use Rattle.device_table.specs.Screens.{Screen};
 ghost use Rattle.machine_model.specs.State.{State};
 ghost use Rattle.machine_model.specs.Start.{Starts, Refuses, pages_of, blocks_of as blocks_of_lem, first_program as first_program_lem};
 ghost use Rattle.machine_model.specs.declared.ends.BootFault.{BootFault};
+ghost use Rattle.proc_model.specs.Slots.{IsMap};
 ghost use Rattle.os9_kernel.specs.Start.{IsFirstMap};
 
 use crate::kernel::Kernel;
@@ -112,6 +113,7 @@ fn first_map(pool: &mut Pool, low: u8, group: &Group) -> Result<Map, MapFault>
     ensures fits { OnOk result (low + group.now.len ≤ 8) }
     ensures wants { OnErr result (8 < low + group.now.len) }
     ensures mapped { IfOk result (λ map. IsFirstMap low group.now pool.old map pool.new) }
+    ensures shape { IfOk result IsMap }
 {
     let mut map = Map::empty();
     map.map_low(pool, low)?;
