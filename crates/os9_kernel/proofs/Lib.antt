@@ -9,3 +9,6 @@ mod LoadLemmas
 mod MapLemmas
 mod ListLemmas
 mod StandLemmas
+mod RenameLemmas
+mod NamingLemmas
+mod StartLemmas

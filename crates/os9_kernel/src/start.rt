@@ -1,6 +1,6 @@
 //! The start of a kernel from a boot file.
 
-ghost use Rattle.std.specs.Prelude.{◌≡◌, ◌≢◌, ◌+◌, ◌-◌, ◌*◌, ◌<◌, ◌≤◌, List, IfOk, OnOk, OnErr, IfErr, All, AllPairs, max, option_map};
+ghost use Rattle.std.specs.Prelude.{◌≡◌, ◌≢◌, ◌+◌, ◌-◌, ◌*◌, ◌<◌, ◌≤◌, List, IfOk, OnOk, OnErr, IfErr, All, AllPairs, max, option_map, vec_len};
 ghost use Rattle.block_map.specs.Takes.{group_blocks};
 ghost use Rattle.block_pool.specs.Blocks.{IsPool, IsLive, count_of, free_count};
 ghost use Rattle.device_table.specs.Screens.{Screen};
@@ -21,7 +21,7 @@ use os9_base::name::parse_name;
 use os9_base::registers::Regs;
 use proc_model::group::Group;
 use proc_model::module::ModuleInfo;
-use std::alloc::Global;
+use std::alloc::{AllocError, Global};
 
 /// The most bytes of a group of modules: seven blocks.
 const LONGEST_FILE: usize = 57344;
@@ -58,7 +58,7 @@ impl Kernel {
         }
         let mut pool = Pool::new(alloc, config.blocks).map_err(|_| BootFault::OutOfMemory)?;
         let mut dir = Dir::new(alloc).map_err(|_| BootFault::OutOfMemory)?;
-        let buffer = vec![in alloc; 0; MEMORY_LEN].map_err(|_| BootFault::OutOfMemory)?;
+        let buffer = empty_memory(alloc).map_err(|_| BootFault::OutOfMemory)?;
         let group = load_group(&mut pool, boot);
         enter_modules(&mut dir, boot, group)?;
         let first = first_program(&dir).ok_or(BootFault::NoFirst)?;
@@ -90,6 +90,13 @@ impl Kernel {
             buffer,
         })
     }
+}
+
+/// Room for all the bytes that a process can name.
+fn empty_memory(alloc: Global) -> Result<Vec<u8>, AllocError>
+    ensures { IfOk result (λ memory. vec_len memory ≡ 65536) }
+{
+    vec![in alloc; 0; MEMORY_LEN]
 }
 
 /// The first program among the modules that are entered: `SysGo`, in 6809 code.

@@ -1,4 +1,7 @@
 use Rattle.os9_kernel.proofs.StandLemmas.{StandFor-gains}
+use Rattle.os9_kernel.proofs.LoadLemmas.{Enters-of_file, found_entry}
+use Rattle.os9_kernel.proofs.RenameLemmas.{Enters-renamed, found-renamed}
+use Rattle.os9_kernel.proofs.StartLemmas.{IsPlaced, refuses_module}
 use Rattle.os9_kernel.proofs.kernel.Kernel.new.Goals as goal
 
 pub load_group-group-requires-clause-room : goal.load_group-group-requires-clause-room

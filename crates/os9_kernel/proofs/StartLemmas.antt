@@ -1,0 +1,179 @@
+-- What stands at the start of a kernel is the machine's start state, or the boot file is refused.
+use Rattle.std.proofs.Common.{◌≡◌, ◌≢◌, ◌+◌, ◌-◌, ◌*◌, ◌/◌, ◌<◌, ◌≤◌, ◌==◌, ℕ, zero, suc, codes, max, min, true, false, Option, Some, None, option_map, Result, Ok, Err, List, [], ◌∷◌, ◌++◌, length, get_or, set, take, drop, replicate, map, count_by, cond, if◌then◌else◌, All, inl, inr, refl, sym, ap, ◌∙◌, subst, arith}
+use Rattle.std.specs.List.{range_with_len}
+use Rattle.std.proofs.lemmas.List.{map-append, length-map, length-replicate, take-replicate, drop-replicate, set_split, get_or-replicate, get_or_past}
+use Rattle.std.proofs.lemmas.List.Elements.{All-weaker}
+use Rattle.std.proofs.lemmas.List.FromFn.{length-map-range_with_len}
+use Rattle.std.proofs.lemmas.List.Sums.{sum_by-cons, count_by-le-length}
+use Rattle.std.proofs.lemmas.Bool.{cases_lt}
+use Rattle.os9_base.specs.declared.registers.Regs.{Regs}
+use Rattle.block_pool.specs.Blocks.{Blocks, IsPool, IsLive, count_of, block_bytes, free_count}
+use Rattle.block_map.specs.Takes.{Takes, shared_all, group_blocks}
+use Rattle.block_map.proofs.Counts.{Takes-live, live-within}
+use Rattle.device_table.specs.Screens.{Screen}
+use Rattle.module_dir.specs.declared.dir.ModId.{ModId}
+use Rattle.proc_model.specs.Group.{blocks_of}
+use Rattle.proc_model.specs.Loading.{Enters, no_entries}
+use Rattle.proc_model.specs.ModuleList.{ModuleEntry, entry_at, entered_groups, linked, with_entry}
+use Rattle.proc_model.proofs.ModuleListLaws.{entry_at-with_entry_same}
+use Rattle.proc_model.specs.Slots.{Slots, no_slots, naming, with_low, with_group}
+use Rattle.proc_model.specs.declared.group.BlockId.{BlockId}
+use Rattle.proc_model.specs.declared.group.Group.{Group}
+use Rattle.machine_model.specs.State.{State, Process}
+use Rattle.machine_model.specs.declared.activity.Activity.TheVariants.{Running}
+use Rattle.machine_model.specs.declared.ends.BootFault.TheVariants.{BadModule, NoFirst, TooLarge}
+use Rattle.machine_model.specs.Start.{data_size, data_blocks, file_blocks, boot_group, EntersBoot, first_program, room_for, HasFirst, Refuses, Starts, zero_object, block_of, objects_of, first_objects, first_map, first_regs, only_process, start_of}
+use Rattle.os9_kernel.specs.declared.kernel.Kernel.{Kernel}
+use Rattle.os9_kernel.specs.Load.{Gains, IsLoaded, times_in}
+use Rattle.os9_kernel.specs.Start.{IsFirstMap}
+use Rattle.os9_kernel.specs.Namings.{AreCounted, AreBoot}
+use Rattle.os9_kernel.specs.Tie.{StandFor, Stands, renamed_map, renamed_entry, renamed_modules, process_of, state_of}
+use Rattle.os9_kernel.proofs.EndLemmas.{entry_at-renamed, entry_within}
+use Rattle.os9_kernel.proofs.GainLemmas.{Gains-old, Gains-new, Gains-live, Takes-Gains}
+use Rattle.os9_kernel.proofs.ListLemmas.{map_same, map-map}
+use Rattle.os9_kernel.proofs.LoadLemmas.{IsOfFile, AreOfFile, AreOfFile-none, Enters-of_file, entry_at-with_entry}
+use Rattle.os9_kernel.proofs.NamingLemmas.{HaveGroup, numbers_of, first_places, named_in-first_places, entered_groups-one, count_of-shared_all-times, times-start}
+use Rattle.os9_kernel.proofs.RenameLemmas.{found-renamed, with_entry-renamed, Enters-renamed}
+use Rattle.os9_kernel.proofs.StandLemmas.{numbered, numbered-other, map-numbered, StandFor-none, StandFor-gains, StandFor-shared_all}
+
+-- ---- a pool that nothing names
+
+count_of-unnamed : (pool : Blocks) (blocks block : ℕ) → pool.counts ≡ replicate blocks 0 → count_of pool block ≡ 0
+count_of-unnamed pool blocks block unnamed =
+    ap (λ (counts : List ℕ). get_or counts block 0) unnamed
+    ∙ elim (cases_lt block blocks) [
+      | inl below ↦ get_or-replicate blocks block 0 0 below
+      | inr past ↦ get_or_past (replicate blocks 0) block 0 (omega (arith, length-replicate {A = ℕ} blocks 0))
+    ]
+
+free_zeros : (n : ℕ) → count_by (λ (count : ℕ). count == 0) (replicate n 0) ≡ n
+free_zeros zero = refl
+free_zeros (suc n) = sum_by-cons (λ (count : ℕ). cond (count == 0) 1 0) 0 (replicate n 0) ∙ omega (arith, free_zeros n)
+
+-- all of its blocks are free
+pub free_count-unnamed : (pool : Blocks) (blocks : ℕ) → pool.counts ≡ replicate blocks 0 → free_count pool ≡ blocks
+free_count-unnamed pool blocks unnamed = ap (λ (counts : List ℕ). count_by (λ (count : ℕ). count == 0) counts) unnamed ∙ free_zeros blocks
+
+-- ---- a boot file in memory
+
+-- a boot file stands in the blocks of a group, in a pool that nothing named before
+pub record IsPlaced (file : List ℕ) (blocks : ℕ) (before : Blocks) (group : Group) (loaded : Blocks) : Type 0 where
+  pub short : length file ≤ 57344
+  pub enough : 8 ≤ blocks
+  pub unnamed : before.counts ≡ replicate blocks 0
+  pub file_loaded : IsLoaded file before (group_blocks group) loaded
+  pub len : group.len ≡ file_blocks file
+  pub shape : IsPool loaded
+
+module _ {file : List ℕ} {blocks : ℕ} {before : Blocks} {group : Group} {loaded : Blocks} (placed : IsPlaced file blocks before group loaded) where
+  abbrev ids : List BlockId
+  ids = group_blocks group
+
+  length-ids : length ids ≡ file_blocks file
+  length-ids =
+      sym (length-map ids (λ (id : BlockId). block_bytes loaded id.0)) ∙ ap length placed.file_loaded.holds ∙ length-map-range_with_len (block_of file) 0 (file_blocks file)
+
+  -- the numbers that its blocks have first
+  abbrev first_number : ℕ → ℕ
+  first_number = numbered ids 0 (λ block. 0)
+
+  -- whatever numbers name the group's blocks as the boot file's objects, ..
+  abbrev Numbers : (ℕ → ℕ) → Type 0
+  Numbers number = map number (blocks_of group) ≡ boot_group file
+
+  first_numbers : Numbers first_number
+  first_numbers =
+      map-map first_number (λ (id : BlockId). id.0) ids ∙ map-numbered ids 0 (λ block. 0) placed.file_loaded.different ∙ ap (range_with_len 0) length-ids
+
+  -- .. with these its modules are entered as the machine enters them
+  enters_boot : (number : ℕ → ℕ) → Numbers number → (dir : List (Option ModuleEntry)) → Enters file (blocks_of group) true 0 no_entries (Ok dir) → EntersBoot file (Ok (renamed_modules number dir))
+  enters_boot number named dir modules = subst (λ (g : List ℕ). Enters file g true 0 no_entries (Ok (renamed_modules number dir))) named (Enters-renamed number modules)
+
+  -- a module that is refused
+  pub refuses_module : (at error : ℕ) → Enters file (blocks_of group) true 0 no_entries (Err (at, error)) → Refuses file blocks (BadModule at error)
+  refuses_module at error modules =
+      (placed.short, subst (λ (g : List ℕ). Enters file g true 0 no_entries (Err (at, error))) first_numbers (Enters-renamed first_number modules))
+
+  -- no first program
+  pub refuses_without : (dir : List (Option ModuleEntry)) → Enters file (blocks_of group) true 0 no_entries (Ok dir) → first_program dir ≡ None → Refuses file blocks NoFirst
+  refuses_without dir modules none =
+      (placed.short, (renamed_modules first_number dir, enters_boot first_number first_numbers dir modules, found-renamed first_number dir (codes "SysGo") 0x11 ∙ none))
+
+  -- the group's blocks are live
+  pub group_live : All (λ id. IsLive loaded id.0) ids
+  group_live = Gains-new placed.file_loaded
+
+  -- and hardly named
+  pub group_countable : All (λ id. count_of loaded id.0 < 65000) ids
+  group_countable = λ k d within.
+      let block = (get_or ids k d).0 in
+      omega (arith, placed.file_loaded.counts block, count_of-unnamed before blocks block placed.unnamed, count_by-le-length (λ (id : BlockId). id.0 == block) ids, length-ids, placed.short)
+
+  -- blocks enough are left
+  pub enough_left : free_count loaded + file_blocks file ≡ free_count before → 8 ≤ free_count loaded + group.len
+  enough_left room = omega (arith, placed.enough, placed.len, free_count-unnamed before blocks placed.unnamed)
+
+-- ---- its first program
+
+-- the modules are entered, and one of them is the first program
+pub record IsFound (file : List ℕ) (group : Group) (dir : List (Option ModuleEntry)) (number : ℕ) (entry : ModuleEntry) : Type 0 where
+  pub modules : Enters file (blocks_of group) true 0 no_entries (Ok dir)
+  pub found_it : first_program dir ≡ Some number
+  pub is : entry_at dir number ≡ Some entry
+
+module _ {file : List ℕ} {group : Group} {dir : List (Option ModuleEntry)} {number : ℕ} {entry : ModuleEntry} (first : IsFound file group dir number entry) where
+  pub all_of_file : AreOfFile file (blocks_of group) dir
+  all_of_file = Enters-of_file first.modules (AreOfFile-none file (blocks_of group))
+
+  -- it lies in the file
+  pub first_of_file : IsOfFile file (blocks_of group) entry
+  first_of_file = all_of_file number entry first.is
+
+  -- its entry has one link more
+  abbrev pub started_dir : List (Option ModuleEntry)
+  started_dir = with_entry dir number (linked entry)
+
+  -- which leaves every entry's group, and that it is the boot file's
+  started_entry : (other : ℕ) (found : ModuleEntry) → entry_at started_dir other ≡ Some found → (found.group ≡ blocks_of group) × (found.is_boot ≡ true)
+  started_entry other found is =
+      elim (entry_at-with_entry dir number (linked entry) other found is) [
+        | inl same ↦ (ap (λ (e : ModuleEntry). e.group) (same ∙ ap linked first_of_file.is_new), ap (λ (e : ModuleEntry). e.is_boot) (same ∙ ap linked first_of_file.is_new))
+        | inr old ↦
+            let new = (all_of_file other found old).is_new in
+            (ap (λ (e : ModuleEntry). e.group) new, ap (λ (e : ModuleEntry). e.is_boot) new)
+      ]
+
+  pub all_boot : AreBoot started_dir
+  all_boot other found is = (started_entry other found is).1
+
+  pub first_stays : entry_at started_dir number ≡ Some (linked entry)
+  first_stays = entry_at-with_entry_same dir number (linked entry) (entry_within dir number entry first.is)
+
+  one_group : entered_groups started_dir ≡ blocks_of group ∷ []
+  one_group = entered_groups-one (blocks_of group) started_dir number (linked entry) (λ other found is. (started_entry other found is).0) first_stays
+
+  module _ {blocks : ℕ} {before loaded : Blocks} (placed : IsPlaced file blocks before group loaded) where
+    -- the machine finds it too
+    has_first : (rename : ℕ → ℕ) → Numbers placed rename → HasFirst file (renamed_modules rename dir) number (renamed_entry rename entry)
+    has_first rename named = record {
+      short = placed.short;
+      entered = enters_boot placed rename named dir first.modules;
+      found_it = found-renamed rename dir (codes "SysGo") 0x11 ∙ first.found_it;
+      is = entry_at-renamed rename dir number ∙ ap (option_map (renamed_entry rename)) first.is;
+    }
+
+    -- its data area and the file want too many slots
+    pub refuses_large : 8 < data_blocks entry + group.len → Refuses file blocks TooLarge
+    refuses_large wants =
+        inr (renamed_modules (first_number placed) dir, number, renamed_entry (first_number placed) entry, has_first (first_number placed) (first_numbers placed), omega (arith, wants, placed.len, placed.enough))
+
+    pub some_blocks : 1 ≤ group.len
+    some_blocks = omega (arith, first_of_file.enters, placed.len)
+
+    -- the program begins below FFFF
+    pub begins_within : 8192 * (8 - group.len) + entry.info.at + entry.info.entry < 65536
+    begins_within = omega (arith, first_of_file.enters, placed.len, placed.short)
+
+    -- and its data area has less than 8 blocks
+    pub area_within : data_blocks entry + group.len ≤ 8 → data_size entry < 65536
+    area_within fits = omega (arith, fits, some_blocks)
