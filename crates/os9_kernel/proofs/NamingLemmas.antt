@@ -69,7 +69,7 @@ named_in-none zero = refl
 named_in-none (suc n) = named_in-none n
 
 module _ (n : ℕ) (area group : List BlockId) (fits : length area + length group ≤ n) where
-  abbrev between : List (Option BlockId)
+  abbrev pub between : List (Option BlockId)
   between = replicate (n - (length area + length group)) None
 
   -- an area in the first of n places, and a group in the last
