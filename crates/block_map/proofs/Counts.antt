@@ -66,7 +66,7 @@ Takes-once pool after (x ∷ ids) took (suc k) zero id here there =
 Takes-once pool after (x ∷ ids) took (suc k) (suc other) id here there = ap suc (Takes-once (taken pool x.0) after ids took.1 k other id here there)
 
 -- the count of a block after one was shared
-count_of-shared : (pool : Blocks) (block other : ℕ) → (count_of pool other ≤ count_of (shared pool block) other) × (count_of (shared pool block) other ≤ count_of pool other + 1)
+pub count_of-shared : (pool : Blocks) (block other : ℕ) → (count_of pool other ≤ count_of (shared pool block) other) × (count_of (shared pool block) other ≤ count_of pool other + 1)
 count_of-shared pool block other =
     let count = count_of pool block + 1 in
     elim (cases_eq other block) [
@@ -105,7 +105,7 @@ zeros-set : (counts : List ℕ) (place count : ℕ) → place < length counts �
 zeros-set counts place count within = sum_by-set (λ c. cond (c == 0) 1 0) counts place count 0 within
 
 -- no count is 0 where each is positive
-no_zeros : (counts : List ℕ) → All (λ c. 0 < c) counts → count_by (λ c. c == 0) counts ≡ 0
+pub no_zeros : (counts : List ℕ) → All (λ c. 0 < c) counts → count_by (λ c. c == 0) counts ≡ 0
 no_zeros [] each = refl
 no_zeros (x ∷ counts) each =
     let here : cond {A = ℕ} (x == 0) 1 0 ≡ 0 = cond-false {A = ℕ} (x == 0) 1 0 (ne_eqb x 0 (λ e. absurd (omega (arith, All-head (λ c. 0 < c) x counts each)))) in

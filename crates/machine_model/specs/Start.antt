@@ -90,7 +90,7 @@ first_objects file program = objects_of file ++ replicate (data_blocks program) 
 abbrev pub first_map : List ℕ → ModuleEntry → Slots ℕ
 first_map file program = record {
   places =
-    map Some (range_with_len (file_blocks file) (data_blocks program)) ++ replicate (8 - (data_blocks program + file_blocks file)) None ++ map Some (boot_group file);
+      map Some (range_with_len (file_blocks file) (data_blocks program)) ++ replicate (8 - (data_blocks program + file_blocks file)) None ++ map Some (boot_group file);
   low = data_blocks program;
   groups = replicate (8 - file_blocks file) None ++ Some (file_blocks file) ∷ replicate (file_blocks file - 1) None;
 }

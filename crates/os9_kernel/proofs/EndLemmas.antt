@@ -26,13 +26,13 @@ use Rattle.os9_kernel.specs.Tie.{StandFor, Stands, renamed_entry, renamed_module
 -- ---- how often blocks are named
 
 -- how often a list names a block
-abbrev times : ℕ → List ℕ → ℕ
+abbrev pub times : ℕ → List ℕ → ℕ
 times block names = count_by (λ named. named == block) names
 
-times-cons : (block first : ℕ) (names : List ℕ) → times block (first ∷ names) ≡ cond (first == block) 1 0 + times block names
+pub times-cons : (block first : ℕ) (names : List ℕ) → times block (first ∷ names) ≡ cond (first == block) 1 0 + times block names
 times-cons block first names = sum_by-cons (λ named. cond (named == block) 1 0) first names
 
-times-append : (block : ℕ) (names more : List ℕ) → times block (names ++ more) ≡ times block names + times block more
+pub times-append : (block : ℕ) (names more : List ℕ) → times block (names ++ more) ≡ times block names + times block more
 times-append block names more = sum_by-append (λ named. cond (named == block) 1 0) names more
 
 -- a place names its block
@@ -47,7 +47,7 @@ named_once (Some first ∷ places) (suc slot) id is =
     omega (arith, times-cons id.0 first.0 (map (λ (b : BlockId). b.0) (named_in places)), named_once places slot id is)
 
 -- the namings by one map and by the module directory
-times-namings : (block : ℕ) (slots : Slots BlockId) (entries : List (Option ModuleEntry)) → times block (namings (slots ∷ []) entries) ≡ times block (mapped_blocks slots) + times block (namings [] entries)
+pub times-namings : (block : ℕ) (slots : Slots BlockId) (entries : List (Option ModuleEntry)) → times block (namings (slots ∷ []) entries) ≡ times block (mapped_blocks slots) + times block (namings [] entries)
 times-namings block slots entries =
     let groups = namings [] entries in
     times-append block (mapped_blocks slots ++ []) groups ∙ ap (λ n. n + times block groups) (times-append block (mapped_blocks slots) [] ∙ omega arith)
@@ -120,12 +120,12 @@ entered_groups-with_unlinked (Some first ∷ entries) (suc number) entry is =
     ap (λ groups. if list_any (pointwise nat_eq first.group) groups then groups else first.group ∷ groups) (entered_groups-with_unlinked entries number entry is)
 
 -- an entry stands at one of the numbers
-entry_within : (entries : List (Option ModuleEntry)) (number : ℕ) (entry : ModuleEntry) → entry_at entries number ≡ Some entry → number < length entries
+pub entry_within : (entries : List (Option ModuleEntry)) (number : ℕ) (entry : ModuleEntry) → entry_at entries number ≡ Some entry → number < length entries
 entry_within [] number entry is = absurd (none-some entry is)
 entry_within (first ∷ entries) zero entry is = omega arith
 entry_within (first ∷ entries) (suc number) entry is = omega (arith, entry_within entries number entry is)
 
-entry_at-renamed : (rename : ℕ → ℕ) (entries : List (Option ModuleEntry)) (number : ℕ) → entry_at (renamed_modules rename entries) number ≡ option_map (renamed_entry rename) (entry_at entries number)
+pub entry_at-renamed : (rename : ℕ → ℕ) (entries : List (Option ModuleEntry)) (number : ℕ) → entry_at (renamed_modules rename entries) number ≡ option_map (renamed_entry rename) (entry_at entries number)
 entry_at-renamed rename [] number = refl
 entry_at-renamed rename (first ∷ entries) zero = refl
 entry_at-renamed rename (first ∷ entries) (suc number) = entry_at-renamed rename entries number

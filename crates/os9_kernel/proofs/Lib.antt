@@ -4,3 +4,11 @@ mod PutLemmas
 mod SliceLemmas
 mod StoreLemmas
 mod TieLemmas
+mod GainLemmas
+mod LoadLemmas
+mod MapLemmas
+mod ListLemmas
+mod StandLemmas
+mod RenameLemmas
+mod NamingLemmas
+mod StartLemmas

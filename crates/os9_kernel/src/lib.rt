@@ -7,4 +7,5 @@ pub use start::Config;
 
 mod kernel;
 mod line;
+mod load;
 mod start;

@@ -1,14 +1,36 @@
 //! The start of a kernel from a boot file.
 
-ghost use Rattle.std.specs.Prelude.{◌≡◌, ◌≢◌, ◌≤◌, List, IfOk, OnOk, IfErr};
+ghost use Rattle.std.specs.Prelude.{◌≡◌, ◌≢◌, ◌+◌, ◌-◌, ◌*◌, ◌<◌, ◌≤◌, List, IfOk, OnOk, OnErr, IfErr, All, AllPairs, max, option_map, vec_len};
+ghost use Rattle.block_map.specs.Takes.{group_blocks};
+ghost use Rattle.block_pool.specs.Blocks.{IsPool, IsLive, count_of, free_count};
 ghost use Rattle.device_table.specs.Screens.{Screen};
 ghost use Rattle.machine_model.specs.State.{State};
-ghost use Rattle.machine_model.specs.Start.{Starts, Refuses};
+ghost use Rattle.machine_model.specs.Start.{Starts, Refuses, pages_of, blocks_of as blocks_of_lem, first_program as first_program_lem};
 ghost use Rattle.machine_model.specs.declared.ends.BootFault.{BootFault};
+ghost use Rattle.proc_model.specs.Slots.{IsMap};
+ghost use Rattle.os9_kernel.specs.Start.{IsFirstMap};
 
 use crate::kernel::Kernel;
+use crate::load::{enter_modules, load_group};
+use block_map::map::{Map, MapFault};
+use block_pool::pool::Pool;
+use machine_model::activity::Activity;
 use machine_model::ends::BootFault;
-use std::alloc::Global;
+use module_dir::{Dir, ModId};
+use os9_base::name::parse_name;
+use os9_base::registers::Regs;
+use proc_model::group::Group;
+use proc_model::module::ModuleInfo;
+use std::alloc::{AllocError, Global};
+
+/// The most bytes of a group of modules: seven blocks.
+const LONGEST_FILE: usize = 57344;
+
+/// The type and the language of a program in 6809 code.
+const PROGRAM: u8 = 0x11;
+
+/// How many bytes a process can name.
+const MEMORY_LEN: usize = 65536;
 
 /// What a kernel is made with.
 #[derive(Clone, Copy, Debug, PartialEq, Eq)]
@@ -31,6 +53,101 @@ impl Kernel {
         ensures refused { IfErr result (λ fault. fault ≢ BootFault.OutOfMemory → Refuses boot.now config.blocks fault) }
         ensures count { IfOk result (λ kernel. ticks kernel ≡ 0) }
     {
-        Err(BootFault::OutOfMemory)
+        if boot.len() > LONGEST_FILE {
+            return Err(BootFault::TooLarge);
+        }
+        let mut pool = Pool::new(alloc, config.blocks).map_err(|_| BootFault::OutOfMemory)?;
+        let mut dir = Dir::new(alloc).map_err(|_| BootFault::OutOfMemory)?;
+        let buffer = empty_memory(alloc).map_err(|_| BootFault::OutOfMemory)?;
+        let group = load_group(&mut pool, boot);
+        enter_modules(&mut dir, boot, group)?;
+        let first = first_program(&dir).ok_or(BootFault::NoFirst)?;
+        let info = dir.info(first);
+        let size = data_size(info.storage);
+        let map = first_map(&mut pool, blocks_of(size), &group).map_err(|_| BootFault::TooLarge)?;
+        dir.link(first);
+        let size = size as u16;
+        let regs = Regs {
+            a: 0,
+            b: 0,
+            dp: 0,
+            cc: 0,
+            x: size,
+            y: size,
+            u: 0,
+            s: size,
+            pc: start_address(&group, &info),
+        };
+        Ok(Kernel {
+            pool,
+            dir,
+            regs,
+            map,
+            primary: Some(first),
+            activity: Activity::Running,
+            tick: 0,
+            chosen: false,
+            buffer,
+        })
     }
+}
+
+/// Room for all the bytes that a process can name.
+fn empty_memory(alloc: Global) -> Result<Vec<u8>, AllocError>
+    ensures { IfOk result (λ memory. vec_len memory ≡ 65536) }
+{
+    vec![in alloc; 0; MEMORY_LEN]
+}
+
+/// The first program among the modules that are entered: `SysGo`, in 6809 code.
+fn first_program(dir: &Dir) -> Option<ModId>
+    ensures { option_map (λ id. id.0) result ≡ first_program_lem dir.now }
+{
+    let name = parse_name(b"SysGo").ok()?;
+    dir.find(&name, PROGRAM)
+}
+
+/// The map of the first process: `low` new blocks from slot 0 up, and the group in the highest
+/// slots. It is refused where these are more than the eight slots.
+fn first_map(pool: &mut Pool, low: u8, group: &Group) -> Result<Map, MapFault>
+    requires low { low ≤ 8 }
+    requires shape { IsPool pool.old }
+    requires some { 1 ≤ group.now.len }
+    requires different { AllPairs (λ a b. a ≢ b) (group_blocks group.now) }
+    requires live { All (λ id. IsLive pool.old id.0) (group_blocks group.now) }
+    requires countable { All (λ id. count_of pool.old id.0 < 65000) (group_blocks group.now) }
+    requires enough { 8 ≤ free_count pool.old + group.now.len }
+    ensures fits { OnOk result (low + group.now.len ≤ 8) }
+    ensures wants { OnErr result (8 < low + group.now.len) }
+    ensures mapped { IfOk result (λ map. IsFirstMap low group.now pool.old map pool.new) }
+    ensures shape { IfOk result IsMap }
+{
+    let mut map = Map::empty();
+    map.map_low(pool, low)?;
+    map.map_group(pool, group)?;
+    Ok(map)
+}
+
+/// Where a module begins that lies in the highest slots with its group.
+fn start_address(group: &Group, info: &ModuleInfo) -> u16
+    requires { 8192 * (8 - group.now.len) + info.now.at + info.now.entry < 65536 }
+    ensures { result ≡ 8192 * (8 - group.now.len) + info.now.at + info.now.entry }
+{
+    let start = 8192 * (8 - u32::from(group.len)) + info.at + u32::from(info.entry);
+    start as u16
+}
+
+/// The size of a data area in bytes: the storage in whole pages, and at least one page.
+fn data_size(storage: u16) -> u32
+    ensures { result ≡ 256 * max 1 (pages_of storage) }
+{
+    256 * u32::from(storage).div_ceil(256).max(1)
+}
+
+/// How many blocks so many bytes are.
+fn blocks_of(bytes: u32) -> u8
+    requires { bytes ≤ 65536 }
+    ensures { result ≡ blocks_of_lem bytes }
+{
+    bytes.div_ceil(8192) as u8
 }

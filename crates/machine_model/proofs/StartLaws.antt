@@ -1,0 +1,82 @@
+-- A boot file comes to one end.
+use Rattle.std.proofs.Common.{◌≡◌, ◌<◌, ◌≤◌, ◌+◌, ◌⊎◌, ℕ, Option, Some, None, Result, Ok, Err, List, length, refl, sym, ap, ◌∙◌, subst, inl, inr, arith}
+use Rattle.proc_model.specs.ModuleList.{ModuleEntry, entry_at}
+use Rattle.proc_model.proofs.LoadingLemmas.{Enters-one}
+use Rattle.device_table.specs.Screens.{Screen}
+use Rattle.machine_model.specs.declared.ends.BootFault.{BootFault}
+use Rattle.machine_model.specs.declared.ends.BootFault.TheVariants.{OutOfMemory, BadModule, NoFirst, TooLarge}
+use Rattle.machine_model.specs.State.{State}
+use Rattle.machine_model.specs.Start.{EntersBoot, HasFirst, Starts, Refuses, start_of, first_program, data_blocks, file_blocks, room_for, longest_file}
+
+-- a file enters one list of entries
+entries-one : (file : List ℕ) (entries others : List (Option ModuleEntry)) → EntersBoot file (Ok entries) → EntersBoot file (Ok others) → entries ≡ others
+entries-one file entries others one other = let same = Enters-one one other in cc
+
+-- no file both enters its modules and has one refusal
+never-refused : (file : List ℕ) (entries : List (Option ModuleEntry)) (at error : ℕ) → EntersBoot file (Ok entries) → EntersBoot file (Err (at, error)) → ⊥
+never-refused file entries at error one other = let same = Enters-one one other in cc
+
+-- the first program of a file is one
+record SameFirst (entries others : List (Option ModuleEntry)) (number other : ℕ) (program second : ModuleEntry) : Type 0 where
+  pub one_list : entries ≡ others
+  pub one_number : number ≡ other
+  pub one_program : program ≡ second
+
+first-one : (file : List ℕ) (entries others : List (Option ModuleEntry)) (number other : ℕ) (program second : ModuleEntry) → HasFirst file entries number program → HasFirst file others other second → SameFirst entries others number other program second
+first-one file entries others number other program second one two =
+    let lists : entries ≡ others = entries-one file entries others one.entered two.entered in
+    let programs : first_program entries ≡ first_program others = ap first_program lists in
+    let numbers : number ≡ other = cc (one.found_it, two.found_it, programs) in
+    let at : entry_at entries number ≡ entry_at others other = rw (lists, numbers) refl in
+    record { one_list = lists; one_number = numbers; one_program = cc (one.is, two.is, at) }
+
+-- a file with a first program is not one without
+never-without : (file : List ℕ) (entries others : List (Option ModuleEntry)) (number : ℕ) (program : ModuleEntry) → HasFirst file entries number program → EntersBoot file (Ok others) → first_program others ≡ None → ⊥
+never-without file entries others number program has ending without =
+    let lists : entries ≡ others = entries-one file entries others has.entered ending in
+    let programs : first_program entries ≡ first_program others = ap first_program lists in
+    cc (has.found_it, without, programs)
+
+pub Starts-one : (file : List ℕ) (blocks : ℕ) (terms : List Screen) (s t : State) → Starts file blocks terms s → Starts file blocks terms t → s ≡ t
+Starts-one file blocks terms s t one other =
+    let same = first-one file one.entries other.entries one.number other.number one.program other.program one.has other.has in
+    one.is ∙ rw (same.one_list, same.one_number, same.one_program) (sym other.is)
+
+-- a file that fits does not need too much
+fits-one : (file : List ℕ) (blocks : ℕ) (entries others : List (Option ModuleEntry)) (number other : ℕ) (program second : ModuleEntry) → HasFirst file entries number program → HasFirst file others other second → data_blocks program + file_blocks file ≤ room_for blocks → room_for blocks < data_blocks second + file_blocks file → ⊥
+fits-one file blocks entries others number other program second one two fits wants =
+    let same = first-one file entries others number other program second one two in
+    let areas : data_blocks program ≡ data_blocks second = ap data_blocks same.one_program in
+    absurd (omega arith)
+
+pub never-both : (file : List ℕ) (blocks : ℕ) (terms : List Screen) (s : State) (fault : BootFault) → Starts file blocks terms s → Refuses file blocks fault → ⊥
+never-both file blocks terms s TooLarge starts (inl long) = let short : length file ≤ longest_file = starts.has.short in absurd (omega arith)
+never-both file blocks terms s TooLarge starts (inr (entries, number, program, has, wants)) = fits-one file blocks starts.entries entries starts.number number starts.program program starts.has has starts.fits wants
+never-both file blocks terms s (BadModule at error) starts (short, refusal) = never-refused file starts.entries at error starts.has.entered refusal
+never-both file blocks terms s NoFirst starts (short, (entries, ending, without)) = never-without file starts.entries entries starts.number starts.program starts.has ending without
+never-both file blocks terms s OutOfMemory starts refusal = refusal
+
+-- one place and one error are one fault
+same-fault : {at error place number : ℕ} → (let refusal : Result (List (Option ModuleEntry)) (ℕ × ℕ) = Err (at, error) in refusal) ≡ Err (place, number) → BadModule at error ≡ BadModule place number
+same-fault {at} {error} {place} {number} same =
+    let pairs : (let pair : ℕ × ℕ = (at, error) in pair) ≡ (place, number) = cc in
+    let places : at ≡ place = ap (λ (pair : ℕ × ℕ). pair.0) pairs in
+    let errors : error ≡ number = ap (λ (pair : ℕ × ℕ). pair.1) pairs in
+    cc
+
+pub Refuses-one : (file : List ℕ) (blocks : ℕ) (fault other : BootFault) → Refuses file blocks fault → Refuses file blocks other → fault ≡ other
+Refuses-one file blocks OutOfMemory other one two = absurd one
+Refuses-one file blocks fault OutOfMemory one two = absurd two
+Refuses-one file blocks TooLarge TooLarge one two = refl
+Refuses-one file blocks NoFirst NoFirst one two = refl
+Refuses-one file blocks (BadModule at error) (BadModule place number) (short, one) (again, two) = same-fault (Enters-one one two)
+Refuses-one file blocks TooLarge NoFirst (inl long) (short, two) = absurd (omega arith)
+Refuses-one file blocks TooLarge NoFirst (inr (entries, number, program, has, wants)) (short, (others, ending, without)) = absurd (never-without file entries others number program has ending without)
+Refuses-one file blocks NoFirst TooLarge (short, two) (inl long) = absurd (omega arith)
+Refuses-one file blocks NoFirst TooLarge (short, (others, ending, without)) (inr (entries, number, program, has, wants)) = absurd (never-without file entries others number program has ending without)
+Refuses-one file blocks TooLarge (BadModule at error) (inl long) (short, two) = absurd (omega arith)
+Refuses-one file blocks TooLarge (BadModule at error) (inr (entries, number, program, has, wants)) (short, refusal) = absurd (never-refused file entries at error has.entered refusal)
+Refuses-one file blocks (BadModule at error) TooLarge (short, two) (inl long) = absurd (omega arith)
+Refuses-one file blocks (BadModule at error) TooLarge (short, refusal) (inr (entries, number, program, has, wants)) = absurd (never-refused file entries at error has.entered refusal)
+Refuses-one file blocks NoFirst (BadModule at error) (short, (entries, ending, without)) (again, refusal) = absurd (never-refused file entries at error ending refusal)
+Refuses-one file blocks (BadModule at error) NoFirst (short, refusal) (again, (entries, ending, without)) = absurd (never-refused file entries at error ending refusal)

@@ -1,0 +1,91 @@
+-- The map of the first process, before a group stands in it.
+use Rattle.std.proofs.Common.{◌≡◌, ◌+◌, ◌-◌, ◌<◌, ◌≤◌, ℕ, Option, Some, None, Result, Err, ◌↔◌, ◌⊎◌, inl, inr, List, length, get_or, replicate, All, refl, sym, ap, ◌∙◌, subst, arith}
+use Rattle.std.proofs.lemmas.List.{get_or-replicate, get_or_past, length-replicate, length-map, get_or-map}
+use Rattle.std.proofs.lemmas.Option.{none-some, same_Some}
+use Rattle.std.proofs.lemmas.Bool.{cases_lt}
+use Rattle.block_pool.specs.Blocks.{Blocks, IsFree, IsLive, free_count}
+use Rattle.block_map.specs.Takes.{Takes}
+use Rattle.block_map.specs.declared.map.MapFault.{MapFault}
+use Rattle.block_map.specs.declared.map.MapFault.TheVariants.{NoSlot, NoBlock}
+use Rattle.block_map.proofs.Places.{at, at-put}
+use Rattle.block_map.proofs.Counts.{Takes-free}
+use Rattle.proc_model.specs.declared.group.BlockId.{BlockId}
+use Rattle.proc_model.specs.Slots.{Slots, no_slots, place_of, Names, IsFreeRun, IsHighestFreeRun, naming, with_low}
+
+-- a call that answers T is refused with a fault, and that is this one
+abbrev pub Refuses : (T : Type 0) → MapFault → MapFault → Type 0
+Refuses T fault other = let refusal : Result T MapFault = Err fault in refusal ≡ Err other
+
+-- no place of an empty list names anything
+none_at : (n slot : ℕ) → at (replicate n None) slot ≡ None
+none_at n slot =
+    elim (cases_lt slot n) [
+      | inl below ↦ get_or-replicate {A = Option BlockId} n slot None None below
+      | inr past ↦ get_or_past {X = Option BlockId} (replicate n None) slot None (omega (arith, length-replicate {A = Option BlockId} n None))
+    ]
+
+-- the map that names nothing is free
+pub free_at_first : (len : ℕ) → len ≤ 8 → IsFreeRun {Block = BlockId} no_slots 0 len
+free_at_first len short = (omega arith, λ slot from below. none_at 8 slot)
+
+module _ (area : List BlockId) (fits : length area ≤ 8) where
+  size : length (naming area) ≡ length area
+  size = length-map area (λ (id : BlockId). Some id)
+
+  -- a slot of the area
+  pub area_slot : (slot : ℕ) (d : BlockId) → slot < length area → place_of (with_low no_slots area) slot ≡ Some (get_or area slot d)
+  area_slot slot d below =
+      elim (at-put (replicate 8 None) (naming area) 0 slot (omega (arith, size))) [
+        | inl here ↦ here.2 ∙ ap (at (naming area)) (omega arith) ∙ get_or-map (λ (id : BlockId). Some id) area slot d None below
+        | inr other ↦ absurd (elim (other.0) [ inl before ↦ omega arith | inr past ↦ omega (arith, size) ])
+      ]
+
+  -- a slot behind it
+  pub behind_area : (slot : ℕ) → length area ≤ slot → place_of (with_low no_slots area) slot ≡ None
+  behind_area slot past =
+      elim (at-put (replicate 8 None) (naming area) 0 slot (omega (arith, size))) [
+        | inl here ↦ absurd (omega (arith, size, here.1))
+        | inr other ↦ other.1 ∙ none_at 8 slot
+      ]
+
+  -- where as many slots as a group needs are left, the last of them are free
+  last_are_free : (len : ℕ) → length area + len ≤ 8 → IsFreeRun (with_low no_slots area) (8 - len) len
+  last_are_free len room = (omega arith, λ slot from below. behind_area slot (omega arith))
+
+  -- a group that finds no free run wants more slots than are left
+  pub group_wants : (len : ℕ) (fault : MapFault) → (Refuses ℕ fault NoSlot ↔ ((first : ℕ) → IsFreeRun (with_low no_slots area) first len → ⊥)) → (Refuses ℕ fault NoBlock → ⊥) → 8 < length area + len
+  group_wants len NoBlock no_slot other = absurd (other refl)
+  group_wants len NoSlot no_slot other =
+      elim (cases_lt 8 (length area + len)) [
+        | inl wants ↦ wants
+        | inr room ↦ absurd (no_slot.0 refl (8 - len) (last_are_free len room))
+      ]
+
+  -- a group in the highest free run fits, and lies in the last slots
+  pub group_fits : (len first : ℕ) → 1 ≤ len → IsHighestFreeRun (with_low no_slots area) len first → (length area + len ≤ 8) × (first ≡ 8 - len)
+  group_fits len first some highest =
+      let behind : length area ≤ first = elim (cases_lt first (length area)) [
+        | inl inside ↦
+            let none : BlockId = record { 0 = 0 } in
+            absurd (none-some (get_or area first none) (sym (highest.0.1 first (omega arith) (omega arith)) ∙ area_slot first none inside))
+        | inr behind ↦ behind
+      ] in
+      let room : length area + len ≤ 8 = omega (arith, highest.0.0) in
+      (room, omega (arith, highest.0.0, highest.1 (8 - len) (last_are_free len room)))
+
+  -- a block that was live is none of the area's
+  pub live-unnamed : (before after : Blocks) → Takes before area after → (id : BlockId) → IsLive before id.0 → Names (with_low no_slots area) id → ⊥
+  live-unnamed before after took id live (slot, named) =
+      elim (cases_lt slot (length area)) [
+        | inl inside ↦
+            let stands : at (naming area) slot ≡ Some id = get_or-map (λ (id : BlockId). Some id) area slot id None inside ∙ sym (area_slot slot id inside) ∙ named in
+            omega (arith, (Takes-free before after area slot id took stands).1)
+        | inr behind ↦ none-some id (sym (behind_area slot behind) ∙ named)
+      ]
+
+-- an area that is refused wants more slots than a group leaves
+pub area_wants : (low len free : ℕ) (fault : MapFault) → low ≤ 8 → 8 ≤ free + len
+    → (Refuses (Unit {0}) fault NoSlot ↔ (IsFreeRun {Block = BlockId} no_slots 0 low → ⊥))
+    → (Refuses (Unit {0}) fault NoBlock ↔ (IsFreeRun {Block = BlockId} no_slots 0 low × (free < low))) → 8 < low + len
+area_wants low len free NoSlot short enough no_slot no_block = absurd (no_slot.0 refl (free_at_first low short))
+area_wants low len free NoBlock short enough no_slot no_block = omega (arith, (no_block.0 refl).1)
