@@ -97,14 +97,104 @@ fn host_faults(rt: HostRuntime) -> Result<(), Fail> {
 }
 
 #[test]
-fn bad_words_and_bad_module(rt: HostRuntime) -> Result<(), Fail> {
+fn bad_words(rt: HostRuntime) -> Result<(), Fail> {
     let no_words = call(rt.alloc(), &[], &HELLO, b"100", &[])?;
     assert_eq!(rt; no_words.status, 1);
     assert!(rt; no_words.err.as_slice() == b"os9: words\n".as_slice());
+    Ok(())
+}
+
+/// `HELLO` with other bytes at these places.
+fn changed(changes: &[(usize, u8)]) -> [u8; 43] {
     let mut module = HELLO;
-    module[34] = 0x68;
-    let bad_module = call(rt.alloc(), &RUN, &module, b"100", &[])?;
-    assert_eq!(rt; bad_module.status, 8);
-    assert!(rt; bad_module.out.is_empty());
+    for (at, byte) in changes {
+        if *at < module.len() {
+            module[*at] = *byte;
+        }
+    }
+    module
+}
+
+#[test]
+fn boot_module_faults(rt: HostRuntime) -> Result<(), Fail> {
+    let rows: [(&[(usize, u8)], &[u8]); 4] = [
+        (&[(8, 0x02)], b"os9: boot module 236 at 0\n"),
+        (&[(0x22, 0x68)], b"os9: boot module 232 at 0\n"),
+        (&[(8, 0x02), (0x22, 0x68)], b"os9: boot module 236 at 0\n"),
+        (&[(0, 0x86)], b"os9: boot module 205 at 0\n"),
+    ];
+    for (changes, line) in rows {
+        let refused = call(rt.alloc(), &RUN, &changed(changes), b"100", &[])?;
+        assert_eq!(rt; refused.status, 8);
+        assert!(rt; refused.err.as_slice() == line);
+        assert!(rt; refused.out.is_empty());
+    }
+    let empty = call(rt.alloc(), &RUN, &[], b"100", &[])?;
+    assert_eq!(rt; empty.status, 8);
+    assert!(rt; empty.err.as_slice() == b"os9: boot no SysGo\n".as_slice());
+    Ok(())
+}
+
+#[test]
+fn group_limit(rt: HostRuntime) -> Result<(), Fail> {
+    let words = ["run", "h", "--slices", "s", "--blocks", "8"];
+    let mut file = Vec::from_slice(rt.alloc(), &HELLO)?;
+    file.resize(57344, 0)?;
+    let most = call(rt.alloc(), &words, &file, b"100", &[])?;
+    assert_eq!(rt; most.status, 0);
+    assert!(rt; most.out.as_slice() == LINE);
+    file.push(0)?;
+    let longer = call(rt.alloc(), &words, &file, b"100", &[])?;
+    assert_eq!(rt; longer.status, 8);
+    assert!(rt; longer.err.as_slice() == b"os9: boot too large\n".as_slice());
+    Ok(())
+}
+
+/// A volume of 16 sectors whose root is its only file.
+fn smallest(alloc: Global) -> Result<Vec<u8>, AllocError> {
+    let mut image = vec![in alloc; 0u8; 4096]?;
+    for (at, byte) in [
+        (2, 16),
+        (5, 2),
+        (7, 1),
+        (10, 2),
+        (256, 0xF0),
+        (512, 0xBF),
+        (524, 64),
+        (530, 3),
+        (532, 1),
+        (768, 0x2E),
+        (769, 0xAE),
+        (799, 2),
+        (800, 0xAE),
+        (831, 2),
+    ] {
+        if at < image.len() {
+            image[at] = byte;
+        }
+    }
+    Ok(image)
+}
+
+#[test]
+fn check_of_an_image(rt: HostRuntime) -> Result<(), Fail> {
+    let words = ["check", "h"];
+    let mut image = smallest(rt.alloc())?;
+    let counts = call(rt.alloc(), &words, &image, b"", &[])?;
+    assert_eq!(rt; counts.status, 0);
+    assert!(rt; counts.out.as_slice() == b"files 0 dirs 1 free 12 lost 0\n".as_slice());
+    let unread = call(rt.alloc(), &words, &image, b"", &[1])?;
+    assert_eq!(rt; unread.status, 2);
+    assert!(rt; unread.err.as_slice() == b"os9: cannot read h\n".as_slice());
+    let unwritten = call(rt.alloc(), &words, &image, b"", &[2])?;
+    assert_eq!(rt; unwritten.status, 3);
+    assert!(rt; unwritten.err.as_slice() == b"os9: cannot write output\n".as_slice());
+    if 256 < image.len() {
+        image[256] = 0xE0;
+    }
+    let fault = call(rt.alloc(), &words, &image, b"", &[])?;
+    assert_eq!(rt; fault.status, 6);
+    assert!(rt; fault.err.as_slice() == b"os9: h: rule 3 at LSN 3\n".as_slice());
+    assert!(rt; fault.out.is_empty());
     Ok(())
 }
