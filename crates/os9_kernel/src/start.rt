@@ -151,3 +151,66 @@ fn blocks_of(bytes: u32) -> u8
 {
     bytes.div_ceil(8192) as u8
 }
+
+#[cfg(test)]
+mod tests {
+    use super::*;
+    use std::test::Fail;
+
+    /// A program `SysGo` that writes `Hello`.
+    const HELLO: [u8; 43] = [
+        0x87, 0xCD, 0x00, 0x2B, 0x00, 0x0D, 0x11, 0x81, 0x03, 0x00, 0x12, 0x00, 0xC8, 0x53, 0x79,
+        0x73, 0x47, 0xEF, 0x30, 0x8C, 0x0D, 0x10, 0x8E, 0x00, 0x50, 0x86, 0x01, 0x10, 0x3F, 0x8C,
+        0x5F, 0x10, 0x3F, 0x06, 0x48, 0x65, 0x6C, 0x6C, 0x6F, 0x0D, 0x84, 0x92, 0xD7,
+    ];
+
+    const CONFIG: Config = Config { blocks: 64 };
+
+    #[test]
+    fn first_process(rt: HostRuntime) {
+        let Ok(kernel) = Kernel::new(rt.alloc(), CONFIG, &HELLO) else {
+            panic!(rt; "refused");
+        };
+        assert_eq!(rt; kernel.regs.y, 256);
+        assert_eq!(rt; kernel.regs.pc, 0xE012);
+    }
+
+    #[test]
+    fn ample_memory(rt: HostRuntime) {
+        assert!(rt; Kernel::new(rt.alloc(), CONFIG, &HELLO).is_ok());
+    }
+
+    #[test]
+    fn boot_module_faults(rt: HostRuntime) {
+        let fault = |file: &[u8]| Kernel::new(rt.alloc(), CONFIG, file).err();
+        let mut parity = HELLO;
+        parity[8] = 0x02;
+        let mut crc = HELLO;
+        crc[0x22] = 0x68;
+        let mut both = parity;
+        both[0x22] = 0x68;
+        let mut sync = HELLO;
+        sync[0] = 0x86;
+        assert_eq!(rt; fault(&parity), Some(BootFault::BadModule(0, 236)));
+        assert_eq!(rt; fault(&crc), Some(BootFault::BadModule(0, 232)));
+        assert_eq!(rt; fault(&both), Some(BootFault::BadModule(0, 236)));
+        assert_eq!(rt; fault(&sync), Some(BootFault::BadModule(0, 205)));
+        assert_eq!(rt; fault(&[]), Some(BootFault::NoFirst));
+    }
+
+    #[test]
+    fn group_limit(rt: HostRuntime) -> Result<(), Fail> {
+        let config = Config { blocks: 8 };
+        let mut file = HELLO.to_vec(rt.alloc())?;
+        file.resize(LONGEST_FILE, 0)?;
+        assert!(rt; Kernel::new(rt.alloc(), config, &file).is_ok());
+        file.push(0)?;
+        assert!(rt;
+            matches!(
+                Kernel::new(rt.alloc(), config, &file),
+                Err(BootFault::TooLarge)
+            )
+        );
+        Ok(())
+    }
+}
