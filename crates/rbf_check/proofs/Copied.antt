@@ -2,10 +2,10 @@
 use Rattle.std.proofs.Common.{◌≡◌, ℕ, zero, suc, ◌+◌, ◌-◌, ◌*◌, ◌<◌, min, List, [], ◌∷◌, ◌++◌, length, get_or, take, drop, refl, sym, ap, ◌∙◌, ⊎_elim, arith, length-take, take-take, drop-drop}
 use Rattle.std.specs.Prelude.{flat_map}
 use Rattle.std.specs.List.{range_with_len}
-use Rattle.std.proofs.Math.Seq.{take-add, take-suc}
+use Rattle.std.proofs.Math.Seq.{take-add}
 use Rattle.std.proofs.lemmas.Bool.{cases_lt}
 use Rattle.std.proofs.lemmas.Grind.{flat_map-append}
-use Rattle.std.proofs.lemmas.List.{take_all}
+use Rattle.std.proofs.lemmas.List.{append-nil, take_all, take_more}
 use Rattle.rbf_model.specs.Geometry.{sector}
 use Rattle.rbf_model.specs.Segments.{run, sectors_of}
 use Rattle.rbf_model.specs.File.{bytes_of}
@@ -28,18 +28,13 @@ take_lesser left held part xs is = ⊎_elim
     (λ more. take_all left (take held xs) (omega (arith, length-take held xs)) ∙ ap (λ n. take n xs) (omega arith))
     (cases_lt left held)
 
-nothing_behind : (xs : List ℕ) → xs ++ [] ≡ xs
-nothing_behind [] = refl
-nothing_behind (x ∷ xs) = ap (λ r. x ∷ r) (nothing_behind xs)
-
 module _ (image : List ℕ) (segments : List (ℕ × ℕ)) (i : ℕ) (segment : ℕ × ℕ) (low : i < length segments) (at : get_or segments i (0, 0) ≡ segment) where
   bytes_more : bytes_of (sector image) (take (i + 1) segments) ≡ bytes_of (sector image) (take i segments) ++ take (256 * segment.1) (drop (256 * segment.0) image)
   bytes_more =
-      let next : i + 1 ≡ suc i = omega arith in
-      let front : take (i + 1) segments ≡ take i segments ++ segment ∷ [] = ap (λ n. take n segments) next ∙ take-suc segments i (0, 0) low ∙ ap (λ s. take i segments ++ s ∷ []) at in
+      let front : take (i + 1) segments ≡ take i segments ++ segment ∷ [] = take_more segments i (0, 0) low ∙ ap (λ s. take i segments ++ s ∷ []) at in
       ap (bytes_of (sector image)) front ∙ ap (flat_map (sector image)) (flat_map-append run (take i segments) (segment ∷ []))
       ∙ flat_map-append (sector image) (sectors_of (take i segments)) (sectors_of (segment ∷ []))
-      ∙ ap (λ xs. bytes_of (sector image) (take i segments) ++ flat_map (sector image) xs) (nothing_behind (run segment))
+      ∙ ap (λ xs. bytes_of (sector image) (take i segments) ++ flat_map (sector image) xs) (append-nil (run segment))
       ∙ ap (λ b. bytes_of (sector image) (take i segments) ++ b) (run_bytes image segment.0 segment.1)
 
   -- a run more of the contents

@@ -1,9 +1,8 @@
 -- Links that are entered in a table by the descriptors that they name.
-use Rattle.std.proofs.Common.{◌≡◌, ◌≢◌, ℕ, suc, ◌+◌, ◌<◌, List, [], ◌∷◌, ◌++◌, length, get_or, set, take, Option, Some, None, sym, ap, ◌∙◌, subst, ⊎_elim, arith}
+use Rattle.std.proofs.Common.{◌≡◌, ◌≢◌, ℕ, ◌+◌, ◌<◌, List, [], ◌∷◌, ◌++◌, length, get_or, set, take, Option, Some, None, sym, ap, ◌∙◌, subst, ⊎_elim, arith}
 use Rattle.std.specs.Prelude.{Contains}
-use Rattle.std.proofs.Math.Seq.{take-suc}
 use Rattle.std.proofs.lemmas.Bool.{cases_eq}
-use Rattle.std.proofs.lemmas.List.{get_or-set_same, get_or-set_other, length-set}
+use Rattle.std.proofs.lemmas.List.{take_more, get_or-set_same, get_or-set_other, length-set}
 use Rattle.std.proofs.lemmas.List.Elements.{Contains-append_left, Contains-append_cases, Contains-push}
 use Rattle.rbf_rules.specs.declared.links.Link.{Link}
 use Rattle.rbf_check.specs.Places.{ArePlaces}
@@ -54,6 +53,5 @@ module _ (links : List Link) (total : ℕ) (places : List (Option Link)) (are : 
 pub places_more : (links : List Link) (total i : ℕ) (places : List (Option Link)) (d : Link) → ArePlaces (take i links) total places → i < length links → (get_or links i d).descriptor < total
     → ArePlaces (take (i + 1) links) total (set places (get_or links i d).descriptor (Some (get_or links i d)))
 places_more links total i places d are low below =
-    let next : i + 1 ≡ suc i = omega arith in
     let P : List Link → Type 0 = λ xs. ArePlaces xs total (set places (get_or links i d).descriptor (Some (get_or links i d))) in
-    subst P (sym (ap (λ n. take n links) next ∙ take-suc links i d low)) (places_push (take i links) total places are (get_or links i d) below)
+    subst P (sym (take_more links i d low)) (places_push (take i links) total places are (get_or links i d) below)

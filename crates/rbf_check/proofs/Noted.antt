@@ -3,9 +3,8 @@ use Rattle.std.proofs.Common.{◌≡◌, ℕ, zero, suc, ◌+◌, ◌-◌, ◌/�
 use Rattle.std.specs.Prelude.{if◌then◌else◌}
 use Rattle.std.specs.List.{range_with_len, list_any}
 use Rattle.std.proofs.Math.Bool.{or_assoc}
-use Rattle.std.proofs.Math.Seq.{take-suc}
 use Rattle.std.proofs.lemmas.Bool.{cases_eq, cases_Bool, cond-true, cond-false, false_from_ne_true}
-use Rattle.std.proofs.lemmas.List.{get_or-set_same, get_or-set_other, length-set}
+use Rattle.std.proofs.lemmas.List.{append-nil, take_more, get_or-set_same, get_or-set_other, length-set}
 use Rattle.std.proofs.lemmas.List.Folds.{list_any-append}
 use Rattle.std.proofs.lemmas.Grind.{flat_map-append}
 use Rattle.rbf_model.specs.Fields.{segments_field}
@@ -30,9 +29,7 @@ or_something : (a : Bool) → true ≡ (a || true)
 or_something true = refl
 or_something false = refl
 
-pub notes_none : (k : ℕ) (old : List Bool) → NotesClusters k [] old old
-notes_none k old = record { size = refl; each = λ c. or_nothing (get_or old c false) }
-
+-- the clusters of two lists, one after the other
 pub notes_then : (k : ℕ) (xs ys : List ℕ) (old mid new : List Bool) → NotesClusters k xs old mid → NotesClusters k ys mid new → NotesClusters k (xs ++ ys) old new
 notes_then k xs ys old mid new first next = record {
   size = next.size ∙ first.size;
@@ -41,6 +38,7 @@ notes_then k xs ys old mid new first next = record {
       next.each c ∙ ap (λ b. b || list_any p ys) (first.each c) ∙ or_assoc (get_or old c false) (list_any p xs) (list_any p ys) ∙ ap (λ b. get_or old c false || b) (sym (list_any-append p xs ys));
 }
 
+-- and those of one sector
 pub notes_one : (k s : ℕ) (old : List Bool) → s / k < length old → NotesClusters k (s ∷ []) old (set old (s / k) true)
 notes_one k s old low = record {
   size = length-set old (s / k) true;
@@ -61,18 +59,13 @@ notes_more k first s old mid after low before =
     subst P (ap (λ x. range_with_len first (s - first) ++ x ∷ []) (sym last) ∙ sym (range_more first (s - first)) ∙ ap (range_with_len first) count)
     (notes_then k (range_with_len first (s - first)) (s ∷ []) old mid (set mid (s / k) true) before (notes_one k s mid low))
 
-nothing_behind : (xs : List ℕ) → xs ++ [] ≡ xs
-nothing_behind [] = refl
-nothing_behind (x ∷ xs) = ap (λ r. x ∷ r) (nothing_behind xs)
-
 -- a run more of a segment list
 pub notes_run : (k : ℕ) (segments : List (ℕ × ℕ)) (i : ℕ) (segment : ℕ × ℕ) (old mid new : List Bool) → i < length segments → get_or segments i (0, 0) ≡ segment
     → NotesClusters k (sectors_of (take i segments)) old mid → NotesClusters k (range_with_len segment.0 segment.1) mid new → NotesClusters k (sectors_of (take (i + 1) segments)) old new
 notes_run k segments i segment old mid new low at before one =
-    let next : i + 1 ≡ suc i = omega arith in
-    let front : take (i + 1) segments ≡ take i segments ++ segment ∷ [] = ap (λ n. take n segments) next ∙ take-suc segments i (0, 0) low ∙ ap (λ s. take i segments ++ s ∷ []) at in
+    let front : take (i + 1) segments ≡ take i segments ++ segment ∷ [] = take_more segments i (0, 0) low ∙ ap (λ s. take i segments ++ s ∷ []) at in
     let P : List ℕ → Type 0 = λ xs. NotesClusters k xs old new in
-    subst P (ap (λ xs. sectors_of (take i segments) ++ xs) (sym (nothing_behind (run segment))) ∙ sym (flat_map-append run (take i segments) (segment ∷ [])) ∙ ap sectors_of (sym front))
+    subst P (ap (λ xs. sectors_of (take i segments) ++ xs) (sym (append-nil (run segment))) ∙ sym (flat_map-append run (take i segments) (segment ∷ [])) ∙ ap sectors_of (sym front))
     (notes_then k (sectors_of (take i segments)) (range_with_len segment.0 segment.1) old mid new before one)
 
 -- the sectors of an owner
@@ -97,8 +90,7 @@ pub used_more : (g : Geometry) (disk : ℕ → List ℕ) (found : List ℕ) (i :
 unfolding has_cluster
 used_more g disk found i old new low before notes =
     let n = get_or found i 0 in
-    let next : i + 1 ≡ suc i = omega arith in
-    let front : take (i + 1) found ≡ take i found ++ n ∷ [] = ap (λ k. take k found) next ∙ take-suc found i 0 low in
+    let front = take_more found i 0 low in
     record {
       size = notes.size ∙ before.size;
       each = λ c.

@@ -1,8 +1,8 @@
 -- The nodes of a survey's files, by rising descriptor number.
-use Rattle.std.proofs.Common.{◌≡◌, ℕ, ◌+◌, ◌<◌, ◌≤◌, true, List, [], ◌∷◌, ◌++◌, All, length, map, get_or, Some, None, is_some, refl, sym, ap, ◌∙◌, subst, arith}
+use Rattle.std.proofs.Common.{◌≡◌, ℕ, ◌+◌, ◌<◌, ◌≤◌, true, List, [], ◌∷◌, ◌++◌, All, length, map, get_or, Some, None, is_some, sym, ap, ◌∙◌, subst, arith}
 use Rattle.std.specs.Prelude.{filter}
 use Rattle.std.specs.List.{range_with_len}
-use Rattle.std.proofs.lemmas.List.{length-map, map-append}
+use Rattle.std.proofs.lemmas.List.{append-nil, length-map, map-append}
 use Rattle.std.proofs.lemmas.List.Elements.{All-push, Contains-get_or}
 use Rattle.std.proofs.lemmas.Option.{cond_some}
 use Rattle.rbf_model.specs.Geometry.{sector}
@@ -31,23 +31,15 @@ module _ (image : List ℕ) (survey : Survey) (is : IsSurvey image survey) where
   file_reached n file there = (is.found n).0 (cond_some (has survey.found.items n) (file_at (sector image) n) file there).0
 
 module _ (image : List ℕ) (survey : Survey) where
-  -- there are none below 0
-  pub nodes_none : (nodes : List Node) → nodes ≡ [] → AreNodesBelow image survey nodes 0
-  nodes_none nodes empty = let P : List Node → Type 0 = λ xs. AreNodesBelow image survey xs 0 in subst P (sym empty) (record { numbers = refl; each = λ k d low. absurd (omega arith) })
-
   module _ (nodes : List Node) (n : ℕ) (before : AreNodesBelow image survey nodes n) where
     -- a number that is no file's
     pub nodes_past : (volume_from image survey).files n ≡ None → AreNodesBelow image survey nodes (n + 1)
     nodes_past none =
         let p = λ (m : ℕ). is_some ((volume_from image survey).files m) in
         record {
-          numbers = before.numbers ∙ append_nothing _ ∙ ap (λ xs. filter p (range_with_len 0 n) ++ xs) (sym (filter_no p n (ap is_some none))) ∙ sym (filter_next p n);
+          numbers = before.numbers ∙ sym (append-nil (filter p (range_with_len 0 n))) ∙ ap (λ xs. filter p (range_with_len 0 n) ++ xs) (sym (filter_no p n (ap is_some none))) ∙ sym (filter_next p n);
           each = before.each;
         }
-      where
-        append_nothing : (xs : List ℕ) → xs ≡ xs ++ []
-        append_nothing [] = refl
-        append_nothing (x ∷ xs) = ap (λ r. x ∷ r) (append_nothing xs)
 
     -- and one that is
     pub nodes_more : (node : Node) (new : List Node) → new ≡ nodes ++ node ∷ [] → node.fd ≡ n → TellsNode (geometry_of survey.ident) (volume_from image survey) node → AreNodesBelow image survey new (n + 1)

@@ -122,8 +122,8 @@ impl Nodes {
     }
 }
 
-/// What an image holds: its files and directories, and how many clusters are free and how many
-/// are lost, which is whole, marked and in no file.
+/// What an image holds: its files and directories, how many clusters are free, and how many are
+/// lost, which means whole, marked and in no file.
 #[derive(Debug, Drop)]
 pub struct Tree {
     pub nodes: Nodes,

@@ -10,7 +10,7 @@ use rbf_sector::Ident;
 use std::alloc::Global;
 
 /// What the rules found of an image that breaks none of them: its identification sector, the
-/// descriptors that are reached from the root, each once, and the entries that name them.
+/// descriptors that are reached from the root, and the entries that name them.
 #[derive(Debug, Drop)]
 pub struct Survey {
     pub ident: Ident,
