@@ -11,6 +11,7 @@ use crate::header::{map_breach, read_header};
 use crate::links::list_links;
 use crate::marks::least_unmarked;
 use crate::namings::least_named_again;
+use crate::numbers::least_bad_number;
 use crate::shares::least_used_again;
 use crate::walk::walk;
 use rbf_sector::Ident;
@@ -34,7 +35,8 @@ fn least_fault(
     requires found { IsFound (geometry_of ident.now) (sector_of image.now) found.now }
     ensures { IfOk result (λ fault. MatchOption fault (Keeps (geometry_of ident.now) (sector_of image.now)) (λ f. IsLeastFault (geometry_of ident.now) (sector_of image.now) f.rule f.lsn)) }
 {
-    if let Some(lsn) = least_breach(image, ident, found, OwnRule::Numbers) {
+    let bad = least_bad_number(alloc, image, ident, found)?;
+    if let Some(lsn) = bad {
         return Ok(Some(CheckFault { rule: 1, lsn }));
     }
     if let Some(lsn) = map_breach(image, ident) {

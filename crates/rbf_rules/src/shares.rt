@@ -44,9 +44,9 @@ pub fn least_used_again(
 #[cfg(test)]
 mod tests {
     use super::*;
-    use crate::descriptors::{OwnRule, least_breach};
     use crate::header::{map_breach, read_header};
     use crate::marks::least_unmarked;
+    use crate::numbers::least_bad_number;
     use crate::walk::walk;
     use std::test::Fail;
 
@@ -107,7 +107,7 @@ mod tests {
             return Ok(None);
         };
         let found = walk(alloc, image, &ident)?;
-        if let Some(_) = least_breach(image, &ident, &found, OwnRule::Numbers) {
+        if let Some(_) = least_bad_number(alloc, image, &ident, &found)? {
             return Ok(None);
         }
         if let Some(_) = map_breach(image, &ident) {

@@ -8,13 +8,13 @@ pub returns-in-Some : goal.returns-in-Some
 returns-in-Some c =
     let g = geometry_of c.args.ident.now in
     let disk = sector c.args.image.now in
-    least_at g disk 1 c.in-Some.lsn (none_first g disk) c.in-Some.ensures
+    fault_at g disk 1 c.in-Some.lsn c.in_ok-bad.bad (none_first g disk) c.in_ok-bad.ensures c.in-Some.is
 
 pub returns-in-Some-map_breach : goal.returns-in-Some-map_breach
 returns-in-Some-map_breach c =
     let g = geometry_of c.args.ident.now in
     let disk = sector c.args.image.now in
-    let one = c.in_default.ensures in
+    let one = not_broken g disk 1 c.in_ok-bad.bad c.in_ok-bad.ensures c.in_default.is in
     least_at g disk 2 c.in-Some-map_breach.lsn (before_two g disk one) c.in-Some-map_breach.ensures
 
 pub least_unmarked-requires-clause-map : goal.least_unmarked-requires-clause-map
@@ -27,7 +27,7 @@ pub returns-in-Some-2 : goal.returns-in-Some-2
 returns-in-Some-2 c =
     let g = geometry_of c.args.ident.now in
     let disk = sector c.args.image.now in
-    let one = c.in_default.ensures in
+    let one = not_broken g disk 1 c.in_ok-bad.bad c.in_ok-bad.ensures c.in_default.is in
     let two = c.in_default-map_breach.ensures in
     fault_at g disk 3 c.in-Some-2.lsn c.in_ok-lsn.field-0 (before_three g disk one two) c.in_ok-lsn.ensures c.in-Some-2.is
 
@@ -41,7 +41,7 @@ pub returns-in-Some-3 : goal.returns-in-Some-3
 returns-in-Some-3 c =
     let g = geometry_of c.args.ident.now in
     let disk = sector c.args.image.now in
-    let one = c.in_default.ensures in
+    let one = not_broken g disk 1 c.in_ok-bad.bad c.in_ok-bad.ensures c.in_default.is in
     let two = c.in_default-map_breach.ensures in
     let three = not_broken g disk 3 c.in_ok-lsn.field-0 c.in_ok-lsn.ensures c.in_default-2.is in
     fault_at g disk 4 c.in-Some-3.lsn c.in_ok-lsn-2.field-0 (before_four g disk one two three) c.in_ok-lsn-2.ensures c.in-Some-3.is
@@ -50,7 +50,7 @@ pub returns-in-Some-least_breach : goal.returns-in-Some-least_breach
 returns-in-Some-least_breach c =
     let g = geometry_of c.args.ident.now in
     let disk = sector c.args.image.now in
-    let one = c.in_default.ensures in
+    let one = not_broken g disk 1 c.in_ok-bad.bad c.in_ok-bad.ensures c.in_default.is in
     let two = c.in_default-map_breach.ensures in
     let three = not_broken g disk 3 c.in_ok-lsn.field-0 c.in_ok-lsn.ensures c.in_default-2.is in
     let four = not_broken g disk 4 c.in_ok-lsn-2.field-0 c.in_ok-lsn-2.ensures c.in_default-3.is in
@@ -61,7 +61,7 @@ pub returns-in-Some-least_breach-2 : goal.returns-in-Some-least_breach-2
 returns-in-Some-least_breach-2 c =
     let g = geometry_of c.args.ident.now in
     let disk = sector c.args.image.now in
-    let one = c.in_default.ensures in
+    let one = not_broken g disk 1 c.in_ok-bad.bad c.in_ok-bad.ensures c.in_default.is in
     let two = c.in_default-map_breach.ensures in
     let three = not_broken g disk 3 c.in_ok-lsn.field-0 c.in_ok-lsn.ensures c.in_default-2.is in
     let four = not_broken g disk 4 c.in_ok-lsn-2.field-0 c.in_ok-lsn-2.ensures c.in_default-3.is in
@@ -73,7 +73,7 @@ pub returns-in-Some-4 : goal.returns-in-Some-4
 returns-in-Some-4 c =
     let g = geometry_of c.args.ident.now in
     let disk = sector c.args.image.now in
-    let one = c.in_default.ensures in
+    let one = not_broken g disk 1 c.in_ok-bad.bad c.in_ok-bad.ensures c.in_default.is in
     let two = c.in_default-map_breach.ensures in
     let three = not_broken g disk 3 c.in_ok-lsn.field-0 c.in_ok-lsn.ensures c.in_default-2.is in
     let four = not_broken g disk 4 c.in_ok-lsn-2.field-0 c.in_ok-lsn-2.ensures c.in_default-3.is in
@@ -87,7 +87,7 @@ pub returns-in-Some-5 : goal.returns-in-Some-5
 returns-in-Some-5 c =
     let g = geometry_of c.args.ident.now in
     let disk = sector c.args.image.now in
-    let one = c.in_default.ensures in
+    let one = not_broken g disk 1 c.in_ok-bad.bad c.in_ok-bad.ensures c.in_default.is in
     let two = c.in_default-map_breach.ensures in
     let three = not_broken g disk 3 c.in_ok-lsn.field-0 c.in_ok-lsn.ensures c.in_default-2.is in
     let four = not_broken g disk 4 c.in_ok-lsn-2.field-0 c.in_ok-lsn-2.ensures c.in_default-3.is in
@@ -102,7 +102,7 @@ pub returns-in-Some-6 : goal.returns-in-Some-6
 returns-in-Some-6 c =
     let g = geometry_of c.args.ident.now in
     let disk = sector c.args.image.now in
-    let one = c.in_default.ensures in
+    let one = not_broken g disk 1 c.in_ok-bad.bad c.in_ok-bad.ensures c.in_default.is in
     let two = c.in_default-map_breach.ensures in
     let three = not_broken g disk 3 c.in_ok-lsn.field-0 c.in_ok-lsn.ensures c.in_default-2.is in
     let four = not_broken g disk 4 c.in_ok-lsn-2.field-0 c.in_ok-lsn-2.ensures c.in_default-3.is in
@@ -118,7 +118,7 @@ pub returns : goal.returns
 returns c =
     let g = geometry_of c.args.ident.now in
     let disk = sector c.args.image.now in
-    let one = c.in_default.ensures in
+    let one = not_broken g disk 1 c.in_ok-bad.bad c.in_ok-bad.ensures c.in_default.is in
     let two = c.in_default-map_breach.ensures in
     let three = not_broken g disk 3 c.in_ok-lsn.field-0 c.in_ok-lsn.ensures c.in_default-2.is in
     let four = not_broken g disk 4 c.in_ok-lsn-2.field-0 c.in_ok-lsn-2.ensures c.in_default-3.is in
