@@ -1,5 +1,5 @@
 -- A search whose slots are read one after the other.
-use Rattle.std.proofs.Common.{◌≡◌, ◌⊎◌, ℕ, ◌+◌, ◌*◌, ◌<◌, ◌≤◌, true, List, length, sym, ap, ◌∙◌, subst, ⊎_elim, arith}
+use Rattle.std.proofs.Common.{◌≡◌, ◌⊎◌, ℕ, ◌+◌, ◌*◌, true, List, length, sym, ap, ◌∙◌, subst, ⊎_elim, arith}
 use Rattle.rbf_model.specs.Geometry.{Geometry, IsNumber}
 use Rattle.rbf_model.specs.Segments.{has}
 use Rattle.rbf_rules.specs.declared.unread.Unread.{Unread}

@@ -1,6 +1,5 @@
 -- What is found in slots that are read.
-use Rattle.std.proofs.Common.{◌≡◌, ◌⊎◌, ℕ, ◌+◌, ◌-◌, ◌*◌, ◌<◌, ◌≤◌, true, List, [], ◌∷◌, ◌++◌, length, take, get_or, min, refl, sym, ap, ◌∙◌, subst, inl, inr, ⊎_elim, length-append, arith}
-use Rattle.std.specs.List.{range_with_len}
+use Rattle.std.proofs.Common.{◌≡◌, ◌⊎◌, ℕ, ◌+◌, ◌-◌, ◌*◌, ◌<◌, ◌≤◌, true, List, length, take, get_or, min, sym, ap, ◌∙◌, subst, inl, inr, ⊎_elim, length-append, arith}
 use Rattle.std.proofs.lemmas.Bool.{cases_lt, cases_eq}
 use Rattle.std.proofs.lemmas.List.{take_all}
 use Rattle.std.proofs.lemmas.List.Folds.{length-flat_map-take}
@@ -11,8 +10,9 @@ use Rattle.rbf_model.specs.Geometry.{Geometry, IsNumber}
 use Rattle.rbf_model.specs.Segments.{run, has}
 use Rattle.rbf_model.specs.Tree.{HasEntry, NamesIn}
 use Rattle.rbf_rules.specs.Found.{added, Extends, IsVisited, AreFound}
-use Rattle.rbf_rules.specs.Slots.{slot, slots_of, AreSlots, NamesAt}
+use Rattle.rbf_rules.specs.Slots.{slot, slots_of, NamesAt}
 use Rattle.rbf_rules.proofs.Listed.{sectors_more}
+use Rattle.rbf_rules.proofs.Slotted.{AreSlots}
 use Rattle.rbf_rules.proofs.Visits.{has_extended, extends_then, extends_same, added_extends, added_has, added_only}
 
 module _ (g : Geometry) (disk : ℕ → List ℕ) where

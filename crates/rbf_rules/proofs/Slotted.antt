@@ -1,5 +1,5 @@
 -- The slots of a directory's entries.
-use Rattle.std.proofs.Common.{◌≡◌, ℕ, zero, suc, ◌+◌, ◌-◌, ◌*◌, ◌/◌, ◌%◌, ◌<◌, ◌≤◌, true, List, [], ◌∷◌, ◌++◌, All, length, take, drop, get_or, min, sym, ap, ◌∙◌, subst, refl, ⊎_elim, arith, length-append, length-drop}
+use Rattle.std.proofs.Common.{◌≡◌, ℕ, zero, suc, ◌+◌, ◌-◌, ◌*◌, ◌/◌, ◌%◌, ◌<◌, ◌≤◌, true, List, [], ◌∷◌, ◌++◌, All, length, take, drop, get_or, min, sym, ap, ◌∙◌, subst, refl, ⊎_elim, arith, length-append}
 use Rattle.std.specs.List.{range_with_len}
 use Rattle.std.proofs.lemmas.Bool.{cases_lt}
 use Rattle.std.proofs.lemmas.List.{get_or_append_left, get_or-append_right, get_or-take, get_or_default, length-take-le, take_more, take_all, take-append-drop, take-append-le, append-nil, get_or_push, length_push}
@@ -8,8 +8,6 @@ use Rattle.std.proofs.lemmas.Grind.{flat_map-append}
 use Rattle.rbf_model.specs.Fields.{entry_at, is_used, descriptor_field, segments_field}
 use Rattle.rbf_model.specs.Geometry.{Geometry, IsNumber, IsDisk, sector}
 use Rattle.rbf_model.specs.Segments.{run, sectors_of, has}
-use Rattle.rbf_model.specs.Tree.{HasEntry}
-use Rattle.rbf_model.specs.Faults.{searched}
 use Rattle.rbf_model.proofs.Bytes.{has_place, place_of}
 use Rattle.rbf_model.proofs.Pieces.{take_append}
 use Rattle.rbf_model.proofs.Segments.{has_cases}
@@ -17,7 +15,7 @@ use Rattle.rbf_sector.specs.declared.ident.Ident.{Ident}
 use Rattle.rbf_rules.specs.declared.directory.Directory.{Directory}
 use Rattle.rbf_rules.specs.Reading.{geometry_of, IsIdent, IsDirectory, listed}
 use Rattle.rbf_rules.specs.Rules.{HasBadNumber}
-use Rattle.rbf_rules.specs.Slots.{slot, slots_of, segment_slots, AreSlots, IsBadSlot}
+use Rattle.rbf_rules.specs.Slots.{slot, slots_of, segment_slots, IsBadSlot}
 use Rattle.rbf_rules.proofs.Listed.{run_has, runs_within, sectors_more}
 use Rattle.rbf_model.proofs.Images.{is_disk}
 use Rattle.rbf_rules.proofs.Searched.{in_sectors, in_volume, entry_in_sector}
@@ -113,7 +111,14 @@ module _ (entries : ℕ) (segments : List (ℕ × ℕ)) where
         ap segment_slots (sym (take-append-drop i segments)) ∙ flat_map-append (λ (segment : ℕ × ℕ). range_with_len (8 * segment.0) (8 * segment.1)) (take i segments) (drop i segments) in
         before.slots ∙ sym (take-append-le entries done (segment_slots (drop i segments)) (omega arith)) ∙ ap (take entries) (sym split)
 
--- they are the slots of the entries
+-- the slots of the entries of a directory, in order
+pub record AreSlots (g : Geometry) (disk : ℕ → List ℕ) (contents : List ℕ) (runs : List (ℕ × ℕ)) : Type 0 where
+  pub count : 32 * length (slots_of runs) ≡ length contents
+  pub each : (i : ℕ) → i < length (slots_of runs) → entry_at contents i ≡ slot disk (get_or (slots_of runs) i 0)
+  pub some : All (λ r. 1 ≤ r.1) runs
+  pub within : All (λ r. r.0 + r.1 ≤ 8 * g.total) runs
+
+-- such are those that are listed
 module _ (image : List ℕ) (ident : Ident) (dir : Directory) (whole : IsIdent image ident) (is : IsDirectory image ident dir) (runs : List (ℕ × ℕ)) (listed_are : slots_of runs ≡ take dir.entries (segment_slots dir.segs)) (some : All (λ r. 1 ≤ r.1) runs) where
   segments : List (ℕ × ℕ)
   segments = segments_field (sector image dir.number)

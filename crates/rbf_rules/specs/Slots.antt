@@ -1,5 +1,5 @@
 -- The slots of an image: the places of entries, of 32 bytes each, eight in a sector. Slot e begins at byte 32 e.
-use Rattle.std.specs.Prelude.{◌≡◌, ℕ, ◌+◌, ◌*◌, ◌/◌, ◌%◌, ◌<◌, ◌≤◌, true, List, length, get_or, All, flat_map}
+use Rattle.std.specs.Prelude.{◌≡◌, ℕ, ◌*◌, ◌/◌, ◌%◌, true, List, flat_map}
 use Rattle.std.specs.List.{range_with_len}
 use Rattle.rbf_model.specs.Fields.{entry_at, is_used, descriptor_field}
 use Rattle.rbf_model.specs.Geometry.{Geometry, IsNumber}
@@ -16,13 +16,6 @@ slots_of runs = flat_map run runs
 -- the slots of the sectors of a segment list
 abbrev pub segment_slots : List (ℕ × ℕ) → List ℕ
 segment_slots segments = flat_map (λ segment. range_with_len (8 * segment.0) (8 * segment.1)) segments
-
--- the slots of the entries of a directory, in order, with its contents
-pub record AreSlots (g : Geometry) (disk : ℕ → List ℕ) (contents : List ℕ) (runs : List (ℕ × ℕ)) : Type 0 where
-  pub count : 32 * length (slots_of runs) ≡ length contents
-  pub each : (i : ℕ) → i < length (slots_of runs) → entry_at contents i ≡ slot disk (get_or (slots_of runs) i 0)
-  pub some : All (λ r. 1 ≤ r.1) runs
-  pub within : All (λ r. r.0 + r.1 ≤ 8 * g.total) runs
 
 -- slot e has a used entry, which names descriptor n
 pub record NamesAt (disk : ℕ → List ℕ) (e n : ℕ) : Type 0 where

@@ -18,6 +18,8 @@ mod names;
 mod namings;
 mod nexts;
 mod numbers;
+#[cfg(test)]
+mod overlapping;
 mod owners;
 mod shares;
 mod slots;

@@ -82,7 +82,7 @@ impl Search {
     }
 
     // Finds what the entries in the slots from one up to another name. Those that were read before
-    // are passed over.
+    // are passed over, so that each is read once, however many directories have it.
     fn read_run(
         &mut self,
         image: &[u8],
@@ -158,4 +158,34 @@ pub fn walk(alloc: Global, image: &[u8], ident: &Ident) -> Result<Vec<u32>, Allo
         unread: _,
     } = search;
     Ok(found)
+}
+
+#[cfg(test)]
+mod tests {
+    use super::*;
+    use crate::header::read_header;
+    use crate::numbers::least_bad_number;
+    use crate::overlapping::{overlapping_directories, put};
+    use std::test::Fail;
+
+    #[test]
+    fn directories_of_the_same_sectors(rt: HostRuntime) -> Result<(), Fail> {
+        let mut image = overlapping_directories(rt.alloc())?;
+        put(&mut image, 76768, 0xC1);
+        put(&mut image, 76799, 120);
+        let ident = read_header(&image).ok_or("no header")?;
+        let found = walk(rt.alloc(), &image, &ident)?;
+        assert_eq!(rt; found.len(), 102);
+        assert_eq!(rt; found.last().copied(), Some(120));
+        let least = least_bad_number(rt.alloc(), &image, &ident, &found)?;
+        assert_eq!(rt; least, None);
+        put(&mut image, 76798, 1);
+        put(&mut image, 76799, 44);
+        let ident = read_header(&image).ok_or("no header")?;
+        let found = walk(rt.alloc(), &image, &ident)?;
+        assert_eq!(rt; found.len(), 101);
+        let least = least_bad_number(rt.alloc(), &image, &ident, &found)?;
+        assert_eq!(rt; least, Some(16));
+        Ok(())
+    }
 }

@@ -1,11 +1,11 @@
-use Rattle.std.proofs.Common.{◌≡◌, ◌+◌, ◌*◌, ◌<◌, List, ℕ, Some, None, length, get_or, arith}
+use Rattle.std.proofs.Common.{◌≡◌, ◌*◌, ◌<◌, List, ℕ, Some, None, length, get_or, arith}
 use Rattle.std.proofs.lemmas.Bool.{false≢true}
 use Rattle.rbf_model.specs.Geometry.{sector}
 use Rattle.rbf_rules.specs.Reading.{geometry_of, listed}
-use Rattle.rbf_rules.specs.Slots.{AreSlots, IsBadSlot}
+use Rattle.rbf_rules.specs.Slots.{IsBadSlot}
 use Rattle.rbf_rules.proofs.NextTables.{least_of_run}
 use Rattle.rbf_rules.proofs.Owned.{header_of}
-use Rattle.rbf_rules.proofs.Slotted.{slots_are, none_more, none_bad, bad_in_run}
+use Rattle.rbf_rules.proofs.Slotted.{AreSlots, slots_are, none_more, none_bad, bad_in_run}
 use Rattle.rbf_rules.proofs.numbers.has_bad_number.Goals as goal
 use Rattle.rbf_rules.proofs.numbers.has_bad_number.Goals.{In_ok-list_slots}
 

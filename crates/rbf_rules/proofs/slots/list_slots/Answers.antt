@@ -1,4 +1,4 @@
-use Rattle.std.proofs.Common.{◌≡◌, ◌*◌, ◌≤◌, arith}
+use Rattle.std.proofs.Common.{arith}
 use Rattle.std.proofs.lemmas.Option.{get_or_from_slice_get}
 use Rattle.rbf_rules.proofs.Slotted.{listed_none, listed_more, listed_full}
 use Rattle.rbf_rules.proofs.slots.list_slots.Goals as goal

@@ -1,5 +1,4 @@
-use Rattle.std.proofs.Common.{length, length-set, arith}
-use Rattle.rbf_rules.proofs.Led.{led_none, led_more, led_further}
+use Rattle.rbf_rules.proofs.Led.{led_none, led_more}
 use Rattle.rbf_rules.proofs.unread.Unread.first.Goals as goal
 
 pub loop-e-init : goal.loop-e-init

@@ -1,4 +1,4 @@
-use Rattle.std.proofs.Common.{◌≡◌, ◌+◌, inl, inr, ⊎_elim, arith}
+use Rattle.std.proofs.Common.{◌+◌, inl, inr, ⊎_elim, arith}
 use Rattle.rbf_rules.proofs.Led.{ordered_set, passed_set}
 use Rattle.rbf_rules.proofs.unread.Unread.pass.Goals as goal
 

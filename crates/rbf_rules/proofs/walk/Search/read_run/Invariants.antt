@@ -1,4 +1,4 @@
-use Rattle.std.proofs.Common.{◌-◌, ◌+◌, ◌*◌, ◌<◌, ◌≤◌}
+use Rattle.std.proofs.Common.{◌-◌, ◌*◌, ◌≤◌}
 use Rattle.rbf_model.specs.Geometry.{sector}
 use Rattle.rbf_rules.specs.Reading.{geometry_of}
 use Rattle.rbf_rules.specs.Walk.{IsSearching}

@@ -1,9 +1,8 @@
-use Rattle.std.proofs.Common.{◌≡◌, ◌+◌, ◌*◌, ◌≤◌, List, ℕ, get_or, refl, arith}
+use Rattle.std.proofs.Common.{◌≡◌, List, ℕ, refl, arith}
 use Rattle.rbf_model.specs.Geometry.{sector}
 use Rattle.rbf_rules.specs.Reading.{geometry_of, listed}
-use Rattle.rbf_rules.specs.Slots.{AreSlots}
 use Rattle.rbf_rules.proofs.Owned.{header_of}
-use Rattle.rbf_rules.proofs.Slotted.{slots_are}
+use Rattle.rbf_rules.proofs.Slotted.{AreSlots, slots_are}
 use Rattle.rbf_rules.proofs.SlotsRead.{next_before, visited_none, visited_run, visited_all}
 use Rattle.rbf_rules.proofs.walk.Search.visit.Goals as goal
 use Rattle.rbf_rules.proofs.walk.Search.visit.Goals.{In_ok-list_slots}
