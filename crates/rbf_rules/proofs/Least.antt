@@ -1,12 +1,8 @@
 -- The least of the descriptors that break a rule.
-use Rattle.std.proofs.Common.{◌≡◌, ℕ, ◌+◌, ◌<◌, ◌≤◌, Bool, true, false, List, length, get_or, min, suc, [], ◌∷◌, ◌&&◌, Option, Some, None, MatchOption, refl, sym, ap, ◌∙◌, subst, inl, inr, ⊎_elim, arith}
-use Rattle.std.specs.List.{list_all}
-use Rattle.std.specs.Prelude.{Contains}
-use Rattle.std.proofs.lemmas.Bool.{cases_lt, false≢true}
-use Rattle.std.proofs.lemmas.List.Folds.{list_all_at}
+use Rattle.std.proofs.Common.{◌≡◌, ℕ, ◌+◌, ◌<◌, ◌≤◌, true, List, length, get_or, min, Option, Some, None, MatchOption, refl, sym, ap, ◌∙◌, subst, inl, inr, ⊎_elim, arith}
+use Rattle.std.proofs.lemmas.Bool.{cases_lt}
 use Rattle.std.proofs.lemmas.List.{get_or_default}
-use Rattle.rbf_model.specs.Fields.{segments_field}
-use Rattle.rbf_model.specs.Geometry.{Geometry, sector, is_within, IsHeader}
+use Rattle.rbf_model.specs.Geometry.{Geometry, sector, IsHeader}
 use Rattle.rbf_model.specs.File.{file_at, is_directory}
 use Rattle.rbf_model.specs.Segments.{has}
 use Rattle.rbf_model.specs.Faults.{Breaks, IsFound, Reaches, searched}
@@ -15,29 +11,14 @@ use Rattle.rbf_model.specs.Tree.Reached.{root}
 use Rattle.rbf_model.proofs.Bytes.{has_place, place_of}
 use Rattle.rbf_model.proofs.Keeps.{number_of_reached}
 use Rattle.rbf_rules.specs.declared.descriptors.OwnRule.{OwnRule}
-use Rattle.rbf_rules.specs.declared.descriptors.OwnRule.TheVariants.{Numbers, Room, Size}
+use Rattle.rbf_rules.specs.declared.descriptors.OwnRule.TheVariants.{Room, Size}
 use Rattle.rbf_sector.specs.declared.ident.Ident.{Ident}
 use Rattle.rbf_rules.specs.Reading.{geometry_of, IsIdent}
 use Rattle.rbf_rules.specs.Rules.{BreaksOwn, IsLeastBreach, number_of}
 
--- one that fails
-failing : {A : Type 0} (p : A → Bool) (xs : List A) → list_all p xs ≡ false → (x : A) × Contains xs x × (p x ≡ false)
-failing p [] fails = absurd (false≢true (sym fails))
-failing {A} p (x ∷ xs) fails = go (p x) refl fails (λ h. failing p xs h)
-  where
-    go : (t : Bool) → p x ≡ t → (t && list_all p xs) ≡ false → (list_all p xs ≡ false → (y : A) × Contains xs y × (p y ≡ false)) → (y : A) × Contains (x ∷ xs) y × (p y ≡ false)
-    go true passes h further =
-        let rest = further h in
-        (rest.0, (suc rest.1.0, omega (arith, rest.1.1), rest.1.2), rest.2)
-    go false here h further = (x, (0, omega arith, refl), here)
-
 -- a descriptor that breaks a rule by itself is a breach, and each breach is one
 module _ (g : Geometry) (disk : ℕ → List ℕ) where
   pub own_breach : (rule : OwnRule) (n : ℕ) → Reaches g disk n → BreaksOwn rule g disk n → Breaks g disk (number_of rule) n
-  own_breach Numbers n reached (inl outside) =
-      let found = failing (is_within g) (segments_field (disk n)) outside in
-      bad_segment reached found.1 found.2
-  own_breach Numbers n reached (inr bad) = bad_number reached bad.1 bad.2
   own_breach Room n reached broken = no_room reached broken
   own_breach Size n reached (inl no_dir) =
       let P : ℕ → Type 0 = λ m. Breaks g disk 6 m in
@@ -46,37 +27,30 @@ module _ (g : Geometry) (disk : ℕ → List ℕ) where
 
   abbrev Own : ℕ → ℕ → Type 0
   Own rule lsn =
-      (rule ≡ 1 → Reaches g disk lsn × BreaksOwn Numbers g disk lsn) × (rule ≡ 5 → Reaches g disk lsn × BreaksOwn Room g disk lsn) × (rule ≡ 6 → Reaches g disk lsn × BreaksOwn Size g disk lsn)
+      (rule ≡ 5 → Reaches g disk lsn × BreaksOwn Room g disk lsn) × (rule ≡ 6 → Reaches g disk lsn × BreaksOwn Size g disk lsn)
 
-  none_of : (rule lsn : ℕ) → (rule ≡ 1 → ⊥) → (rule ≡ 5 → ⊥) → (rule ≡ 6 → ⊥) → Own rule lsn
-  none_of rule lsn one five six =
-      (λ e. absurd (one e), λ e. absurd (five e), λ e. absurd (six e))
+  none_of : (rule lsn : ℕ) → (rule ≡ 5 → ⊥) → (rule ≡ 6 → ⊥) → Own rule lsn
+  none_of rule lsn five six = (λ e. absurd (five e), λ e. absurd (six e))
 
   own_of : {rule lsn : ℕ} → Breaks g disk rule lsn → Own rule lsn
-  own_of (bad_number {i = i} reached entry bad) =
-      (λ e. (reached, inr (i, entry, bad)), λ e. absurd (omega arith), λ e. absurd (omega arith))
-  own_of (bad_segment {n = n} {segment = s} reached there outside) =
-      (λ e. (reached, inl (list_all_at (is_within g) (segments_field (disk n)) there.0 s there.1 (ap (is_within g) there.2 ∙ outside))), λ e. absurd (omega arith), λ e. absurd (omega arith))
-  own_of (bad_map bad) = none_of 2 1 (λ e. omega arith) (λ e. omega arith) (λ e. omega arith)
-  own_of (unmarked {s = s} a b c) = none_of 3 s (λ e. omega arith) (λ e. omega arith) (λ e. omega arith)
-  own_of (used_twice {s = s} a b c d f) = none_of 4 s (λ e. omega arith) (λ e. omega arith) (λ e. omega arith)
-  own_of (shared {s = s} a b c d f h k) = none_of 4 s (λ e. omega arith) (λ e. omega arith) (λ e. omega arith)
-  own_of (no_room reached broken) =
-      (λ e. absurd (omega arith), λ e. (reached, broken), λ e. absurd (omega arith))
-  own_of (no_root broken) =
-      (λ e. absurd (omega arith), λ e. absurd (omega arith), λ e. (root, inl (refl, broken)))
-  own_of (bad_size reached dir size) =
-      (λ e. absurd (omega arith), λ e. absurd (omega arith), λ e. (reached, inr (dir, size)))
-  own_of (no_dots {n = n} a b c) = none_of 7 n (λ e. omega arith) (λ e. omega arith) (λ e. omega arith)
-  own_of (bad_name {d = d} a b) = none_of 8 d (λ e. omega arith) (λ e. omega arith) (λ e. omega arith)
-  own_of (same_name {d = d} a b) = none_of 8 d (λ e. omega arith) (λ e. omega arith) (λ e. omega arith)
-  own_of (named_twice {n = n} a b c d) = none_of 9 n (λ e. omega arith) (λ e. omega arith) (λ e. omega arith)
-  own_of (named_root a) = none_of 9 g.root (λ e. omega arith) (λ e. omega arith) (λ e. omega arith)
+  own_of (bad_number {d = d} a b c) = none_of 1 d (λ e. omega arith) (λ e. omega arith)
+  own_of (bad_segment {n = n} a b c) = none_of 1 n (λ e. omega arith) (λ e. omega arith)
+  own_of (bad_map bad) = none_of 2 1 (λ e. omega arith) (λ e. omega arith)
+  own_of (unmarked {s = s} a b c) = none_of 3 s (λ e. omega arith) (λ e. omega arith)
+  own_of (used_twice {s = s} a b c d f) = none_of 4 s (λ e. omega arith) (λ e. omega arith)
+  own_of (shared {s = s} a b c d f h k) = none_of 4 s (λ e. omega arith) (λ e. omega arith)
+  own_of (no_room reached broken) = (λ e. (reached, broken), λ e. absurd (omega arith))
+  own_of (no_root broken) = (λ e. absurd (omega arith), λ e. (root, inl (refl, broken)))
+  own_of (bad_size reached dir size) = (λ e. absurd (omega arith), λ e. (reached, inr (dir, size)))
+  own_of (no_dots {n = n} a b c) = none_of 7 n (λ e. omega arith) (λ e. omega arith)
+  own_of (bad_name {d = d} a b) = none_of 8 d (λ e. omega arith) (λ e. omega arith)
+  own_of (same_name {d = d} a b) = none_of 8 d (λ e. omega arith) (λ e. omega arith)
+  own_of (named_twice {n = n} a b c d) = none_of 9 n (λ e. omega arith) (λ e. omega arith)
+  own_of (named_root a) = none_of 9 g.root (λ e. omega arith) (λ e. omega arith)
 
   pub own_by_rule : (rule : OwnRule) (lsn : ℕ) → Breaks g disk (number_of rule) lsn → Reaches g disk lsn × BreaksOwn rule g disk lsn
-  own_by_rule Numbers lsn b = (own_of b).0 refl
-  own_by_rule Room lsn b = (own_of b).1 refl
-  own_by_rule Size lsn b = (own_of b).2 refl
+  own_by_rule Room lsn b = (own_of b).0 refl
+  own_by_rule Size lsn b = (own_of b).1 refl
 
 -- the least of the first of them
 abbrev pub IsLeastAmong : OwnRule → Geometry → (ℕ → List ℕ) → List ℕ → ℕ → Option ℕ → Type 0

@@ -9,7 +9,6 @@ use Rattle.rbf_model.specs.Geometry.{Geometry, map_sectors}
 use Rattle.rbf_model.specs.Segments.{run, sectors_of, has}
 use Rattle.rbf_model.specs.Space.{system_sectors, owned}
 use Rattle.rbf_model.proofs.Segments.{has_left, has_right, has_range}
-use Rattle.rbf_segs.specs.Segments.{IsSegment}
 use Rattle.rbf_rules.specs.Used.{used_by}
 
 module _ (g : Geometry) (n : ℕ) (front : List (ℕ × ℕ)) where
@@ -37,17 +36,17 @@ sectors_more runs i low =
     ap (λ xs. sectors_of (take i runs) ++ xs) (sym (append-nil (run r))) ∙ sym (flat_map-append run (take i runs) (r ∷ [])) ∙ ap sectors_of (sym (take_more runs i (0, 0) low))
 
 -- a run of a list: its sectors are of those of the list
-run_has : (runs : List (ℕ × ℕ)) (i s : ℕ) → i < length runs → has (run (get_or runs i (0, 0))) s ≡ true → has (sectors_of runs) s ≡ true
+pub run_has : (runs : List (ℕ × ℕ)) (i s : ℕ) → i < length runs → has (run (get_or runs i (0, 0))) s ≡ true → has (sectors_of runs) s ≡ true
 run_has [] i s low here = absurd (omega arith)
 run_has (r ∷ runs) zero s low here = has_left (run r) (sectors_of runs) s here
 run_has (r ∷ runs) (suc i) s low here = has_right (run r) (sectors_of runs) s (run_has runs i s (omega arith) here)
 
 -- so that each ends within what these are below
-pub runs_within : (runs : List (ℕ × ℕ)) (total : ℕ) → All IsSegment runs → ((s : ℕ) → has (sectors_of runs) s ≡ true → s < total) → All (λ r. r.0 + r.1 ≤ total) runs
-runs_within runs total segments below = λ i d low.
+pub runs_within : (runs : List (ℕ × ℕ)) (total : ℕ) → All (λ r. 1 ≤ r.1) runs → ((s : ℕ) → has (sectors_of runs) s ≡ true → s < total) → All (λ r. r.0 + r.1 ≤ total) runs
+runs_within runs total nonempty below = λ i d low.
     let r = get_or runs i (0, 0) in
     let same : get_or runs i d ≡ r = get_or_default runs i d (0, 0) low in
-    let some : 1 ≤ r.1 = (segments i (0, 0) low).some in
+    let some : 1 ≤ r.1 = nonempty i (0, 0) low in
     let last = below (r.0 + r.1 - 1) (run_has runs i (r.0 + r.1 - 1) low (has_range r.0 r.1 (r.0 + r.1 - 1) (omega arith) (omega arith))) in
     let P : ℕ × ℕ → Type 0 = λ q. q.0 + q.1 ≤ total in
     subst P (sym same) (let here : r.0 + r.1 ≤ total = omega (arith, last) in here)

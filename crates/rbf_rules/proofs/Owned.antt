@@ -59,5 +59,5 @@ runs_are image ident n listed runs whole kept map reached sectors segments is =
     subst P (sym is) (record {
       sectors = sectors;
       segments = segments;
-      within = runs_within listed g.total segments (λ s h. used_below g disk (header_of image ident whole) kept map n s reached (sym (ap (λ xs. has xs s) sectors) ∙ h));
+      within = runs_within listed g.total (λ i d low. (segments i d low).some) (λ s h. used_below g disk (header_of image ident whole) kept map n s reached (sym (ap (λ xs. has xs s) sectors) ∙ h));
     })

@@ -1,5 +1,5 @@
 -- A walk over all that is found.
-use Rattle.std.proofs.Common.{◌≡◌, ◌↔◌, ℕ, ◌+◌, ◌*◌, ◌<◌, ◌≤◌, Bool, true, List, [], length, get_or, sym, ap, ◌∙◌, subst, ⊎_elim, length-append, arith}
+use Rattle.std.proofs.Common.{◌≡◌, ◌↔◌, ℕ, ◌+◌, ◌<◌, ◌≤◌, Bool, true, List, [], length, get_or, sym, ap, ◌∙◌, subst, ⊎_elim, length-append, arith}
 use Rattle.std.proofs.lemmas.Bool.{cases_lt, false≢true}
 use Rattle.std.proofs.lemmas.List.{get_or_append_left, get_or_default}
 use Rattle.rbf_model.specs.Geometry.{Geometry, IsNumber}
@@ -33,8 +33,8 @@ module _ (g : Geometry) (dirs : ℕ → List ℕ) where
       })
 
   -- one directory more
-  pub walked_more : (old new : List ℕ) (next n entries : ℕ) → IsWalked g dirs old next → next < length old → n ≡ get_or old next 0 → 32 * entries ≡ length (dirs n) → IsVisited g (dirs n) old new entries → IsWalked g dirs new (next + 1)
-  walked_more old new next n entries walked low here counted visited =
+  pub walked_more : (old new : List ℕ) (next n : ℕ) → IsWalked g dirs old next → next < length old → n ≡ get_or old next 0 → IsVisited g (dirs n) old new → IsWalked g dirs new (next + 1)
+  walked_more old new next n walked low here visited =
       let grown = visited.extends in
       let same : (k : ℕ) → k < length old → get_or new k 0 ≡ get_or old k 0 = λ k below. ap (λ xs. get_or xs k 0) grown.is ∙ get_or_append_left old grown.more 0 k below in
       let n_found : has old n ≡ true = ap (has old) here ∙ has_place old next low in
@@ -54,8 +54,7 @@ module _ (g : Geometry) (dirs : ℕ → List ℕ) where
             let at : k ≡ next = omega arith in
             let it : get_or new k 0 ≡ n = ap (λ j. get_or new j 0) at ∙ same next low ∙ sym here in
             let names_n : NamesIn (dirs n) i m = subst P it names in
-            let within = names_n.entry.within in
-            visited.named i m (omega arith) names_n number)
+            visited.named i m names_n number)
             (cases_lt k next);
         before = omega (arith, ap length grown.is, length-append old grown.more);
       }

@@ -1,8 +1,9 @@
 -- The descriptors that are found on a search from the root.
-use Rattle.std.specs.Prelude.{◌≡◌, ◌⊎◌, ℕ, ◌<◌, Bool, true, false, List, [], ◌∷◌, ◌++◌, length, get_or, count_by, if◌then◌else◌}
+use Rattle.std.specs.Prelude.{◌≡◌, ◌⊎◌, ℕ, ◌<◌, ◌≤◌, Bool, true, false, List, [], ◌∷◌, ◌++◌, length, get_or, count_by, if◌then◌else◌}
 use Rattle.rbf_model.specs.Geometry.{Geometry, IsNumber}
 use Rattle.rbf_model.specs.Segments.{has}
 use Rattle.rbf_model.specs.Tree.{NamesIn}
+use Rattle.rbf_rules.specs.Slots.{NamesAt}
 
 -- the marks say which numbers are in the list, and each of them is there once
 pub record IsSearch (seen : List Bool) (found : List ℕ) : Type 0 where
@@ -19,8 +20,14 @@ pub record Extends (old new : List ℕ) : Type 0 where
   pub more : List ℕ
   pub is : new ≡ old ++ more
 
--- what a directory's entries before one place name has been found, and nothing else
-pub record IsVisited (g : Geometry) (contents old new : List ℕ) (i : ℕ) : Type 0 where
+-- what the entries in the slots from one up to another name has been found, and nothing else
+pub record AreFound (g : Geometry) (disk : ℕ → List ℕ) (first end : ℕ) (old new : List ℕ) : Type 0 where
   pub extends : Extends old new
-  pub named : (k m : ℕ) → k < i → NamesIn contents k m → IsNumber g m → has new m ≡ true
-  pub only : (m : ℕ) → has new m ≡ true → (has old m ≡ true) ⊎ ((k : ℕ) × NamesIn contents k m × IsNumber g m)
+  pub named : (e n : ℕ) → first ≤ e → e < end → NamesAt disk e n → IsNumber g n → has new n ≡ true
+  pub only : (n : ℕ) → has new n ≡ true → (has old n ≡ true) ⊎ ((e : ℕ) × (first ≤ e) × (e < end) × NamesAt disk e n × IsNumber g n)
+
+-- what a directory's entries name has been found, and nothing else
+pub record IsVisited (g : Geometry) (contents old new : List ℕ) : Type 0 where
+  pub extends : Extends old new
+  pub named : (k n : ℕ) → NamesIn contents k n → IsNumber g n → has new n ≡ true
+  pub only : (n : ℕ) → has new n ≡ true → (has old n ≡ true) ⊎ ((k : ℕ) × NamesIn contents k n × IsNumber g n)

@@ -4,9 +4,13 @@ pub mod Keys
 pub mod Least
 pub mod Linked
 pub mod Named
+pub mod Nexts
 pub mod Noted
 pub mod Reading
 pub mod Rules
+pub mod Slots
 pub mod Survey
+pub mod Unread
 pub mod Used
 pub mod Verdict
+pub mod Walk

@@ -1,5 +1,5 @@
 -- Which owners use the sectors and have the clusters of a volume, for rule 4.
-use Rattle.std.specs.Prelude.{◌≡◌, ◌≢◌, ◌⊎◌, ℕ, ◌*◌, ◌/◌, ◌<◌, ◌≤◌, true, List, [], ◌∷◌, length, get_or, Some, None}
+use Rattle.std.specs.Prelude.{◌≡◌, ◌≢◌, ◌⊎◌, ℕ, ◌*◌, ◌/◌, ◌<◌, true, List, [], ◌∷◌, length, get_or, Some, None}
 use Rattle.rbf_model.specs.Segments.{has}
 use Rattle.rbf_rules.specs.declared.uses.Owner.{Owner}
 use Rattle.rbf_rules.specs.declared.uses.Uses.{Uses}

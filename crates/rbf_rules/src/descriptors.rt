@@ -7,15 +7,12 @@ ghost use Rattle.rbf_model.specs.Faults.{IsFound};
 ghost use Rattle.rbf_rules.specs.Reading.{geometry_of, IsIdent, IsDirectory, listed};
 ghost use Rattle.rbf_rules.specs.Rules.{BreaksOwn, HasBadNumber, IsLeastBreach, number_of};
 
-use crate::directory::{Directory, entry_bytes, lie_within, read_directory};
 use crate::header::sector;
-use rbf_sector::{Ident, read_entry, read_fd};
+use rbf_sector::{Ident, read_fd};
 
 /// A rule that a descriptor breaks by itself.
 #[derive(Clone, Copy, Debug, PartialEq, Eq)]
 pub enum OwnRule {
-    /// Rule 1: the segments, and the numbers that entries name, are within the volume.
-    Numbers,
     /// Rule 5: the segments hold the size.
     Room,
     /// Rule 6: the root is a directory, and a directory has whole entries, two at least.
@@ -29,22 +26,9 @@ fn breaks(image: &[u8], ident: &Ident, rule: OwnRule, n: u32) -> bool
     ensures { MatchBool result (BreaksOwn rule (geometry_of ident.now) (sector_of image.now) n) (¬ BreaksOwn rule (geometry_of ident.now) (sector_of image.now) n) }
 {
     match rule {
-        OwnRule::Numbers => breaks_numbers(image, ident, n),
         OwnRule::Room => breaks_room(image, n),
         OwnRule::Size => breaks_size(image, ident, n),
     }
-}
-
-fn breaks_numbers(image: &[u8], ident: &Ident, n: u32) -> bool
-    requires ident { IsIdent image.now ident.now }
-    requires number { n < ident.now.total }
-    ensures { MatchBool result (BreaksOwn OwnRule.Numbers (geometry_of ident.now) (sector_of image.now) n) (¬ BreaksOwn OwnRule.Numbers (geometry_of ident.now) (sector_of image.now) n) }
-{
-    let dir = read_directory(image, ident, n);
-    if !lie_within(&dir.segs, ident) {
-        return true;
-    }
-    has_bad_number(image, ident, &dir)
 }
 
 fn breaks_room(image: &[u8], n: u32) -> bool
@@ -64,33 +48,6 @@ fn breaks_size(image: &[u8], ident: &Ident, n: u32) -> bool
         return n == ident.root;
     }
     fd.size < 64 || fd.size % 32 != 0
-}
-
-// Does a used entry name no descriptor of the volume?
-fn has_bad_number(image: &[u8], ident: &Ident, dir: &Directory) -> bool
-    requires ident { IsIdent image.now ident.now }
-    requires directory { IsDirectory image.now ident.now dir.now }
-    ensures { MatchBool result (HasBadNumber (geometry_of ident.now) (listed image.now ident.now dir.now.number)) (¬ HasBadNumber (geometry_of ident.now) (listed image.now ident.now dir.now.number)) }
-{
-    for i in 0..dir.entries {
-        if is_bad_number(image, ident, dir, i) {
-            return true;
-        }
-    }
-    false
-}
-
-fn is_bad_number(image: &[u8], ident: &Ident, dir: &Directory, i: u32) -> bool
-    requires ident { IsIdent image.now ident.now }
-    requires directory { IsDirectory image.now ident.now dir.now }
-    requires within { i < dir.now.entries }
-    ensures { MatchBool result (HasEntry (listed image.now ident.now dir.now.number) i × ¬ IsNumber (geometry_of ident.now) (descriptor_field (entry_at (listed image.now ident.now dir.now.number) i))) (HasEntry (listed image.now ident.now dir.now.number) i → IsNumber (geometry_of ident.now) (descriptor_field (entry_at (listed image.now ident.now dir.now.number) i))) }
-{
-    let entry = read_entry(&entry_bytes(image, ident, dir, i));
-    if entry.name[0] == 0 {
-        return false;
-    }
-    entry.lsn == 0 || entry.lsn >= ident.total
 }
 
 /// The least descriptor of those found that breaks the rule.

@@ -13,6 +13,7 @@ use crate::header::map_breach;
 use crate::links::{Link, list_links};
 use crate::marks::least_unmarked;
 use crate::namings::least_named_again;
+use crate::numbers::least_bad_number;
 use crate::shares::least_used_again;
 use rbf_sector::Ident;
 use std::alloc::{AllocError, Global};
@@ -62,7 +63,7 @@ fn test_files(alloc: Global, image: &[u8], ident: &Ident, found: &[u32]) -> Resu
     ensures kept { OnOk result (KeepsBefore (geometry_of ident.now) (sector_of image.now) 7) }
     ensures broken { IfErr result (IsLeastError (geometry_of ident.now) (sector_of image.now)) }
 {
-    pass(1, least_breach(image, ident, found, OwnRule::Numbers))?;
+    pass(1, least_bad_number(alloc, image, ident, found)?)?;
     pass(2, map_breach(image, ident))?;
     pass(3, least_unmarked(alloc, image, ident, found)?)?;
     pass(4, least_used_again(alloc, image, ident, found)?)?;

@@ -19,8 +19,14 @@ mod links;
 mod marks;
 mod names;
 mod namings;
+mod nexts;
+mod numbers;
+#[cfg(test)]
+mod overlapping;
 mod owners;
 mod shares;
+mod slots;
 mod survey;
+mod unread;
 mod uses;
 mod walk;

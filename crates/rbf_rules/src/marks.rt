@@ -2,13 +2,14 @@ ghost use Rattle.std.specs.Prelude.{◌≡◌, ℕ, ◌+◌, ◌/◌, ◌<◌, �
 ghost use Rattle.rbf_model.specs.Geometry.{HasMap, sector as sector_of};
 ghost use Rattle.rbf_model.specs.Space.{is_marked as is_marked_lem};
 ghost use Rattle.rbf_model.specs.Faults.{Breaks, IsFound, Reaches};
-ghost use Rattle.rbf_segs.specs.Segments.{IsSegment};
 ghost use Rattle.rbf_rules.specs.Reading.{geometry_of, IsIdent};
 ghost use Rattle.rbf_rules.specs.Rules.{IsLeastBreach};
 ghost use Rattle.rbf_rules.specs.Least.{IsLeast};
-ghost use Rattle.rbf_rules.specs.Used.{used_by, IsUnmarkedIn, AreNextUnmarked};
+ghost use Rattle.rbf_rules.specs.Nexts.{AreNexts};
+ghost use Rattle.rbf_rules.specs.Used.{used_by, IsUnmarked, IsUnmarkedIn};
 
 use crate::lesser::least_of;
+use crate::nexts::next_in_run;
 use crate::owners::list_runs;
 use rbf_sector::Ident;
 use std::alloc::{AllocError, Global};
@@ -35,7 +36,7 @@ fn is_sector_marked(image: &[u8], ident: &Ident, s: u32) -> bool
 fn list_next_unmarked(alloc: Global, image: &[u8], ident: &Ident) -> Result<Vec<u32>, AllocError>
     requires ident { IsIdent image.now ident.now }
     requires map { HasMap (geometry_of ident.now) }
-    ensures { IfOk result (λ nexts. AreNextUnmarked (geometry_of ident.now) (sector_of image.now) nexts.items) }
+    ensures { IfOk result (λ nexts. AreNexts (IsUnmarked (geometry_of ident.now) (sector_of image.now)) ident.now.total nexts.items) }
 {
     let mut nexts = vec![in alloc; ident.total; ident.total as usize]?;
     let mut next = ident.total;
@@ -46,20 +47,6 @@ fn list_next_unmarked(alloc: Global, image: &[u8], ident: &Ident) -> Result<Vec<
         nexts[s as usize] = next;
     }
     Ok(nexts)
-}
-
-// The next of the first sector of a run, if it is one of the run.
-fn next_in_run(nexts: &[u32], run: (u32, u16)) -> Option<u32>
-    requires within { run.0 + run.1 ≤ length nexts.now }
-    requires segment { IsSegment run }
-    ensures { MatchOption result (run.0 + run.1 ≤ slice_index nexts.now run.0) (λ next. (next ≡ slice_index nexts.now run.0) × (next < run.0 + run.1)) }
-{
-    let next = nexts[run.0 as usize];
-    if next < run.0 + u32::from(run.1) {
-        Some(next)
-    } else {
-        None
-    }
 }
 
 // The least sector of an owner whose cluster is not marked.
@@ -73,15 +60,15 @@ fn least_unmarked_of(
     requires ident { IsIdent image.now ident.now }
     requires segments { (lsn : ℕ) → ¬ Breaks (geometry_of ident.now) (sector_of image.now) 1 lsn }
     requires map { HasMap (geometry_of ident.now) }
-    requires nexts { AreNextUnmarked (geometry_of ident.now) (sector_of image.now) nexts.now }
+    requires nexts { AreNexts (IsUnmarked (geometry_of ident.now) (sector_of image.now)) ident.now.total nexts.now }
     requires reached { Reaches (geometry_of ident.now) (sector_of image.now) n }
     requires number { n < ident.now.total }
     ensures { IfOk result (IsLeast (IsUnmarkedIn (geometry_of ident.now) (sector_of image.now) (used_by (geometry_of ident.now) (sector_of image.now) n))) }
 {
     list_runs(image, ident, n, runs)?;
     let mut least = None;
-    for run in runs.iter() {
-        least = least_of(least, next_in_run(nexts, *run));
+    for &(first, count) in runs.iter() {
+        least = least_of(least, next_in_run(nexts, first, u32::from(count)));
     }
     Ok(least)
 }

@@ -1,7 +1,8 @@
 use Rattle.std.proofs.Common.{ℕ, List, arith, get_or, subst, sym}
 use Rattle.rbf_model.specs.Geometry.{sector}
 use Rattle.rbf_rules.specs.Reading.{geometry_of}
-use Rattle.rbf_rules.specs.Used.{IsUnmarkedIn, AreNextUnmarked, used_by}
+use Rattle.rbf_rules.specs.Nexts.{AreNexts}
+use Rattle.rbf_rules.specs.Used.{IsUnmarked, IsUnmarkedIn, used_by}
 use Rattle.rbf_rules.proofs.Least.{number_found, reached_found}
 use Rattle.rbf_rules.proofs.Leasts.{least_next}
 use Rattle.rbf_rules.proofs.Unmarked.{least_unmarked_is}
@@ -9,7 +10,7 @@ use Rattle.rbf_rules.proofs.marks.least_unmarked.Goals as goal
 
 pub least_unmarked_of-requires-clause-nexts : goal.least_unmarked_of-requires-clause-nexts
 least_unmarked_of-requires-clause-nexts c =
-    let P : List ℕ → Type 0 = λ nexts. AreNextUnmarked (geometry_of c.args.ident.now) (sector c.args.image.now) nexts in
+    let P : List ℕ → Type 0 = λ nexts. AreNexts (IsUnmarked (geometry_of c.args.ident.now) (sector c.args.image.now)) c.args.ident.now.total nexts in
     subst P (sym c.deref.ensures.value) c.in_ok-nexts.ensures
 
 pub least_unmarked_of-requires-clause-reached : goal.least_unmarked_of-requires-clause-reached

@@ -6,6 +6,6 @@ use Rattle.rbf_rules.specs.Least.{IsLeast}
 use Rattle.rbf_rules.specs.Used.{IsUnmarkedIn}
 use Rattle.rbf_rules.proofs.marks.least_unmarked_of.Given as goal
 
-abbrev pub invariant-loop-run : goal.invariant-loop-run
-invariant-loop-run l =
-    IsLeast (IsUnmarkedIn (geometry_of l.ident) (sector l.image) (sectors_of (take l.run-index l.run-items))) l.least
+abbrev pub invariant-loop-first : goal.invariant-loop-first
+invariant-loop-first l =
+    IsLeast (IsUnmarkedIn (geometry_of l.ident) (sector l.image) (sectors_of (take l.first-index l.first-items))) l.least

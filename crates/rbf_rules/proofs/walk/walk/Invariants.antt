@@ -1,15 +1,14 @@
-use Rattle.std.proofs.Common.{◌≡◌, ◌-◌, length}
+use Rattle.std.proofs.Common.{◌-◌}
 use Rattle.rbf_model.specs.Geometry.{sector}
 use Rattle.rbf_model.specs.Faults.{searched}
-use Rattle.rbf_rules.specs.Found.{IsSearch}
 use Rattle.rbf_rules.specs.Reading.{geometry_of}
+use Rattle.rbf_rules.specs.Walk.{IsSearching}
 use Rattle.rbf_rules.proofs.Walked.{IsWalked}
 use Rattle.rbf_rules.proofs.walk.walk.Given as goal
 
 abbrev pub invariant-loop-next : goal.invariant-loop-next
 invariant-loop-next l =
-    IsSearch l.search.seen.items l.search.found.items
-    × (length l.search.seen.items ≡ l.ident.total)
+    IsSearching (geometry_of l.ident) (sector l.image) l.search
     × IsWalked (geometry_of l.ident) (searched (geometry_of l.ident) (sector l.image)) l.search.found.items l.next
 
 abbrev pub decreases-loop-next : goal.decreases-loop-next
