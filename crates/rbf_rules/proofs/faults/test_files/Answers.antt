@@ -9,7 +9,7 @@ pub returns-in_err-pass-clause-broken : goal.returns-in_err-pass-clause-broken
 returns-in_err-pass-clause-broken c =
     let g = geometry_of c.args.ident.now in
     let disk = sector c.args.image.now in
-    handed_on c.from_residual.result _ (IsLeastError g disk) c.from_residual.ensures.1 (stopped g disk 1 c.in_ok-least_bad_number.field-0 c.in_err-pass.field-0.0 (none_first g disk) c.in_ok-least_bad_number.ensures c.in_err-pass.ensures)
+    handed_on c.from_residual-in_err-pass.result _ (IsLeastError g disk) c.from_residual-in_err-pass.ensures.1 (stopped g disk 1 c.in_ok-least_bad_number.field-0 c.in_err-pass.field-0.0 (none_first g disk) c.in_ok-least_bad_number.ensures c.in_err-pass.ensures)
 
 pub returns-in_err-pass-2-clause-broken : goal.returns-in_err-pass-2-clause-broken
 returns-in_err-pass-2-clause-broken c =
