@@ -46,8 +46,7 @@ impl Map {
 
     /// A map that names nothing.
     pub fn empty() -> Map
-        ensures nothing { result ≡ no_slots }
-        ensures shape { IsMap result }
+        ensures { result ≡ no_slots }
     {
         Map {
             places: [None; SLOTS],

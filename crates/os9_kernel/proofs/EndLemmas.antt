@@ -1,9 +1,8 @@
 -- What a process that ends gives up: its whole map, and one link to its primary module.
 use Rattle.std.proofs.Common.{◌≡◌, ◌≢◌, ℕ, zero, suc, ◌+◌, ◌-◌, ◌<◌, ◌==◌, true, cond, Option, Some, None, List, [], ◌∷◌, ◌++◌, length, get_or, map, count_by, refl, sym, ap, ◌∙◌, inl, inr, ◌⊎◌, arith}
-use Rattle.std.specs.Prelude.{option_map, flat_map, if◌then◌else◌}
+use Rattle.std.specs.Prelude.{nat_eq, option_map, flat_map, if◌then◌else◌}
 use Rattle.std.specs.List.{list_any}
 use Rattle.std.specs.Cmp.Lexicographic.{pointwise}
-use Rattle.std.specs.Prelude.{nat_eq}
 use Rattle.std.proofs.lemmas.List.{get_or-set_same, get_or-set_other, get_or_past, set_past, length-set, map-set}
 use Rattle.std.proofs.lemmas.List.Sums.{sum_by-append, sum_by-cons}
 use Rattle.std.proofs.lemmas.Option.{same_Some, none-some}
@@ -77,7 +76,7 @@ count_of-given pool block other = by_name (cases_eq other block)
               omega (arith, ap (λ counts. get_or counts block 0) (set_past pool.counts block (count_of pool block - 1) past), get_or_past pool.counts block 0 past)
         ]
 
-pub count_of-given_all : (pool : Blocks) (ids : List BlockId) (block : ℕ) → count_of (given_all pool ids) block ≡ count_of pool block - times block (map (λ (id : BlockId). id.0) ids)
+count_of-given_all : (pool : Blocks) (ids : List BlockId) (block : ℕ) → count_of (given_all pool ids) block ≡ count_of pool block - times block (map (λ (id : BlockId). id.0) ids)
 count_of-given_all pool [] block = omega arith
 count_of-given_all pool (first ∷ ids) block =
     omega (arith, count_of-given_all (given pool first.0) ids block, count_of-given pool first.0 block, times-cons block first.0 (map (λ (id : BlockId). id.0) ids))
@@ -98,7 +97,7 @@ IsPool-given_all pool (first ∷ ids) shape =
     })
 
 -- the blocks that stay live stand for the same objects
-pub StandFor-given_all : (number : ℕ → ℕ) (pool : Blocks) (ids : List BlockId) (objects : List (List ℕ)) → StandFor number pool objects → StandFor number (given_all pool ids) objects
+StandFor-given_all : (number : ℕ → ℕ) (pool : Blocks) (ids : List BlockId) (objects : List (List ℕ)) → StandFor number pool objects → StandFor number (given_all pool ids) objects
 StandFor-given_all number pool ids objects stand_for = record {
   same_bytes = λ block live.
       stand_for.same_bytes block (was_live block live) ∙ ap (λ all. Some (get_or all block [])) (sym (bytes-given_all pool ids));
@@ -139,7 +138,7 @@ without_link-boot : (entries : List (Option ModuleEntry)) (number : ℕ) (entry 
 without_link-boot entries number entry is boot = rw (is, boot) refl
 
 module _ (entries : List (Option ModuleEntry)) (all_boot : AreBoot entries) where
-  pub entered_groups-without_link : (primary : Option ℕ) → entered_groups (without_link entries primary) ≡ entered_groups entries
+  entered_groups-without_link : (primary : Option ℕ) → entered_groups (without_link entries primary) ≡ entered_groups entries
   entered_groups-without_link None = refl
   entered_groups-without_link (Some number) = by_entry (entry_at entries number) refl
     where
@@ -166,7 +165,7 @@ module _ (entries : List (Option ModuleEntry)) (all_boot : AreBoot entries) wher
       by_entry (Some entry) is = rw (without_link-boot entries number entry is (all_boot number entry is)) (AreBoot-with_unlinked number entry is)
 
   -- it is the same with groups of objects
-  pub renamed_modules-without_link : (rename : ℕ → ℕ) (primary : Option ℕ) → renamed_modules rename (without_link entries primary) ≡ without_link (renamed_modules rename entries) primary
+  renamed_modules-without_link : (rename : ℕ → ℕ) (primary : Option ℕ) → renamed_modules rename (without_link entries primary) ≡ without_link (renamed_modules rename entries) primary
   renamed_modules-without_link rename None = refl
   renamed_modules-without_link rename (Some number) = by_entry (entry_at entries number) refl
     where

@@ -34,7 +34,7 @@ with_cell-other objects places address byte other unnamed = by_slot (slot_of pla
     by_slot None is = refl
     by_slot (Some number) is = by_object number (λ same. unnamed (address / 8192) (is ∙ ap Some (sym same))) (slice_get objects number) refl
 
-pub with_writes-other : (objects : List (List ℕ)) (places : List (Option ℕ)) (writes : List (ℕ × ℕ)) (other : ℕ) → ((slot : ℕ) → slot_of places slot ≡ Some other → ⊥) → slice_get (with_writes objects places writes) other ≡ slice_get objects other
+with_writes-other : (objects : List (List ℕ)) (places : List (Option ℕ)) (writes : List (ℕ × ℕ)) (other : ℕ) → ((slot : ℕ) → slot_of places slot ≡ Some other → ⊥) → slice_get (with_writes objects places writes) other ≡ slice_get objects other
 with_writes-other objects places [] other unnamed = refl
 with_writes-other objects places (write ∷ writes) other unnamed =
     with_writes-other (with_cell objects places write.0 write.1) places writes other unnamed ∙ with_cell-other objects places write.0 write.1 other unnamed
@@ -81,7 +81,7 @@ cell_of_slot objects places slot offset number object within is_slot is_object =
 abbrev pub renamed : (ℕ → ℕ) → List (Option BlockId) → List (Option ℕ)
 renamed number places = map (option_map (λ (id : BlockId). number id.0)) places
 
-pub slot_of-renamed : (number : ℕ → ℕ) (places : List (Option BlockId)) (slot : ℕ) → slot_of (renamed number places) slot ≡ option_map (λ (id : BlockId). number id.0) (at places slot)
+slot_of-renamed : (number : ℕ → ℕ) (places : List (Option BlockId)) (slot : ℕ) → slot_of (renamed number places) slot ≡ option_map (λ (id : BlockId). number id.0) (at places slot)
 slot_of-renamed number [] slot = refl
 slot_of-renamed number (place ∷ places) zero = refl
 slot_of-renamed number (place ∷ places) (suc slot) = slot_of-renamed number places slot
@@ -149,7 +149,7 @@ module _ (number : ℕ → ℕ) (slots : Slots BlockId) (pool : Blocks) (objects
           rw (slot_of-renamed number slots.places (address / 8192), is, stand_for.same_bytes id.0 alive, live) refl
 
   -- the objects make a map where the blocks do
-  pub IsMap-renamed : IsSlotMap slots → IsMap objects places
+  IsMap-renamed : IsSlotMap slots → IsMap objects places
   IsMap-renamed map = record {
     there = λ slot object named.
         let here = names slot object named in

@@ -66,7 +66,13 @@ pub record IsAnswered (old new : Kernel) (regs : Regs) : Type 0 where
   pub tick : new.tick ≡ old.tick
   pub chosen : new.chosen ≡ old.chosen
 
-module _ (old : Kernel) (terms : List Screen) (number : ℕ → ℕ) (objects : List (List ℕ)) (stand_for : StandFor number old.pool objects) (chosen : old.chosen ≡ true) where
+module _ (old : Kernel) (terms : List Screen) (s : State) (stood : Stands old terms s) (chosen : old.chosen ≡ true) where
+  abbrev number : ℕ → ℕ
+  number = stood.number
+
+  abbrev objects : List (List ℕ)
+  objects = stood.objects
+
   abbrev here : State
   here = state_of old number objects terms
 
@@ -77,22 +83,22 @@ module _ (old : Kernel) (terms : List Screen) (number : ℕ → ℕ) (objects : 
   names_live = NamesLive-counted old.pool old.map old.dir old.counted
 
   same : cells_of objects places ≡ cells old
-  same = cells_of-renamed number old.map old.pool objects stand_for names_live
+  same = cells_of-renamed number old.map old.pool objects stood.stand_for names_live
 
   abbrev Goes_on : EventEnd → Kernel → Type 0
-  Goes_on end new = (t : State) × Event here end t × Stands new terms t
+  Goes_on end new = (t : State) × Event s end t × Stands new terms t
 
   -- an event of the process is one of the machine
-  acts : (activity : Activity) → old.activity ≡ activity → (end : EventEnd) (t : State) → Acts activity here 2 (process_of old number) end t → Event here end t
+  acts : (activity : Activity) → old.activity ≡ activity → (end : EventEnd) (t : State) → Acts activity here 2 (process_of old number) end t → Event s end t
   acts activity is end t does =
-      (2, process_of old number, rw chosen refl, refl, subst (λ activity. Acts activity here 2 (process_of old number) end t) (sym is) does)
+      rw stood.is (2, process_of old number, rw chosen refl, refl, subst (λ activity. Acts activity here 2 (process_of old number) end t) (sym is) does)
 
   -- the process goes on after a call, which may have changed the terminals
   goes_on_tied : (new : Kernel) (regs : Regs) → IsAnswered old new regs → (now screens : List Screen) → now ≡ screens → Stands new now (record (answered here 2 (process_of old number) regs) { terms = screens })
   goes_on_tied new regs has now screens is = record {
     number = number;
     objects = objects;
-    stand_for = rw has.pool stand_for;
+    stand_for = rw has.pool stood.stand_for;
     is = rw (is, has.regs_are, has.activity, has.map, has.dir, has.primary, has.tick, has.chosen) refl;
   }
 
@@ -103,7 +109,7 @@ module _ (old : Kernel) (terms : List Screen) (number : ℕ → ℕ) (objects : 
     sees : Sees new after
     sees = record { map = ap (λ map. map.now) kept.beside.map ∙ kept.saw.map ∙ sym kept.map; pool = kept.pool }
 
-    executes : (end : EventEnd) (t : State) → Executes (step_of (cells old) old.regs) here 2 (process_of old number) end t → Event here end t
+    executes : (end : EventEnd) (t : State) → Executes (step_of (cells old) old.regs) here 2 (process_of old number) end t → Event s end t
     executes end t does = acts Running running end t (rw same does)
 
     -- the state that the new kernel stands for, with these registers and objects
@@ -118,7 +124,7 @@ module _ (old : Kernel) (terms : List Screen) (number : ℕ → ℕ) (objects : 
     -- nothing was written
     StandFor-kept : cells new ≡ cells old → StandFor number new.pool objects
     StandFor-kept is =
-        StandFor-stored number old.map old.pool objects stand_for names_live old.whole old.shape new.pool beyond [] refl (ap (λ slots. block_cells slots new.pool) (sym kept.map) ∙ is)
+        StandFor-stored number old.map old.pool objects stood.stand_for names_live old.whole old.shape new.pool beyond [] refl (ap (λ slots. block_cells slots new.pool) (sym kept.map) ∙ is)
 
     abbrev Left : Outcome → Stop → Type 0
     Left outcome stop = Leaves outcome stop old.regs new.regs (cells old) (cells new)
@@ -139,7 +145,7 @@ module _ (old : Kernel) (terms : List Screen) (number : ℕ → ℕ) (objects : 
             let named : all_named (cells_of objects places) effect.writes ≡ true = rw same (all_named-step (cells old) old.regs effect is) in
             let written = with_writes objects places effect.writes in
             let stored = ap (λ slots. block_cells slots new.pool) (sym kept.map) ∙ left.2 in
-            let stand_after = StandFor-stored number old.map old.pool objects stand_for names_live old.whole old.shape new.pool beyond effect.writes named stored in (
+            let stand_after = StandFor-stored number old.map old.pool objects stood.stand_for names_live old.whole old.shape new.pool beyond effect.writes named stored in (
               state_of (record old { regs = effect.regs }) number written terms,
               executes Ran _ (rw is (refl, refl)),
               tied effect.regs old.activity written left.1 doing stand_after,
@@ -166,16 +172,16 @@ module _ (old : Kernel) (terms : List Screen) (number : ℕ → ℕ) (objects : 
         by_outcome (Calls code past) is left doing last ends = cc (left.0)
         by_outcome (Aborts other) is left doing last ends =
             let same_status : other ≡ status = cc (left.0) in
-            let stood = tied old.regs old.activity objects left.1 doing (StandFor-kept left.2) in
+            let still = tied old.regs old.activity objects left.1 doing (StandFor-kept left.2) in
             let same_process : process_of new number ≡ process_of old number = rw (left.1, kept.map, kept.primary, doing) refl in (
               ended here 2 (process_of old number) other,
               executes Ended _ (rw is (refl, refl)),
-              rw same_status (subst (λ process. Stands last terms (ended here 2 process status)) same_process (ends here stood)),
+              rw same_status (subst (λ process. Stands last terms (ended here 2 process status)) same_process (ends here still)),
             )
 
   -- F$Exit
-  pub exits : old.activity ≡ Calling 0x06 → (last : Kernel) → Stands last terms (ended here 2 (process_of old number) old.regs.b) → Goes_on Ended last
-  exits calling last stands = (ended here 2 (process_of old number) old.regs.b, acts (Calling 0x06) calling Ended _ (refl, refl), stands)
+  pub exits : old.activity ≡ Calling 0x06 → (last : Kernel) → Stands last terms (ended s 2 (process_of old number) old.regs.b) → Goes_on Ended last
+  exits calling last stands = (ended here 2 (process_of old number) old.regs.b, acts (Calling 0x06) calling Ended _ (refl, refl), subst (λ from. Stands last terms (ended from 2 (process_of old number) old.regs.b)) stood.is stands)
 
   -- a code that is no call's
   pub refuses : IsUnknownCall old.activity → (new : Kernel) → IsAnswered old new (refused old.regs 208) → Goes_on Ran new
@@ -192,7 +198,7 @@ module _ (old : Kernel) (terms : List Screen) (number : ℕ → ℕ) (objects : 
   -- I$WritLn
   module _ (calling : old.activity ≡ Calling 0x8C) (now : List Screen) (new : Kernel) where
     abbrev Goes_on_now : Type 0
-    Goes_on_now = (t : State) × Event here Ran t × Stands new now t
+    Goes_on_now = (t : State) × Event s Ran t × Stands new now t
 
     abbrev the_line : Option (List ℕ)
     the_line = line_at (cells old) old.regs.x old.regs.y
@@ -205,7 +211,7 @@ module _ (old : Kernel) (terms : List Screen) (number : ℕ → ℕ) (objects : 
         (MatchOption (slice_get terms 0) ⊥ (λ screen. PutsLine here 2 (process_of old number) line screen t))
         (t ≡ answered here 2 (process_of old number) (refused old.regs 201)))
 
-    answers : (line : Option (List ℕ)) → the_line ≡ line → (t : State) → Answer line t → Event here Ran t
+    answers : (line : Option (List ℕ)) → the_line ≡ line → (t : State) → Answer line t → Event s Ran t
     answers line is t answer = acts (Calling 0x8C) calling Ran t (refl, rw (same, is) answer)
 
     pub written : (count : ℕ) → IsLineAnswer the_line old.regs.a (Written count) terms now → IsAnswered old new (done (record old.regs { y = count })) → Goes_on_now

@@ -5,7 +5,7 @@ use Rattle.os9_kernel.proofs.kernel.Kernel.instruction.Goals as goal
 pub returns-in-Next-clause-step : goal.returns-in-Next-clause-step
 returns-in-Next-clause-step c terms s stood =
     let old = c.args.self.now in
-    rw stood.is (next old terms stood.number stood.objects stood.stand_for c.requires.chosen c.requires.running _ c.view.result c.step.new.b (record {
+    next old terms s stood c.requires.chosen c.requires.running _ c.view.result c.step.new.b (record {
       map = refl;
       dir = refl;
       primary = refl;
@@ -14,12 +14,12 @@ returns-in-Next-clause-step c terms s stood =
       saw = record { map = ap (λ map. map.now) c.view.ensures.map; pool = c.view.ensures.bytes };
       pool = refl;
       beside = c.in-Next.ensures.beside;
-    }) c.in-Next.ensures.step refl)
+    }) c.in-Next.ensures.step refl
 
 pub returns-in-Call-clause-step : goal.returns-in-Call-clause-step
 returns-in-Call-clause-step c terms s stood =
     let old = c.args.self.now in
-    rw stood.is (calls old terms stood.number stood.objects stood.stand_for c.requires.chosen c.requires.running _ c.view.result c.step.new.b (record {
+    calls old terms s stood c.requires.chosen c.requires.running _ c.view.result c.step.new.b (record {
       map = refl;
       dir = refl;
       primary = refl;
@@ -28,12 +28,12 @@ returns-in-Call-clause-step c terms s stood =
       saw = record { map = ap (λ map. map.now) c.view.ensures.map; pool = c.view.ensures.bytes };
       pool = refl;
       beside = c.in-Call.ensures.beside;
-    }) c.in-Call.code c.in-Call.ensures.step refl)
+    }) c.in-Call.code c.in-Call.ensures.step refl
 
 pub returns-in-Abort-clause-step : goal.returns-in-Abort-clause-step
 returns-in-Abort-clause-step c terms s stood =
     let old = c.args.self.now in
-    rw stood.is (aborts old terms stood.number stood.objects stood.stand_for c.requires.chosen c.requires.running _ c.view.result c.step.new.b (record {
+    aborts old terms s stood c.requires.chosen c.requires.running _ c.view.result c.step.new.b (record {
       map = refl;
       dir = refl;
       primary = refl;
@@ -42,4 +42,4 @@ returns-in-Abort-clause-step c terms s stood =
       saw = record { map = ap (λ map. map.now) c.view.ensures.map; pool = c.view.ensures.bytes };
       pool = refl;
       beside = c.in-Abort.ensures.beside;
-    }) c.in-Abort.status c.in-Abort.ensures.step refl c.end.new.self (c.end.ensures.ended terms))
+    }) c.in-Abort.status c.in-Abort.ensures.step refl c.end.new.self (c.end.ensures.ended terms)

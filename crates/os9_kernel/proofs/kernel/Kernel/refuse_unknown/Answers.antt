@@ -4,7 +4,7 @@ use Rattle.os9_kernel.proofs.kernel.Kernel.refuse_unknown.Goals as goal
 
 pub returns-clause-step : goal.returns-clause-step
 returns-clause-step c terms s stood =
-    rw (stood.is, c.refuse.ensures) (refuses c.args.self.now terms stood.number stood.objects stood.stand_for c.requires.chosen c.requires.calling _ (record {
+    rw c.refuse.ensures (refuses c.args.self.now terms s stood c.requires.chosen c.requires.calling _ (record {
       regs_are = refl;
       activity = refl;
       pool = refl;
