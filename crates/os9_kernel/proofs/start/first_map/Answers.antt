@@ -15,11 +15,11 @@ returns-in_err-map_low-clause-wants c =
     let p = err_from_is_err_and c.from_residual.result c.from_residual.ensures.1 in
     rw p.1
     (area_wants c.args.low c.args.group.now.len (free_count c.args.pool.now) c.in_err-map_low.field-0.0 c.requires.low c.requires.enough
-    (rw c.empty-map.ensures.nothing at c.in_err-map_low.ensures.no_slot) (rw c.empty-map.ensures.nothing at c.in_err-map_low.ensures.no_block))
+    (rw c.empty-map.ensures at c.in_err-map_low.ensures.no_slot) (rw c.empty-map.ensures at c.in_err-map_low.ensures.no_block))
 
 -- the area stands in the map
 gained : (c : In_ok-map_low) → GainsLow c.args.low no_slots c.args.pool.now c.map_low.new.self c.map_low.new.pool
-gained c = subst (λ (old : Slots BlockId). GainsLow c.args.low old c.args.pool.now c.map_low.new.self c.map_low.new.pool) c.empty-map.ensures.nothing c.in_ok-map_low.ensures.gains
+gained c = subst (λ (old : Slots BlockId). GainsLow c.args.low old c.args.pool.now c.map_low.new.self c.map_low.new.pool) c.empty-map.ensures c.in_ok-map_low.ensures.gains
 
 pub map_group-requires-clause-group_live : goal.map_group-requires-clause-group_live
 map_group-requires-clause-group_live c =
