@@ -17,6 +17,23 @@ use module_format::next_module;
 use proc_model::group::{BlockId, Group};
 use proc_model::module::{ModuleFault, ModuleInfo, ModuleStep};
 
+/// A module that is refused: where it begins, and the number of the error.
+#[derive(Clone, Copy, Debug, PartialEq, Eq)]
+pub struct Refusal {
+    pub at: u32,
+    pub error: u8,
+}
+
+impl From<Refusal> for BootFault {
+    ghost use Rattle.machine_model.specs.declared.ends.BootFault.TheVariants.{BadModule};
+
+    ghost from_gives = { λ refusal fault. fault ≡ BadModule refusal.at refusal.error };
+
+    fn from(refusal: Refusal) -> BootFault {
+        BootFault::BadModule(refusal.at, refusal.error)
+    }
+}
+
 /// Takes blocks for a file and copies it there, zeros behind it: a group.
 pub fn load_group(pool: &mut Pool, file: &[u8]) -> Group
     requires short { length file.now ≤ 57344 }
@@ -52,24 +69,11 @@ fn load_block(pool: &mut Pool, bytes: &[u8]) -> BlockId
     id
 }
 
-/// A module that is refused: where it begins, and the number of the error.
-#[derive(Clone, Copy, Debug, PartialEq, Eq)]
-pub struct Refusal {
-    pub at: u32,
-    pub error: u8,
-}
-
-impl From<Refusal> for BootFault {
-    ghost use Rattle.machine_model.specs.declared.ends.BootFault.TheVariants.{BadModule};
-
-    ghost from_gives = { λ refusal fault. fault ≡ BadModule refusal.at refusal.error };
-
-    fn from(refusal: Refusal) -> BootFault {
-        BootFault::BadModule(refusal.at, refusal.error)
-    }
-}
-
 /// Enters the modules of a file, in order, as one group of the boot file.
+///
+/// # Errors
+///
+/// The first module that is refused; those before it are entered.
 pub fn enter_modules(dir: &mut Dir, file: &[u8], group: Group) -> Result<(), Refusal>
     requires short { length file.now ≤ 57344 }
     ensures entered { OnOk result (Enters file.now (blocks_of group) true 0 dir.old (Ok dir.new)) }
@@ -81,16 +85,6 @@ pub fn enter_modules(dir: &mut Dir, file: &[u8], group: Group) -> Result<(), Ref
         enter_module(dir, info, group)?;
     }
     Ok(())
-}
-
-fn fault_number(fault: ModuleFault) -> u8
-    ensures { result ≡ fault_number_lem fault }
-{
-    match fault {
-        ModuleFault::BadSync => 205,
-        ModuleFault::BadParity => 236,
-        ModuleFault::BadCrc => 232,
-    }
 }
 
 /// The module that stands next in a file from a place on, if there is one.
@@ -124,5 +118,16 @@ fn enter_module(dir: &mut Dir, info: ModuleInfo, group: Group) -> Result<(), Ref
         Ok(_) => Ok(()),
         Err(DirFault::Known) => Err(Refusal { at, error: 231 }),
         Err(DirFault::DirFull) => Err(Refusal { at, error: 206 }),
+    }
+}
+
+/// The error of a module that breaks a rule of its own.
+fn fault_number(fault: ModuleFault) -> u8
+    ensures { result ≡ fault_number_lem fault }
+{
+    match fault {
+        ModuleFault::BadSync => 205,
+        ModuleFault::BadParity => 236,
+        ModuleFault::BadCrc => 232,
     }
 }

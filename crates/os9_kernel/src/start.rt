@@ -44,6 +44,12 @@ impl Kernel {
 
     /// A kernel that starts the first program of a boot file, `SysGo` (Level Two manual,
     /// "Booting"). Only this call takes memory.
+    ///
+    /// # Errors
+    ///
+    /// `BadModule` for the first module of the file that is refused, by its place and its error;
+    /// `NoFirst` where none is the first program; `TooLarge` where the file has more than seven
+    /// blocks of 8,192 bytes, or more than eight together with the program's data area.
     pub fn new(alloc: Global, config: Config, boot: &[u8]) -> Result<Kernel, BootFault>
         requires least { 8 ≤ config.blocks }
         requires most { config.blocks ≤ 256 }
