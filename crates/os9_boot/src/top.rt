@@ -69,12 +69,7 @@ pub fn os9_main<H: Host>(alloc: Global, words: &[String], host: &mut H, devices:
 }
 
 /// Does a command, and tells why it ended.
-fn do_command<H: Host>(
-    alloc: Global,
-    command: &Command,
-    host: &mut H,
-    devices: &mut Devices,
-) -> u8
+fn do_command<H: Host>(alloc: Global, command: &Command, host: &mut H, devices: &mut Devices) -> u8
     requires terminals { 0 < vec_len devices.old.terms }
     requires files { HasOneFile command.now }
     requires blocks { HasBlocks command.now }
@@ -132,7 +127,14 @@ fn run_modules<H: Host>(alloc: Global, run: &RunWords, host: &mut H, devices: &m
         Err(LineFault::OutOfMemory) => return End::NoMemory,
     };
     let config = Config { blocks: run.blocks };
-    boot(alloc, config, file.as_slice(), slices.as_slice(), host, devices)
+    boot(
+        alloc,
+        config,
+        file.as_slice(),
+        slices.as_slice(),
+        host,
+        devices,
+    )
 }
 
 /// Runs the program of a boot file over these slices.
