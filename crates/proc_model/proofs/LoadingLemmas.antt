@@ -1,5 +1,5 @@
 -- What becomes of the modules of a file is one thing.
-use Rattle.std.proofs.Common.{◌≡◌, ◌+◌, ℕ, Bool, Option, Some, None, Result, Ok, Err, List, refl, subst}
+use Rattle.std.proofs.Common.{◌≡◌, ◌+◌, ℕ, Bool, Option, Result, List, refl, subst}
 use Rattle.proc_model.specs.ModuleList.{ModuleEntry}
 use Rattle.proc_model.specs.Loading.{Enters, at_end, broken, refused, entered, with_module}
 
