@@ -1,12 +1,12 @@
 -- A boot file comes to one end.
-use Rattle.std.proofs.Common.{◌≡◌, ◌<◌, ◌≤◌, ◌+◌, ◌⊎◌, ℕ, Option, Some, None, Result, Ok, Err, List, length, refl, sym, ap, ◌∙◌, subst, inl, inr, arith}
+use Rattle.std.proofs.Common.{◌≡◌, ◌<◌, ◌≤◌, ◌+◌, ℕ, Option, None, Result, Ok, Err, List, length, refl, sym, ap, ◌∙◌, inl, inr, arith}
 use Rattle.proc_model.specs.ModuleList.{ModuleEntry, entry_at}
 use Rattle.proc_model.proofs.LoadingLemmas.{Enters-one}
 use Rattle.device_table.specs.Screens.{Screen}
 use Rattle.machine_model.specs.declared.ends.BootFault.{BootFault}
 use Rattle.machine_model.specs.declared.ends.BootFault.TheVariants.{OutOfMemory, BadModule, NoFirst, TooLarge}
 use Rattle.machine_model.specs.State.{State}
-use Rattle.machine_model.specs.Start.{EntersBoot, HasFirst, Starts, Refuses, start_of, first_program, data_blocks, file_blocks, room_for, longest_file}
+use Rattle.machine_model.specs.Start.{EntersBoot, HasFirst, Starts, Refuses, first_program, data_blocks, file_blocks, room_for, longest_file}
 
 -- a file enters one list of entries
 entries-one : (file : List ℕ) (entries others : List (Option ModuleEntry)) → EntersBoot file (Ok entries) → EntersBoot file (Ok others) → entries ≡ others

@@ -1,5 +1,5 @@
 -- The state in which a boot file starts (Level Two manual, "Booting"; the first process is this project's own).
-use Rattle.std.specs.Prelude.{◌≡◌, ◌⊎◌, ℕ, ◌+◌, ◌-◌, ◌*◌, ◌/◌, ◌<◌, ◌≤◌, true, max, min, Option, Some, None, Result, Ok, Err, List, [], ◌∷◌, ◌++◌, length, map, take, drop, replicate, codes}
+use Rattle.std.specs.Prelude.{◌≡◌, ◌⊎◌, ℕ, ◌+◌, ◌-◌, ◌*◌, ◌/◌, ◌<◌, ◌≤◌, true, max, min, Option, Some, None, Result, Ok, Err, List, ◌∷◌, ◌++◌, length, map, take, drop, replicate, codes}
 use Rattle.std.specs.List.{range_with_len}
 use Rattle.os9_base.specs.declared.registers.Regs.{Regs}
 use Rattle.proc_model.specs.Slots.{Slots}

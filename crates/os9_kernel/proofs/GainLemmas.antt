@@ -1,13 +1,12 @@
 -- New blocks, one group of them after another.
-use Rattle.std.proofs.Common.{◌≡◌, ◌≢◌, ◌+◌, ◌-◌, ◌<◌, ◌*◌, ◌≤◌, ◌==◌, min, ℕ, zero, suc, true, false, Option, Some, None, IfNone, IfSome, List, [], ◌∷◌, ◌++◌, length, get_or, set, take, drop, replicate, map, cond, count_by, All, AllPairs, ◌⊎◌, inl, inr, refl, sym, ap, ◌∙◌, subst, arith}
+use Rattle.std.proofs.Common.{◌≡◌, ◌≢◌, ◌+◌, ◌-◌, ◌<◌, ◌*◌, ◌≤◌, ◌==◌, min, ℕ, suc, List, [], ◌∷◌, ◌++◌, length, get_or, set, take, drop, replicate, map, cond, All, ◌⊎◌, inl, inr, refl, sym, ap, ◌∙◌, subst, arith}
 use Rattle.std.proofs.Common.{zero-add}
 use Rattle.std.proofs.Math.Seq.{take-append-add}
-use Rattle.std.proofs.lemmas.List.{append-nil, nil_from_length, take_all, drop_all, take_at, drop_at, take-take, take-append-le, length-take-le, length-replicate, take-replicate, drop-replicate, set-set, length-set, length-append, get_or-set_same, get_or-set_other, map-append, get_or_past}
+use Rattle.std.proofs.lemmas.List.{append-nil, nil_from_length, take_all, drop_all, take_at, drop_at, take-take, take-append-le, length-take-le, length-replicate, take-replicate, drop-replicate, set-set, length-set, length-append, get_or-set_same, get_or-set_other, map-append}
 use Rattle.std.proofs.lemmas.List.Elements.{All-nil, All-set, All-cons, All-head, All-tail, All-append, All-weaker}
-use Rattle.std.proofs.lemmas.List.Kept.{AllPairs-cons}
 use Rattle.std.proofs.lemmas.List.Sums.{sum_by-cons, sum_by-append, get_or-le-sum_by}
 use Rattle.std.proofs.lemmas.Bool.{cases_eq, cases_lt, cond-true, cond-false, eq-eqb, ne_eqb}
-use Rattle.block_pool.specs.Blocks.{Blocks, IsPool, IsFree, IsLive, count_of, block_bytes, free_count, with_count, with_bytes, taken, overwritten}
+use Rattle.block_pool.specs.Blocks.{Blocks, IsPool, IsFree, IsLive, count_of, block_bytes, with_count, with_bytes, taken, overwritten}
 use Rattle.machine_model.specs.Start.{block_of, zero_object}
 use Rattle.block_map.specs.Takes.{Takes}
 use Rattle.proc_model.specs.declared.group.BlockId.{BlockId}

@@ -1,5 +1,5 @@
 -- Where the modules of a file lie, and what comes of them.
-use Rattle.std.proofs.Common.{◌≡◌, ◌+◌, ◌-◌, ◌<◌, ◌≤◌, ◌==◌, ◌&&◌, ℕ, zero, suc, Bool, true, false, Option, Some, None, option_and_then, Result, Ok, Err, IfOk, ◌⊎◌, inl, inr, List, [], ◌∷◌, length, get_or, drop, replicate, position, if◌then◌else◌, refl, sym, ap, ◌∙◌, subst, arith}
+use Rattle.std.proofs.Common.{◌≡◌, ◌+◌, ◌<◌, ◌≤◌, ◌==◌, ◌&&◌, ℕ, zero, suc, Bool, true, false, Option, Some, None, option_and_then, Result, IfOk, ◌⊎◌, inl, inr, List, [], ◌∷◌, length, get_or, drop, replicate, position, if◌then◌else◌, refl, sym, ap, ◌∙◌, subst, arith}
 use Rattle.std.specs.Option.{option_map_or}
 use Rattle.std.proofs.lemmas.List.{length-drop}
 use Rattle.std.proofs.lemmas.List.Quantifiers.{position-Some}
@@ -7,12 +7,11 @@ use Rattle.std.proofs.lemmas.Option.{none-some, same_Some, slice_get-get_or}
 use Rattle.std.proofs.lemmas.Bool.{and_parts, ltb-true, false≢true}
 use Rattle.proc_model.specs.Loading.{Enters, at_end, broken, refused, entered, no_entries, with_module}
 use Rattle.proc_model.specs.ModuleList.{ModuleEntry, entry_at, passes, free_number, new_entry, with_entry}
-use Rattle.proc_model.specs.Module.{step_at, step_from, next_place, module_fault, module_size, module_entry, crc_offset, header_length, info_at, keeps_header_rule, keeps_parity_rule, keeps_crc_rule, has_sync, has_size, has_name, has_entry}
+use Rattle.proc_model.specs.Module.{step_from, next_place, module_fault, module_size, module_entry, crc_offset, info_at, keeps_header_rule, has_sync, has_size, has_name, has_entry}
 use Rattle.proc_model.proofs.ModuleLaws.{Fits, fits_from}
 use Rattle.proc_model.specs.declared.module.ModuleFault.{ModuleFault}
-use Rattle.proc_model.specs.declared.module.ModuleFault.TheVariants.{BadSync, BadParity, BadCrc}
+use Rattle.proc_model.specs.declared.module.ModuleFault.TheVariants.{BadSync}
 use Rattle.proc_model.specs.declared.module.ModuleInfo.{ModuleInfo}
-use Rattle.proc_model.specs.declared.module.ModuleStep.{ModuleStep}
 use Rattle.proc_model.specs.declared.module.ModuleStep.TheVariants.{Module, End, Fault}
 
 -- a module lies in a file, from a place on

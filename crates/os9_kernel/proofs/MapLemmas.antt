@@ -1,16 +1,16 @@
 -- The map of the first process, before a group stands in it.
-use Rattle.std.proofs.Common.{◌≡◌, ◌+◌, ◌-◌, ◌<◌, ◌≤◌, ℕ, Option, Some, None, Result, Err, ◌↔◌, ◌⊎◌, inl, inr, List, length, get_or, replicate, All, refl, sym, ap, ◌∙◌, subst, arith}
+use Rattle.std.proofs.Common.{◌≡◌, ◌+◌, ◌-◌, ◌<◌, ◌≤◌, ℕ, Option, Some, None, Result, Err, ◌↔◌, inl, inr, List, length, get_or, replicate, refl, sym, ap, ◌∙◌, arith}
 use Rattle.std.proofs.lemmas.List.{get_or-replicate, get_or_past, length-replicate, length-map, get_or-map}
-use Rattle.std.proofs.lemmas.Option.{none-some, same_Some}
+use Rattle.std.proofs.lemmas.Option.{none-some}
 use Rattle.std.proofs.lemmas.Bool.{cases_lt}
-use Rattle.block_pool.specs.Blocks.{Blocks, IsFree, IsLive, free_count}
+use Rattle.block_pool.specs.Blocks.{Blocks, IsLive}
 use Rattle.block_map.specs.Takes.{Takes}
 use Rattle.block_map.specs.declared.map.MapFault.{MapFault}
 use Rattle.block_map.specs.declared.map.MapFault.TheVariants.{NoSlot, NoBlock}
 use Rattle.block_map.proofs.Places.{at, at-put}
 use Rattle.block_map.proofs.Counts.{Takes-free}
 use Rattle.proc_model.specs.declared.group.BlockId.{BlockId}
-use Rattle.proc_model.specs.Slots.{Slots, no_slots, place_of, Names, IsFreeRun, IsHighestFreeRun, naming, with_low}
+use Rattle.proc_model.specs.Slots.{no_slots, place_of, Names, IsFreeRun, IsHighestFreeRun, naming, with_low}
 
 -- a call that answers T is refused with a fault, and that is this one
 abbrev pub Refuses : (T : Type 0) → MapFault → MapFault → Type 0

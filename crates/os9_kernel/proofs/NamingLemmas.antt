@@ -1,10 +1,10 @@
 -- How often the blocks of the start are named: by the map of the first process, and by the one group that is entered.
-use Rattle.std.proofs.Common.{◌≡◌, ◌+◌, ◌-◌, ◌<◌, ◌≤◌, ◌==◌, ◌||◌, ◌&&◌, ℕ, zero, suc, nat_eq, Bool, true, false, Option, Some, None, ◌⊎◌, inl, inr, List, [], ◌∷◌, ◌++◌, length, get_or, set, take, drop, replicate, map, flat_map, cond, All, refl, sym, ap, ◌∙◌, subst, arith}
+use Rattle.std.proofs.Common.{◌≡◌, ◌+◌, ◌-◌, ◌<◌, ◌≤◌, ◌==◌, ◌||◌, ◌&&◌, ℕ, zero, suc, nat_eq, Bool, true, false, Option, Some, None, ◌⊎◌, inl, inr, List, [], ◌∷◌, ◌++◌, length, take, drop, replicate, map, flat_map, cond, All, refl, sym, ap, ◌∙◌, arith}
 use Rattle.std.specs.Prelude.{if◌then◌else◌}
 use Rattle.std.specs.List.{list_any}
 use Rattle.std.specs.Cmp.Lexicographic.{pointwise}
 use Rattle.std.proofs.Math.Seq.{take-append-add}
-use Rattle.std.proofs.lemmas.List.{append-nil, append_assoc, map-append, length-append, length-map, length-set, length-replicate, take-replicate, drop-replicate, drop_all, get_or-set_same, get_or-set_other}
+use Rattle.std.proofs.lemmas.List.{append-nil, length-append, length-map, length-set, length-replicate, take-replicate, drop-replicate, drop_all, get_or-set_same, get_or-set_other}
 use Rattle.std.proofs.lemmas.List.Elements.{All-head, All-tail, All-weaker, filter_map-append}
 use Rattle.std.proofs.lemmas.Option.{none-some}
 use Rattle.std.proofs.lemmas.Bool.{cases_eq, cond-true, cond-false, eq-eqb, ne_eqb}
@@ -15,7 +15,7 @@ use Rattle.proc_model.specs.Slots.{Slots, naming, named_in, put_places}
 use Rattle.proc_model.specs.declared.group.BlockId.{BlockId}
 use Rattle.os9_kernel.specs.Load.{times_in}
 use Rattle.os9_kernel.specs.Namings.{namings, mapped_blocks}
-use Rattle.os9_kernel.proofs.EndLemmas.{times, times-cons, times-append, times-namings}
+use Rattle.os9_kernel.proofs.EndLemmas.{times, times-cons, times-namings}
 use Rattle.os9_kernel.proofs.GainLemmas.{times_in-cons, times_in-append}
 
 -- the numbers of blocks

@@ -1,11 +1,11 @@
 -- The modules of a file are entered in the same way whatever the numbers of their group are.
-use Rattle.std.proofs.Common.{◌≡◌, ◌+◌, ◌==◌, ◌&&◌, ◌||◌, ℕ, nat_le, Bool, Option, Some, None, is_none, option_map, Result, Ok, Err, List, [], ◌∷◌, map, cond, position, refl, sym, ap, ◌∙◌, subst}
+use Rattle.std.proofs.Common.{◌≡◌, ◌+◌, ◌==◌, ◌||◌, ℕ, Bool, Option, Some, None, is_none, option_map, Result, Ok, Err, List, [], ◌∷◌, map, cond, position, refl, sym, ap, ◌∙◌, subst}
 use Rattle.std.specs.Option.{option_map_or}
 use Rattle.std.specs.Prelude.{if◌then◌else◌}
 use Rattle.std.proofs.lemmas.List.{map-set}
 use Rattle.std.proofs.lemmas.List.Sums.{sum_by-cons}
 use Rattle.module_dir.proofs.Lists.{position-map, position-is_none}
-use Rattle.proc_model.specs.ModuleList.{ModuleEntry, passes, some_entry, is_known, is_shadowed, answers_to, found, room_of, free_number, new_entry, with_entry, linked}
+use Rattle.proc_model.specs.ModuleList.{ModuleEntry, passes, some_entry, is_known, is_shadowed, answers_to, found, room_of, free_number, new_entry, with_entry}
 use Rattle.proc_model.specs.Loading.{Enters, at_end, broken, refused, entered, refusal_of, with_module}
 use Rattle.proc_model.specs.declared.module.ModuleInfo.{ModuleInfo}
 use Rattle.os9_kernel.specs.Tie.{renamed_entry, renamed_modules}

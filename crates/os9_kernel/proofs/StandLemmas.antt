@@ -1,5 +1,5 @@
 -- The objects that live blocks stand for, while blocks are taken, written and shared.
-use Rattle.std.proofs.Common.{◌≡◌, ◌≢◌, ◌+◌, ◌<◌, ◌≤◌, ◌==◌, ℕ, Option, Some, None, List, [], ◌∷◌, ◌++◌, length, get_or, slice_get, slice_set, map, cond, if◌then◌else◌, All, AllPairs, ◌⊎◌, inl, inr, refl, sym, ap, ◌∙◌, subst, arith}
+use Rattle.std.proofs.Common.{◌≡◌, ◌≢◌, ◌+◌, ◌<◌, ◌==◌, ℕ, Some, List, [], ◌∷◌, ◌++◌, length, get_or, slice_get, slice_set, map, if◌then◌else◌, All, AllPairs, ◌⊎◌, inl, inr, refl, sym, ap, ◌∙◌, arith}
 use Rattle.std.specs.List.{range_with_len}
 use Rattle.std.proofs.lemmas.List.{length-map, get_or-map, get_or-set_same, get_or-set_other}
 use Rattle.std.proofs.lemmas.List.Elements.{All-head, All-tail, All-weaker}
@@ -13,7 +13,7 @@ use Rattle.block_map.proofs.Places.{same_id}
 use Rattle.machine_model.specs.Start.{zero_object}
 use Rattle.machine_model.proofs.ObjectLemmas.{slice_get-set_same, slice_get-set_other}
 use Rattle.proc_model.specs.declared.group.BlockId.{BlockId}
-use Rattle.os9_kernel.specs.Load.{Gains, times_in}
+use Rattle.os9_kernel.specs.Load.{Gains}
 use Rattle.os9_kernel.specs.Tie.{StandFor}
 use Rattle.os9_kernel.proofs.ListLemmas.{AllPairs-head, AllPairs-tail, slice_get-left, slice_get-right}
 use Rattle.os9_kernel.proofs.GainLemmas.{Gains-old, Takes-Gains, times_in-where}

@@ -1,15 +1,14 @@
 -- What stands at the start of a kernel is the machine's start state, or the boot file is refused.
-use Rattle.std.proofs.Common.{◌≡◌, ◌≢◌, ◌+◌, ◌-◌, ◌*◌, ◌/◌, ◌<◌, ◌≤◌, ◌==◌, ℕ, zero, suc, codes, max, min, Bool, true, false, Option, Some, None, option_map, Result, Ok, Err, List, [], ◌∷◌, ◌++◌, length, get_or, set, take, drop, replicate, map as map_of, count_by, cond, if◌then◌else◌, All, inl, inr, refl, sym, ap, ◌∙◌, subst, zero-add, arith}
+use Rattle.std.proofs.Common.{◌≡◌, ◌+◌, ◌-◌, ◌*◌, ◌<◌, ◌≤◌, ◌==◌, ℕ, zero, suc, codes, Bool, true, false, Option, Some, None, option_map, Ok, Err, List, [], ◌∷◌, ◌++◌, length, get_or, set, drop, replicate, map as map_of, count_by, cond, if◌then◌else◌, All, inl, inr, refl, sym, ap, ◌∙◌, subst, zero-add, arith}
 use Rattle.std.specs.List.{range_with_len}
 use Rattle.std.proofs.lemmas.List.{map-append, length-map, length-set, length-replicate, take-replicate, drop-replicate, set_split, get_or-replicate, get_or_past}
 use Rattle.std.proofs.lemmas.List.Elements.{All-weaker}
 use Rattle.std.proofs.lemmas.List.FromFn.{length-map-range_with_len}
 use Rattle.std.proofs.lemmas.List.Sums.{sum_by-cons, count_by-le-length}
 use Rattle.std.proofs.lemmas.Bool.{cases_lt}
-use Rattle.os9_base.specs.declared.registers.Regs.{Regs}
 use Rattle.block_pool.specs.Blocks.{Blocks, IsPool, IsLive, count_of, block_bytes, free_count, shared}
-use Rattle.block_map.specs.Takes.{Takes, shared_all, group_blocks}
-use Rattle.block_map.proofs.Counts.{Takes-live, live-within}
+use Rattle.block_map.specs.Takes.{shared_all, group_blocks}
+use Rattle.block_map.proofs.Counts.{live-within}
 use Rattle.device_table.specs.Screens.{Screen}
 use Rattle.module_dir.specs.declared.dir.ModId.{ModId}
 use Rattle.proc_model.specs.Group.{blocks_of}
@@ -19,20 +18,20 @@ use Rattle.proc_model.proofs.ModuleListLaws.{entry_at-with_entry_same}
 use Rattle.proc_model.specs.Slots.{Slots, no_slots, naming, named_in, with_low, with_group}
 use Rattle.proc_model.specs.declared.group.BlockId.{BlockId}
 use Rattle.proc_model.specs.declared.group.Group.{Group}
-use Rattle.machine_model.specs.State.{State, Process}
+use Rattle.machine_model.specs.State.{State}
 use Rattle.machine_model.specs.declared.activity.Activity.TheVariants.{Running}
 use Rattle.machine_model.specs.declared.ends.BootFault.TheVariants.{BadModule, NoFirst, TooLarge}
-use Rattle.machine_model.specs.Start.{data_size, data_blocks, file_blocks, boot_group, EntersBoot, first_program, room_for, HasFirst, Refuses, Starts, zero_object, block_of, objects_of, first_objects, first_map, first_regs, only_process, start_of}
+use Rattle.machine_model.specs.Start.{data_size, data_blocks, file_blocks, boot_group, EntersBoot, first_program, HasFirst, Refuses, Starts, zero_object, block_of, objects_of, first_objects, first_map, first_regs, only_process, start_of}
 use Rattle.os9_kernel.specs.declared.kernel.Kernel.{Kernel}
-use Rattle.os9_kernel.specs.Load.{Gains, IsLoaded, times_in}
+use Rattle.os9_kernel.specs.Load.{Gains, IsLoaded}
 use Rattle.os9_kernel.specs.Start.{IsFirstMap}
 use Rattle.os9_kernel.specs.Namings.{AreCounted, AreBoot}
-use Rattle.os9_kernel.specs.Tie.{StandFor, Stands, renamed_map, renamed_entry, renamed_modules, process_of, state_of}
+use Rattle.os9_kernel.specs.Tie.{StandFor, Stands, renamed_map, renamed_entry, renamed_modules, state_of}
 use Rattle.os9_kernel.proofs.EndLemmas.{entry_at-renamed, entry_within}
 use Rattle.os9_kernel.proofs.GainLemmas.{Gains-old, Gains-new, Gains-live, Takes-Gains}
 use Rattle.os9_kernel.proofs.ListLemmas.{map_same, map-map}
 use Rattle.os9_kernel.proofs.LoadLemmas.{IsOfFile, AreOfFile, AreOfFile-none, Enters-of_file, entry_at-with_entry, found_entry}
-use Rattle.os9_kernel.proofs.NamingLemmas.{HaveGroup, numbers_of, between, first_places, named_in-first_places, entered_groups-one, count_of-shared_all-times, times-start}
+use Rattle.os9_kernel.proofs.NamingLemmas.{between, first_places, named_in-first_places, entered_groups-one, count_of-shared_all-times, times-start}
 use Rattle.os9_kernel.proofs.RenameLemmas.{found-renamed, with_entry-renamed, Enters-renamed}
 use Rattle.os9_kernel.proofs.StandLemmas.{numbered, numbered-other, map-numbered, StandFor-none, StandFor-gains, StandFor-shared_all}
 

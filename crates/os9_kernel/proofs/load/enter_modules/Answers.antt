@@ -1,10 +1,9 @@
-use Rattle.std.proofs.Common.{◌≡◌, ◌+◌, ℕ, Option, Some, None, Result, Err, List, ap, subst, sym, true, arith}
+use Rattle.std.proofs.Common.{◌≡◌, ℕ, Err, subst, sym, true, arith}
 use Rattle.std.proofs.lemmas.Result.{err_from_is_err_and}
 use Rattle.proc_model.specs.Group.{blocks_of}
-use Rattle.proc_model.specs.Loading.{Enters, at_end, broken, refused, entered, refusal_of}
+use Rattle.proc_model.specs.Loading.{Enters, at_end, broken, refused, entered}
 use Rattle.proc_model.specs.Module.{step_from}
-use Rattle.proc_model.specs.ModuleList.{ModuleEntry}
-use Rattle.proc_model.specs.declared.module.ModuleStep.TheVariants.{Module, End}
+use Rattle.proc_model.specs.declared.module.ModuleStep.TheVariants.{Module}
 use Rattle.os9_kernel.proofs.LoadLemmas.{LiesIn-step}
 use Rattle.os9_kernel.proofs.load.enter_modules.Goals as goal
 use Rattle.os9_kernel.proofs.load.enter_modules.Goals.{In-Some}

@@ -1,10 +1,10 @@
-use Rattle.std.proofs.Common.{◌≡◌, ◌+◌, ◌<◌, ◌≤◌, ℕ, List, length, get_or, sym, ap, ◌∙◌, subst, arith}
+use Rattle.std.proofs.Common.{◌≤◌, ℕ, length, get_or, ap, ◌∙◌, subst, arith}
 use Rattle.std.proofs.lemmas.Result.{err_from_is_err_and}
-use Rattle.block_pool.specs.Blocks.{Blocks, count_of, free_count}
+use Rattle.block_pool.specs.Blocks.{free_count}
 use Rattle.block_map.specs.Takes.{GainsLow, group_blocks}
 use Rattle.block_map.proofs.Counts.{Takes-live}
 use Rattle.proc_model.specs.declared.group.BlockId.{BlockId}
-use Rattle.proc_model.specs.Slots.{Slots, no_slots, Names, IsFreeRun, IsHighestFreeRun, with_low, with_group}
+use Rattle.proc_model.specs.Slots.{Slots, no_slots, Names, with_low, with_group}
 use Rattle.os9_kernel.proofs.GainLemmas.{Takes-Gains, count_of-old}
 use Rattle.os9_kernel.proofs.MapLemmas.{area_wants, group_wants, group_fits, live-unnamed}
 use Rattle.os9_kernel.proofs.start.first_map.Goals as goal
