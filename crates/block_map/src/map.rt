@@ -8,16 +8,19 @@ ghost use Rattle.block_map.specs.Takes.{AreNew, shared_all, given_all, NamesLive
 use block_pool::pool::Pool;
 use proc_model::group::{BlockId, Group};
 use std::marker::Model;
+use thiserror::Error;
 
 /// How many slots a map has.
 pub const SLOTS: usize = 8;
 
 /// Why a map cannot name more.
-#[derive(Clone, Copy, Debug, PartialEq, Eq)]
+#[derive(Clone, Copy, Debug, PartialEq, Eq, Error)]
 pub enum MapFault {
     /// The slots that are wanted are not free.
+    #[error("too few free slots")]
     NoSlot,
     /// The pool has too few free blocks.
+    #[error("too few free blocks")]
     NoBlock,
 }
 

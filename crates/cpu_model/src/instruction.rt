@@ -1,3 +1,5 @@
+use thiserror::Error;
+
 /// The part of the opcode map that an opcode stands in: no prefix, `10` or `11`.
 #[derive(Clone, Copy, Debug, PartialEq, Eq)]
 pub enum Page {
@@ -25,10 +27,12 @@ pub struct Instr {
 }
 
 /// Why bytes are no instruction.
-#[derive(Clone, Copy, Debug, PartialEq, Eq)]
+#[derive(Clone, Copy, Debug, PartialEq, Eq, Error)]
 pub enum DecodeFault {
     /// No documented instruction is spelled so.
+    #[error("no documented instruction")]
     NotDocumented,
     /// The bytes are the beginning of one.
+    #[error("the bytes end inside an instruction")]
     Short,
 }

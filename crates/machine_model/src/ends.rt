@@ -1,3 +1,5 @@
+use thiserror::Error;
+
 /// How an event of the chosen process ended.
 #[derive(Clone, Copy, Debug, PartialEq, Eq)]
 pub enum EventEnd {
@@ -23,15 +25,19 @@ pub enum SliceEnd {
 }
 
 /// Why a boot file does not start.
-#[derive(Clone, Copy, Debug, PartialEq, Eq)]
+#[derive(Clone, Copy, Debug, PartialEq, Eq, Error)]
 pub enum BootFault {
     /// Memory is wanting.
+    #[error("no memory")]
     OutOfMemory,
     /// A module of the file is refused: where it begins, and the number of the error.
+    #[error("boot module {1} at {0}")]
     BadModule(u32, u8),
     /// The file has no program `SysGo` in 6809 code.
+    #[error("boot no SysGo")]
     NoFirst,
     /// The file is longer than a group of modules may be, or there are too few blocks or slots for
     /// it and the data area of `SysGo`.
+    #[error("boot too large")]
     TooLarge,
 }

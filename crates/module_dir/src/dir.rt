@@ -10,6 +10,7 @@ use proc_model::group::Group;
 use proc_model::module::ModuleInfo;
 use std::alloc::{AllocError, Global};
 use std::marker::Model;
+use thiserror::Error;
 
 /// How many modules may be entered.
 const PLACES: usize = 64;
@@ -19,11 +20,13 @@ const PLACES: usize = 64;
 pub struct ModId(pub u8);
 
 /// Why a module is not entered.
-#[derive(Clone, Copy, Debug, PartialEq, Eq)]
+#[derive(Clone, Copy, Debug, PartialEq, Eq, Error)]
 pub enum DirFault {
     /// An entry of its name and type has its revision or a greater one: error 231.
+    #[error("known module")]
     Known,
     /// The directory is full: error 206.
+    #[error("module directory full")]
     DirFull,
 }
 

@@ -1,5 +1,8 @@
+use thiserror::Error;
+
 /// Want of memory, where it is the only way in which a call can fail.
-#[derive(Clone, Copy, Debug, PartialEq, Eq)]
+#[derive(Clone, Copy, Debug, PartialEq, Eq, Error)]
+#[error("no memory")]
 pub struct OutOfMemory;
 
 /// How an attempt of a system call ended.

@@ -3,12 +3,14 @@ ghost use Rattle.std.specs.Result.{result_ok};
 ghost use Rattle.os9_base.specs.Name.{lower as lower_lem, low_bits as low_bits_lem, is_name_character as is_name_character_lem, is_stored_character as is_stored_character_lem, name_run, parsed_name, stored_name, SameName, IsName, EndsName};
 
 use std::marker::Model;
+use thiserror::Error;
 
 /// The most characters that a name has.
 const LONGEST: usize = 29;
 
 /// The bytes are no name.
-#[derive(Clone, Copy, Debug, PartialEq, Eq)]
+#[derive(Clone, Copy, Debug, PartialEq, Eq, Error)]
+#[error("bad name")]
 pub struct BadName;
 
 /// A name of a file, a device or a module: 1 to 29 characters, each from `!` to `~` but `/`.

@@ -13,13 +13,16 @@ use device_table::devices::Devices;
 use os9_kernel::{Kernel, SliceEnd};
 use os9_outer::host::{Host, HostFault};
 use os9_outer::terminal::CharDriver;
+use thiserror::Error;
 
 /// Why a run stopped before its end.
-#[derive(Clone, Copy, Debug, PartialEq, Eq)]
+#[derive(Clone, Copy, Debug, PartialEq, Eq, Error)]
 pub enum Stop {
     /// The output stream could not be written.
+    #[error("the output could not be written")]
     Output,
     /// Memory is wanting.
+    #[error("no memory")]
     NoMemory,
 }
 

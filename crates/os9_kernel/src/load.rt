@@ -16,9 +16,11 @@ use module_dir::{Dir, DirFault};
 use module_format::next_module;
 use proc_model::group::{BlockId, Group};
 use proc_model::module::{ModuleFault, ModuleInfo, ModuleStep};
+use thiserror::Error;
 
 /// A module that is refused: where it begins, and the number of the error.
-#[derive(Clone, Copy, Debug, PartialEq, Eq)]
+#[derive(Clone, Copy, Debug, PartialEq, Eq, Error)]
+#[error("module {error} at {at}")]
 pub struct Refusal {
     pub at: u32,
     pub error: u8,

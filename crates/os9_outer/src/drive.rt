@@ -3,13 +3,20 @@ ghost use Rattle.os9_base.specs.Count.{Rose};
 ghost use Rattle.os9_outer.specs.Drive.{fault_number, sectors_of, sector_at, with_sector};
 ghost use Rattle.os9_outer.specs.declared.drive.DriveFault.{DriveFault};
 
+use thiserror::Error;
+
 /// A drive's fault (System Programmer's Manual, error codes).
-#[derive(Clone, Copy, Debug, PartialEq, Eq)]
+#[derive(Clone, Copy, Debug, PartialEq, Eq, Error)]
 pub enum DriveFault {
+    #[error("write protect")]
     WriteProtect,
+    #[error("read error")]
     ReadFault,
+    #[error("write error")]
     WriteFault,
+    #[error("not ready")]
     NotReady,
+    #[error("seek error")]
     SeekFault,
 }
 

@@ -3,12 +3,16 @@ ghost use Rattle.os9_base.specs.Count.{Rose};
 ghost use Rattle.os9_outer.specs.Host.{contents_of, OnFailed, UnlessFailed, WhereTold, KeepsOrHoldsPrefix};
 ghost use Rattle.os9_outer.specs.Stream.{appended, GainsPrefix};
 
+use thiserror::Error;
+
 /// Why a call of a [`Host`] was not done.
-#[derive(Clone, Copy, Debug, PartialEq, Eq)]
+#[derive(Clone, Copy, Debug, PartialEq, Eq, Error)]
 pub enum HostFault {
     /// The file or the stream failed. The host counts it.
+    #[error("the host failed")]
     Failed,
     /// Memory is wanting.
+    #[error("no memory")]
     OutOfMemory,
 }
 

@@ -4,6 +4,8 @@ ghost use Rattle.os9_outer.specs.Stream.{appended, emptied};
 ghost use Rattle.os9_outer.specs.Terminal.{due_byte, keys_after, OnFault, UnlessFault};
 ghost use Rattle.os9_outer.specs.declared.terminal.Key.{Key};
 
+use thiserror::Error;
+
 /// A key of a terminal, and the tick from which on it is due.
 #[derive(Clone, Copy, Debug, PartialEq, Eq)]
 pub struct Key {
@@ -12,15 +14,18 @@ pub struct Key {
 }
 
 /// A terminal could not be asked for a key.
-#[derive(Clone, Copy, Debug, PartialEq, Eq)]
+#[derive(Clone, Copy, Debug, PartialEq, Eq, Error)]
+#[error("the terminal failed")]
 pub struct TermFault;
 
 /// Why a byte was not put on a terminal.
-#[derive(Clone, Copy, Debug, PartialEq, Eq)]
+#[derive(Clone, Copy, Debug, PartialEq, Eq, Error)]
 pub enum PutFault {
     /// The terminal failed. It counts it.
+    #[error("the terminal failed")]
     Fault,
     /// Memory is wanting.
+    #[error("no memory")]
     OutOfMemory,
 }
 

@@ -1,13 +1,17 @@
 use os9_base::name::Name;
+use thiserror::Error;
 
 /// The rules that a module can break, in the order in which they are tested.
-#[derive(Clone, Copy, Debug, PartialEq, Eq)]
+#[derive(Clone, Copy, Debug, PartialEq, Eq, Error)]
 pub enum ModuleFault {
     /// The header rule, error 205: sync bytes, size, name and execution offset.
+    #[error("bad module header")]
     BadSync,
     /// The parity rule, error 236.
+    #[error("bad header parity")]
     BadParity,
     /// The CRC rule, error 232.
+    #[error("bad module CRC")]
     BadCrc,
 }
 

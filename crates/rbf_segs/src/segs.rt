@@ -3,12 +3,14 @@ ghost use Rattle.rbf_segs.specs.Segments.{segment_sectors, sectors_of, appended,
 
 use crate::run_list::{last_sector, lengthened, sector_at, shorten, total};
 use std::marker::Model;
+use thiserror::Error;
 
 /// The most runs that a file descriptor has room for (System Programmer's Manual, FD.SEG).
 pub const MAX_RUNS: usize = 48;
 
 /// No run can be added: the list has [`MAX_RUNS`].
-#[derive(Clone, Copy, Debug, PartialEq, Eq)]
+#[derive(Clone, Copy, Debug, PartialEq, Eq, Error)]
+#[error("segment list full")]
 pub struct SegsFull;
 
 /// The sectors of a file in order, as at most [`MAX_RUNS`] runs: pairs of a first sector, below
