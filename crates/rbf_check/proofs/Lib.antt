@@ -4,4 +4,5 @@ pub mod Listed
 pub mod Noted
 pub mod Surveys
 pub mod Told
+pub mod Verdicts
 pub mod Whole

@@ -4,7 +4,7 @@ use Rattle.std.specs.Prelude.{Contains}
 use Rattle.std.proofs.lemmas.Bool.{cases_eq}
 use Rattle.std.proofs.lemmas.List.{take_more, get_or-set_same, get_or-set_other, length-set}
 use Rattle.std.proofs.lemmas.List.Elements.{Contains-append_left, Contains-append_cases, Contains-push}
-use Rattle.rbf_rules.specs.declared.links.Link.{Link}
+use Rattle.rbf_search.specs.declared.links.Link.{Link}
 use Rattle.rbf_check.specs.Places.{ArePlaces}
 
 same_some : (one other : Link) (o : Option Link) → o ≡ Some one → o ≡ Some other → one ≡ other

@@ -19,11 +19,11 @@ use Rattle.rbf_model.proofs.Free.{free_clusters_are}
 use Rattle.rbf_model.proofs.Owners.{cluster_positive}
 use Rattle.rbf_model.proofs.Keeps.{searched_is, number_of_reached}
 use Rattle.rbf_model.proofs.Built.{sound_from_keeps}
-use Rattle.rbf_rules.specs.declared.links.Link.{Link}
-use Rattle.rbf_rules.specs.declared.survey.Survey.{Survey}
-use Rattle.rbf_rules.specs.Reading.{geometry_of}
-use Rattle.rbf_rules.specs.Survey.{IsSurvey}
-use Rattle.rbf_rules.proofs.Owned.{header_of}
+use Rattle.rbf_search.specs.declared.links.Link.{Link}
+use Rattle.rbf_check.specs.declared.survey.Survey.{Survey}
+use Rattle.rbf_search.specs.Reading.{geometry_of}
+use Rattle.rbf_check.specs.Survey.{IsSurvey}
+use Rattle.rbf_search.proofs.Headers.{header_of}
 use Rattle.rbf_check.proofs.Counted.{ceil_is}
 use Rattle.rbf_check.specs.Places.{ArePlaces}
 use Rattle.rbf_check.specs.Surveyed.{volume_from}

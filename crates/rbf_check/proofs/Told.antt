@@ -9,10 +9,10 @@ use Rattle.rbf_model.specs.Geometry.{sector}
 use Rattle.rbf_model.specs.Segments.{has}
 use Rattle.rbf_model.specs.File.{DiskFile, file_at}
 use Rattle.rbf_model.specs.Faults.{Reaches}
-use Rattle.rbf_rules.specs.declared.links.Link.{Link}
-use Rattle.rbf_rules.specs.declared.survey.Survey.{Survey}
-use Rattle.rbf_rules.specs.Reading.{geometry_of}
-use Rattle.rbf_rules.specs.Survey.{IsSurvey}
+use Rattle.rbf_search.specs.declared.links.Link.{Link}
+use Rattle.rbf_check.specs.declared.survey.Survey.{Survey}
+use Rattle.rbf_search.specs.Reading.{geometry_of}
+use Rattle.rbf_check.specs.Survey.{IsSurvey}
 use Rattle.rbf_check.specs.declared.tree.Node.{Node}
 use Rattle.rbf_check.specs.Surveyed.{volume_from, AreNodesBelow}
 use Rattle.rbf_check.specs.Tree.{TellsFile, TellsNode, IsPlaced}

@@ -1,4 +1,6 @@
 pub mod Clusters
 pub mod Places
+pub mod Survey
 pub mod Surveyed
 pub mod Tree
+pub mod Verdict

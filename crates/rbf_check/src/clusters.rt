@@ -5,8 +5,8 @@ ghost use Rattle.rbf_model.specs.Segments.{sectors_of};
 ghost use Rattle.rbf_model.specs.File.{file_at};
 ghost use Rattle.rbf_model.specs.Space.{owned};
 ghost use Rattle.rbf_model.specs.Faults.{Reaches};
-ghost use Rattle.rbf_rules.specs.Reading.{geometry_of};
-ghost use Rattle.rbf_rules.specs.Survey.{IsSurvey};
+ghost use Rattle.rbf_search.specs.Reading.{geometry_of};
+ghost use Rattle.rbf_check.specs.Survey.{IsSurvey};
 ghost use Rattle.rbf_check.specs.Clusters.{NotesClusters, AreUsed};
 
 use rbf_rules::{Survey, sector};

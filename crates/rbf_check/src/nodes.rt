@@ -2,7 +2,7 @@ ghost use Rattle.std.specs.Prelude.{◌≡◌, ◌+◌, ◌*◌, ◌≤◌, All,
 ghost use Rattle.rbf_model.specs.Fields.{segments_field};
 ghost use Rattle.rbf_model.specs.Geometry.{sector as sector_of};
 ghost use Rattle.rbf_model.specs.File.{file_at};
-ghost use Rattle.rbf_rules.specs.Survey.{IsSurvey};
+ghost use Rattle.rbf_check.specs.Survey.{IsSurvey};
 ghost use Rattle.rbf_check.specs.Surveyed.{AreNodesBelow};
 ghost use Rattle.rbf_check.specs.Tree.{TellsFile};
 

@@ -1,5 +1,5 @@
 ghost use Rattle.std.specs.Prelude.{IfErr, IfOk};
-ghost use Rattle.rbf_rules.specs.Verdict.{IsErrorOf};
+ghost use Rattle.rbf_check.specs.Verdict.{IsErrorOf};
 ghost use Rattle.rbf_check.specs.Tree.{IsTreeOf};
 
 use crate::nodes::read_nodes;

@@ -1,6 +1,6 @@
 use Rattle.std.proofs.Common.{◌+◌, ◌-◌, ◌/◌, ◌%◌, ◌==◌, ◌∙◌, ap, get_or}
 use Rattle.std.proofs.lemmas.Nat.Bits.{shr_and_one}
-use Rattle.rbf_rules.proofs.Owned.{mark_is}
+use Rattle.rbf_search.proofs.Headers.{mark_is}
 use Rattle.rbf_check.proofs.space.is_marked.Goals as goal
 
 pub returns : goal.returns

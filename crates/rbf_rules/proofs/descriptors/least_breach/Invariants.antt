@@ -1,8 +1,0 @@
-use Rattle.rbf_model.specs.Geometry.{sector}
-use Rattle.rbf_rules.specs.Reading.{geometry_of}
-use Rattle.rbf_rules.proofs.Least.{IsLeastAmong}
-use Rattle.rbf_rules.proofs.descriptors.least_breach.Given as goal
-
-abbrev pub invariant-loop-n : goal.invariant-loop-n
-invariant-loop-n l =
-    IsLeastAmong l.rule (geometry_of l.ident) (sector l.image) l.found l.n-index l.least

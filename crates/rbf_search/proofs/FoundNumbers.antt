@@ -1,0 +1,26 @@
+-- The numbers of descriptors that are found.
+use Rattle.std.proofs.Common.{◌≡◌, ℕ, ◌+◌, ◌<◌, ◌≤◌, true, List, length, get_or, min, Option, Some, None, MatchOption, refl, sym, ap, ◌∙◌, subst, inl, inr, ⊎_elim, arith}
+use Rattle.std.proofs.lemmas.Bool.{cases_lt}
+use Rattle.std.proofs.lemmas.List.{get_or_default}
+use Rattle.rbf_model.specs.Geometry.{Geometry, sector, IsHeader}
+use Rattle.rbf_model.specs.File.{file_at, is_directory}
+use Rattle.rbf_model.specs.Segments.{has}
+use Rattle.rbf_model.specs.Faults.{Breaks, IsFound, Reaches, searched}
+use Rattle.rbf_model.specs.Faults.Breaks.{bad_number, bad_segment, bad_map, unmarked, used_twice, shared, no_room, no_root, bad_size, no_dots, bad_name, same_name, named_twice, named_root}
+use Rattle.rbf_model.specs.Tree.Reached.{root}
+use Rattle.rbf_model.proofs.Bytes.{has_place, place_of}
+use Rattle.rbf_model.proofs.Keeps.{number_of_reached}
+use Rattle.rbf_sector.specs.declared.ident.Ident.{Ident}
+use Rattle.rbf_search.specs.Reading.{geometry_of, IsIdent}
+use Rattle.rbf_search.specs.Least.{IsLeastBreach}
+
+-- a number that is found is one of the volume
+pub number_found : (image : List ℕ) (ident : Ident) (found : List ℕ) (i : ℕ) → IsIdent image ident → IsFound (geometry_of ident) (sector image) found → i < length found → get_or found i 0 < ident.total
+number_found image ident found i whole is low =
+    let P : Geometry → Type 0 = λ g. IsHeader g in
+    let header : IsHeader (geometry_of ident) = subst P whole.geometry whole.header.header in
+    (number_of_reached (geometry_of ident) (searched (geometry_of ident) (sector image)) header ((is (get_or found i 0)).0 (has_place found i low))).below
+
+-- and is reached
+pub reached_found : (g : Geometry) (disk : ℕ → List ℕ) (found : List ℕ) (i : ℕ) → IsFound g disk found → i < length found → Reaches g disk (get_or found i 0)
+reached_found g disk found i is low = (is (get_or found i 0)).0 (has_place found i low)

@@ -1,0 +1,14 @@
+pub mod Cases
+pub mod FoundNumbers
+pub mod Headers
+pub mod Leasts
+pub mod Led
+pub mod Linking
+pub mod Runs
+pub mod Searched
+pub mod Searching
+pub mod SlotsRead
+pub mod Slotted
+pub mod Tables
+pub mod Visits
+pub mod Walked

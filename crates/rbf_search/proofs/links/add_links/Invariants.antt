@@ -1,0 +1,7 @@
+use Rattle.rbf_search.specs.Linked.{AreAdded}
+use Rattle.rbf_search.specs.Reading.{geometry_of, listed}
+use Rattle.rbf_search.proofs.links.add_links.Given as goal
+
+abbrev pub invariant-loop-i : goal.invariant-loop-i
+invariant-loop-i l =
+    AreAdded (geometry_of l.ident) (listed l.image l.ident l.dir.number) l.dir.number l.fn.links.items l.links.items l.i

@@ -1,0 +1,16 @@
+use Rattle.std.proofs.Common.{◌-◌, ◌*◌, ◌≤◌}
+use Rattle.rbf_model.specs.Geometry.{sector}
+use Rattle.rbf_search.specs.Reading.{geometry_of}
+use Rattle.rbf_search.specs.Walk.{IsSearching}
+use Rattle.rbf_search.proofs.SlotsRead.{AreReadTo}
+use Rattle.rbf_search.proofs.walk.Search.read_run.Given as goal
+
+abbrev pub invariant-loop-e : goal.invariant-loop-e
+invariant-loop-e l =
+    IsSearching (geometry_of l.ident) (sector l.image) l.self
+    × AreReadTo (geometry_of l.ident) (sector l.image) l.first l.end l.fn.self.found.items l.self.found.items l.e
+    × (l.first ≤ l.e)
+    × (l.e ≤ 8 * l.ident.total)
+
+abbrev pub decreases-loop-e : goal.decreases-loop-e
+decreases-loop-e l = l.end - l.e

@@ -1,0 +1,57 @@
+ghost use Rattle.std.specs.Prelude.{◌≡◌, ◌+◌, ℕ, ◌*◌, ◌/◌, ◌<◌, ◌≤◌, length, MatchBool, MatchOption};
+ghost use Rattle.rbf_model.specs.Geometry.{HasHeader, IsHeader, map_sectors, sector as sector_of};
+ghost use Rattle.rbf_model.specs.Space.{is_marked as is_marked_lem};
+ghost use Rattle.rbf_search.specs.Reading.{geometry_of, IsIdent};
+
+use rbf_sector::{Ident, read_ident};
+
+/// The 256 bytes of a sector.
+pub fn sector(image: &[u8], n: u32) -> [u8; 256]
+    requires { 256 * (n + 1) ≤ length image.now }
+    ensures { result ≡ sector_of image.now n }
+{
+    let at = 256 * n as usize;
+    let mut bytes = [0; 256];
+    bytes.copy_from_slice(&image[at..at + 256]);
+    bytes
+}
+
+/// The identification of an image, where it has the header of a volume that it holds.
+pub fn read_header(image: &[u8]) -> Option<Ident>
+    ensures { MatchOption result (¬ HasHeader image.now) (IsIdent image.now) }
+{
+    if image.len() < 256 {
+        return None;
+    }
+    let ident = read_ident(&sector(image, 0));
+    if is_header(&ident) && 256 * ident.total as usize <= image.len() {
+        Some(ident)
+    } else {
+        None
+    }
+}
+
+// Does this project take a volume of this size, with these clusters and this root?
+fn is_header(ident: &Ident) -> bool
+    ensures { MatchBool result (IsHeader (geometry_of ident.now)) (¬ IsHeader (geometry_of ident.now)) }
+{
+    let size = 4 <= ident.total && ident.total <= 524_280;
+    let clusters = matches!(ident.cluster, 1 | 2 | 4 | 8 | 16 | 32 | 64);
+    let root = 1 <= ident.root && ident.root < ident.total;
+    size && clusters && root
+}
+
+/// How many sectors the system has, from LSN 0 on: the identification sector, and those of the map.
+pub fn system_sectors(ident: &Ident) -> u16
+    ensures { result ≡ 1 + map_sectors (geometry_of ident.now) }
+{
+    1 + ident.map_bytes.div_ceil(256)
+}
+
+/// Does the map mark this cluster?
+pub fn is_marked(image: &[u8], c: u32) -> bool
+    requires { 256 + c / 8 < length image.now }
+    ensures { result ≡ is_marked_lem (sector_of image.now) c }
+{
+    image[256 + c as usize / 8] >> (7 - c % 8) & 1 == 1
+}

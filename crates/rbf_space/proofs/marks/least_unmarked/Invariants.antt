@@ -1,0 +1,10 @@
+use Rattle.std.proofs.Common.{get_or}
+use Rattle.rbf_model.specs.Geometry.{sector}
+use Rattle.rbf_search.specs.Reading.{geometry_of}
+use Rattle.rbf_search.specs.Least.{IsLeast, Before}
+use Rattle.rbf_space.specs.Used.{IsUnmarkedIn, used_by}
+use Rattle.rbf_space.proofs.marks.least_unmarked.Given as goal
+
+abbrev pub invariant-loop-n : goal.invariant-loop-n
+invariant-loop-n l =
+    IsLeast (Before (λ k. IsUnmarkedIn (geometry_of l.ident) (sector l.image) (used_by (geometry_of l.ident) (sector l.image) (get_or l.found k 0))) l.n-index) l.least

@@ -1,0 +1,11 @@
+use Rattle.std.proofs.Common.{take}
+use Rattle.rbf_model.specs.Geometry.{sector}
+use Rattle.rbf_model.specs.Segments.{sectors_of}
+use Rattle.rbf_search.specs.Reading.{geometry_of}
+use Rattle.rbf_search.specs.Least.{IsLeast}
+use Rattle.rbf_space.specs.Used.{IsUnmarkedIn}
+use Rattle.rbf_space.proofs.marks.least_unmarked_of.Given as goal
+
+abbrev pub invariant-loop-first : goal.invariant-loop-first
+invariant-loop-first l =
+    IsLeast (IsUnmarkedIn (geometry_of l.ident) (sector l.image) (sectors_of (take l.first-index l.first-items))) l.least

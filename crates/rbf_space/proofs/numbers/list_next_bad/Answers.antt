@@ -1,0 +1,32 @@
+use Rattle.std.proofs.Common.{ℕ, ◌-◌, ◌*◌, subst, sym, arith, rules}
+use Rattle.rbf_model.specs.Geometry.{sector}
+use Rattle.rbf_search.specs.Reading.{geometry_of}
+use Rattle.rbf_space.specs.Rules.{IsBadSlot}
+use Rattle.rbf_space.specs.Nexts.{IsNext}
+use Rattle.rbf_space.proofs.NextTables.{IsFilled, filled_none, filled_more, filled_all, next_with, next_without}
+use Rattle.rbf_space.proofs.numbers.list_next_bad.Goals as goal
+use Rattle.rbf_space.proofs.numbers.list_next_bad.Goals.{then-is_bad_slot, else-is_bad_slot}
+
+pub loop-e-init : goal.loop-e-init
+loop-e-init c =
+    filled_none (IsBadSlot (geometry_of c.args.ident.now) (sector c.args.image.now)) (8 * c.args.ident.now.total) c.in_ok-nexts.nexts.items (search (rules, c.in_ok-nexts.ensures.len, c.in_ok-nexts.nexts.ok.0))
+
+pub loop-e-preserved : goal.loop-e-preserved
+loop-e-preserved c =
+    let B = IsBadSlot (geometry_of c.args.ident.now) (sector c.args.image.now) in
+    let slots = 8 * c.args.ident.now.total in
+    let e = c.loop-e.e in
+    let next = c.if-is_bad_slot.next in
+    let P : ℕ → Type 0 = λ n. IsNext B slots (e - 1) n in
+    let here : IsNext B slots (e - 1) next = elim c.if-is_bad_slot.branch [
+      | then-is_bad_slot w ↦ subst P (sym w.next-is) (next_with B slots (e - 1) (omega arith) w.if-is_bad_slot.ensures)
+      | else-is_bad_slot w ↦ subst P (sym w.next-is) (next_without B slots e c.loop-e.next (omega arith) c.loop-e.invariant.here (λ bad. w.if-is_bad_slot.ensures bad))
+    ] in
+    filled_more B slots c.loop-e.nexts.items e c.loop-e.next next (omega arith) (omega arith) c.loop-e.invariant here
+
+pub returns : goal.returns
+returns c =
+    let B = IsBadSlot (geometry_of c.args.ident.now) (sector c.args.image.now) in
+    let slots = 8 * c.args.ident.now.total in
+    let P : ℕ → Type 0 = λ e. IsFilled B slots c.loop-e.nexts.items e c.loop-e.next in
+    filled_all B slots c.loop-e.nexts.items c.loop-e.next (subst P (omega arith) c.loop-e.invariant)

@@ -1,0 +1,4 @@
+pub mod Nexts
+pub mod Noted
+pub mod Rules
+pub mod Used

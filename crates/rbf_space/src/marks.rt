@@ -1,0 +1,89 @@
+ghost use Rattle.std.specs.Prelude.{◌≡◌, ℕ, ◌+◌, ◌/◌, ◌<◌, ◌≤◌, IfOk, MatchOption, length, slice_index};
+ghost use Rattle.rbf_model.specs.Geometry.{HasMap, sector as sector_of};
+ghost use Rattle.rbf_model.specs.Space.{is_marked as is_marked_lem};
+ghost use Rattle.rbf_model.specs.Faults.{Breaks, IsFound, Reaches};
+ghost use Rattle.rbf_search.specs.Reading.{geometry_of, IsIdent};
+ghost use Rattle.rbf_search.specs.Least.{IsLeastBreach};
+ghost use Rattle.rbf_search.specs.Least.{IsLeast};
+ghost use Rattle.rbf_space.specs.Nexts.{AreNexts};
+ghost use Rattle.rbf_space.specs.Used.{used_by, IsUnmarked, IsUnmarkedIn};
+
+use crate::nexts::next_in_run;
+use crate::owners::list_runs;
+use rbf_search::{is_marked, least_of};
+use rbf_sector::Ident;
+use std::alloc::{AllocError, Global};
+
+// Does the map mark the cluster of this sector?
+fn is_sector_marked(image: &[u8], ident: &Ident, s: u32) -> bool
+    requires ident { IsIdent image.now ident.now }
+    requires map { HasMap (geometry_of ident.now) }
+    requires number { s < ident.now.total }
+    ensures { result ≡ is_marked_lem (sector_of image.now) (s / ident.now.cluster) }
+{
+    is_marked(image, s / u32::from(ident.cluster))
+}
+
+// For each sector the least from it on whose cluster is not marked, or the total.
+fn list_next_unmarked(alloc: Global, image: &[u8], ident: &Ident) -> Result<Vec<u32>, AllocError>
+    requires ident { IsIdent image.now ident.now }
+    requires map { HasMap (geometry_of ident.now) }
+    ensures { IfOk result (λ nexts. AreNexts (IsUnmarked (geometry_of ident.now) (sector_of image.now)) ident.now.total nexts.items) }
+{
+    let mut nexts = vec![in alloc; ident.total; ident.total as usize]?;
+    let mut next = ident.total;
+    for s in (0..ident.total).rev() {
+        if !is_sector_marked(image, ident, s) {
+            next = s;
+        }
+        nexts[s as usize] = next;
+    }
+    Ok(nexts)
+}
+
+// The least sector of an owner whose cluster is not marked.
+fn least_unmarked_of(
+    image: &[u8],
+    ident: &Ident,
+    nexts: &[u32],
+    n: u32,
+    runs: &mut Vec<(u32, u16)>,
+) -> Result<Option<u32>, AllocError>
+    requires ident { IsIdent image.now ident.now }
+    requires segments { (lsn : ℕ) → ¬ Breaks (geometry_of ident.now) (sector_of image.now) 1 lsn }
+    requires map { HasMap (geometry_of ident.now) }
+    requires nexts { AreNexts (IsUnmarked (geometry_of ident.now) (sector_of image.now)) ident.now.total nexts.now }
+    requires reached { Reaches (geometry_of ident.now) (sector_of image.now) n }
+    requires number { n < ident.now.total }
+    ensures { IfOk result (IsLeast (IsUnmarkedIn (geometry_of ident.now) (sector_of image.now) (used_by (geometry_of ident.now) (sector_of image.now) n))) }
+{
+    list_runs(image, ident, n, runs)?;
+    let mut least = None;
+    for &(first, count) in runs.iter() {
+        least = least_of(least, next_in_run(nexts, first, u32::from(count)));
+    }
+    Ok(least)
+}
+
+/// The least sector that breaks rule 3: it is in use, and the map does not mark its cluster.
+pub fn least_unmarked(
+    alloc: Global,
+    image: &[u8],
+    ident: &Ident,
+    found: &[u32],
+) -> Result<Option<u32>, AllocError>
+    requires ident { IsIdent image.now ident.now }
+    requires found { IsFound (geometry_of ident.now) (sector_of image.now) found.now }
+    requires segments { (lsn : ℕ) → ¬ Breaks (geometry_of ident.now) (sector_of image.now) 1 lsn }
+    requires map { HasMap (geometry_of ident.now) }
+    ensures { IfOk result (IsLeastBreach (geometry_of ident.now) (sector_of image.now) 3) }
+{
+    let nexts = list_next_unmarked(alloc, image, ident)?;
+    let mut runs = Vec::new(alloc);
+    let mut least = None;
+    for n in found {
+        let one = least_unmarked_of(image, ident, &nexts, *n, &mut runs)?;
+        least = least_of(least, one);
+    }
+    Ok(least)
+}

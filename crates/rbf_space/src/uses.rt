@@ -1,0 +1,130 @@
+ghost use Rattle.std.specs.Prelude.{◌≡◌, ◌≢◌, ℕ, ◌+◌, ◌*◌, ◌/◌, ◌<◌, ◌≤◌, [], ◌∷◌, All, IfOk, MatchBool, Some, None, length, slice_index_or, slice_set};
+ghost use Rattle.std.specs.List.{range_with_len};
+ghost use Rattle.rbf_model.specs.Segments.{sectors_of};
+ghost use Rattle.rbf_segs.specs.Segments.{IsSegment};
+ghost use Rattle.rbf_search.specs.Given.{IsGiven};
+
+use std::alloc::{AllocError, Global};
+
+/// An owner of sectors: its place among the files that are found, and its descriptor.
+#[derive(Clone, Copy, Debug)]
+pub struct Owner {
+    pub place: usize,
+    pub descriptor: u32,
+}
+
+/// What is known of rule 4 when the sectors of some owners have been gone over.
+#[derive(Drop)]
+pub struct Uses {
+    /// For each sector the place of the owner that used it last.
+    pub users: Vec<Option<usize>>,
+    /// For each cluster the descriptor of the owner that has it.
+    pub owners: Vec<Option<usize>>,
+    /// The least sector that breaks the rule, or the total of the volume.
+    pub least: u32,
+}
+
+// Gives a cluster to an owner, if it has none. Has it another one?
+fn give(owners: &mut Vec<Option<usize>>, n: u32, c: u32) -> bool
+    requires { c < length owners.old.items }
+    ensures given { IsGiven owners.old.items owners.new.items n c }
+    ensures another { MatchBool result ((m : ℕ) × (slice_index_or owners.old.items c None ≡ Some m) × (m ≢ n)) ((m : ℕ) → slice_index_or owners.old.items c None ≡ Some m → m ≡ n) }
+{
+    match owners[c as usize] {
+        None => {
+            owners[c as usize] = Some(n as usize);
+            false
+        }
+        Some(m) => m != n as usize,
+    }
+}
+
+fn is_user(user: Option<usize>, place: usize) -> bool
+    ensures { MatchBool result (user ≡ Some place) (user ≡ Some place → ⊥) }
+{
+    match user {
+        None => false,
+        Some(other) => other == place,
+    }
+}
+
+// Notes that the owner in this place uses a sector. Was that noted before?
+fn note_user(users: &mut Vec<Option<usize>>, place: usize, s: u32) -> bool
+    requires { s < length users.old.items }
+    ensures noted { users.new.items ≡ slice_set users.old.items s (Some place) }
+    ensures before { MatchBool result (slice_index_or users.old.items s None ≡ Some place) (slice_index_or users.old.items s None ≡ Some place → ⊥) }
+{
+    let before = users[s as usize];
+    users[s as usize] = Some(place);
+    is_user(before, place)
+}
+
+impl Uses {
+    ghost use Rattle.rbf_space.specs.Noted.{HasUser, HasOwner, IsNoted};
+
+    /// No owner has been gone over, of a volume of so many sectors.
+    pub fn new(alloc: Global, total: u32) -> Result<Uses, AllocError>
+        ensures users { IfOk result (λ uses. length uses.users.items ≡ total) }
+        ensures owners { IfOk result (λ uses. length uses.owners.items ≡ total) }
+        ensures no_users { IfOk result (λ uses. (s p : ℕ) → ¬ HasUser uses s p) }
+        ensures no_owners { IfOk result (λ uses. (c n : ℕ) → ¬ HasOwner uses c n) }
+        ensures least { IfOk result (λ uses. uses.least ≡ total) }
+    {
+        Ok(Uses {
+            users: vec![in alloc; None; total as usize]?,
+            owners: vec![in alloc; None; total as usize]?,
+            least: total,
+        })
+    }
+
+    // Notes that an owner uses a sector, where clusters have so many sectors.
+    fn note(&mut self, cluster: u32, owner: Owner, s: u32)
+        requires cluster { 0 < cluster }
+        requires users { s < length self.old.users.items }
+        requires owners { s < length self.old.owners.items }
+        ensures { IsNoted cluster owner (s ∷ []) self.old self.new }
+    {
+        let c = s / cluster;
+        if give(&mut self.owners, owner.descriptor, c) {
+            self.least = self.least.min(c * cluster);
+            return;
+        }
+        if note_user(&mut self.users, owner.place, s) {
+            self.least = self.least.min(s);
+        }
+    }
+
+    // Notes that an owner uses the sectors of a run. Each of them is new or ends the run: behind one
+    // that shows a breach, or whose cluster begins no lower than the least breach, there is none that
+    // is less.
+    fn note_run(&mut self, cluster: u32, owner: Owner, run: (u32, u16))
+        requires cluster { 0 < cluster }
+        requires users { run.0 + run.1 ≤ length self.old.users.items }
+        requires owners { run.0 + run.1 ≤ length self.old.owners.items }
+        requires segment { IsSegment run }
+        ensures { IsNoted cluster owner (range_with_len run.0 run.1) self.old self.new }
+    {
+        for s in run.0..run.0 + u32::from(run.1) {
+            if s / cluster * cluster >= self.least {
+                return;
+            }
+            self.note(cluster, owner, s);
+            if self.least <= s {
+                return;
+            }
+        }
+    }
+
+    /// Notes that an owner uses the sectors of its runs, where clusters have so many sectors.
+    pub fn note_runs(&mut self, cluster: u32, owner: Owner, runs: &[(u32, u16)])
+        requires cluster { 0 < cluster }
+        requires segments { All IsSegment runs.now }
+        requires users { All (λ run. run.0 + run.1 ≤ length self.old.users.items) runs.now }
+        requires owners { All (λ run. run.0 + run.1 ≤ length self.old.owners.items) runs.now }
+        ensures { IsNoted cluster owner (sectors_of runs.now) self.old self.new }
+    {
+        for run in runs {
+            self.note_run(cluster, owner, *run);
+        }
+    }
+}

@@ -1,0 +1,3 @@
+pub mod Dotting
+pub mod Keyed
+pub mod Naming
