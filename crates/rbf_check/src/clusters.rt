@@ -9,7 +9,8 @@ ghost use Rattle.rbf_search.specs.Reading.{geometry_of};
 ghost use Rattle.rbf_check.specs.Survey.{IsSurvey};
 ghost use Rattle.rbf_check.specs.Clusters.{NotesClusters, AreUsed};
 
-use rbf_rules::{Survey, sector};
+use crate::survey::Survey;
+use rbf_search::{sector, system_sectors};
 use rbf_sector::{Ident, read_fd};
 use rbf_segs::Segs;
 use std::alloc::{AllocError, Global};
@@ -44,7 +45,7 @@ fn system_count(ident: &Ident, n: u32) -> u32
     ensures few { result < 1000 }
 {
     if n == ident.root {
-        1 + u32::from(ident.map_bytes).div_ceil(256)
+        u32::from(system_sectors(ident))
     } else {
         0
     }

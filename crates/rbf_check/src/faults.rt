@@ -6,16 +6,10 @@ ghost use Rattle.rbf_search.specs.Linked.{AreLinks};
 ghost use Rattle.rbf_check.specs.Verdict.{IsLeastError, KeepsBefore};
 ghost use Rattle.rbf_check.specs.declared.faults.CheckError.TheVariants.{OutOfMemory};
 
-use crate::descriptors::{OwnRule, least_breach};
-use crate::dots::least_without_dots;
-use crate::entries::least_badly_named;
-use crate::header::map_breach;
-use crate::links::{Link, list_links};
-use crate::marks::least_unmarked;
-use crate::namings::least_named_again;
-use crate::numbers::least_bad_number;
-use crate::shares::least_used_again;
+use rbf_search::{Link, list_links};
 use rbf_sector::Ident;
+use rbf_space::{OwnRule, least_bad_number, least_breach, least_unmarked, least_used_again, map_breach};
+use rbf_tree::{least_badly_named, least_named_again, least_without_dots};
 use std::alloc::{AllocError, Global};
 use thiserror::Error;
 

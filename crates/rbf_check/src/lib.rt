@@ -1,14 +1,16 @@
 //! The check of an image: the tree of the volume that it stands for, or its fault.
 #![tactic(auto)]
 
-pub use rbf_rules::{CheckError, CheckFault};
+pub use faults::{CheckError, CheckFault};
 pub use tree::{FileBytes, Node, Nodes, Tree};
 pub use verdict::check;
 
 mod clusters;
 mod contents;
+mod faults;
 mod nodes;
 mod places;
 mod space;
+mod survey;
 mod tree;
 mod verdict;

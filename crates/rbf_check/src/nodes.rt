@@ -8,8 +8,9 @@ ghost use Rattle.rbf_check.specs.Tree.{TellsFile};
 
 use crate::contents::read_contents;
 use crate::places::{Place, list_places, place_of};
+use crate::survey::Survey;
 use crate::tree::{Node, Nodes};
-use rbf_rules::{Survey, sector};
+use rbf_search::sector;
 use rbf_sector::read_fd;
 use std::alloc::{AllocError, Global};
 

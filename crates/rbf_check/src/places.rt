@@ -10,8 +10,9 @@ ghost use Rattle.rbf_check.specs.Places.{ArePlaces};
 ghost use Rattle.rbf_check.specs.Surveyed.{volume_from};
 ghost use Rattle.rbf_check.specs.Tree.{IsPlaced};
 
+use crate::survey::Survey;
 use os9_base::name::{Name, header_name, parse_name};
-use rbf_rules::{Link, Survey, link_entry};
+use rbf_search::{Link, link_entry};
 use std::alloc::{AllocError, Global};
 
 /// Where a file stands in the tree: its directory, and its name there.

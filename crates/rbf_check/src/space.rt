@@ -8,7 +8,8 @@ ghost use Rattle.rbf_check.specs.Clusters.{AreUsed};
 ghost use Rattle.rbf_check.specs.Surveyed.{volume_from};
 
 use crate::clusters::list_used;
-use rbf_rules::Survey;
+use crate::survey::Survey;
+use rbf_search::is_marked;
 use rbf_sector::Ident;
 use std::alloc::{AllocError, Global};
 
@@ -17,14 +18,6 @@ use std::alloc::{AllocError, Global};
 pub struct Space {
     pub free: u32,
     pub lost: u32,
-}
-
-// Does the map mark this cluster?
-fn is_marked(image: &[u8], c: u32) -> bool
-    requires { 256 + c / 8 < length image.now }
-    ensures { result ≡ is_marked_lem (sector_of image.now) c }
-{
-    image[256 + c as usize / 8] >> (7 - c % 8) & 1 == 1
 }
 
 // Are the sectors of this cluster all below the total?

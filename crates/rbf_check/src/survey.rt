@@ -3,9 +3,7 @@ ghost use Rattle.rbf_check.specs.Survey.{IsSurvey};
 ghost use Rattle.rbf_check.specs.Verdict.{IsErrorOf};
 
 use crate::faults::{CheckError, CheckFault, test_rules};
-use crate::header::read_header;
-use crate::links::Link;
-use crate::walk::walk;
+use rbf_search::{Link, find_descriptors, read_header};
 use rbf_sector::Ident;
 use std::alloc::Global;
 
@@ -31,7 +29,7 @@ pub fn survey_image(alloc: Global, image: &[u8]) -> Result<Survey, CheckError>
     let Some(ident) = read_header(image) else {
         return Err(CheckError::Fault(CheckFault { rule: 1, lsn: 0 }));
     };
-    let found = walk(alloc, image, &ident)?;
+    let found = find_descriptors(alloc, image, &ident)?;
     let links = test_rules(alloc, image, &ident, &found)?;
     Ok(Survey {
         ident,

@@ -2,10 +2,11 @@ ghost use Rattle.std.specs.Prelude.{IfErr, IfOk};
 ghost use Rattle.rbf_check.specs.Verdict.{IsErrorOf};
 ghost use Rattle.rbf_check.specs.Tree.{IsTreeOf};
 
+use crate::faults::CheckError;
 use crate::nodes::read_nodes;
 use crate::space::measure_space;
+use crate::survey::survey_image;
 use crate::tree::Tree;
-use rbf_rules::{CheckError, survey_image};
 use std::alloc::Global;
 
 /// Checks an image against the rules of well formed RBF volumes, and hands out the tree of the

@@ -1,23 +1,11 @@
 -- What is read of the first sectors of an image: its header, and the marks of its map.
-use Rattle.std.proofs.Common.{◌≡◌, ℕ, ◌+◌, ◌-◌, ◌/◌, ◌%◌, ◌<◌, ◌≤◌, ◌==◌, true, List, All, get_or, sym, ap, ◌∙◌, subst, ⊎_elim}
+use Rattle.std.proofs.Common.{◌≡◌, ℕ, ◌+◌, ◌-◌, ◌/◌, ◌%◌, ◌==◌, List, get_or, sym, ap, subst}
 use Rattle.std.specs.Int.{bit_at}
-use Rattle.std.proofs.lemmas.Bool.{cases_Bool}
-use Rattle.std.proofs.lemmas.List.{get_or_default}
-use Rattle.std.proofs.lemmas.List.Elements.{All-from_get_or}
-use Rattle.rbf_model.specs.Fields.{segments_field}
-use Rattle.rbf_model.specs.Geometry.{Geometry, sector, is_within, LieWithin, IsHeader, HasMap}
-use Rattle.rbf_model.specs.Segments.{sectors_of, has}
-use Rattle.rbf_model.specs.File.{file_at}
-use Rattle.rbf_model.specs.Space.{is_marked, owns}
-use Rattle.rbf_model.specs.Faults.{Breaks, Reaches, searched}
-use Rattle.rbf_model.specs.Faults.Breaks.{bad_segment}
-use Rattle.rbf_model.proofs.Keeps.{number_of_reached}
-use Rattle.rbf_model.proofs.Owners.{owned_below}
+use Rattle.rbf_model.specs.Geometry.{Geometry, sector, IsHeader}
+use Rattle.rbf_model.specs.Space.{is_marked}
 use Rattle.rbf_model.proofs.SectorBytes.{map_byte_is}
-use Rattle.rbf_segs.specs.Segments.{IsSegment}
 use Rattle.rbf_sector.specs.declared.ident.Ident.{Ident}
 use Rattle.rbf_search.specs.Reading.{geometry_of, IsIdent}
-use Rattle.rbf_search.proofs.Runs.{runs_within}
 
 -- a mark is a bit of the image
 pub mark_is : (image : List ℕ) (c : ℕ) → (bit_at (get_or image (256 + c / 8) 0) (7 - c % 8) == 1) ≡ is_marked (sector image) c
@@ -28,4 +16,3 @@ mark_is image c = ap (λ b. bit_at b (7 - c % 8) == 1) (sym (map_byte_is image (
 pub header_of : (image : List ℕ) (ident : Ident) → IsIdent image ident → IsHeader (geometry_of ident)
 header_of image ident whole =
     let P : Geometry → Type 0 = λ g. IsHeader g in subst P whole.geometry whole.header.header
-

@@ -1,6 +1,6 @@
 -- The entries of a directory that can be searched.
 use Rattle.std.proofs.Common.{◌≡◌, ℕ, ◌+◌, ◌*◌, ◌/◌, ◌%◌, ◌<◌, ◌≤◌, Bool, true, false, List, [], length, take, drop, get_or, Some, refl, sym, ap, ◌∙◌, subst, ⊎_elim, arith, leb, eqb, leb-true, ◌==◌, ◌&&◌, if◌then◌else◌}
-use Rattle.std.specs.List.{list_all}
+use Rattle.std.specs.List.{list_all, slice_get}
 use Rattle.std.specs.Int.{bit_at}
 use Rattle.std.proofs.lemmas.Bool.Decides.{nat_tests}
 use Rattle.std.proofs.lemmas.Bool.{cond-true, cond-false, cases_Bool, false≢true}
@@ -10,7 +10,6 @@ use Rattle.rbf_model.specs.Geometry.{Geometry, geometry, sector, LieWithin, IsDi
 use Rattle.rbf_model.specs.File.{file_at, bytes_of, is_searched, is_directory, is_directory_size, has_room}
 use Rattle.rbf_model.specs.Segments.{sectors_of, has}
 use Rattle.rbf_model.specs.Faults.{searched}
-use Rattle.std.specs.List.{slice_get}
 use Rattle.std.proofs.lemmas.Option.{slice_get-get_or}
 use Rattle.rbf_sector.specs.declared.ident.Ident.{Ident}
 use Rattle.rbf_search.specs.declared.directory.Directory.{Directory}

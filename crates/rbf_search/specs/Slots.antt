@@ -2,7 +2,6 @@
 use Rattle.std.specs.Prelude.{◌≡◌, ℕ, ◌*◌, ◌/◌, ◌%◌, true, List, flat_map}
 use Rattle.std.specs.List.{range_with_len}
 use Rattle.rbf_model.specs.Fields.{entry_at, is_used, descriptor_field}
-use Rattle.rbf_model.specs.Geometry.{Geometry, IsNumber}
 use Rattle.rbf_model.specs.Segments.{run}
 
 -- the bytes of slot e

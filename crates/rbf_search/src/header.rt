@@ -43,7 +43,8 @@ fn is_header(ident: &Ident) -> bool
 
 /// How many sectors the system has, from LSN 0 on: the identification sector, and those of the map.
 pub fn system_sectors(ident: &Ident) -> u16
-    ensures { result ≡ 1 + map_sectors (geometry_of ident.now) }
+    ensures count { result ≡ 1 + map_sectors (geometry_of ident.now) }
+    ensures few { result ≤ 257 }
 {
     1 + ident.map_bytes.div_ceil(256)
 }

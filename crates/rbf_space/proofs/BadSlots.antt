@@ -14,9 +14,8 @@ use Rattle.rbf_model.proofs.Segments.{has_cases}
 use Rattle.rbf_sector.specs.declared.ident.Ident.{Ident}
 use Rattle.rbf_search.specs.declared.directory.Directory.{Directory}
 use Rattle.rbf_search.specs.Reading.{geometry_of, IsIdent, IsDirectory, listed}
-use Rattle.rbf_space.specs.Rules.{HasBadNumber}
+use Rattle.rbf_space.specs.Rules.{HasBadNumber, IsBadSlot}
 use Rattle.rbf_search.specs.Slots.{slot, slots_of, segment_slots}
-use Rattle.rbf_space.specs.Rules.{IsBadSlot}
 use Rattle.rbf_search.proofs.Runs.{run_has, runs_within, sectors_more}
 use Rattle.rbf_model.proofs.Images.{is_disk}
 use Rattle.rbf_search.proofs.Searched.{in_sectors, in_volume, entry_in_sector}

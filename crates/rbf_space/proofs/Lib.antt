@@ -1,11 +1,11 @@
 pub mod Again
 pub mod BadSlots
-pub mod Least
 pub mod Listed
 pub mod MapRule
 pub mod NextTables
 pub mod Noted
 pub mod NotedRuns
 pub mod Numbered
+pub mod Own
 pub mod Owned
 pub mod Unmarked

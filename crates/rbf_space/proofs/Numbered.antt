@@ -9,9 +9,8 @@ use Rattle.rbf_model.specs.Geometry.{Geometry, is_within}
 use Rattle.rbf_model.specs.Segments.{has}
 use Rattle.rbf_model.specs.Faults.{Breaks, IsFound, Reaches, searched}
 use Rattle.rbf_model.specs.Faults.Breaks.{bad_number, bad_segment, bad_map, unmarked, used_twice, shared, no_room, no_root, bad_size, no_dots, bad_name, same_name, named_twice, named_root}
-use Rattle.rbf_search.specs.Least.{IsLeast, Before}
+use Rattle.rbf_search.specs.Least.{IsLeast, Before, IsLeastBreach}
 use Rattle.rbf_space.specs.Rules.{HasBadNumber, BreaksNumbers, BreaksNumbersAt}
-use Rattle.rbf_search.specs.Least.{IsLeastBreach}
 use Rattle.rbf_search.proofs.Leasts.{least_along, least_in_list}
 
 -- one that fails

@@ -18,6 +18,7 @@ use Rattle.rbf_segs.specs.Segments.{IsSegment}
 use Rattle.rbf_sector.specs.declared.ident.Ident.{Ident}
 use Rattle.rbf_search.specs.Reading.{geometry_of, IsIdent}
 use Rattle.rbf_space.specs.Used.{used_by}
+use Rattle.rbf_search.proofs.Headers.{header_of}
 use Rattle.rbf_search.proofs.Runs.{runs_within}
 
 module _ (g : Geometry) (disk : ℕ → List ℕ) (header : IsHeader g) (kept : (lsn : ℕ) → Breaks g disk 1 lsn → ⊥) (map : HasMap g) where

@@ -7,8 +7,7 @@ use Rattle.rbf_model.specs.Space.{owns}
 use Rattle.rbf_model.specs.Faults.{Breaks, IsFound}
 use Rattle.rbf_model.specs.Faults.Breaks.{unmarked}
 use Rattle.rbf_model.proofs.Segments.{has_cases, has_left, has_right}
-use Rattle.rbf_search.specs.Least.{IsLeast, Before, lesser_of}
-use Rattle.rbf_search.specs.Least.{IsLeastBreach}
+use Rattle.rbf_search.specs.Least.{IsLeast, Before, lesser_of, IsLeastBreach}
 use Rattle.rbf_space.specs.Used.{used_by, IsUnmarkedIn}
 use Rattle.rbf_search.proofs.Cases.{unmarked_of}
 use Rattle.rbf_search.proofs.Leasts.{least_along, least_either, least_in_list}

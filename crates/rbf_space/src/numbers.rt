@@ -2,11 +2,9 @@ ghost use Rattle.std.specs.Prelude.{◌≡◌, ℕ, ◌+◌, ◌*◌, ◌<◌, �
 ghost use Rattle.rbf_model.specs.Geometry.{sector as sector_of};
 ghost use Rattle.rbf_model.specs.Faults.{IsFound};
 ghost use Rattle.rbf_search.specs.Reading.{geometry_of, IsIdent, IsDirectory, listed};
-ghost use Rattle.rbf_space.specs.Rules.{BreaksNumbersAt, HasBadNumber};
-ghost use Rattle.rbf_search.specs.Least.{IsLeastBreach};
-ghost use Rattle.rbf_search.specs.Least.{IsLeast};
+ghost use Rattle.rbf_space.specs.Rules.{BreaksNumbersAt, HasBadNumber, IsBadSlot};
+ghost use Rattle.rbf_search.specs.Least.{IsLeastBreach, IsLeast};
 ghost use Rattle.rbf_space.specs.Nexts.{AreNexts};
-ghost use Rattle.rbf_space.specs.Rules.{IsBadSlot};
 
 use crate::nexts::next_in_run;
 use rbf_search::{Directory, least_of, lie_within, list_slots, read_directory, slot_bytes};

@@ -70,9 +70,11 @@ impl Uses {
         ensures no_owners { IfOk result (λ uses. (c n : ℕ) → ¬ HasOwner uses c n) }
         ensures least { IfOk result (λ uses. uses.least ≡ total) }
     {
+        let users = vec![in alloc; None; total as usize]?;
+        let owners = vec![in alloc; None; total as usize]?;
         Ok(Uses {
-            users: vec![in alloc; None; total as usize]?,
-            owners: vec![in alloc; None; total as usize]?,
+            users,
+            owners,
             least: total,
         })
     }

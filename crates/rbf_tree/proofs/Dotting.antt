@@ -18,8 +18,7 @@ use Rattle.rbf_search.specs.Reading.{geometry_of, IsIdent}
 use Rattle.rbf_search.proofs.Headers.{header_of}
 use Rattle.rbf_search.specs.declared.links.Link.{Link}
 use Rattle.rbf_search.specs.Linked.{AreLinks}
-use Rattle.rbf_search.specs.Least.{IsLeast, Before}
-use Rattle.rbf_search.specs.Least.{IsLeastBreach}
+use Rattle.rbf_search.specs.Least.{IsLeast, Before, IsLeastBreach}
 use Rattle.rbf_tree.specs.Named.{link_at}
 use Rattle.rbf_tree.specs.Dots.{NamesSo, AreDots, BeginsWithDots, MarksDots, AreDotted, IsWithoutDots, AreDotsDecided}
 use Rattle.rbf_search.proofs.Cases.{dots_of}

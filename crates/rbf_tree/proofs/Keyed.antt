@@ -16,8 +16,7 @@ use Rattle.rbf_model.specs.Segments.{has}
 use Rattle.rbf_model.specs.Tree.{dot, dot_dot, HasEntry, IsProper, HasNames, HasDifferentNames}
 use Rattle.rbf_model.specs.Faults.{Breaks, IsFound, searched}
 use Rattle.rbf_model.specs.Faults.Breaks.{bad_name, same_name}
-use Rattle.rbf_search.specs.Least.{IsLeast, Before}
-use Rattle.rbf_search.specs.Least.{IsLeastBreach}
+use Rattle.rbf_search.specs.Least.{IsLeast, Before, IsLeastBreach}
 use Rattle.rbf_tree.specs.Keys.{IsKey, HasKey, IsKeyAdded, IsNamedSo, IsKeyOf, AreNamed, IsBadlyNamed, IsBadlyNamedAt}
 use Rattle.rbf_search.proofs.Cases.{names_of}
 use Rattle.rbf_search.proofs.Leasts.{least_along, least_in_list}

@@ -9,8 +9,7 @@ use Rattle.rbf_model.specs.Faults.{Breaks, searched}
 use Rattle.rbf_model.specs.Faults.Breaks.{named_twice, named_root}
 use Rattle.rbf_search.specs.declared.links.Link.{Link}
 use Rattle.rbf_search.specs.Linked.{AreLinks}
-use Rattle.rbf_search.specs.Least.{IsLeast, Before}
-use Rattle.rbf_search.specs.Least.{IsLeastBreach}
+use Rattle.rbf_search.specs.Least.{IsLeast, Before, IsLeastBreach}
 use Rattle.rbf_search.specs.Given.{IsGiven}
 use Rattle.rbf_tree.specs.Named.{link_at, AreSame, IsFirst, AreFirsts, IsNamedAgain}
 use Rattle.rbf_search.proofs.Cases.{named_of}

@@ -4,15 +4,11 @@ ghost use Rattle.rbf_model.specs.File.{file_at, is_directory as is_directory_lem
 ghost use Rattle.rbf_model.specs.Faults.{IsFound};
 ghost use Rattle.rbf_search.specs.Reading.{geometry_of, IsIdent, IsDirectory, listed};
 ghost use Rattle.rbf_search.specs.Linked.{AreLinks};
-ghost use Rattle.rbf_search.specs.Least.{IsLeast};
-ghost use Rattle.rbf_search.specs.Least.{IsLeastBreach};
+ghost use Rattle.rbf_search.specs.Least.{IsLeast, IsLeastBreach};
 ghost use Rattle.rbf_tree.specs.Dots.{AreDots, BeginsWithDots, MarksDots, AreDotted, IsWithoutDots, AreDotsDecided};
 
-use crate::directory::{Directory, entry_bytes, read_directory};
-use crate::header::sector;
-use crate::lesser::least_of;
-use crate::links::Link;
 use crate::names::spells;
+use rbf_search::{Directory, Link, entry_bytes, least_of, read_directory, sector};
 use rbf_sector::{Entry, Ident, read_entry, read_fd};
 use std::alloc::{AllocError, Global};
 

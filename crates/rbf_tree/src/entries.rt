@@ -3,15 +3,13 @@ ghost use Rattle.rbf_model.specs.Geometry.{sector as sector_of};
 ghost use Rattle.rbf_model.specs.Tree.{HasNames, HasDifferentNames};
 ghost use Rattle.rbf_model.specs.Faults.{IsFound};
 ghost use Rattle.rbf_search.specs.Reading.{geometry_of, IsIdent, IsDirectory, listed};
-ghost use Rattle.rbf_search.specs.Least.{IsLeast};
-ghost use Rattle.rbf_search.specs.Least.{IsLeastBreach};
+ghost use Rattle.rbf_search.specs.Least.{IsLeast, IsLeastBreach};
 ghost use Rattle.rbf_tree.specs.Keys.{AreNamed, IsBadlyNamed, IsBadlyNamedAt};
 
-use crate::directory::{Directory, entry_bytes, read_directory};
 use crate::keys::{add_key, key_of};
-use crate::lesser::least_of;
 use crate::names::is_text;
 use os9_base::name::header_name;
+use rbf_search::{Directory, entry_bytes, least_of, read_directory};
 use rbf_sector::{Ident, read_entry};
 use std::alloc::{AllocError, Global};
 use std::collections::BTreeSet;

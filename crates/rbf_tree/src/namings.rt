@@ -2,14 +2,11 @@ ghost use Rattle.std.specs.Prelude.{◌≡◌, ◌⊎◌, ◌+◌, ◌<◌, ◌�
 ghost use Rattle.rbf_model.specs.Geometry.{sector as sector_of};
 ghost use Rattle.rbf_search.specs.Reading.{geometry_of, IsIdent};
 ghost use Rattle.rbf_search.specs.Linked.{AreLinks};
-ghost use Rattle.rbf_search.specs.Least.{IsLeast};
-ghost use Rattle.rbf_search.specs.Least.{IsLeastBreach};
+ghost use Rattle.rbf_search.specs.Least.{IsLeast, IsLeastBreach};
 ghost use Rattle.rbf_search.specs.Given.{IsGiven};
 ghost use Rattle.rbf_tree.specs.Named.{AreSame, AreFirsts, IsNamedAgain};
 
-use crate::lesser::least_of;
-use crate::links::Link;
-use crate::owners::no_owners;
+use rbf_search::{Link, least_of};
 use rbf_sector::Ident;
 use std::alloc::{AllocError, Global};
 
@@ -71,7 +68,7 @@ pub fn least_named_again(
     requires links { AreLinks (geometry_of ident.now) (sector_of image.now) links.now }
     ensures { IfOk result (IsLeastBreach (geometry_of ident.now) (sector_of image.now) 9) }
 {
-    let mut firsts = no_owners(alloc, ident.total)?;
+    let mut firsts = vec![in alloc; None; ident.total as usize]?;
     let mut least = None;
     for k in 0..links.len() {
         least = least_of(least, named_again(links, &mut firsts, ident, k));

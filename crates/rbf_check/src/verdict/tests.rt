@@ -1,6 +1,9 @@
 use super::*;
+use overlapping::{overlapping_directories, overlapping_files};
 use std::alloc::AllocError;
 use std::test::Fail;
+
+mod overlapping;
 
 // The volume E, of 16 sectors: its root, whose descriptor is sector 2, is its only file.
 const E: [(usize, u8); 14] = [
@@ -138,6 +141,29 @@ fn clusters(rt: HostRuntime) -> Result<(), Fail> {
     }
     let line = answer(rt.alloc(), &image)?;
     assert_eq!(rt; line.as_str(), "files 0 dirs 1 free 524021 lost 0");
+    Ok(())
+}
+
+#[test]
+fn files_of_the_same_sectors(rt: HostRuntime) -> Result<(), Fail> {
+    let mut image = overlapping_files(rt.alloc())?;
+    let line = answer(rt.alloc(), &image)?;
+    assert_eq!(rt; line.as_str(), "rule 4 at LSN 150");
+    put(&mut image, &[(293, 0xE0)]);
+    let line = answer(rt.alloc(), &image)?;
+    assert_eq!(rt; line.as_str(), "rule 3 at LSN 299");
+    Ok(())
+}
+
+#[test]
+fn directories_of_the_same_sectors(rt: HostRuntime) -> Result<(), Fail> {
+    let mut image = overlapping_directories(rt.alloc())?;
+    put(&mut image, &[(76768, 0xC1), (76799, 120)]);
+    let line = answer(rt.alloc(), &image)?;
+    assert_eq!(rt; line.as_str(), "rule 4 at LSN 150");
+    put(&mut image, &[(76798, 1), (76799, 44)]);
+    let line = answer(rt.alloc(), &image)?;
+    assert_eq!(rt; line.as_str(), "rule 1 at LSN 16");
     Ok(())
 }
 

@@ -5,7 +5,8 @@ use Rattle.rbf_search.specs.Reading.{geometry_of, listed}
 use Rattle.rbf_space.specs.Rules.{IsBadSlot}
 use Rattle.rbf_space.proofs.NextTables.{least_of_run}
 use Rattle.rbf_search.proofs.Headers.{header_of}
-use Rattle.rbf_search.proofs.Slotted.{AreSlots, slots_are, none_more, none_bad, bad_in_run}
+use Rattle.rbf_search.proofs.Slotted.{AreSlots, slots_are}
+use Rattle.rbf_space.proofs.BadSlots.{none_more, none_bad, bad_in_run}
 use Rattle.rbf_space.proofs.numbers.has_bad_number.Goals as goal
 use Rattle.rbf_space.proofs.numbers.has_bad_number.Goals.{In_ok-list_slots}
 

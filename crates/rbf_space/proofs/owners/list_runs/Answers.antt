@@ -16,7 +16,7 @@ returns-clause-sectors c =
     let n = c.args.n in
     let front = c.if-n-ident.runs.items in
     let system : sectors_of front ≡ (if n == g.root then system_sectors g else []) = elim c.if-n-ident.branch [
-      | then-n-ident+in_ok-push w ↦ front_of_root g n front (1 + w.div_ceil.result) w.if-n-ident.true (ap (λ q. 1 + q) (omega (arith, w.div_ceil.ensures))) (ap (λ v. v.items) w.runs-is ∙ w.in_ok-push.ensures.items ∙ ap (λ runs. runs ++ (0, 1 + w.div_ceil.result) ∷ []) c.clear.ensures.items)
+      | then-n-ident+in_ok-push w ↦ front_of_root g n front w.system_sectors.result w.if-n-ident.true w.system_sectors.ensures.count (ap (λ v. v.items) w.runs-is ∙ w.in_ok-push.ensures.items ∙ ap (λ runs. runs ++ (0, w.system_sectors.result) ∷ []) c.clear.ensures.items)
       | else-n-ident w ↦ front_of_other g n front w.if-n-ident.false (ap (λ v. v.items) w.runs-is ∙ c.clear.ensures.items)
     ] in
     listed_is g n front disk c.push_segments.new.runs.items c.read_fd-fd.result.segs system (c.in_ok-push_segments.ensures ∙ ap (λ runs. runs ++ c.read_fd-fd.result.segs) c.in_ok-push-2.ensures.items) (c.read_fd-fd.ensures.segs ∙ ap segments_field c.sector.ensures)

@@ -1,9 +1,10 @@
-use Rattle.std.proofs.Common.{◌≡◌, ◌∙◌, ℕ, arith, length, subst}
+use Rattle.std.proofs.Common.{◌≡◌, ◌∙◌, ℕ, arith, rules, length, replicate, None, subst}
 use Rattle.rbf_model.specs.Geometry.{sector}
 use Rattle.rbf_search.specs.Reading.{geometry_of}
 use Rattle.rbf_search.specs.Least.{IsLeast, Before}
 use Rattle.rbf_tree.specs.Named.{AreFirsts, IsNamedAgain}
 use Rattle.rbf_search.proofs.Leasts.{least_before, least_next}
+use Rattle.rbf_search.proofs.Tables.{none_filled}
 use Rattle.rbf_search.proofs.Headers.{header_of}
 use Rattle.rbf_tree.proofs.Naming.{firsts_none, numbers_below, least_again}
 use Rattle.rbf_tree.proofs.namings.least_named_again.Goals as goal
@@ -19,8 +20,10 @@ returns c =
 
 pub loop-k-init : goal.loop-k-init
 loop-k-init c =
-    let firsts = c.in_ok-firsts.ensures in
-    (firsts.size, firsts_none c.args.links.now c.in_ok-firsts.firsts.items (λ s m h. firsts.none s m h), least_before (IsNamedAgain c.args.links.now c.args.ident.now.root))
+    let table = c.in_ok-firsts.firsts.items in
+    let all : table ≡ replicate c.args.ident.now.total None = c.in_ok-firsts.ensures.items_if_clones_equal (search rules) in
+    let size : length table ≡ c.args.ident.now.total = search (rules, c.in_ok-firsts.ensures.len, c.in_ok-firsts.firsts.ok.0) in
+    (size, firsts_none c.args.links.now table (none_filled table c.args.ident.now.total all), least_before (IsNamedAgain c.args.links.now c.args.ident.now.root))
 
 pub named_again-requires-clause-numbers : goal.named_again-requires-clause-numbers
 named_again-requires-clause-numbers c =
