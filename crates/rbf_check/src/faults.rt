@@ -8,7 +8,9 @@ ghost use Rattle.rbf_check.specs.declared.faults.CheckError.TheVariants.{OutOfMe
 
 use rbf_search::{Link, list_links};
 use rbf_sector::Ident;
-use rbf_space::{OwnRule, least_bad_number, least_breach, least_unmarked, least_used_again, map_breach};
+use rbf_space::{
+    OwnRule, least_bad_number, least_breach, least_unmarked, least_used_again, map_breach,
+};
 use rbf_tree::{least_badly_named, least_named_again, least_without_dots};
 use std::alloc::{AllocError, Global};
 use thiserror::Error;

@@ -1,24 +1,14 @@
 -- Entries that name no descriptor of the volume, by their slots.
-use Rattle.std.proofs.Common.{◌≡◌, ℕ, zero, suc, ◌+◌, ◌-◌, ◌*◌, ◌/◌, ◌%◌, ◌<◌, ◌≤◌, true, List, [], ◌∷◌, ◌++◌, All, length, take, drop, get_or, min, sym, ap, ◌∙◌, subst, refl, ⊎_elim, arith, length-append}
-use Rattle.std.specs.List.{range_with_len}
-use Rattle.std.proofs.lemmas.Bool.{cases_lt}
-use Rattle.std.proofs.lemmas.List.{get_or_append_left, get_or-append_right, get_or-take, get_or_default, length-take-le, take_more, take_all, take-append-drop, take-append-le, append-nil, get_or_push, length_push}
-use Rattle.std.proofs.lemmas.List.FromFn.{length-range_with_len, get_or-range_with_len}
-use Rattle.std.proofs.lemmas.Grind.{flat_map-append}
-use Rattle.rbf_model.specs.Fields.{entry_at, is_used, descriptor_field, segments_field}
-use Rattle.rbf_model.specs.Geometry.{Geometry, IsNumber, IsDisk, sector}
-use Rattle.rbf_model.specs.Segments.{run, sectors_of, has}
+use Rattle.std.proofs.Common.{◌≡◌, ℕ, ◌+◌, ◌<◌, ◌≤◌, true, List, length, take, get_or, sym, ap, ◌∙◌, subst, ⊎_elim, arith}
+use Rattle.std.proofs.lemmas.List.{get_or_default, take_all}
+use Rattle.rbf_model.specs.Fields.{entry_at, is_used, descriptor_field}
+use Rattle.rbf_model.specs.Geometry.{Geometry, IsNumber}
+use Rattle.rbf_model.specs.Segments.{run, has}
 use Rattle.rbf_model.proofs.Bytes.{has_place, place_of}
-use Rattle.rbf_model.proofs.Pieces.{take_append}
 use Rattle.rbf_model.proofs.Segments.{has_cases}
-use Rattle.rbf_sector.specs.declared.ident.Ident.{Ident}
-use Rattle.rbf_search.specs.declared.directory.Directory.{Directory}
-use Rattle.rbf_search.specs.Reading.{geometry_of, IsIdent, IsDirectory, listed}
 use Rattle.rbf_space.specs.Rules.{HasBadNumber, IsBadSlot}
-use Rattle.rbf_search.specs.Slots.{slot, slots_of, segment_slots}
-use Rattle.rbf_search.proofs.Runs.{run_has, runs_within, sectors_more}
-use Rattle.rbf_model.proofs.Images.{is_disk}
-use Rattle.rbf_search.proofs.Searched.{in_sectors, in_volume, entry_in_sector}
+use Rattle.rbf_search.specs.Slots.{slot, slots_of}
+use Rattle.rbf_search.proofs.Runs.{run_has, sectors_more}
 use Rattle.rbf_search.proofs.Slotted.{AreSlots}
 
 -- the entries in a list of slots

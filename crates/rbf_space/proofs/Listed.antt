@@ -1,14 +1,13 @@
 -- The runs of an owner, as they are listed.
-use Rattle.std.proofs.Common.{◌≡◌, ◌≢◌, ℕ, ◌+◌, ◌-◌, ◌<◌, ◌≤◌, ◌==◌, zero, suc, true, List, [], ◌∷◌, ◌++◌, All, length, take, get_or, sym, ap, ◌∙◌, subst, append_assoc, arith, eq-eqb}
+use Rattle.std.proofs.Common.{◌≡◌, ◌≢◌, ℕ, ◌+◌, ◌==◌, List, [], ◌∷◌, ◌++◌, sym, ap, ◌∙◌, append_assoc, eq-eqb}
 use Rattle.std.specs.Prelude.{if◌then◌else◌}
 use Rattle.std.proofs.lemmas.Bool.{cond-true, cond-false, ne_eqb}
 use Rattle.std.proofs.lemmas.Grind.{flat_map-append}
-use Rattle.std.proofs.lemmas.List.{append-nil, get_or_default, take_more}
+use Rattle.std.proofs.lemmas.List.{append-nil}
 use Rattle.rbf_model.specs.Fields.{segments_field}
 use Rattle.rbf_model.specs.Geometry.{Geometry, map_sectors}
-use Rattle.rbf_model.specs.Segments.{run, sectors_of, has}
+use Rattle.rbf_model.specs.Segments.{run, sectors_of}
 use Rattle.rbf_model.specs.Space.{system_sectors, owned}
-use Rattle.rbf_model.proofs.Segments.{has_left, has_right, has_range}
 use Rattle.rbf_space.specs.Used.{used_by}
 
 module _ (g : Geometry) (n : ℕ) (front : List (ℕ × ℕ)) where

@@ -1,19 +1,13 @@
 -- The descriptors that break a rule by themselves.
-use Rattle.std.proofs.Common.{◌≡◌, ℕ, ◌+◌, ◌<◌, ◌≤◌, true, List, length, get_or, min, Option, Some, None, MatchOption, refl, sym, ap, ◌∙◌, subst, inl, inr, ⊎_elim, arith}
-use Rattle.std.proofs.lemmas.Bool.{cases_lt}
-use Rattle.std.proofs.lemmas.List.{get_or_default}
-use Rattle.rbf_model.specs.Geometry.{Geometry, sector, IsHeader}
+use Rattle.std.proofs.Common.{◌≡◌, ℕ, true, List, length, get_or, Option, refl, sym, ap, ◌∙◌, subst, inl, inr, arith}
+use Rattle.rbf_model.specs.Geometry.{Geometry}
 use Rattle.rbf_model.specs.File.{file_at, is_directory}
 use Rattle.rbf_model.specs.Segments.{has}
-use Rattle.rbf_model.specs.Faults.{Breaks, IsFound, Reaches, searched}
+use Rattle.rbf_model.specs.Faults.{Breaks, IsFound, Reaches}
 use Rattle.rbf_model.specs.Faults.Breaks.{bad_number, bad_segment, bad_map, unmarked, used_twice, shared, no_room, no_root, bad_size, no_dots, bad_name, same_name, named_twice, named_root}
 use Rattle.rbf_model.specs.Tree.Reached.{root}
-use Rattle.rbf_model.proofs.Bytes.{has_place, place_of}
-use Rattle.rbf_model.proofs.Keeps.{number_of_reached}
 use Rattle.rbf_space.specs.declared.descriptors.OwnRule.{OwnRule}
 use Rattle.rbf_space.specs.declared.descriptors.OwnRule.TheVariants.{Room, Size}
-use Rattle.rbf_sector.specs.declared.ident.Ident.{Ident}
-use Rattle.rbf_search.specs.Reading.{geometry_of, IsIdent}
 use Rattle.rbf_space.specs.Rules.{BreaksOwn, BreaksOwnAt, number_of}
 use Rattle.rbf_search.specs.Least.{IsLeast, IsLeastBreach, Before}
 use Rattle.rbf_search.proofs.Leasts.{least_along, least_in_list}

@@ -1,6 +1,5 @@
 -- The sectors of owners, which are within the volume.
-use Rattle.std.proofs.Common.{◌≡◌, ℕ, ◌+◌, ◌-◌, ◌/◌, ◌%◌, ◌<◌, ◌≤◌, ◌==◌, true, List, All, get_or, sym, ap, ◌∙◌, subst, ⊎_elim}
-use Rattle.std.specs.Int.{bit_at}
+use Rattle.std.proofs.Common.{◌≡◌, ℕ, ◌+◌, ◌<◌, ◌≤◌, true, List, All, get_or, sym, ap, ◌∙◌, subst, ⊎_elim}
 use Rattle.std.proofs.lemmas.Bool.{cases_Bool}
 use Rattle.std.proofs.lemmas.List.{get_or_default}
 use Rattle.std.proofs.lemmas.List.Elements.{All-from_get_or}
@@ -8,12 +7,11 @@ use Rattle.rbf_model.specs.Fields.{segments_field}
 use Rattle.rbf_model.specs.Geometry.{Geometry, sector, is_within, LieWithin, IsHeader, HasMap}
 use Rattle.rbf_model.specs.Segments.{sectors_of, has}
 use Rattle.rbf_model.specs.File.{file_at}
-use Rattle.rbf_model.specs.Space.{is_marked, owns}
+use Rattle.rbf_model.specs.Space.{owns}
 use Rattle.rbf_model.specs.Faults.{Breaks, Reaches, searched}
 use Rattle.rbf_model.specs.Faults.Breaks.{bad_segment}
 use Rattle.rbf_model.proofs.Keeps.{number_of_reached}
 use Rattle.rbf_model.proofs.Owners.{owned_below}
-use Rattle.rbf_model.proofs.SectorBytes.{map_byte_is}
 use Rattle.rbf_segs.specs.Segments.{IsSegment}
 use Rattle.rbf_sector.specs.declared.ident.Ident.{Ident}
 use Rattle.rbf_search.specs.Reading.{geometry_of, IsIdent}
