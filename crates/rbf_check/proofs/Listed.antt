@@ -6,12 +6,7 @@ use Rattle.std.proofs.lemmas.List.{take_more, get_or-set_same, get_or-set_other,
 use Rattle.std.proofs.lemmas.List.Elements.{Contains-append_left, Contains-append_cases, Contains-push}
 use Rattle.rbf_search.specs.declared.links.Link.{Link}
 use Rattle.rbf_check.specs.Places.{ArePlaces}
-
-same_some : (one other : Link) (o : Option Link) → o ≡ Some one → o ≡ Some other → one ≡ other
-same_some one other o p q = cc
-
-some_none : (one : Link) (o : Option Link) → o ≡ Some one → o ≡ None → ⊥
-some_none one o p q = cc
+use Rattle.rbf_search.proofs.Options.{none_some, some_same}
 
 -- the one element of a list
 only_one : (x l : Link) → Contains (x ∷ []) l → l ≡ x
@@ -34,7 +29,7 @@ module _ (links : List Link) (total : ℕ) (places : List (Option Link)) (are : 
     size = length-set places link.descriptor (Some link) ∙ are.size;
     each = λ n l there. ⊎_elim
         (λ same.
-        let is : link ≡ l = same_some link l (get_or (set places link.descriptor (Some link)) n None) (ap (λ k. get_or (set places link.descriptor (Some link)) k None) same ∙ here) there in
+        let is : link ≡ l = some_same link l (get_or (set places link.descriptor (Some link)) n None) (ap (λ k. get_or (set places link.descriptor (Some link)) k None) same ∙ here) there in
         let P : Link → Type 0 = λ k. Contains (links ++ link ∷ []) k × (k.descriptor ≡ n) in
         subst P is (Contains-push links link, sym same))
         (λ apart.
@@ -42,7 +37,7 @@ module _ (links : List Link) (total : ℕ) (places : List (Option Link)) (are : 
         (Contains-append_left links (link ∷ []) l old.0, old.1))
         (cases_eq n link.descriptor);
     there = λ l h none. ⊎_elim
-        (λ same. some_none link (get_or (set places link.descriptor (Some link)) l.descriptor None) (ap (λ k. get_or (set places link.descriptor (Some link)) k None) same ∙ here) none)
+        (λ same. none_some link (get_or (set places link.descriptor (Some link)) l.descriptor None) none (ap (λ k. get_or (set places link.descriptor (Some link)) k None) same ∙ here))
         (λ apart. ⊎_elim
         (λ before. are.there l before (sym (beside l.descriptor apart) ∙ none))
         (λ last. apart (ap (λ (k : Link). k.descriptor) (only_one link l last)))

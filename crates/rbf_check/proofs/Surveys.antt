@@ -14,16 +14,16 @@ use Rattle.rbf_model.specs.Tree.Reached.{root, named}
 use Rattle.rbf_model.specs.Volume.{Sound, directories, free_clusters}
 use Rattle.rbf_model.specs.Faults.{Reaches, searched}
 use Rattle.rbf_model.proofs.Lists.{some_is}
-use Rattle.rbf_model.proofs.Images.{is_disk}
 use Rattle.rbf_model.proofs.Free.{free_clusters_are}
 use Rattle.rbf_model.proofs.Owners.{cluster_positive}
-use Rattle.rbf_model.proofs.Keeps.{searched_is, number_of_reached}
+use Rattle.rbf_model.proofs.Keeps.{searched_is}
 use Rattle.rbf_model.proofs.Built.{sound_from_keeps}
 use Rattle.rbf_search.specs.declared.links.Link.{Link}
 use Rattle.rbf_check.specs.declared.survey.Survey.{Survey}
 use Rattle.rbf_search.specs.Reading.{geometry_of}
 use Rattle.rbf_check.specs.Survey.{IsSurvey}
-use Rattle.rbf_search.proofs.Headers.{header_of}
+use Rattle.rbf_search.proofs.Headers.{header_of, disk_of}
+use Rattle.rbf_search.proofs.FoundNumbers.{number_reached}
 use Rattle.rbf_check.proofs.Counted.{ceil_is}
 use Rattle.rbf_check.specs.Places.{ArePlaces}
 use Rattle.rbf_check.specs.Surveyed.{volume_from}
@@ -40,14 +40,14 @@ module _ (image : List ℕ) (survey : Survey) (is : IsSurvey image survey) where
   header_is = header_of image survey.ident is.ident
 
   pub disk_is : IsDisk (geometry_of survey.ident) (sector image)
-  disk_is = subst (λ g. IsDisk g (sector image)) is.ident.geometry (is_disk image is.ident.header)
+  disk_is = disk_of image survey.ident is.ident
 
   total_is : (image_geometry image).total ≡ survey.ident.total
   total_is = ap (λ (g : Geometry). g.total) is.ident.geometry
 
   -- a descriptor that is reached and its segments are in the image
   pub reached_below : (n : ℕ) → Reaches (geometry_of survey.ident) (sector image) n → n < survey.ident.total
-  reached_below n reached = (number_of_reached (geometry_of survey.ident) (searched (geometry_of survey.ident) (sector image)) header_is reached).below
+  reached_below n reached = (number_reached image survey.ident is.ident n reached).below
 
   pub descriptor_fits : (n : ℕ) → n < survey.ident.total → 256 * (n + 1) ≤ length image
   descriptor_fits n below = omega (arith, is.ident.header.fits, total_is)

@@ -20,6 +20,7 @@ use Rattle.rbf_search.specs.Least.{IsLeastBreach}
 use Rattle.rbf_tree.specs.Dots.{AreDotsDecided}
 use Rattle.rbf_check.specs.Verdict.{KeepsBefore, IsLeastFault, IsLeastError, IsErrorOf}
 use Rattle.rbf_space.proofs.Owned.{lie_within}
+use Rattle.rbf_search.proofs.Options.{none_some, some_same}
 
 -- an error that is handed on as it is
 pub handed_on : {T : Type 0} (r : Result T CheckError) (e : CheckError) (P : CheckError → Type 0) → IsErrAnd r (λ y. y ≡ e) → P e → IfErr r P
@@ -109,12 +110,6 @@ module _ (g : Geometry) (disk : ℕ → List ℕ) where
 
   none_at_all : KeepsBefore g disk 10 → (q at : ℕ) → Breaks g disk q at → ⊥
   none_at_all before q at b = before q at (rule_most b) b
-
-  none_some : (name : List ℕ) (o : Option (List ℕ)) → o ≡ None → o ≡ Some name → ⊥
-  none_some name o none some = cc
-
-  some_same : (a b : List ℕ) (o : Option (List ℕ)) → o ≡ Some a → o ≡ Some b → a ≡ b
-  some_same a b o one other = cc
 
   option_cases : (o : Option (List ℕ)) → (o ≡ None) ⊎ ((name : List ℕ) × (o ≡ Some name))
   option_cases None = inl refl

@@ -1,8 +1,9 @@
 -- What is read of the first sectors of an image: its header, and the marks of its map.
 use Rattle.std.proofs.Common.{◌≡◌, ℕ, ◌+◌, ◌-◌, ◌/◌, ◌%◌, ◌==◌, List, get_or, sym, ap, subst}
 use Rattle.std.specs.Int.{bit_at}
-use Rattle.rbf_model.specs.Geometry.{Geometry, sector, IsHeader}
+use Rattle.rbf_model.specs.Geometry.{Geometry, sector, IsHeader, IsDisk}
 use Rattle.rbf_model.specs.Space.{is_marked}
+use Rattle.rbf_model.proofs.Images.{is_disk}
 use Rattle.rbf_model.proofs.SectorBytes.{map_byte_is}
 use Rattle.rbf_sector.specs.declared.ident.Ident.{Ident}
 use Rattle.rbf_search.specs.Reading.{geometry_of, IsIdent}
@@ -16,3 +17,8 @@ mark_is image c = ap (λ b. bit_at b (7 - c % 8) == 1) (sym (map_byte_is image (
 pub header_of : (image : List ℕ) (ident : Ident) → IsIdent image ident → IsHeader (geometry_of ident)
 header_of image ident whole =
     let P : Geometry → Type 0 = λ g. IsHeader g in subst P whole.geometry whole.header.header
+
+-- and the sectors of that volume are all in the image
+pub disk_of : (image : List ℕ) (ident : Ident) → IsIdent image ident → IsDisk (geometry_of ident) (sector image)
+disk_of image ident whole =
+    let P : Geometry → Type 0 = λ g. IsDisk g (sector image) in subst P whole.geometry (is_disk image whole.header)

@@ -4,6 +4,7 @@ pub mod Headers
 pub mod Leasts
 pub mod Led
 pub mod Linking
+pub mod Options
 pub mod Runs
 pub mod Searched
 pub mod Searching

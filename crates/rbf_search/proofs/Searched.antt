@@ -1,9 +1,9 @@
 -- The entries of a directory that can be searched.
-use Rattle.std.proofs.Common.{◌≡◌, ℕ, ◌+◌, ◌*◌, ◌/◌, ◌%◌, ◌<◌, ◌≤◌, Bool, true, false, List, [], length, take, drop, get_or, Some, refl, sym, ap, ◌∙◌, subst, ⊎_elim, arith, leb, eqb, leb-true, ◌==◌, ◌&&◌, if◌then◌else◌}
+use Rattle.std.proofs.Common.{◌≡◌, ℕ, ◌+◌, ◌*◌, ◌/◌, ◌%◌, ◌<◌, ◌≤◌, Bool, true, false, List, [], length, take, drop, get_or, Some, refl, sym, ap, ◌∙◌, ⊎_elim, arith, leb, eqb, leb-true, ◌==◌, ◌&&◌, if◌then◌else◌}
 use Rattle.std.specs.List.{list_all, slice_get}
 use Rattle.std.specs.Int.{bit_at}
 use Rattle.std.proofs.lemmas.Bool.Decides.{nat_tests}
-use Rattle.std.proofs.lemmas.Bool.{cond-true, cond-false, cases_Bool, false≢true}
+use Rattle.std.proofs.lemmas.Bool.{and_parts, cond-true, cond-false, cases_Bool, false≢true}
 use Rattle.std.proofs.lemmas.List.Sums.{AllPass-from_list_all}
 use Rattle.rbf_model.specs.Fields.{attributes_field, entry_at, size_field, segments_field}
 use Rattle.rbf_model.specs.Geometry.{Geometry, geometry, sector, LieWithin, IsDisk, is_within}
@@ -14,15 +14,10 @@ use Rattle.std.proofs.lemmas.Option.{slice_get-get_or}
 use Rattle.rbf_sector.specs.declared.ident.Ident.{Ident}
 use Rattle.rbf_search.specs.declared.directory.Directory.{Directory}
 use Rattle.rbf_search.specs.Reading.{geometry_of, IsIdent, IsDirectory}
-use Rattle.rbf_model.proofs.Images.{is_disk}
+use Rattle.rbf_search.proofs.Headers.{disk_of}
 use Rattle.rbf_model.proofs.Segments.{sectors_within, length-contents}
 use Rattle.rbf_model.proofs.SectorBytes.{entry_in_take, piece_of_piece, sector_of_joined}
 use Rattle.rbf_model.proofs.Bytes.{has_place}
-
-and_parts : (a b : Bool) → (a && b) ≡ true → (a ≡ true) × (b ≡ true)
-and_parts true true h = (refl, refl)
-and_parts true false h = absurd (false≢true h)
-and_parts false b h = absurd (false≢true h)
 
 pub four_parts : (a b c d : Bool) → (a && b && c && d) ≡ true → (a ≡ true) × (b ≡ true) × (c ≡ true) × (d ≡ true)
 four_parts true true true true h = (refl, refl, refl, refl)
@@ -109,9 +104,7 @@ whole_entries size fits = omega (arith, eqb-zero (size % 32) (and_parts (leb 64 
 -- where an entry of a directory stands in the image
 module _ (image : List ℕ) (ident : Ident) (dir : Directory) (i : ℕ) (whole : IsIdent image ident) (is : IsDirectory image ident dir) (below : i < dir.entries) where
   sectors_whole : IsDisk (geometry_of ident) (sector image)
-  sectors_whole =
-      let P : Geometry → Type 0 = λ g. IsDisk g (sector image) in
-      subst P whole.geometry (is_disk image whole.header)
+  sectors_whole = disk_of image ident whole
 
   has_entry : 32 * (i + 1) ≤ length (searched (geometry_of ident) (sector image) dir.number)
   has_entry = omega (arith, is.entries)
@@ -135,11 +128,9 @@ module _ (image : List ℕ) (ident : Ident) (dir : Directory) (i : ℕ) (whole :
 -- a descriptor that is read is a directory of as many entries as its fields say
 pub directory_read : (image : List ℕ) (ident : Ident) (n attr size entries : ℕ) (segs : List (ℕ × ℕ)) → IsIdent image ident → n < ident.total → attr ≡ attributes_field (sector image n) → segs ≡ segments_field (sector image n) → size ≡ size_field (sector image n) → 32 * entries ≡ (if (bit_at attr 7 == 1) && list_all (is_within (geometry_of ident)) segs && has_room segs size && is_directory_size size then size else 0) → IsDirectory image ident (record { number = n; segs = segs; entries = entries })
 directory_read image ident n attr size entries segs whole low attributes segments sized counted =
-    let P : Geometry → Type 0 = λ g. IsDisk g (sector image) in
-    let disk : IsDisk (geometry_of ident) (sector image) = subst P whole.geometry (is_disk image whole.header) in
     let test = searched_by_fields (geometry_of ident) (sector image) n attr size segs attributes segments sized in
     record {
       number = low;
       segments = segments;
-      entries = counted ∙ ap (λ t. if t then size else 0) test ∙ ap (λ z. if is_searched (geometry_of ident) (sector image) n then z else 0) sized ∙ sym (length-searched (geometry_of ident) (sector image) n disk);
+      entries = counted ∙ ap (λ t. if t then size else 0) test ∙ ap (λ z. if is_searched (geometry_of ident) (sector image) n then z else 0) sized ∙ sym (length-searched (geometry_of ident) (sector image) n (disk_of image ident whole));
     }

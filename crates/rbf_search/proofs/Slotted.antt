@@ -6,7 +6,7 @@ use Rattle.std.proofs.lemmas.List.{get_or_append_left, get_or-append_right, get_
 use Rattle.std.proofs.lemmas.List.FromFn.{length-range_with_len, get_or-range_with_len}
 use Rattle.std.proofs.lemmas.Grind.{flat_map-append}
 use Rattle.rbf_model.specs.Fields.{entry_at, segments_field}
-use Rattle.rbf_model.specs.Geometry.{Geometry, IsDisk, sector}
+use Rattle.rbf_model.specs.Geometry.{Geometry, sector}
 use Rattle.rbf_model.specs.Segments.{run, sectors_of, has}
 use Rattle.rbf_model.proofs.Bytes.{place_of}
 use Rattle.rbf_model.proofs.Pieces.{take_append}
@@ -15,7 +15,7 @@ use Rattle.rbf_search.specs.declared.directory.Directory.{Directory}
 use Rattle.rbf_search.specs.Reading.{geometry_of, IsIdent, IsDirectory, listed}
 use Rattle.rbf_search.specs.Slots.{slot, slots_of, segment_slots}
 use Rattle.rbf_search.proofs.Runs.{runs_within}
-use Rattle.rbf_model.proofs.Images.{is_disk}
+use Rattle.rbf_search.proofs.Headers.{disk_of}
 use Rattle.rbf_search.proofs.Searched.{in_sectors, in_volume, entry_in_sector}
 
 -- the slots of sectors: how many they are, and which
@@ -121,17 +121,12 @@ module _ (image : List ℕ) (ident : Ident) (dir : Directory) (whole : IsIdent i
   segments : List (ℕ × ℕ)
   segments = segments_field (sector image dir.number)
 
-  disk_whole : IsDisk (geometry_of ident) (sector image)
-  disk_whole =
-      let P : Geometry → Type 0 = λ g. IsDisk g (sector image) in
-      subst P whole.geometry (is_disk image whole.header)
-
   has_entry : (i : ℕ) → i < dir.entries → 32 * (i + 1) ≤ length (listed image ident dir.number)
   has_entry i low = omega (arith, is.entries)
 
   entries_fit : dir.entries ≤ 8 * length (sectors_of (segments_field (sector image dir.number)))
   entries_fit = ⊎_elim
-      (λ some_entry. omega (arith, in_sectors (geometry_of ident) (sector image) dir.number disk_whole (dir.entries - 1) (has_entry (dir.entries - 1) (omega arith))))
+      (λ some_entry. omega (arith, in_sectors (geometry_of ident) (sector image) dir.number (disk_of image ident whole) (dir.entries - 1) (has_entry (dir.entries - 1) (omega arith))))
       (λ none. omega arith)
       (cases_lt 0 dir.entries)
 
@@ -153,7 +148,7 @@ module _ (image : List ℕ) (ident : Ident) (dir : Directory) (whole : IsIdent i
       let x = get_or (sectors_of (segments_field (sector image dir.number))) (i / 8) 0 in
       let quotient : (8 * x + i % 8) / 8 ≡ x = omega arith in
       let rest : (8 * x + i % 8) % 8 ≡ i % 8 = omega arith in
-      entry_in_sector (geometry_of ident) (sector image) dir.number disk_whole i (has_entry i low)
+      entry_in_sector (geometry_of ident) (sector image) dir.number (disk_of image ident whole) i (has_entry i low)
       ∙ sym (ap (λ e. slot (sector image) e) (slot_is i low) ∙ ap (λ q. entry_at (sector image q) ((8 * x + i % 8) % 8)) quotient ∙ ap (λ r. entry_at (sector image x) r) rest)
 
   in_image : (t : ℕ) → has (slots_of runs) t ≡ true → t < 8 * ident.total
@@ -161,7 +156,7 @@ module _ (image : List ℕ) (ident : Ident) (dir : Directory) (whole : IsIdent i
       let place = place_of (slots_of runs) t h in
       let low : place.0 < dir.entries = omega (arith, place.1, count) in
       let at : get_or (slots_of runs) place.0 0 ≡ t = get_or_default (slots_of runs) place.0 0 t place.1 ∙ place.2 in
-      omega (arith, slot_is place.0 low, in_volume (geometry_of ident) (sector image) dir.number disk_whole place.0 (has_entry place.0 low))
+      omega (arith, slot_is place.0 low, in_volume (geometry_of ident) (sector image) dir.number (disk_of image ident whole) place.0 (has_entry place.0 low))
 
   pub slots_are : (same : List (ℕ × ℕ)) → same ≡ runs → AreSlots (geometry_of ident) (sector image) (listed image ident dir.number) same
   slots_are same equal =

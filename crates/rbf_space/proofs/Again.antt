@@ -18,7 +18,7 @@ use Rattle.rbf_space.specs.Noted.{HasUser, HasOwner, cluster_begin, StandsTwice,
 use Rattle.rbf_space.specs.Noted.IsUsedAgain.{twice, again, shared as shared_by}
 use Rattle.rbf_search.proofs.Cases.{UsedTwice, Shared, used_of}
 use Rattle.rbf_space.proofs.Owned.{used_below}
-use Rattle.rbf_search.proofs.Tables.{same_owner}
+use Rattle.rbf_search.proofs.Options.{some_same}
 
 -- where a number stands twice
 twice_from : (xs : List ℕ) (i j s : ℕ) → i < j → j < length xs → get_or xs i s ≡ s → get_or xs j s ≡ s → StandsTwice xs s
@@ -144,7 +144,7 @@ module _ (g : Geometry) (disk : ℕ → List ℕ) (found : List ℕ) (are : IsFo
     below_shared s u =
         let c = u.2 in
         ⊎_elim
-        (λ low. absurd (u.5 (same_owner u.0 u.1 (get_or uses.owners.items c None) (owner_of u.1 c u.4 u.7 low) (owner_of u.0 c u.3 u.6 low))))
+        (λ low. absurd (u.5 (some_same u.0 u.1 (get_or uses.owners.items c None) (owner_of u.0 c u.3 u.6 low) (owner_of u.1 c u.4 u.7 low))))
         (λ high. let at = u.8 in omega arith)
         (cases_lt (c * g.cluster) uses.least)
 

@@ -11,7 +11,7 @@ use Rattle.rbf_search.specs.Given.{IsGiven}
 use Rattle.rbf_search.specs.Least.{IsLeastWithin}
 use Rattle.rbf_space.specs.Noted.{HasUser, HasOwner, cluster_begin, StandsTwice, IsUsedAgain, IsNoted}
 use Rattle.rbf_space.specs.Noted.IsUsedAgain.{twice, again, shared}
-use Rattle.rbf_search.proofs.Tables.{same_owner}
+use Rattle.rbf_search.proofs.Options.{some_same}
 
 -- two places in two lists joined
 pub twice_left : (xs ys : List ℕ) (s : ℕ) → StandsTwice xs s → StandsTwice (xs ++ ys) s
@@ -53,7 +53,7 @@ module _ (k : ℕ) (owner : Owner) where
     no_less s (twice both) = past s (twice_has rest s both)
     no_less s (again here noted) = past s here
     no_less s (shared t n here begins had other) = ⊎_elim
-        (λ low. absurd (other (same_owner n owner.descriptor (get_or uses.owners.items (t / k) None) (owned t here low) had)))
+        (λ low. absurd (other (some_same n owner.descriptor (get_or uses.owners.items (t / k) None) had (owned t here low))))
         (λ high. omega arith)
         (cases_lt (cluster_begin k t) uses.least)
 
@@ -219,7 +219,7 @@ module _ (k : ℕ) (owner : Owner) where
 
       from : (t p : ℕ) → HasUser new t p → HasUser old t p ⊎ ((p ≡ owner.place) × (has (s ∷ []) t ≡ true))
       from t p h = ⊎_elim
-          (λ same. inr (same_owner p owner.place (get_or new.users.items s None) user_here (sym (ap (λ u. get_or new.users.items u None) same) ∙ h), ap (has (s ∷ [])) same ∙ here_alone))
+          (λ same. inr (some_same p owner.place (get_or new.users.items s None) (sym (ap (λ u. get_or new.users.items u None) same) ∙ h) user_here, ap (has (s ∷ [])) same ∙ here_alone))
           (λ apart. inl (sym (user_beside t apart) ∙ h))
           (cases_eq t s)
 

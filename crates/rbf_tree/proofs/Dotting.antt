@@ -10,12 +10,9 @@ use Rattle.rbf_model.specs.Geometry.{Geometry, IsNumber, sector}
 use Rattle.rbf_model.specs.Tree.{dot, dot_dot, IsEntry, IsParent, of_root, of_other, HasDots, self_first, parent_first}
 use Rattle.rbf_model.specs.Faults.{Breaks, IsFound, searched}
 use Rattle.rbf_model.specs.Faults.Breaks.{no_dots}
-use Rattle.rbf_model.proofs.Bytes.{has_place}
-use Rattle.rbf_model.proofs.Keeps.{number_of_reached}
 use Rattle.rbf_sector.specs.declared.entry.Entry.{Entry}
 use Rattle.rbf_sector.specs.declared.ident.Ident.{Ident}
 use Rattle.rbf_search.specs.Reading.{geometry_of, IsIdent}
-use Rattle.rbf_search.proofs.Headers.{header_of}
 use Rattle.rbf_search.specs.declared.links.Link.{Link}
 use Rattle.rbf_search.specs.Linked.{AreLinks}
 use Rattle.rbf_search.specs.Least.{IsLeast, Before, IsLeastBreach}
@@ -24,9 +21,8 @@ use Rattle.rbf_tree.specs.Dots.{NamesSo, AreDots, BeginsWithDots, MarksDots, Are
 use Rattle.rbf_search.proofs.Cases.{dots_of}
 use Rattle.rbf_search.proofs.Tables.{filled}
 use Rattle.rbf_search.proofs.Leasts.{least_along, least_in_list}
-
-none_some : (name : List ℕ) (o : Option (List ℕ)) → o ≡ None → o ≡ Some name → ⊥
-none_some name o none some = cc
+use Rattle.rbf_search.proofs.Options.{none_some}
+use Rattle.rbf_search.proofs.FoundNumbers.{number_reached, reached_found}
 
 -- an entry that is read
 module _ (entry : List ℕ) (read : Entry) (name_is : read.name ≡ take 29 entry) (lsn : read.lsn ≡ descriptor_field entry) (name : List ℕ) (n : ℕ) where
@@ -190,7 +186,7 @@ module _ (g : Geometry) (disk : ℕ → List ℕ) where
 -- a descriptor that is found is one of the volume
 pub number_after : (image : List ℕ) (ident : Ident) (found : List ℕ) (i : ℕ) → IsIdent image ident → IsFound (geometry_of ident) (sector image) found → i < length found → 1 ≤ get_or found i 0
 number_after image ident found i whole is low =
-    (number_of_reached (geometry_of ident) (searched (geometry_of ident) (sector image)) (header_of image ident whole) ((is (get_or found i 0)).0 (has_place found i low))).after
+    (number_reached image ident whole (get_or found i 0) (reached_found (geometry_of ident) (sector image) found i is low)).after
 
 -- and so is one that a link names
 pub number_linked : (g : Geometry) (disk : ℕ → List ℕ) (links : List Link) (k : ℕ) → AreLinks g disk links → k < length links → IsNumber g (link_at links k).descriptor

@@ -20,6 +20,7 @@ use Rattle.rbf_search.specs.Least.{IsLeast, Before, IsLeastBreach}
 use Rattle.rbf_tree.specs.Keys.{IsKey, HasKey, IsKeyAdded, IsNamedSo, IsKeyOf, AreNamed, IsBadlyNamed, IsBadlyNamedAt}
 use Rattle.rbf_search.proofs.Cases.{names_of}
 use Rattle.rbf_search.proofs.Leasts.{least_along, least_in_list}
+use Rattle.rbf_search.proofs.Options.{none_some, some_same}
 
 length_of_map : (f : ℕ → ℕ) (xs : List ℕ) → length (map f xs) ≡ length xs
 length_of_map f xs = length-map xs f
@@ -118,12 +119,6 @@ module _ (old new : BTreeSet (List ℕ)) (key : List ℕ) (updates : (q : List �
         (λ apart. inl (sym (updates q ∙ cond-false (is_eq (slice_cmp nat_cmp key q)) true (contains (slice_cmp nat_cmp) old q) apart) ∙ h))
         (cases_Bool (is_eq (slice_cmp nat_cmp key q)));
   }
-
-none_some : (name : List ℕ) (o : Option (List ℕ)) → o ≡ None → o ≡ Some name → ⊥
-none_some name o none some = cc
-
-some_same : (a b : List ℕ) (o : Option (List ℕ)) → o ≡ Some a → o ≡ Some b → a ≡ b
-some_same a b o one other = cc
 
 -- an entry that is read
 module _ (contents bytes field : List ℕ) (i : ℕ) (bytes_are : bytes ≡ entry_at contents i) (field_is : field ≡ take 29 bytes) where

@@ -14,6 +14,7 @@ use Rattle.rbf_search.specs.Given.{IsGiven}
 use Rattle.rbf_tree.specs.Named.{link_at, AreSame, IsFirst, AreFirsts, IsNamedAgain}
 use Rattle.rbf_search.proofs.Cases.{named_of}
 use Rattle.rbf_search.proofs.Leasts.{least_along}
+use Rattle.rbf_search.proofs.Options.{some_same}
 
 pub firsts_none : (links : List Link) (firsts : List (Option ℕ)) → ((s m : ℕ) → get_or firsts s None ≡ Some m → ⊥) → AreFirsts links firsts 0
 firsts_none links firsts none = record {
@@ -49,9 +50,6 @@ module _ (links : List Link) (old new : List (Option ℕ)) (k n : ℕ) (at : (li
         (given.there.0, ap (λ d. get_or new d None) here ∙ given.there.1))
         (cases_lt j k);
   }
-
-some_same : (m k : ℕ) (o : Option ℕ) → o ≡ Some m → o ≡ Some k → m ≡ k
-some_same m k o one other = cc
 
 -- a link noted before is not the one that is noted now
 pub not_again : (links : List Link) (old new : List (Option ℕ)) (k n : ℕ) → AreFirsts links old k → IsGiven old new k n → (m : ℕ) → get_or old n None ≡ Some m → get_or new n None ≡ Some k → ⊥
