@@ -3,7 +3,8 @@ use Rattle.std.proofs.Common.{◌≡◌, ℕ, ◌+◌, ◌-◌, ◌<◌, ◌≤�
 use Rattle.std.proofs.lemmas.List.{take_at, set_at, set-append_left, set_split, drop_all, length-replicate}
 use Rattle.rbf_segs.specs.declared.segs.Segs.TheInside.{Inside}
 use Rattle.std.proofs.lemmas.List.Elements.{All-push, All-take}
-use Rattle.rbf_segs.specs.Segments.{sectors_of, shortened, IsSegment}
+use Rattle.rbf_model.specs.Segments.{sectors_of}
+use Rattle.rbf_segs.specs.Segments.{shortened, IsSegment}
 use Rattle.rbf_segs.specs.Places.{in_places, IsInside}
 use Rattle.rbf_segs.proofs.Runs.{shortened-append, length-shortened, All-shortened}
 

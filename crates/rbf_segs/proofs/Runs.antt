@@ -8,24 +8,25 @@ use Rattle.std.proofs.lemmas.List.{get_or-append-add, take_more, drop_more, take
 use Rattle.std.proofs.lemmas.List.Concat.{flat_map-append}
 use Rattle.std.proofs.lemmas.Bool.Decides.{nat_tests}
 use Rattle.std.proofs.lemmas.Grind.{drop_more_same}
-use Rattle.rbf_segs.specs.Segments.{segment_sectors, sectors_of, joins, appended, shortened, IsSegment, Lengthens}
+use Rattle.rbf_model.specs.Segments.{run, sectors_of}
+use Rattle.rbf_segs.specs.Segments.{joins, appended, shortened, IsSegment, Lengthens}
 
 -- a run has as many sectors as its count says
-pub length-segment_sectors : (run : ℕ × ℕ) → length (segment_sectors run) ≡ run.1
-length-segment_sectors run = length-range_with_len run.0 run.1
+pub length-run : (segment : ℕ × ℕ) → length (run segment) ≡ segment.1
+length-run segment = length-range_with_len segment.0 segment.1
 
 pub append_nil : {A : Type 0} (xs : List A) → xs ++ [] ≡ xs
 append_nil xs = search rules
 
 -- one run more
-pub sectors_of-push : (runs : List (ℕ × ℕ)) (run : ℕ × ℕ) → sectors_of (runs ++ run ∷ []) ≡ sectors_of runs ++ segment_sectors run
-sectors_of-push runs run =
-    flat_map-append segment_sectors runs (run ∷ []) ∙ ap (λ s. sectors_of runs ++ s) (append_nil (segment_sectors run))
+pub sectors_of-push : (runs : List (ℕ × ℕ)) (segment : ℕ × ℕ) → sectors_of (runs ++ segment ∷ []) ≡ sectors_of runs ++ run segment
+sectors_of-push runs segment =
+    flat_map-append run runs (segment ∷ []) ∙ ap (λ s. sectors_of runs ++ s) (append_nil (run segment))
 
 -- the count of sectors, one run further
 pub length-sectors_of_more : (runs : List (ℕ × ℕ)) (i : ℕ) (d : ℕ × ℕ) → i < length runs → length (sectors_of (take (i + 1) runs)) ≡ length (sectors_of (take i runs)) + (get_or runs i d).1
 length-sectors_of_more runs i d within =
-    ap (λ s. length (sectors_of s)) (take_more runs i d within) ∙ ap length (sectors_of-push (take i runs) (get_or runs i d)) ∙ length-append (sectors_of (take i runs)) (segment_sectors (get_or runs i d)) ∙ ap (λ n. length (sectors_of (take i runs)) + n) (length-segment_sectors (get_or runs i d))
+    ap (λ s. length (sectors_of s)) (take_more runs i d within) ∙ ap length (sectors_of-push (take i runs) (get_or runs i d)) ∙ length-append (sectors_of (take i runs)) (run (get_or runs i d)) ∙ ap (λ n. length (sectors_of (take i runs)) + n) (length-run (get_or runs i d))
 
 -- a place in the first run, and one behind it
 pub slice_get-in_run : (lsn count place : ℕ) (rest : List ℕ) → place < count → slice_get (range_with_len lsn count ++ rest) place ≡ Some (lsn + place)
@@ -56,36 +57,36 @@ at_some n a b some = grind (arith, nat_tests)
 -- the runs cut off one after another, each place kept: zeros stand for runs of which nothing is left
 abbrev pub cut_places : ℕ → List (ℕ × ℕ) → List (ℕ × ℕ)
 cut_places left [] = []
-cut_places left (run ∷ runs) =
-    cond (eqb left 0) (0, 0) (run.0, min left run.1) ∷ cut_places (left - run.1) runs
+cut_places left (segment ∷ runs) =
+    cond (eqb left 0) (0, 0) (segment.0, min left segment.1) ∷ cut_places (left - segment.1) runs
 
 length-cut_places : (left : ℕ) (runs : List (ℕ × ℕ)) → length (cut_places left runs) ≡ length runs
 length-cut_places left [] = refl
-length-cut_places left (run ∷ runs) = ap suc (length-cut_places (left - run.1) runs)
+length-cut_places left (segment ∷ runs) = ap suc (length-cut_places (left - segment.1) runs)
 
 cut_places-none : (runs : List (ℕ × ℕ)) → cut_places 0 runs ≡ replicate (length runs) (0, 0)
 cut_places-none [] = refl
-cut_places-none (run ∷ runs) =
-    (let none : 0 - run.1 ≡ 0 = omega arith in ap (λ left. (0, 0) ∷ cut_places left runs) none) ∙ ap (λ places. (0, 0) ∷ places) (cut_places-none runs)
+cut_places-none (segment ∷ runs) =
+    (let none : 0 - segment.1 ≡ 0 = omega arith in ap (λ left. (0, 0) ∷ cut_places left runs) none) ∙ ap (λ places. (0, 0) ∷ places) (cut_places-none runs)
 
 -- what is left of the runs, and zeros behind it
 pub cut_places_is : (left : ℕ) (runs : List (ℕ × ℕ)) → cut_places left runs ≡ shortened left runs ++ replicate (length runs - length (shortened left runs)) (0, 0)
 cut_places_is left [] = refl
-cut_places_is zero (run ∷ runs) =
-    let all : length (run ∷ runs) ≡ length (run ∷ runs) - 0 = omega arith in
-    cut_places-none (run ∷ runs) ∙ ap (λ n. replicate n (0, 0)) all
-cut_places_is (suc n) (run ∷ runs) =
-    let rest = shortened (suc n - run.1) runs in
-    let front : ℕ × ℕ = (run.0, min (suc n) run.1) in
+cut_places_is zero (segment ∷ runs) =
+    let all : length (segment ∷ runs) ≡ length (segment ∷ runs) - 0 = omega arith in
+    cut_places-none (segment ∷ runs) ∙ ap (λ n. replicate n (0, 0)) all
+cut_places_is (suc n) (segment ∷ runs) =
+    let rest = shortened (suc n - segment.1) runs in
+    let front : ℕ × ℕ = (segment.0, min (suc n) segment.1) in
     let some : 0 < suc n = omega arith in
-    let cut_is : cut_places (suc n) (run ∷ runs) ≡ front ∷ cut_places (suc n - run.1) runs = ap (λ r. r ∷ cut_places (suc n - run.1) runs) (at_some (suc n) (0, 0) front some) in
-    let left_is : shortened (suc n) (run ∷ runs) ≡ front ∷ rest = at_some (suc n) [] (front ∷ rest) some in
-    let zeros : length runs - length rest ≡ length (run ∷ runs) - length (front ∷ rest) = omega arith in
-    cut_is ∙ ap (λ places. front ∷ places) (cut_places_is (suc n - run.1) runs) ∙ ap (λ k. (front ∷ rest) ++ replicate k (0, 0)) zeros ∙ ap (λ r. r ++ replicate (length (run ∷ runs) - length r) (0, 0)) (sym left_is)
+    let cut_is : cut_places (suc n) (segment ∷ runs) ≡ front ∷ cut_places (suc n - segment.1) runs = ap (λ r. r ∷ cut_places (suc n - segment.1) runs) (at_some (suc n) (0, 0) front some) in
+    let left_is : shortened (suc n) (segment ∷ runs) ≡ front ∷ rest = at_some (suc n) [] (front ∷ rest) some in
+    let zeros : length runs - length rest ≡ length (segment ∷ runs) - length (front ∷ rest) = omega arith in
+    cut_is ∙ ap (λ places. front ∷ places) (cut_places_is (suc n - segment.1) runs) ∙ ap (λ k. (front ∷ rest) ++ replicate k (0, 0)) zeros ∙ ap (λ r. r ++ replicate (length (segment ∷ runs) - length r) (0, 0)) (sym left_is)
 
 shortened-none : (runs : List (ℕ × ℕ)) → shortened 0 runs ≡ []
 shortened-none [] = refl
-shortened-none (run ∷ runs) = refl
+shortened-none (segment ∷ runs) = refl
 
 -- the first places are cut and the others are as they were
 pub record IsCutTo (old places : List (ℕ × ℕ)) (sectors i left runs : ℕ) : Type 0 where
@@ -116,36 +117,36 @@ module _ (old places : List (ℕ × ℕ)) (sectors i left runs : ℕ) (d : ℕ �
   rest_is =
       sym cutting.rest ∙ drop_more places i d within ∙ ap (λ rest. get_or places i d ∷ rest) rest_again
 
-  rest_kept : (run : ℕ × ℕ) → drop (i + 1) (set places i run) ≡ drop (i + 1) old
-  rest_kept run = drop-set-lt (i + 1) places i run (omega arith) ∙ rest_again
+  rest_kept : (segment : ℕ × ℕ) → drop (i + 1) (set places i segment) ≡ drop (i + 1) old
+  rest_kept segment = drop-set-lt (i + 1) places i segment (omega arith) ∙ rest_again
 
-  front_is : (run : ℕ × ℕ) (rest : List (ℕ × ℕ)) → take (i + 1) (set places i run) ++ rest ≡ take i places ++ run ∷ rest
-  front_is run rest =
-      ap (λ front. front ++ rest) (take_more_set places i run within) ∙ append_assoc (take i places) (run ∷ []) rest
+  front_is : (segment : ℕ × ℕ) (rest : List (ℕ × ℕ)) → take (i + 1) (set places i segment) ++ rest ≡ take i places ++ segment ∷ rest
+  front_is segment rest =
+      ap (λ front. front ++ rest) (take_more_set places i segment within) ∙ append_assoc (take i places) (segment ∷ []) rest
 
   pub cut_further : 0 < left → IsCutTo old (set places i ((get_or places i d).0, min left (get_or places i d).1)) sectors (i + 1) (left - (get_or places i d).1) (runs + 1)
   cut_further some =
-      let run = get_or places i d in
-      let kept : ℕ × ℕ = (run.0, min left run.1) in
+      let segment = get_or places i d in
+      let kept : ℕ × ℕ = (segment.0, min left segment.1) in
       let rest = drop (i + 1) old in
       record {
         cut =
-            front_is kept (cut_places (left - run.1) rest) ∙ ap (λ r. take i places ++ r) (ap (λ r. r ∷ cut_places (left - run.1) rest) (sym (at_some left (0, 0) kept some)) ∙ ap (cut_places left) (sym rest_is)) ∙ cutting.cut;
+            front_is kept (cut_places (left - segment.1) rest) ∙ ap (λ r. take i places ++ r) (ap (λ r. r ∷ cut_places (left - segment.1) rest) (sym (at_some left (0, 0) kept some)) ∙ ap (cut_places left) (sym rest_is)) ∙ cutting.cut;
         rest = rest_kept kept;
         counted =
-            let now : length (shortened left (drop i old)) ≡ suc (length (shortened (left - run.1) rest)) = ap (λ r. length (shortened left r)) rest_is ∙ ap length (at_some left [] (kept ∷ shortened (left - run.1) rest) some) in
+            let now : length (shortened left (drop i old)) ≡ suc (length (shortened (left - segment.1) rest)) = ap (λ r. length (shortened left r)) rest_is ∙ ap length (at_some left [] (kept ∷ shortened (left - segment.1) rest) some) in
             omega (arith, cutting.counted);
         few = omega (arith, cutting.few);
       }
 
   pub cut_away : left ≡ 0 → IsCutTo old (set places i (0, 0)) sectors (i + 1) 0 runs
   cut_away none =
-      let run = get_or places i d in
+      let segment = get_or places i d in
       let rest = drop (i + 1) old in
-      let zero_left : 0 - run.1 ≡ 0 = omega arith in
+      let zero_left : 0 - segment.1 ≡ 0 = omega arith in
       record {
         cut =
-            front_is (0, 0) (cut_places 0 rest) ∙ ap (λ r. take i places ++ (0, 0) ∷ cut_places r rest) (sym zero_left) ∙ ap (λ n. take i places ++ cut_places n (run ∷ rest)) (sym none) ∙ ap (λ r. take i places ++ cut_places left r) (sym rest_is) ∙ cutting.cut;
+            front_is (0, 0) (cut_places 0 rest) ∙ ap (λ r. take i places ++ (0, 0) ∷ cut_places r rest) (sym zero_left) ∙ ap (λ n. take i places ++ cut_places n (segment ∷ rest)) (sym none) ∙ ap (λ r. take i places ++ cut_places left r) (sym rest_is) ∙ cutting.cut;
         rest = rest_kept (0, 0);
         counted =
             let all_cut : length (shortened left (drop i old)) ≡ 0 = ap (λ n. length (shortened n (drop i old))) none ∙ ap length (shortened-none (drop i old)) in
@@ -165,65 +166,65 @@ front_and_last runs d some =
 pub last_sector_is : (runs : List (ℕ × ℕ)) (d : ℕ × ℕ) → 1 ≤ length runs → 1 ≤ (get_or runs (length runs - 1) d).1 → slice_get (sectors_of runs) (length (sectors_of runs) - 1) ≡ Some ((get_or runs (length runs - 1) d).0 + ((get_or runs (length runs - 1) d).1 - 1))
 last_sector_is runs d some has =
     let n = length runs - 1 in
-    let run = get_or runs n d in
+    let segment = get_or runs n d in
     let front = sectors_of (take n runs) in
-    let k = run.1 - 1 in
-    let all : sectors_of runs ≡ front ++ segment_sectors run = ap sectors_of (front_and_last runs d some) ∙ sectors_of-push (take n runs) run in
-    let len : length (front ++ segment_sectors run) ≡ length front + run.1 = omega (arith, length-append front (segment_sectors run), length-segment_sectors run) in
-    let place : length (front ++ segment_sectors run) - 1 ≡ length front + k = omega arith in
-    ap (λ xs. slice_get xs (length xs - 1)) all ∙ ap (slice_get (front ++ segment_sectors run)) place ∙ slice_get-get_or (front ++ segment_sectors run) (length front + k) 0 (omega arith) ∙ ap Some (get_or-append-add front (segment_sectors run) k 0 ∙ get_or-range_with_len run.0 run.1 k 0 (omega arith))
+    let k = segment.1 - 1 in
+    let all : sectors_of runs ≡ front ++ run segment = ap sectors_of (front_and_last runs d some) ∙ sectors_of-push (take n runs) segment in
+    let len : length (front ++ run segment) ≡ length front + segment.1 = omega (arith, length-append front (run segment), length-run segment) in
+    let place : length (front ++ run segment) - 1 ≡ length front + k = omega arith in
+    ap (λ xs. slice_get xs (length xs - 1)) all ∙ ap (slice_get (front ++ run segment)) place ∙ slice_get-get_or (front ++ run segment) (length front + k) 0 (omega arith) ∙ ap Some (get_or-append-add front (run segment) k 0 ∙ get_or-range_with_len segment.0 segment.1 k 0 (omega arith))
 
 module _ (lsn count : ℕ) where
   joined_to : ℕ × ℕ → ℕ × ℕ
-  joined_to run = (run.0, run.1 + count)
+  joined_to segment = (segment.0, segment.1 + count)
 
-  cond-cons : (test : Bool) (run : ℕ × ℕ) (a b : List (ℕ × ℕ)) → run ∷ cond test a b ≡ cond test (run ∷ a) (run ∷ b)
-  cond-cons true run a b = refl
-  cond-cons false run a b = refl
+  cond-cons : (test : Bool) (segment : ℕ × ℕ) (a b : List (ℕ × ℕ)) → segment ∷ cond test a b ≡ cond test (segment ∷ a) (segment ∷ b)
+  cond-cons true segment a b = refl
+  cond-cons false segment a b = refl
 
   -- sectors behind a list whose last run is known
-  pub appended-push : (front : List (ℕ × ℕ)) (run : ℕ × ℕ) → appended (front ++ run ∷ []) lsn count ≡ cond (joins run lsn count) (front ++ (run.0, run.1 + count) ∷ []) (front ++ run ∷ (lsn, count) ∷ [])
-  appended-push [] run = refl
-  appended-push (x ∷ []) run = cond-cons (joins run lsn count) x _ _
-  appended-push (x ∷ y ∷ front) run =
-      ap (λ rest. x ∷ rest) (appended-push (y ∷ front) run) ∙ cond-cons (joins run lsn count) x _ _
+  pub appended-push : (front : List (ℕ × ℕ)) (segment : ℕ × ℕ) → appended (front ++ segment ∷ []) lsn count ≡ cond (joins segment lsn count) (front ++ (segment.0, segment.1 + count) ∷ []) (front ++ segment ∷ (lsn, count) ∷ [])
+  appended-push [] segment = refl
+  appended-push (x ∷ []) segment = cond-cons (joins segment lsn count) x _ _
+  appended-push (x ∷ y ∷ front) segment =
+      ap (λ rest. x ∷ rest) (appended-push (y ∷ front) segment) ∙ cond-cons (joins segment lsn count) x _ _
 
-  joins_true : (run : ℕ × ℕ) → run.0 + run.1 ≡ lsn → run.1 + count < 65536 → joins run lsn count ≡ true
-  joins_true run follows room = grind (arith, nat_tests)
+  joins_true : (segment : ℕ × ℕ) → segment.0 + segment.1 ≡ lsn → segment.1 + count < 65536 → joins segment lsn count ≡ true
+  joins_true segment follows room = grind (arith, nat_tests)
 
 -- what `last` finds
 abbrev pub IsLast : List (ℕ × ℕ) → ℕ × ℕ → Type 0
-IsLast runs run = Some run ≡ slice_get runs (length runs - 1)
+IsLast runs segment = Some segment ≡ slice_get runs (length runs - 1)
 
-last_is : (runs : List (ℕ × ℕ)) (run : ℕ × ℕ) → 1 ≤ length runs → run ≡ get_or runs (length runs - 1) run → runs ≡ take (length runs - 1) runs ++ run ∷ []
-last_is runs run some last =
-    front_and_last runs run some ∙ ap (λ r. take (length runs - 1) runs ++ r ∷ []) (sym last)
+last_is : (runs : List (ℕ × ℕ)) (segment : ℕ × ℕ) → 1 ≤ length runs → segment ≡ get_or runs (length runs - 1) segment → runs ≡ take (length runs - 1) runs ++ segment ∷ []
+last_is runs segment some last =
+    front_and_last runs segment some ∙ ap (λ r. take (length runs - 1) runs ++ r ∷ []) (sym last)
 
 -- the last run has room
-pub lengthens : (runs : List (ℕ × ℕ)) (run : ℕ × ℕ) (lsn count : ℕ) → IsLast runs run → run.0 + run.1 ≡ lsn → run.1 + count < 65536 → All IsSegment runs → Lengthens runs lsn count (run.0, run.1 + count)
-lengthens runs run lsn count found follows room each =
+pub lengthens : (runs : List (ℕ × ℕ)) (segment : ℕ × ℕ) (lsn count : ℕ) → IsLast runs segment → segment.0 + segment.1 ≡ lsn → segment.1 + count < 65536 → All IsSegment runs → Lengthens runs lsn count (segment.0, segment.1 + count)
+lengthens runs segment lsn count found follows room each =
     let n = length runs - 1 in
-    let inside = slice_get_within runs n run (sym found) in
+    let inside = slice_get_within runs n segment (sym found) in
     let some : 1 ≤ length runs = omega arith in
-    let last = sym (get_or_from_slice_get runs n run run (sym found)) in
-    let split = last_is runs run some last in
-    let whole : IsSegment run = let P : (ℕ × ℕ) → Type 0 = IsSegment in subst P (sym last) (All-get_or IsSegment runs n run (omega arith) each) in
+    let last = sym (get_or_from_slice_get runs n segment segment (sym found)) in
+    let split = last_is runs segment some last in
+    let whole : IsSegment segment = let P : (ℕ × ℕ) → Type 0 = IsSegment in subst P (sym last) (All-get_or IsSegment runs n segment (omega arith) each) in
     record {
       some = some;
       list =
-          ap (λ r. appended r lsn count) split ∙ appended-push lsn count (take n runs) run ∙ ap (λ test. cond test (take n runs ++ (run.0, run.1 + count) ∷ []) (take n runs ++ run ∷ (lsn, count) ∷ [])) (joins_true lsn count run follows room);
+          ap (λ r. appended r lsn count) split ∙ appended-push lsn count (take n runs) segment ∙ ap (λ test. cond test (take n runs ++ (segment.0, segment.1 + count) ∷ []) (take n runs ++ segment ∷ (lsn, count) ∷ [])) (joins_true lsn count segment follows room);
       whole = record { lsn = whole.lsn; some = omega (arith, whole.some); count = room };
     }
 
 -- the last run does not end at `lsn`, or has no room
-pub adds_run : (runs : List (ℕ × ℕ)) (run : ℕ × ℕ) (lsn count : ℕ) → IsLast runs run → joins run lsn count ≡ false → appended runs lsn count ≡ runs ++ (lsn, count) ∷ []
-adds_run runs run lsn count found apart =
+pub adds_run : (runs : List (ℕ × ℕ)) (segment : ℕ × ℕ) (lsn count : ℕ) → IsLast runs segment → joins segment lsn count ≡ false → appended runs lsn count ≡ runs ++ (lsn, count) ∷ []
+adds_run runs segment lsn count found apart =
     let n = length runs - 1 in
-    let inside = slice_get_within runs n run (sym found) in
+    let inside = slice_get_within runs n segment (sym found) in
     let some : 1 ≤ length runs = omega arith in
-    let last = sym (get_or_from_slice_get runs n run run (sym found)) in
-    let split = last_is runs run some last in
-    ap (λ r. appended r lsn count) split ∙ appended-push lsn count (take n runs) run ∙ ap (λ test. cond test (take n runs ++ (run.0, run.1 + count) ∷ []) (take n runs ++ run ∷ (lsn, count) ∷ [])) apart ∙ sym (append_assoc (take n runs) (run ∷ []) ((lsn, count) ∷ [])) ∙ ap (λ r. r ++ (lsn, count) ∷ []) (sym split)
+    let last = sym (get_or_from_slice_get runs n segment segment (sym found)) in
+    let split = last_is runs segment some last in
+    ap (λ r. appended r lsn count) split ∙ appended-push lsn count (take n runs) segment ∙ ap (λ test. cond test (take n runs ++ (segment.0, segment.1 + count) ∷ []) (take n runs ++ segment ∷ (lsn, count) ∷ [])) apart ∙ sym (append_assoc (take n runs) (segment ∷ []) ((lsn, count) ∷ [])) ∙ ap (λ r. r ++ (lsn, count) ∷ []) (sym split)
 
 range_with_len-append : (a m n : ℕ) → range_with_len a (m + n) ≡ range_with_len a m ++ range_with_len (a + m) n
 range_with_len-append a zero n =
@@ -249,81 +250,81 @@ take-run (suc n) a (suc count) rest =
     let left : n - count ≡ suc n - suc count = omega arith in
     ap (λ r. a ∷ r) (take-run n (a + 1) count rest) ∙ ap (λ m. range_with_len a m ++ take (n - count) rest) more ∙ ap (λ m. range_with_len a (min (suc n) (suc count)) ++ take m rest) left
 
-joins-follows : (run : ℕ × ℕ) (lsn count : ℕ) → joins run lsn count ≡ true → run.0 + run.1 ≡ lsn
-joins-follows run lsn count joined = grind (arith, nat_tests)
+joins-follows : (segment : ℕ × ℕ) (lsn count : ℕ) → joins segment lsn count ≡ true → segment.0 + segment.1 ≡ lsn
+joins-follows segment lsn count joined = grind (arith, nat_tests)
 
-sectors_of-joined : (run : ℕ × ℕ) (lsn count : ℕ) (test : Bool) → joins run lsn count ≡ test → sectors_of (cond test ((run.0, run.1 + count) ∷ []) (run ∷ (lsn, count) ∷ [])) ≡ sectors_of (run ∷ []) ++ segment_sectors (lsn, count)
-sectors_of-joined run lsn count true joined =
-    append_nil _ ∙ range_with_len-append run.0 run.1 count ∙ ap (λ b. segment_sectors run ++ range_with_len b count) (joins-follows run lsn count joined) ∙ ap (λ front. front ++ segment_sectors (lsn, count)) (sym (append_nil (segment_sectors run)))
-sectors_of-joined run lsn count false apart =
-    ap (λ rest. segment_sectors run ++ rest) (append_nil (segment_sectors (lsn, count))) ∙ ap (λ front. front ++ segment_sectors (lsn, count)) (sym (append_nil (segment_sectors run)))
+sectors_of-joined : (segment : ℕ × ℕ) (lsn count : ℕ) (test : Bool) → joins segment lsn count ≡ test → sectors_of (cond test ((segment.0, segment.1 + count) ∷ []) (segment ∷ (lsn, count) ∷ [])) ≡ sectors_of (segment ∷ []) ++ run (lsn, count)
+sectors_of-joined segment lsn count true joined =
+    append_nil _ ∙ range_with_len-append segment.0 segment.1 count ∙ ap (λ b. run segment ++ range_with_len b count) (joins-follows segment lsn count joined) ∙ ap (λ front. front ++ run (lsn, count)) (sym (append_nil (run segment)))
+sectors_of-joined segment lsn count false apart =
+    ap (λ rest. run segment ++ rest) (append_nil (run (lsn, count))) ∙ ap (λ front. front ++ run (lsn, count)) (sym (append_nil (run segment)))
 
-pub last_sector_found : (runs : List (ℕ × ℕ)) (run : ℕ × ℕ) → IsLast runs run → All IsSegment runs → Some (run.0 + run.1 - 1) ≡ slice_get (sectors_of runs) (length (sectors_of runs) - 1)
-last_sector_found runs run found each =
+pub last_sector_found : (runs : List (ℕ × ℕ)) (segment : ℕ × ℕ) → IsLast runs segment → All IsSegment runs → Some (segment.0 + segment.1 - 1) ≡ slice_get (sectors_of runs) (length (sectors_of runs) - 1)
+last_sector_found runs segment found each =
     let n = length runs - 1 in
-    let inside = slice_get_within runs n run (sym found) in
-    let last = get_or_from_slice_get runs n run run (sym found) in
-    let whole : IsSegment run = let P : (ℕ × ℕ) → Type 0 = IsSegment in subst P last (All-get_or IsSegment runs n run inside each) in
-    let has : 1 ≤ (get_or runs n run).1 = rw last whole.some in
-    let place : (get_or runs n run).0 + ((get_or runs n run).1 - 1) ≡ run.0 + run.1 - 1 = rw last (omega (arith, whole.some)) in
-    sym (last_sector_is runs run (omega arith) has ∙ ap Some place)
+    let inside = slice_get_within runs n segment (sym found) in
+    let last = get_or_from_slice_get runs n segment segment (sym found) in
+    let whole : IsSegment segment = let P : (ℕ × ℕ) → Type 0 = IsSegment in subst P last (All-get_or IsSegment runs n segment inside each) in
+    let has : 1 ≤ (get_or runs n segment).1 = rw last whole.some in
+    let place : (get_or runs n segment).0 + ((get_or runs n segment).1 - 1) ≡ segment.0 + segment.1 - 1 = rw last (omega (arith, whole.some)) in
+    sym (last_sector_is runs segment (omega arith) has ∙ ap Some place)
 
-pub joins-elsewhere : (run : ℕ × ℕ) (lsn count : ℕ) → (run.0 + run.1 ≡ lsn → ⊥) → joins run lsn count ≡ false
-joins-elsewhere run lsn count apart = grind (arith, nat_tests)
+pub joins-elsewhere : (segment : ℕ × ℕ) (lsn count : ℕ) → (segment.0 + segment.1 ≡ lsn → ⊥) → joins segment lsn count ≡ false
+joins-elsewhere segment lsn count apart = grind (arith, nat_tests)
 
-pub joins-no_room : (run : ℕ × ℕ) (lsn count : ℕ) → (run.1 + count < 65536 → ⊥) → joins run lsn count ≡ false
-joins-no_room run lsn count full = grind (arith, nat_tests)
+pub joins-no_room : (segment : ℕ × ℕ) (lsn count : ℕ) → (segment.1 + count < 65536 → ⊥) → joins segment lsn count ≡ false
+joins-no_room segment lsn count full = grind (arith, nat_tests)
 
 -- the sectors of the list with more sectors behind it
-pub sectors_of-appended : (runs : List (ℕ × ℕ)) (lsn count : ℕ) → sectors_of (appended runs lsn count) ≡ sectors_of runs ++ segment_sectors (lsn, count)
-sectors_of-appended [] lsn count = append_nil (segment_sectors (lsn, count))
-sectors_of-appended (run ∷ []) lsn count =
-    sectors_of-joined run lsn count (joins run lsn count) refl
-sectors_of-appended (run ∷ next ∷ runs) lsn count =
-    ap (λ rest. segment_sectors run ++ rest) (sectors_of-appended (next ∷ runs) lsn count) ∙ sym (append_assoc (segment_sectors run) (sectors_of (next ∷ runs)) (segment_sectors (lsn, count)))
+pub sectors_of-appended : (runs : List (ℕ × ℕ)) (lsn count : ℕ) → sectors_of (appended runs lsn count) ≡ sectors_of runs ++ run (lsn, count)
+sectors_of-appended [] lsn count = append_nil (run (lsn, count))
+sectors_of-appended (segment ∷ []) lsn count =
+    sectors_of-joined segment lsn count (joins segment lsn count) refl
+sectors_of-appended (segment ∷ next ∷ runs) lsn count =
+    ap (λ rest. run segment ++ rest) (sectors_of-appended (next ∷ runs) lsn count) ∙ sym (append_assoc (run segment) (sectors_of (next ∷ runs)) (run (lsn, count)))
 
 -- the sectors of the list cut off
 pub sectors_of-shortened : (n : ℕ) (runs : List (ℕ × ℕ)) → sectors_of (shortened n runs) ≡ take n (sectors_of runs)
 sectors_of-shortened n [] = sym (take_all n [] (omega arith))
-sectors_of-shortened zero (run ∷ runs) = refl
-sectors_of-shortened (suc n) (run ∷ runs) =
-    let left = suc n - run.1 in
-    let front : ℕ × ℕ = (run.0, min (suc n) run.1) in
+sectors_of-shortened zero (segment ∷ runs) = refl
+sectors_of-shortened (suc n) (segment ∷ runs) =
+    let left = suc n - segment.1 in
+    let front : ℕ × ℕ = (segment.0, min (suc n) segment.1) in
     let some : 0 < suc n = omega arith in
-    ap sectors_of (at_some (suc n) [] (front ∷ shortened left runs) some) ∙ ap (λ rest. segment_sectors front ++ rest) (sectors_of-shortened left runs) ∙ sym (take-run (suc n) run.0 run.1 (sectors_of runs))
+    ap sectors_of (at_some (suc n) [] (front ∷ shortened left runs) some) ∙ ap (λ rest. run front ++ rest) (sectors_of-shortened left runs) ∙ sym (take-run (suc n) segment.0 segment.1 (sectors_of runs))
 
 -- no more of a list is seen than the sectors that are kept
 pub shortened-append : (n : ℕ) (runs more : List (ℕ × ℕ)) → n ≤ length (sectors_of runs) → shortened n (runs ++ more) ≡ shortened n runs
 shortened-append n [] more within =
     let none : n ≡ 0 = omega arith in
     ap (λ m. shortened m more) none ∙ shortened-none more
-shortened-append zero (run ∷ runs) more within = refl
-shortened-append (suc n) (run ∷ runs) more within =
-    let left = suc n - run.1 in
-    let front : ℕ × ℕ = (run.0, min (suc n) run.1) in
+shortened-append zero (segment ∷ runs) more within = refl
+shortened-append (suc n) (segment ∷ runs) more within =
+    let left = suc n - segment.1 in
+    let front : ℕ × ℕ = (segment.0, min (suc n) segment.1) in
     let some : 0 < suc n = omega arith in
-    let fits : left ≤ length (sectors_of runs) = omega (arith, length-append (segment_sectors run) (sectors_of runs), length-segment_sectors run) in
+    let fits : left ≤ length (sectors_of runs) = omega (arith, length-append (run segment) (sectors_of runs), length-run segment) in
     at_some (suc n) [] (front ∷ shortened left (runs ++ more)) some ∙ ap (λ rest. front ∷ rest) (shortened-append left runs more fits) ∙ sym (at_some (suc n) [] (front ∷ shortened left runs) some)
 
 -- runs cut off are runs
 pub All-shortened : (n : ℕ) (runs : List (ℕ × ℕ)) → All IsSegment runs → All IsSegment (shortened n runs)
 All-shortened n [] each = each
-All-shortened zero (run ∷ runs) each = All-nil IsSegment
-All-shortened (suc n) (run ∷ runs) each =
-    let left = suc n - run.1 in
-    let front : ℕ × ℕ = (run.0, min (suc n) run.1) in
+All-shortened zero (segment ∷ runs) each = All-nil IsSegment
+All-shortened (suc n) (segment ∷ runs) each =
+    let left = suc n - segment.1 in
+    let front : ℕ × ℕ = (segment.0, min (suc n) segment.1) in
     let some : 0 < suc n = omega arith in
-    let whole = All-head IsSegment run runs each in
+    let whole = All-head IsSegment segment runs each in
     let kept : IsSegment front = record { lsn = whole.lsn; some = omega (arith, whole.some); count = omega (arith, whole.count) } in
-    All-same IsSegment _ _ (at_some (suc n) [] (front ∷ shortened left runs) some) (All-cons IsSegment front (shortened left runs) kept (All-shortened left runs (All-tail IsSegment run runs each)))
+    All-same IsSegment _ _ (at_some (suc n) [] (front ∷ shortened left runs) some) (All-cons IsSegment front (shortened left runs) kept (All-shortened left runs (All-tail IsSegment segment runs each)))
 
 -- a list cut off has no more runs
 pub length-shortened : (n : ℕ) (runs : List (ℕ × ℕ)) → length (shortened n runs) ≤ length runs
 length-shortened n [] = omega arith
-length-shortened zero (run ∷ runs) = omega arith
-length-shortened (suc n) (run ∷ runs) =
-    let left = suc n - run.1 in
-    let front : ℕ × ℕ = (run.0, min (suc n) run.1) in
+length-shortened zero (segment ∷ runs) = omega arith
+length-shortened (suc n) (segment ∷ runs) =
+    let left = suc n - segment.1 in
+    let front : ℕ × ℕ = (segment.0, min (suc n) segment.1) in
     let some : 0 < suc n = omega arith in
-    let now : length (shortened (suc n) (run ∷ runs)) ≡ suc (length (shortened left runs)) = ap length (at_some (suc n) [] (front ∷ shortened left runs) some) in
+    let now : length (shortened (suc n) (segment ∷ runs)) ≡ suc (length (shortened left runs)) = ap length (at_some (suc n) [] (front ∷ shortened left runs) some) in
     omega (arith, length-shortened left runs)

@@ -1,6 +1,5 @@
 -- Segment lists, as a file descriptor has them (System Programmer's Manual, RBF, FD.SEG).
 use Rattle.std.specs.Prelude.{◌≡◌, ℕ, ◌+◌, ◌-◌, ◌<◌, ◌≤◌, ◌==◌, ◌&&◌, nat_lt, Bool, List, [], ◌∷◌, ◌++◌, length, take, min, All, if◌then◌else◌}
-use Rattle.std.specs.List.{flat_map, range_with_len}
 
 -- A segment is the pair of its first sector and of how many sectors it has.
 
@@ -9,14 +8,6 @@ pub record IsSegment (segment : ℕ × ℕ) : Type 0 where
   pub lsn : segment.0 < 16777216
   pub some : 1 ≤ segment.1
   pub count : segment.1 < 65536
-
--- the sectors of a segment, in order
-abbrev pub segment_sectors : ℕ × ℕ → List ℕ
-segment_sectors segment = range_with_len segment.0 segment.1
-
--- the sectors of a list of segments, in order: the concatenation of the segments
-abbrev pub sectors_of : List (ℕ × ℕ) → List ℕ
-sectors_of segments = flat_map segment_sectors segments
 
 -- the sector is the next after the segment, which has room for this many more
 abbrev pub joins : ℕ × ℕ → ℕ → ℕ → Bool

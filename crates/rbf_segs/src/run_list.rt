@@ -1,5 +1,6 @@
 ghost use Rattle.std.specs.Prelude.{◌≡◌, ℕ, ◌+◌, ◌-◌, ◌<◌, ◌≤◌, ◌++◌, length, take, slice_get, All, MatchOption, [], ◌∷◌, replicate};
-ghost use Rattle.rbf_segs.specs.Segments.{sectors_of, appended, shortened, IsSegment, Lengthens};
+ghost use Rattle.rbf_model.specs.Segments.{sectors_of};
+ghost use Rattle.rbf_segs.specs.Segments.{appended, shortened, IsSegment, Lengthens};
 
 // How many sectors the runs have.
 pub fn total(runs: &[(u32, u16)]) -> u32

@@ -1,5 +1,6 @@
 ghost use Rattle.std.specs.Prelude.{◌≡◌, ◌+◌, ◌-◌, ◌*◌, ◌^◌, ◌<◌, ◌≤◌, ◌↔◌, [], ◌∷◌, ◌++◌, length, take, OnOk, OnErr, IsErr, slice_get};
-ghost use Rattle.rbf_segs.specs.Segments.{segment_sectors, sectors_of, appended, shortened, IsSegment, IsSegments};
+ghost use Rattle.rbf_model.specs.Segments.{run, sectors_of};
+ghost use Rattle.rbf_segs.specs.Segments.{appended, shortened, IsSegment, IsSegments};
 
 use crate::run_list::{last_sector, lengthened, sector_at, shorten, total};
 use std::marker::Model;
@@ -111,7 +112,7 @@ impl Segs {
     pub fn append(&mut self, lsn: u32, n: u16) -> Result<(), SegsFull>
         requires lsn_fits { lsn < 16777216 }
         requires some { 1 ≤ n }
-        ensures sectors { OnOk result (sectors_of self.new ≡ sectors_of self.old ++ segment_sectors (lsn, n)) }
+        ensures sectors { OnOk result (sectors_of self.new ≡ sectors_of self.old ++ run (lsn, n)) }
         ensures segments { OnOk result (self.new ≡ appended self.old lsn n) }
         ensures full { IsErr result ↔ (48 < length (appended self.old lsn n)) }
         ensures err { OnErr result (self.new ≡ self.old) }

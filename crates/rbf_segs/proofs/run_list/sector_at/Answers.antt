@@ -1,5 +1,5 @@
 use Rattle.std.proofs.Common.{◌+◌, ◌∙◌, drop, slice_get, sym, ap, arith}
-use Rattle.rbf_segs.specs.Segments.{sectors_of}
+use Rattle.rbf_model.specs.Segments.{sectors_of}
 use Rattle.rbf_segs.proofs.Runs.{sector_in_run, sector_past_run}
 use Rattle.rbf_segs.proofs.run_list.sector_at.Goals as goal
 

@@ -1,5 +1,5 @@
 use Rattle.std.proofs.Common.{◌≡◌, drop, slice_get}
-use Rattle.rbf_segs.specs.Segments.{sectors_of}
+use Rattle.rbf_model.specs.Segments.{sectors_of}
 use Rattle.rbf_segs.proofs.run_list.sector_at.Given as goal
 
 abbrev pub invariant-loop-lsn : goal.invariant-loop-lsn

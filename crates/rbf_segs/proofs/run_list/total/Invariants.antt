@@ -1,5 +1,5 @@
 use Rattle.std.proofs.Common.{◌≡◌, ◌≤◌, ◌*◌, length, take}
-use Rattle.rbf_segs.specs.Segments.{sectors_of}
+use Rattle.rbf_model.specs.Segments.{sectors_of}
 use Rattle.rbf_segs.proofs.run_list.total.Given as goal
 
 abbrev pub invariant-loop-count : goal.invariant-loop-count

@@ -1,5 +1,6 @@
 use Rattle.std.proofs.Common.{◌≤◌, ◌∙◌, length, take, ap}
-use Rattle.rbf_segs.specs.Segments.{sectors_of, shortened}
+use Rattle.rbf_model.specs.Segments.{sectors_of}
+use Rattle.rbf_segs.specs.Segments.{shortened}
 use Rattle.rbf_segs.proofs.Runs.{sectors_of-shortened}
 use Rattle.rbf_segs.proofs.Places.{cut_short}
 use Rattle.rbf_segs.proofs.segs.Segs.cut.Goals as goal
