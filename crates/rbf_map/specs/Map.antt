@@ -71,6 +71,6 @@ pub record Marks (old new : ClusterMap) (cluster bit : ℕ) : Type 0 where
   pub changed : ChangesMark old.bytes new.bytes cluster bit
 
 -- the n-th sector of the map: the next 256 bytes, and zeros behind the last
-pub record IsMapSector (bytes : List ℕ) (n : ℕ) (sector : List ℕ) : Type 0 where
+pub record IsSectorOf (bytes : List ℕ) (n : ℕ) (sector : List ℕ) : Type 0 where
   pub length : length sector ≡ 256
   pub each : (i : ℕ) → i < 256 → slice_index sector i ≡ slice_index bytes (256 * n + i)

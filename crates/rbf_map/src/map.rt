@@ -1,5 +1,5 @@
 ghost use Rattle.std.specs.Prelude.{◌≡◌, ◌≢◌, ℕ, ◌+◌, ◌-◌, ◌*◌, ◌/◌, ◌<◌, ◌≤◌, ◌↔◌, ◌==◌, length, IsNone, IfNone, IfSome, IsTrue, MatchOption};
-ghost use Rattle.rbf_map.specs.Map.{mark, free_clusters, IsFree, IsNext, BeginsRun, NoneIsFree, MayTake, Marks, IsMapSector};
+ghost use Rattle.rbf_map.specs.Map.{mark, free_clusters, IsFree, IsNext, BeginsRun, NoneIsFree, MayTake, Marks, IsSectorOf};
 
 use crate::bits::{clear_mark, count_clear, first_clear, is_marked, set_mark};
 use std::marker::Model;
@@ -124,7 +124,7 @@ impl RbfMap {
 
     /// The bytes of the `n`-th sector of the map, with zeros behind its end.
     pub fn sector(&self, n: u16, into: &mut [u8; 256])
-        ensures { IsMapSector self.now.bytes n into.new }
+        ensures { IsSectorOf self.now.bytes n into.new }
     {
         let start = 256 * usize::from(n);
         for (i, byte) in into.iter_mut().enumerate() {
