@@ -47,15 +47,6 @@ impl Pool {
         ensures unnamed { IfOk result (λ pool. pool.counts ≡ replicate blocks 0) }
         ensures shape { IfOk result IsPool }
     {
-        Pool::with_blocks(alloc, blocks).map_err(|_| OutOfMemory)
-    }
-
-    fn with_blocks(alloc: Global, blocks: u16) -> Result<Pool, AllocError>
-        requires least { 8 ≤ blocks }
-        requires most { blocks ≤ 256 }
-        ensures unnamed { IfOk result (λ pool. pool.counts ≡ replicate blocks 0) }
-        ensures shape { IfOk result IsPool }
-    {
         let many = blocks as usize;
         Ok(Pool {
             counts: vec![in alloc; 0; many]?,

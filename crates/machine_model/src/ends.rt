@@ -1,3 +1,7 @@
+ghost use Rattle.std.specs.Prelude.{◌≡◌};
+
+use os9_base::call::OutOfMemory;
+use std::alloc::AllocError;
 use thiserror::Error;
 
 /// How an event of the chosen process ended.
@@ -40,4 +44,24 @@ pub enum BootFault {
     /// it and the data area of `SysGo`.
     #[error("boot too large")]
     TooLarge,
+}
+
+impl From<OutOfMemory> for BootFault {
+    ghost use Rattle.machine_model.specs.declared.ends.BootFault.TheVariants.{OutOfMemory};
+
+    ghost from_gives = { λ _ fault. fault ≡ OutOfMemory };
+
+    fn from(_fault: OutOfMemory) -> BootFault {
+        BootFault::OutOfMemory
+    }
+}
+
+impl From<AllocError> for BootFault {
+    ghost use Rattle.machine_model.specs.declared.ends.BootFault.TheVariants.{OutOfMemory};
+
+    ghost from_gives = { λ _ fault. fault ≡ OutOfMemory };
+
+    fn from(_error: AllocError) -> BootFault {
+        BootFault::OutOfMemory
+    }
 }

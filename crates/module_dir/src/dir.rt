@@ -56,8 +56,9 @@ impl Dir {
     pub fn new(alloc: Global) -> Result<Dir, OutOfMemory>
         ensures { IfOk result (λ dir. dir ≡ replicate 64 None) }
     {
-        let entries = empty_places(alloc).map_err(|_| OutOfMemory)?;
-        Ok(Dir { entries })
+        Ok(Dir {
+            entries: empty_places(alloc)?,
+        })
     }
 
     /// Enters a module, with one link where it is the boot file's and else without links. It gets

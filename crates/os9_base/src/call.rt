@@ -1,9 +1,16 @@
+use std::alloc::AllocError;
 use thiserror::Error;
 
 /// Want of memory, where it is the only way in which a call can fail.
 #[derive(Clone, Copy, Debug, PartialEq, Eq, Error)]
 #[error("no memory")]
 pub struct OutOfMemory;
+
+impl From<AllocError> for OutOfMemory {
+    fn from(_error: AllocError) -> OutOfMemory {
+        OutOfMemory
+    }
+}
 
 /// How an attempt of a system call ended.
 #[derive(Clone, Copy, Debug, PartialEq, Eq)]
