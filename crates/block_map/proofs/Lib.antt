@@ -3,3 +3,4 @@ pub mod Stores
 pub mod Counts
 pub mod Places
 pub mod Maps
+pub mod Pools

@@ -1,7 +1,7 @@
 ghost use Rattle.std.specs.Prelude.{◌≡◌, ◌≢◌, ℕ, ◌+◌, ◌-◌, ◌<◌, ◌≤◌, ◌↔◌, length, replicate, IsTrue, IsSome, OnOk, OnErr, IfOk, IfSome, IfNone, All, AllPairs, slice_index_or, None, Some, [], ◌∷◌};
 ghost use Rattle.std.specs.Option.{ForSome};
 ghost use Rattle.proc_model.specs.declared.group.BlockId.{BlockId};
-ghost use Rattle.block_pool.specs.Blocks.{Blocks, IsLive, count_of, free_count};
+ghost use Rattle.block_pool.specs.Blocks.{Blocks, IsPool, IsLive, count_of, free_count};
 ghost use Rattle.proc_model.specs.Slots.{Slots, naming, named_in};
 ghost use Rattle.block_map.specs.Takes.{AreNew, shared_all, given_all, NamesLive, GainsLow, group_blocks};
 
@@ -82,6 +82,7 @@ impl Map {
         ensures gains { OnOk result (GainsLow n self.old pool.old self.new pool.new) }
         ensures live { NamesLive self.new pool.new }
         ensures shape { IsMap self.new }
+        ensures pool { IsPool pool.old → IsPool pool.new }
     {
         let first = self.low as usize;
         let len = n as usize;
@@ -106,6 +107,7 @@ impl Map {
         ensures given { n < self.old.low → pool.new ≡ given_all pool.old (named_from self.old n self.old.low) }
         ensures live { NamesLive self.new pool.new }
         ensures shape { IsMap self.new }
+        ensures pool { IsPool pool.old → IsPool pool.new }
     {
         if n < self.low {
             give_back(&mut self.places[n as usize..self.low as usize], pool);
@@ -134,6 +136,7 @@ impl Map {
         ensures shared { OnOk result (pool.new ≡ shared_all pool.old (group_blocks g.now)) }
         ensures live { NamesLive self.new pool.new }
         ensures shape { IsMap self.new }
+        ensures pool { IsPool pool.old → IsPool pool.new }
     {
         let len = g.len as usize;
         let Some(slot) = self.highest_free_run(g.len) else {
@@ -155,6 +158,7 @@ impl Map {
             (λ len. pool.new ≡ given_all pool.old (named_from self.old slot (slot + len))) }
         ensures live { NamesLive self.new pool.new }
         ensures shape { IsMap self.new }
+        ensures pool { IsPool pool.old → IsPool pool.new }
     {
         let first = slot as usize;
         if let Some(len) = self.groups[first] {
@@ -169,6 +173,7 @@ impl Map {
         ensures empty { self.new ≡ no_slots }
         ensures given { pool.new ≡ given_all pool.old (named_in self.old.places) }
         ensures shape { IsMap self.new }
+        ensures pool { IsPool pool.old → IsPool pool.new }
     {
         give_back(&mut self.places, pool);
         *self = Map::empty();
@@ -215,6 +220,7 @@ fn name_shared(places: &mut [Option<BlockId>], blocks: &[BlockId], pool: &mut Po
     requires countable { All (λ id. count_of pool.old id.0 < 65000) blocks.now }
     ensures named { places.new ≡ naming blocks.now }
     ensures shared { pool.new ≡ shared_all pool.old blocks.now }
+    ensures pool { IsPool pool.old → IsPool pool.new }
 {
     for (k, id) in blocks.iter().enumerate() {
         pool.share(*id);
@@ -229,6 +235,7 @@ fn give_back(places: &mut [Option<BlockId>], pool: &mut Pool)
         → slice_index_or places.old other None ≡ Some id → k ≡ other }
     ensures cleared { places.new ≡ replicate (length places.old) None }
     ensures given { pool.new ≡ given_all pool.old (named_in places.old) }
+    ensures pool { IsPool pool.old → IsPool pool.new }
 {
     for place in places.iter_mut() {
         give_place(place, pool);

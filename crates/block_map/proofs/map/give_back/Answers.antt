@@ -6,6 +6,7 @@ use Rattle.proc_model.specs.Slots.{named_in}
 use Rattle.block_map.specs.Takes.{given_all}
 use Rattle.block_map.proofs.Places.{at_rest}
 use Rattle.block_map.proofs.Counts.{gives_next, gives_more}
+use Rattle.block_map.proofs.Pools.{IsPool-given_all}
 use Rattle.block_map.proofs.map.give_back.Goals as goal
 
 pub give_place-requires : goal.give_place-requires
@@ -24,3 +25,6 @@ loop-place-preserved c =
       given = gives_more c.args.pool.now c.loop-place.pool c.give_place.new.pool old i c.loop-place-test.true c.loop-place.invariant.given
           (c.give_place.ensures.given ∙ ap (λ (place : Option BlockId). given_all c.loop-place.pool (named_in (place ∷ []))) (at_rest places old i c.loop-place.invariant.kept));
     }
+
+pub returns-clause-pool : goal.returns-clause-pool
+returns-clause-pool c = IsPool-given_all c.args.pool.now c.loop-place.pool (named_in (take c.loop-place.place-index c.args.places.now)) c.loop-place.invariant.given

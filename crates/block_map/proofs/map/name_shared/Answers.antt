@@ -6,6 +6,7 @@ use Rattle.block_pool.specs.Blocks.{Blocks, count_of, shared}
 use Rattle.proc_model.specs.Slots.{naming}
 use Rattle.block_map.specs.Takes.{shared_all}
 use Rattle.block_map.proofs.Counts.{count_of-shared_all}
+use Rattle.block_map.proofs.Pools.{IsPool-shared_all}
 use Rattle.block_map.proofs.map.name_shared.Goals as goal
 
 pub share-requires : goal.share-requires
@@ -45,4 +46,5 @@ returns c =
     record {
       named = sym (take_all k c.loop-k.places (omega arith)) ∙ c.loop-k.invariant.named ∙ ap naming whole;
       shared = c.loop-k.invariant.shared ∙ ap (shared_all c.args.pool.now) whole;
+      pool = IsPool-shared_all c.args.pool.now c.loop-k.pool (take k blocks) c.loop-k.invariant.shared;
     }

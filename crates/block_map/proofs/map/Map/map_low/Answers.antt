@@ -6,6 +6,7 @@ use Rattle.proc_model.specs.Slots.{Slots, place_of}
 use Rattle.block_map.specs.Takes.{NamesLive}
 use Rattle.block_map.proofs.Places.{at}
 use Rattle.block_map.proofs.Maps.{put_mid-put, live-new, slots_of, IsMap-low}
+use Rattle.block_map.proofs.Pools.{IsPool-new}
 use Rattle.block_map.proofs.map.Map.map_low.Goals as goal
 
 pub invariant_of-self : goal.invariant_of-self
@@ -34,3 +35,6 @@ returns-clause-shape c =
     let many : length c.name_new.new.places ≡ c.self.inside.low + c.args.n - c.self.inside.low = grind (arith, common_steps) in
     let live = subst (λ (slots : Slots BlockId). NamesLive slots c.args.pool.now) (sym c.self.view_is) c.requires in
     IsMap-low (slots_of c.self.inside.places c.self.inside.low c.self.inside.groups) c.name_new.new.places c.args.n c.args.pool.now c.name_new.new.pool c.self.invariant fits many live c.name_new.ensures
+
+pub returns-clause-pool : goal.returns-clause-pool
+returns-clause-pool c = IsPool-new c.name_new.new.places c.args.pool.now c.name_new.new.pool c.name_new.ensures
