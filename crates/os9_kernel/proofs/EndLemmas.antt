@@ -3,11 +3,11 @@ use Rattle.std.proofs.Common.{◌≡◌, ◌≢◌, ℕ, zero, suc, ◌+◌, ◌
 use Rattle.std.specs.Prelude.{nat_eq, option_map, flat_map, if◌then◌else◌}
 use Rattle.std.specs.List.{list_any}
 use Rattle.std.specs.Cmp.Lexicographic.{pointwise}
-use Rattle.std.proofs.lemmas.List.{get_or-set_same, get_or-set_other, get_or_past, set_past, length-set, map-set}
+use Rattle.std.proofs.lemmas.List.{get_or-set_same, get_or-set_other, get_or_past, set_past, map-set}
 use Rattle.std.proofs.lemmas.List.Sums.{sum_by-append, sum_by-cons}
 use Rattle.std.proofs.lemmas.Option.{same_Some, none-some}
 use Rattle.std.proofs.lemmas.Bool.{cases_eq, cases_lt, cond-true, cond-false, eq-eqb, ne_eqb}
-use Rattle.block_pool.specs.Blocks.{Blocks, IsPool, IsLive, count_of, given}
+use Rattle.block_pool.specs.Blocks.{Blocks, IsLive, count_of, given}
 use Rattle.proc_model.specs.declared.group.BlockId.{BlockId}
 use Rattle.proc_model.specs.ModuleList.{ModuleEntry, entry_at, unlinked, with_unlinked, without_link, entered_groups}
 use Rattle.proc_model.specs.Slots.{Slots, no_slots, named_in}
@@ -84,17 +84,6 @@ count_of-given_all pool (first ∷ ids) block =
 bytes-given_all : (pool : Blocks) (ids : List BlockId) → (given_all pool ids).bytes ≡ pool.bytes
 bytes-given_all pool [] = refl
 bytes-given_all pool (first ∷ ids) = bytes-given_all (given pool first.0) ids
-
-pub IsPool-given_all : (pool : Blocks) (ids : List BlockId) → IsPool pool → IsPool (given_all pool ids)
-IsPool-given_all pool [] shape = shape
-IsPool-given_all pool (first ∷ ids) shape =
-    let same = length-set pool.counts first.0 (count_of pool first.0 - 1) in
-    IsPool-given_all (given pool first.0) ids (record {
-      least = omega (arith, same, shape.least);
-      most = omega (arith, same, shape.most);
-      whole = shape.whole ∙ sym same;
-      full = shape.full;
-    })
 
 -- the blocks that stay live stand for the same objects
 StandFor-given_all : (number : ℕ → ℕ) (pool : Blocks) (ids : List BlockId) (objects : List (List ℕ)) → StandFor number pool objects → StandFor number (given_all pool ids) objects

@@ -3,12 +3,13 @@ use Rattle.std.proofs.Common.{◌≡◌, ◌≢◌, ◌+◌, ◌-◌, ◌<◌, �
 use Rattle.std.proofs.Common.{zero-add}
 use Rattle.std.proofs.Math.Seq.{take-append-add}
 use Rattle.std.proofs.lemmas.List.{append-nil, nil_from_length, take_all, drop_all, take_at, drop_at, take-take, take-append-le, length-take-le, length-replicate, take-replicate, drop-replicate, set-set, length-set, length-append, get_or-set_same, get_or-set_other, map-append}
-use Rattle.std.proofs.lemmas.List.Elements.{All-nil, All-set, All-cons, All-head, All-tail, All-append, All-weaker}
+use Rattle.std.proofs.lemmas.List.Elements.{All-nil, All-cons, All-head, All-tail, All-append, All-weaker}
 use Rattle.std.proofs.lemmas.List.Sums.{sum_by-cons, sum_by-append, get_or-le-sum_by}
 use Rattle.std.proofs.lemmas.Bool.{cases_eq, cases_lt, cond-true, cond-false, eq-eqb, ne_eqb}
 use Rattle.block_pool.specs.Blocks.{Blocks, IsPool, IsFree, IsLive, count_of, block_bytes, with_count, with_bytes, taken, overwritten}
 use Rattle.machine_model.specs.Start.{block_of, zero_object}
 use Rattle.block_map.specs.Takes.{Takes}
+use Rattle.block_map.proofs.Pools.{IsPool-taken}
 use Rattle.proc_model.specs.declared.group.BlockId.{BlockId}
 use Rattle.os9_kernel.specs.Load.{times_in, Gains}
 use Rattle.os9_kernel.proofs.ListLemmas.{AllPairs-append, map_same}
@@ -182,23 +183,11 @@ block_of-part file part k is = ap (λ (xs : List ℕ). take 8192 (xs ++ zero_obj
 
 -- ---- blocks that are taken
 
-IsPool-taken : (pool : Blocks) (block : ℕ) → IsPool pool → block < length pool.counts → IsPool (taken pool block)
-IsPool-taken pool block shape within =
-    let zeros : List ℕ = replicate (length (block_bytes pool block)) 0 in
-    let counts = length-set pool.counts block 1 in
-    record {
-      least = omega (arith, counts, shape.least);
-      most = omega (arith, counts, shape.most);
-      whole = length-set pool.bytes block zeros ∙ shape.whole ∙ sym counts;
-      full = All-set (λ bytes. length bytes ≡ 8192) pool.bytes block zeros (length-replicate (length (block_bytes pool block)) 0 ∙ shape.full block [] (omega (arith, shape.whole))) shape.full;
-    }
-
 -- blocks that are taken have zeros
-pub Takes-Gains : (pool after : Blocks) (ids : List BlockId) → IsPool pool → Takes pool ids after → Gains pool ids (replicate (length ids) zero_object) after × IsPool after
-Takes-Gains pool after [] shape took = (subst (Gains pool [] []) (sym took) (Gains-none pool), subst IsPool (sym took) shape)
+pub Takes-Gains : (pool after : Blocks) (ids : List BlockId) → IsPool pool → Takes pool ids after → Gains pool ids (replicate (length ids) zero_object) after
+Takes-Gains pool after [] shape took = subst (Gains pool [] []) (sym took) (Gains-none pool)
 Takes-Gains pool after (id ∷ ids) shape took =
     let zeros : List ℕ = replicate (length (block_bytes pool id.0)) 0 in
     let clear : zeros ≡ zero_object = ap (λ (n : ℕ). replicate n 0) (shape.full id.0 [] (omega (arith, shape.whole, took.0.0))) in
     let one : Gains pool (id ∷ []) (zero_object ∷ []) (taken pool id.0) = subst (λ (bytes : List ℕ). Gains pool (id ∷ []) (bytes ∷ []) (taken pool id.0)) clear (Gains-one pool id zeros shape.whole took.0) in
-    let rest = Takes-Gains (taken pool id.0) after ids (IsPool-taken pool id.0 shape took.0.0) took.1 in
-    (Gains-then one rest.0, rest.1)
+    Gains-then one (Takes-Gains (taken pool id.0) after ids (IsPool-taken pool id.0 shape took.0.0) took.1)

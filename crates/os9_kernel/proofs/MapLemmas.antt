@@ -1,7 +1,8 @@
 -- The map of the first process, before a group stands in it.
-use Rattle.std.proofs.Common.{◌≡◌, ◌+◌, ◌-◌, ◌<◌, ◌≤◌, ℕ, Option, Some, None, Result, Err, ◌↔◌, inl, inr, List, length, get_or, replicate, refl, sym, ap, ◌∙◌, arith}
+use Rattle.std.proofs.Common.{◌≡◌, ◌≢◌, ◌+◌, ◌-◌, ◌<◌, ◌≤◌, ℕ, Option, Some, None, Result, Ok, Err, ◌↔◌, inl, inr, List, length, get_or, replicate, refl, sym, ap, ◌∙◌, arith}
 use Rattle.std.proofs.lemmas.List.{get_or-replicate, get_or_past, length-replicate, length-map, get_or-map}
-use Rattle.std.proofs.lemmas.Option.{none-some}
+use Rattle.std.proofs.lemmas.Option.{same_Some, none-some}
+use Rattle.std.specs.Result.{result_ok}
 use Rattle.std.proofs.lemmas.Bool.{cases_lt}
 use Rattle.block_pool.specs.Blocks.{Blocks, IsLive}
 use Rattle.block_map.specs.Takes.{Takes}
@@ -12,9 +13,10 @@ use Rattle.block_map.proofs.Counts.{Takes-free}
 use Rattle.proc_model.specs.declared.group.BlockId.{BlockId}
 use Rattle.proc_model.specs.Slots.{no_slots, place_of, Names, IsFreeRun, IsHighestFreeRun, naming, with_low}
 
--- a call that answers T is refused with a fault, and that is this one
-abbrev pub Refuses : (T : Type 0) → MapFault → MapFault → Type 0
-Refuses T fault other = let refusal : Result T MapFault = Err fault in refusal ≡ Err other
+-- a call that answers a value is not refused
+pub was_ok : {T : Type 0} (answer : Result T MapFault) (value : T) → result_ok answer ≡ Some value → answer ≡ Ok value
+was_ok (Ok given) value is = ap Ok (same_Some given value is)
+was_ok (Err fault) value is = absurd (none-some value is)
 
 -- no place of an empty list names anything
 none_at : (n slot : ℕ) → at (replicate n None) slot ≡ None
@@ -53,9 +55,10 @@ module _ (area : List BlockId) (fits : length area ≤ 8) where
   last_are_free len room = (omega arith, λ slot from below. behind_area slot (omega arith))
 
   -- a group that finds no free run wants more slots than are left
-  pub group_wants : (len : ℕ) (fault : MapFault) → (Refuses ℕ fault NoSlot ↔ ((first : ℕ) → IsFreeRun (with_low no_slots area) first len → ⊥)) → (Refuses ℕ fault NoBlock → ⊥) → 8 < length area + len
-  group_wants len NoBlock no_slot other = absurd (other refl)
-  group_wants len NoSlot no_slot other =
+  pub group_wants : (len : ℕ) (answer : Result ℕ MapFault) → result_ok answer ≡ None → ((answer ≡ Err NoSlot) ↔ ((first : ℕ) → IsFreeRun (with_low no_slots area) first len → ⊥)) → answer ≢ Err NoBlock → 8 < length area + len
+  group_wants len (Ok first) none no_slot other = absurd (none-some first (sym none))
+  group_wants len (Err NoBlock) none no_slot other = absurd (other refl)
+  group_wants len (Err NoSlot) none no_slot other =
       elim (cases_lt 8 (length area + len)) [
         | inl wants ↦ wants
         | inr room ↦ absurd (no_slot.0 refl (8 - len) (last_are_free len room))
@@ -84,8 +87,9 @@ module _ (area : List BlockId) (fits : length area ≤ 8) where
       ]
 
 -- an area that is refused wants more slots than a group leaves
-pub area_wants : (low len free : ℕ) (fault : MapFault) → low ≤ 8 → 8 ≤ free + len
-    → (Refuses (Unit {0}) fault NoSlot ↔ (IsFreeRun {Block = BlockId} no_slots 0 low → ⊥))
-    → (Refuses (Unit {0}) fault NoBlock ↔ (IsFreeRun {Block = BlockId} no_slots 0 low × (free < low))) → 8 < low + len
-area_wants low len free NoSlot short enough no_slot no_block = absurd (no_slot.0 refl (free_at_first low short))
-area_wants low len free NoBlock short enough no_slot no_block = omega (arith, (no_block.0 refl).1)
+pub area_wants : (low len free : ℕ) (answer : Result (Unit {0}) MapFault) → result_ok answer ≡ None → low ≤ 8 → 8 ≤ free + len
+    → ((answer ≡ Err NoSlot) ↔ (IsFreeRun {Block = BlockId} no_slots 0 low → ⊥))
+    → ((answer ≡ Err NoBlock) ↔ (IsFreeRun {Block = BlockId} no_slots 0 low × (free < low))) → 8 < low + len
+area_wants low len free (Ok done) none short enough no_slot no_block = absurd (none-some done (sym none))
+area_wants low len free (Err NoSlot) none short enough no_slot no_block = absurd (no_slot.0 refl (free_at_first low short))
+area_wants low len free (Err NoBlock) none short enough no_slot no_block = omega (arith, (no_block.0 refl).1)

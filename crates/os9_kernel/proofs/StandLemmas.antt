@@ -133,7 +133,7 @@ module _ (number : ℕ → ℕ) (before after : Blocks) (objects contents : List
 pub a_block_that_is_taken_gives_a_new_object : (number : ℕ → ℕ) (pool : Blocks) (objects : List (List ℕ)) (id : BlockId) → IsPool pool → StandFor number pool objects → IsFree pool id.0
     → StandFor (renumbered number id.0 (length objects)) (taken pool id.0) (objects ++ zero_object ∷ [])
 a_block_that_is_taken_gives_a_new_object number pool objects id shape stand_for free =
-    StandFor-gains number pool (taken pool id.0) objects (zero_object ∷ []) (id ∷ []) stand_for (Takes-Gains pool (taken pool id.0) (id ∷ []) shape (free, refl)).0
+    StandFor-gains number pool (taken pool id.0) objects (zero_object ∷ []) (id ∷ []) stand_for (Takes-Gains pool (taken pool id.0) (id ∷ []) shape (free, refl))
 
 -- bytes that are written into a live block are the bytes of its object
 pub StandFor-with_bytes : (number : ℕ → ℕ) (pool : Blocks) (objects : List (List ℕ)) (block : ℕ) (bytes : List ℕ) → IsPool pool → StandFor number pool objects → IsLive pool block

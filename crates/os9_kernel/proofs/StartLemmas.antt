@@ -1,13 +1,13 @@
 -- What stands at the start of a kernel is the machine's start state, or the boot file is refused.
 use Rattle.std.proofs.Common.{◌≡◌, ◌+◌, ◌-◌, ◌*◌, ◌<◌, ◌≤◌, ◌==◌, ℕ, zero, suc, codes, Bool, true, false, Option, Some, None, option_map, Ok, Err, List, [], ◌∷◌, ◌++◌, length, get_or, set, drop, replicate, map as map_of, count_by, cond, if◌then◌else◌, All, inl, inr, refl, sym, ap, ◌∙◌, subst, zero-add, arith}
 use Rattle.std.specs.List.{range_with_len}
-use Rattle.std.proofs.lemmas.List.{map-append, length-map, length-set, length-replicate, take-replicate, drop-replicate, set_split, get_or-replicate, get_or_past}
+use Rattle.std.proofs.lemmas.List.{map-append, length-map, length-replicate, take-replicate, drop-replicate, set_split, get_or-replicate, get_or_past}
 use Rattle.std.proofs.lemmas.List.Elements.{All-weaker}
 use Rattle.std.proofs.lemmas.List.FromFn.{length-map-range_with_len}
 use Rattle.std.proofs.lemmas.List.Sums.{sum_by-cons, count_by-le-length}
 use Rattle.std.proofs.lemmas.Bool.{cases_lt}
-use Rattle.block_pool.specs.Blocks.{Blocks, IsPool, IsLive, count_of, block_bytes, free_count, shared}
-use Rattle.block_map.specs.Takes.{shared_all, group_blocks}
+use Rattle.block_pool.specs.Blocks.{Blocks, IsPool, IsLive, count_of, block_bytes, free_count}
+use Rattle.block_map.specs.Takes.{group_blocks}
 use Rattle.block_map.proofs.Counts.{live-within}
 use Rattle.device_table.specs.Screens.{Screen}
 use Rattle.module_dir.specs.declared.dir.ModId.{ModId}
@@ -52,18 +52,6 @@ free_zeros (suc n) = sum_by-cons (λ (count : ℕ). cond (count == 0) 1 0) 0 (re
 -- all of its blocks are free
 pub free_count-unnamed : (pool : Blocks) (blocks : ℕ) → pool.counts ≡ replicate blocks 0 → free_count pool ≡ blocks
 free_count-unnamed pool blocks unnamed = ap (λ (counts : List ℕ). count_by (λ (count : ℕ). count == 0) counts) unnamed ∙ free_zeros blocks
-
--- a pool whose blocks are shared is one still
-IsPool-shared_all : (pool : Blocks) (ids : List BlockId) → IsPool pool → IsPool (shared_all pool ids)
-IsPool-shared_all pool [] shape = shape
-IsPool-shared_all pool (id ∷ ids) shape =
-    let same = length-set pool.counts id.0 (count_of pool id.0 + 1) in
-    IsPool-shared_all (shared pool id.0) ids (record {
-      least = omega (arith, same, shape.least);
-      most = omega (arith, same, shape.most);
-      whole = shape.whole ∙ sym same;
-      full = shape.full;
-    })
 
 -- ---- a map of objects
 
@@ -221,14 +209,11 @@ module _ {file : List ℕ} {group : Group} {dir : List (Option ModuleEntry)} {nu
       abbrev area : List BlockId
       area = mapped.area
 
-      zeros : Gains loaded area (replicate (length area) zero_object) mapped.middle × IsPool mapped.middle
+      zeros : Gains loaded area (replicate (length area) zero_object) mapped.middle
       zeros = Takes-Gains loaded mapped.middle area placed.shape mapped.taken
 
       live_later : All (λ id. IsLive mapped.middle id.0) (ids placed)
-      live_later = All-weaker (λ (id : BlockId). IsLive loaded id.0) (λ (id : BlockId). IsLive mapped.middle id.0) (λ id live. Gains-live zeros.0 id.0 live) (ids placed) (group_live placed)
-
-      pub pool_shape : IsPool pool
-      pool_shape = subst IsPool (sym mapped.shared) (IsPool-shared_all mapped.middle (ids placed) zeros.1)
+      live_later = All-weaker (λ (id : BlockId). IsLive loaded id.0) (λ (id : BlockId). IsLive mapped.middle id.0) (λ id live. Gains-live zeros id.0 live) (ids placed) (group_live placed)
 
       as_many : length (ids placed) ≡ group.len
       as_many = length-ids placed ∙ sym placed.len
@@ -251,7 +236,7 @@ module _ {file : List ℕ} {group : Group} {dir : List (Option ModuleEntry)} {nu
           omega (
             arith,
             shared_count,
-            zeros.0.counts block,
+            zeros.counts block,
             placed.file_loaded.counts block,
             count_of-unnamed before blocks block placed.unnamed,
             times-start map started_dir area (ids placed) block named one_group,
@@ -267,13 +252,13 @@ module _ {file : List ℕ} {group : Group} {dir : List (Option ModuleEntry)} {nu
       group_numbers =
           map-map last_number (λ (id : BlockId). id.0) (ids placed)
           ∙ map_same (λ (id : BlockId). last_number id.0) (λ (id : BlockId). first_number placed id.0) (ids placed)
-          (λ k d within. numbered-other area (length (objects_of file)) (first_number placed) (get_or (ids placed) k d).0 (Gains-old zeros.0 (get_or (ids placed) k d).0 (group_live placed k d within)))
+          (λ k d within. numbered-other area (length (objects_of file)) (first_number placed) (get_or (ids placed) k d).0 (Gains-old zeros (get_or (ids placed) k d).0 (group_live placed k d within)))
           ∙ sym (map-map (first_number placed) (λ (id : BlockId). id.0) (ids placed))
           ∙ first_numbers placed
 
       area_numbers : map_of (λ (id : BlockId). last_number id.0) area ≡ range_with_len (file_blocks file) (data_blocks entry)
       area_numbers =
-          map-numbered area (length (objects_of file)) (first_number placed) zeros.0.different
+          map-numbered area (length (objects_of file)) (first_number placed) zeros.different
           ∙ ap (λ (first : ℕ). range_with_len first (length area)) (length-map-range_with_len (block_of file) 0 (file_blocks file))
           ∙ ap (range_with_len (file_blocks file)) mapped.many
 
@@ -281,7 +266,7 @@ module _ {file : List ℕ} {group : Group} {dir : List (Option ModuleEntry)} {nu
       stand_for =
           let none = StandFor-none (λ block. 0) before (λ block live. absurd (omega (arith, count_of-unnamed before blocks block placed.unnamed))) in
           let loaded_for : StandFor (first_number placed) loaded (objects_of file) = StandFor-gains (λ block. 0) before loaded [] (objects_of file) (ids placed) none placed.file_loaded in
-          let middle_for = StandFor-gains (first_number placed) loaded mapped.middle (objects_of file) (replicate (length area) zero_object) area loaded_for zeros.0 in
+          let middle_for = StandFor-gains (first_number placed) loaded mapped.middle (objects_of file) (replicate (length area) zero_object) area loaded_for zeros in
           let shared_for = StandFor-shared_all last_number mapped.middle (objects_of file ++ replicate (length area) zero_object) (ids placed) middle_for live_later in
           subst (λ (n : ℕ). StandFor last_number pool (objects_of file ++ replicate n zero_object)) mapped.many
           (subst (λ (blocks : Blocks). StandFor last_number blocks (objects_of file ++ replicate (length area) zero_object)) (sym mapped.shared) shared_for)

@@ -1,18 +1,19 @@
 //! The start of a kernel from a boot file.
 
-ghost use Rattle.std.specs.Prelude.{◌≡◌, ◌≢◌, ◌+◌, ◌-◌, ◌*◌, ◌<◌, ◌≤◌, List, IfOk, OnOk, OnErr, IfErr, All, AllPairs, max, option_map, vec_len};
+ghost use Rattle.std.specs.Prelude.{◌≡◌, ◌≢◌, ℕ, ◌+◌, ◌-◌, ◌*◌, ◌<◌, ◌≤◌, List, IfOk, OnOk, IfErr, IfSome, IfNone, All, AllPairs, max, option_map, vec_len};
 ghost use Rattle.block_map.specs.Takes.{group_blocks};
 ghost use Rattle.block_pool.specs.Blocks.{IsPool, IsLive, count_of, free_count};
 ghost use Rattle.device_table.specs.Screens.{Screen};
 ghost use Rattle.machine_model.specs.State.{State};
-ghost use Rattle.machine_model.specs.Start.{Starts, Refuses, pages_of, blocks_of as blocks_of_lem, first_program as first_program_lem};
+ghost use Rattle.machine_model.specs.Start.{Starts, Refuses, pages_of, file_blocks, blocks_of as blocks_of_lem, first_program as first_program_lem, first_regs as first_regs_lem};
 ghost use Rattle.machine_model.specs.declared.ends.BootFault.{BootFault};
+ghost use Rattle.proc_model.specs.ModuleList.{ModuleEntry};
 ghost use Rattle.proc_model.specs.Slots.{IsMap};
 ghost use Rattle.os9_kernel.specs.Start.{IsFirstMap};
 
 use crate::kernel::Kernel;
 use crate::load::{enter_modules, load_group};
-use block_map::map::{Map, MapFault};
+use block_map::map::Map;
 use block_pool::pool::Pool;
 use machine_model::activity::Activity;
 use machine_model::ends::BootFault;
@@ -43,7 +44,8 @@ impl Kernel {
     ghost use Rattle.os9_kernel.specs.Tie.{Stands, ticks};
 
     /// A kernel that starts the first program of a boot file, `SysGo` (Level Two manual,
-    /// "Booting"). Only this call takes memory.
+    /// "Booting"). Only this call takes memory for the kernel; a terminal may want some for the
+    /// bytes that are put on it.
     ///
     /// # Errors
     ///
@@ -62,32 +64,20 @@ impl Kernel {
         if boot.len() > LONGEST_FILE {
             return Err(BootFault::TooLarge);
         }
-        let mut pool = Pool::new(alloc, config.blocks).map_err(|_| BootFault::OutOfMemory)?;
-        let mut dir = Dir::new(alloc).map_err(|_| BootFault::OutOfMemory)?;
-        let buffer = empty_memory(alloc).map_err(|_| BootFault::OutOfMemory)?;
+        let mut pool = Pool::new(alloc, config.blocks)?;
+        let mut dir = Dir::new(alloc)?;
+        let buffer = empty_memory(alloc)?;
         let group = load_group(&mut pool, boot);
         enter_modules(&mut dir, boot, group)?;
         let first = first_program(&dir).ok_or(BootFault::NoFirst)?;
         let info = dir.info(first);
-        let size = data_size(info.storage);
-        let map = first_map(&mut pool, blocks_of(size), &group).map_err(|_| BootFault::TooLarge)?;
+        let low = blocks_of(data_size(info.storage));
+        let map = first_map(&mut pool, low, &group).ok_or(BootFault::TooLarge)?;
         dir.link(first);
-        let size = size as u16;
-        let regs = Regs {
-            a: 0,
-            b: 0,
-            dp: 0,
-            cc: 0,
-            x: size,
-            y: size,
-            u: 0,
-            s: size,
-            pc: start_address(&group, &info),
-        };
         Ok(Kernel {
             pool,
             dir,
-            regs,
+            regs: first_regs(&group, &info),
             map,
             primary: Some(first),
             activity: Activity::Running,
@@ -114,8 +104,8 @@ fn first_program(dir: &Dir) -> Option<ModId>
 }
 
 /// The map of the first process: `low` new blocks from slot 0 up, and the group in the highest
-/// slots. It is refused where these are more than the eight slots.
-fn first_map(pool: &mut Pool, low: u8, group: &Group) -> Result<Map, MapFault>
+/// slots. There is none where these are more than the eight slots.
+fn first_map(pool: &mut Pool, low: u8, group: &Group) -> Option<Map>
     requires low { low ≤ 8 }
     requires shape { IsPool pool.old }
     requires some { 1 ≤ group.now.len }
@@ -123,15 +113,37 @@ fn first_map(pool: &mut Pool, low: u8, group: &Group) -> Result<Map, MapFault>
     requires live { All (λ id. IsLive pool.old id.0) (group_blocks group.now) }
     requires countable { All (λ id. count_of pool.old id.0 < 65000) (group_blocks group.now) }
     requires enough { 8 ≤ free_count pool.old + group.now.len }
-    ensures fits { OnOk result (low + group.now.len ≤ 8) }
-    ensures wants { OnErr result (8 < low + group.now.len) }
-    ensures mapped { IfOk result (λ map. IsFirstMap low group.now pool.old map pool.new) }
-    ensures shape { IfOk result IsMap }
+    ensures none { IfNone result (8 < low + group.now.len) }
+    ensures fits { IfSome result (λ _. low + group.now.len ≤ 8) }
+    ensures mapped { IfSome result (λ map. IsFirstMap low group.now pool.old map pool.new) }
+    ensures shape { IfSome result IsMap }
+    ensures pool { IsPool pool.new }
 {
     let mut map = Map::empty();
-    map.map_low(pool, low)?;
-    map.map_group(pool, group)?;
-    Ok(map)
+    map.map_low(pool, low).ok()?;
+    map.map_group(pool, group).ok()?;
+    Some(map)
+}
+
+/// The registers of the first process, whose program lies in the highest slots with its group.
+fn first_regs(group: &Group, info: &ModuleInfo) -> Regs
+    requires size { 256 * max 1 (pages_of info.now.storage) < 65536 }
+    requires start { 8192 * (8 - group.now.len) + info.now.at + info.now.entry < 65536 }
+    ensures { (file : List ℕ) (program : ModuleEntry) → group.now.len ≡ file_blocks file
+        → info.now ≡ program.info → result ≡ first_regs_lem file program }
+{
+    let size = data_size(info.storage) as u16;
+    Regs {
+        a: 0,
+        b: 0,
+        dp: 0,
+        cc: 0,
+        x: size,
+        y: size,
+        u: 0,
+        s: size,
+        pc: start_address(group, info),
+    }
 }
 
 /// Where a module begins that lies in the highest slots with its group.

@@ -1,6 +1,5 @@
 use Rattle.std.proofs.Common.{refl}
-use Rattle.proc_model.specs.Slots.{named_in}
-use Rattle.os9_kernel.proofs.EndLemmas.{NamesLive-counted, IsPool-given_all, AreCounted-ended, AreBoot-without_link, Stands-ended}
+use Rattle.os9_kernel.proofs.EndLemmas.{NamesLive-counted, AreCounted-ended, AreBoot-without_link, Stands-ended}
 use Rattle.os9_kernel.proofs.kernel.Kernel.end.Goals as goal
 
 pub clear-requires : goal.clear-requires
@@ -11,7 +10,7 @@ clear-requires c =
 pub invariant_of-self-clause-shape : goal.invariant_of-self-clause-shape
 invariant_of-self-clause-shape c =
     let old = c.args.self.now in
-    rw c.clear.ensures.given (IsPool-given_all old.pool (named_in old.map.places) old.shape)
+    c.clear.ensures.pool old.shape
 
 pub invariant_of-self-clause-counted : goal.invariant_of-self-clause-counted
 invariant_of-self-clause-counted c =

@@ -1,19 +1,19 @@
 -- The kernel stands for the start of its boot file, or refuses it as the machine does.
-use Rattle.std.proofs.Common.{◌≡◌, ◌≢◌, ◌+◌, ◌-◌, ◌*◌, ◌<◌, ◌≤◌, ℕ, true, Option, Some, None, option_map, Ok, Err, List, replicate, max, IsSome, [], refl, sym, ap, ◌∙◌, subst, arith, rules}
+use Rattle.std.proofs.Common.{◌≡◌, ◌≢◌, ◌+◌, ◌*◌, ◌≤◌, ℕ, true, Option, Some, None, option_map, Ok, Err, List, replicate, max, IsSome, [], refl, sym, ap, ◌∙◌, subst, arith, rules}
 use Rattle.std.proofs.lemmas.Option.{same_Some}
 use Rattle.std.proofs.lemmas.Result.{err_from_is_err_and}
 use Rattle.proc_model.specs.Group.{blocks_of}
 use Rattle.proc_model.specs.Loading.{Enters, no_entries}
 use Rattle.proc_model.specs.ModuleList.{ModuleEntry, entry_at, linked, with_entry}
 use Rattle.proc_model.specs.declared.module.ModuleInfo.{ModuleInfo}
-use Rattle.machine_model.specs.Start.{Refuses, first_program, data_size, data_blocks, file_blocks, pages_of, blocks_of as blocks_in}
+use Rattle.machine_model.specs.Start.{Refuses, first_program, data_size, data_blocks, pages_of, blocks_of as blocks_in}
 use Rattle.machine_model.specs.declared.ends.BootFault.TheVariants.{OutOfMemory, NoFirst, TooLarge}
 use Rattle.os9_kernel.specs.Start.{IsFirstMap}
 use Rattle.machine_model.proofs.StartLaws.{never-both}
 use Rattle.module_dir.specs.declared.dir.ModId.{ModId}
-use Rattle.os9_kernel.proofs.StartLemmas.{IsPlaced, IsFound, free_count-unnamed, first_entry, refuses_module, refuses_without, refuses_large, group_live, group_countable, enough_left, some_blocks, begins_within, area_within, first_of_file, first_stays, all_boot, pool_shape, counted, stands}
+use Rattle.os9_kernel.proofs.StartLemmas.{IsPlaced, IsFound, free_count-unnamed, first_entry, refuses_module, refuses_without, refuses_large, group_live, group_countable, enough_left, some_blocks, begins_within, area_within, first_of_file, first_stays, all_boot, counted, stands}
 use Rattle.os9_kernel.proofs.kernel.Kernel.new.Goals as goal
-use Rattle.os9_kernel.proofs.kernel.Kernel.new.Goals.{In_ok-buffer, After-load_group-group, After-first_program, In_ok-enter_modules, In_ok-first, After-blocks_of, In_ok-map, After-link}
+use Rattle.os9_kernel.proofs.kernel.Kernel.new.Goals.{In_ok-buffer, After-load_group-group, After-first_program, In_ok-enter_modules, In_ok-first, After-blocks_of-low, In_ok-map, After-link}
 
 -- the boot file stands in memory
 placed : (c : After-load_group-group) → IsPlaced c.args.boot.now c.args.config.blocks c.in_ok-pool.pool c.load_group-group.result c.load_group-group.new.pool
@@ -45,14 +45,14 @@ first c modules =
     (entry.0, record { modules = modules; found_it = found c; is = entry.1 })
 
 -- what its header says, and its data area
-info_is : (c : After-blocks_of) (entry : ModuleEntry) → entry_at c.enter_modules.new.dir c.in_ok-first.first.0 ≡ Some entry → entry.info ≡ c.info-info.result
+info_is : (c : After-blocks_of-low) (entry : ModuleEntry) → entry_at c.enter_modules.new.dir c.in_ok-first.first.0 ≡ Some entry → entry.info ≡ c.info-info.result
 info_is c entry is = same_Some entry.info c.info-info.result (sym (ap (option_map (λ (entry : ModuleEntry). entry.info)) is) ∙ c.info-info.ensures)
 
-size_is : (c : After-blocks_of) (entry : ModuleEntry) → entry_at c.enter_modules.new.dir c.in_ok-first.first.0 ≡ Some entry → c.data_size-size.result ≡ data_size entry
-size_is c entry is = c.data_size-size.ensures ∙ ap (λ (info : ModuleInfo). 256 * max 1 (pages_of info.storage)) (sym (info_is c entry is))
+size_is : (c : After-blocks_of-low) (entry : ModuleEntry) → entry_at c.enter_modules.new.dir c.in_ok-first.first.0 ≡ Some entry → c.data_size.result ≡ data_size entry
+size_is c entry is = c.data_size.ensures ∙ ap (λ (info : ModuleInfo). 256 * max 1 (pages_of info.storage)) (sym (info_is c entry is))
 
-area_is : (c : After-blocks_of) (entry : ModuleEntry) → entry_at c.enter_modules.new.dir c.in_ok-first.first.0 ≡ Some entry → c.blocks_of.result ≡ data_blocks entry
-area_is c entry is = c.blocks_of.ensures ∙ ap blocks_in (size_is c entry is)
+area_is : (c : After-blocks_of-low) (entry : ModuleEntry) → entry_at c.enter_modules.new.dir c.in_ok-first.first.0 ≡ Some entry → c.blocks_of-low.result ≡ data_blocks entry
+area_is c entry is = c.blocks_of-low.ensures ∙ ap blocks_in (size_is c entry is)
 
 pub load_group-group-requires-clause-room : goal.load_group-group-requires-clause-room
 load_group-group-requires-clause-room c =
@@ -105,9 +105,10 @@ returns-in_err-map-clause-refused c =
     let here = goal.at.returns-in_err-map-clause-refused c in
     let p = err_from_is_err_and c.from_residual-in_err-map.result c.from_residual-in_err-map.ensures.1 in
     let it = first here.In_ok-first (modules here.In_ok-enter_modules) in
-    let wants : 8 < c.blocks_of.result + c.load_group-group.result.len = search rules in
-    let large : c.in_err-map.field-0.0 ≡ TooLarge = search rules in
-    let area = area_is here.After-blocks_of it.0 it.1.is in
+    let none : c.first_map.result ≡ None = grind arith in
+    let wants = rw none at c.first_map.ensures.none in
+    let large : c.in_err-map.field-0.0 ≡ TooLarge = grind arith in
+    let area = area_is here.After-blocks_of-low it.0 it.1.is in
     rw p.1 (subst (λ fault. fault ≢ OutOfMemory → Refuses c.args.boot.now c.args.config.blocks fault) (sym (p.2 ∙ large))
     (λ _. refuses_large it.1 (placed here.After-load_group-group) (omega arith)))
 
@@ -118,20 +119,17 @@ link-requires c =
     let links = ap (λ (entry : ModuleEntry). entry.links) (first_of_file it).is_new in
     rw it.is (omega (arith, links))
 
-pub start_address-requires : goal.start_address-requires
-start_address-requires c =
-    let here = goal.at.start_address-requires c in
-    let it = first here.In_ok-first (modules here.In_ok-enter_modules) in
-    rw (info_is here.After-blocks_of it.0 it.1.is) at (begins_within it.1 (placed here.After-load_group-group))
-
 -- its data area and the file fit, ..
-few_enough : (c : In_ok-map) → c.blocks_of.result + c.load_group-group.result.len ≤ 8
-few_enough c = search rules
+first_map_is : (c : In_ok-map) → c.first_map.result ≡ Some c.in_ok-map.map
+first_map_is c = grind arith
+
+few_enough : (c : In_ok-map) → c.blocks_of-low.result + c.load_group-group.result.len ≤ 8
+few_enough c = rw (first_map_is c) at c.first_map.ensures.fits
 
 -- .. and stand in its map
-mapped : (c : In_ok-map) → (entry : ModuleEntry) → c.blocks_of.result ≡ data_blocks entry → IsFirstMap (data_blocks entry) c.load_group-group.result c.load_group-group.new.pool c.in_ok-map.map c.first_map.new.pool
+mapped : (c : In_ok-map) → (entry : ModuleEntry) → c.blocks_of-low.result ≡ data_blocks entry → IsFirstMap (data_blocks entry) c.load_group-group.result c.load_group-group.new.pool c.in_ok-map.map c.first_map.new.pool
 mapped c entry area =
-    let map : IsFirstMap c.blocks_of.result c.load_group-group.result c.load_group-group.new.pool c.in_ok-map.map c.first_map.new.pool = search rules in
+    let map = rw (first_map_is c) at c.first_map.ensures.mapped in
     subst (λ (n : ℕ). IsFirstMap n c.load_group-group.result c.load_group-group.new.pool c.in_ok-map.map c.first_map.new.pool) area map
 
 -- the directory
@@ -141,29 +139,35 @@ linked_is c entry is =
     let number = c.in_ok-first.first.0 in
     sym (same_Some (with_entry dir number (linked entry)) c.link.new.self (sym (ap (option_map (λ (entry : ModuleEntry). with_entry dir number (linked entry))) is) ∙ c.link.ensures))
 
-pub overflow_cast-size : goal.overflow_cast-size
-overflow_cast-size c =
-    let here = goal.at.overflow_cast-size c in
+pub first_regs-requires-clause-size : goal.first_regs-requires-clause-size
+first_regs-requires-clause-size c =
+    let here = goal.at.first_regs-requires-clause-size c in
     let it = first here.In_ok-first (modules here.In_ok-enter_modules) in
-    let size = size_is here.After-blocks_of it.0 it.1.is in
-    let area = area_is here.After-blocks_of it.0 it.1.is in
+    let size = size_is here.After-blocks_of-low it.0 it.1.is in
+    let area = area_is here.After-blocks_of-low it.0 it.1.is in
     let some = few_enough here.In_ok-map in
     let within = area_within it.1 (placed here.After-load_group-group) (omega arith) in
-    omega (arith, within, size)
+    omega (arith, within, size, c.data_size.ensures)
+
+pub first_regs-requires-clause-start : goal.first_regs-requires-clause-start
+first_regs-requires-clause-start c =
+    let here = goal.at.first_regs-requires-clause-start c in
+    let it = first here.In_ok-first (modules here.In_ok-enter_modules) in
+    rw (info_is here.After-blocks_of-low it.0 it.1.is) at (begins_within it.1 (placed here.After-load_group-group))
 
 pub invariant_of-result : goal.invariant_of-result
 invariant_of-result c =
     let here = goal.at.invariant_of-result c in
     let it = first here.In_ok-first (modules here.In_ok-enter_modules) in
     let in_place = placed here.After-load_group-group in
-    let area = area_is here.After-blocks_of it.0 it.1.is in
+    let area = area_is here.After-blocks_of-low it.0 it.1.is in
     let some = few_enough here.In_ok-map in
     let fits : data_blocks it.0 + c.load_group-group.result.len ≤ 8 = omega arith in
     let map = mapped here.In_ok-map it.0 area in
     let dir = linked_is here.After-link it.0 it.1.is in
     record {
-      shape = pool_shape it.1 in_place fits map;
-      whole = search rules;
+      shape = c.first_map.ensures.pool;
+      whole = rw (first_map_is here.In_ok-map) at c.first_map.ensures.shape;
       counted = rw dir (counted it.1 in_place fits map);
       all_boot = rw dir (all_boot it.1);
       linked = λ id same. subst (λ (id : ModId). IsSome (entry_at c.link.new.self id.0)) (same_Some c.in_ok-first.first id same) (rw (dir, first_stays it.1) refl);
@@ -175,19 +179,16 @@ returns-clause-start c terms =
     let here = goal.at.returns-clause-start c in
     let it = first here.In_ok-first (modules here.In_ok-enter_modules) in
     let in_place = placed here.After-load_group-group in
-    let area = area_is here.After-blocks_of it.0 it.1.is in
+    let area = area_is here.After-blocks_of-low it.0 it.1.is in
     let some = few_enough here.In_ok-map in
     let fits : data_blocks it.0 + c.load_group-group.result.len ≤ 8 = omega arith in
     let map = mapped here.In_ok-map it.0 area in
-    let size = size_is here.After-blocks_of it.0 it.1.is in
-    let pc = c.start_address.ensures
-    ∙ ap (λ (len : ℕ). 8192 * (8 - len) + c.info-info.result.at + c.info-info.result.entry) in_place.len
-    ∙ ap (λ (info : ModuleInfo). 8192 * (8 - file_blocks c.args.boot.now) + info.at + info.entry) (sym (info_is here.After-blocks_of it.0 it.1.is)) in
+    let regs = c.first_regs.ensures c.args.boot.now it.0 in_place.len (sym (info_is here.After-blocks_of-low it.0 it.1.is)) in
     stands it.1 in_place fits map _ (record {
       is_pool = refl;
       is_dir = linked_is here.After-link it.0 it.1.is;
       is_map = refl;
-      is_regs = λ i. record { a = 0; b = 0; dp = 0; cc = 0; x = size i; y = size i; u = 0; s = size i; pc = pc i };
+      is_regs = regs;
       is_primary = refl;
       is_activity = refl;
       is_tick = refl;
