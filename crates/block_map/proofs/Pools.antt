@@ -1,11 +1,10 @@
 -- A pool whose blocks are taken, shared or given back is one still.
-use Rattle.std.proofs.Common.{◌≡◌, ◌+◌, ◌-◌, ◌<◌, ℕ, List, [], ◌∷◌, length, replicate, sym, ◌∙◌, subst, arith}
+use Rattle.std.proofs.Common.{◌≡◌, ◌+◌, ◌-◌, ◌<◌, ℕ, Option, List, [], ◌∷◌, length, replicate, sym, ◌∙◌, subst, arith}
 use Rattle.std.proofs.lemmas.List.{length-set, length-replicate}
 use Rattle.std.proofs.lemmas.List.Elements.{All-set}
 use Rattle.block_pool.specs.Blocks.{Blocks, IsPool, count_of, block_bytes, with_count, taken, shared, given}
 use Rattle.block_map.specs.Takes.{Takes, AreNew, shared_all, given_all}
 use Rattle.proc_model.specs.declared.group.BlockId.{BlockId}
-use Rattle.std.proofs.Common.{Option}
 
 IsPool-with_count : (pool : Blocks) (block count : ℕ) → IsPool pool → IsPool (with_count pool block count)
 IsPool-with_count pool block count shape =

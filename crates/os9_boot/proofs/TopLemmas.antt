@@ -1,5 +1,5 @@
 -- From what the steps answer to what the top call answers.
-use Rattle.std.proofs.Common.{◌≡◌, ◌≢◌, ℕ, Option, Some, None, List, Ok, slice_get, refl, sym, subst, ◌∙◌, inl, inr, All}
+use Rattle.std.proofs.Common.{◌≡◌, ◌≢◌, ℕ, Option, Some, None, List, Ok, slice_get, refl, sym, ap, subst, ◌∙◌, inl, inr, All}
 use Rattle.std.specs.Prelude.{IfSome, count_by}
 use Rattle.os9_outer.specs.Host.{contents_of}
 use Rattle.os9_outer.specs.Stream.{appended}
@@ -11,16 +11,28 @@ use Rattle.script_text.specs.Slices.{slices_of}
 use Rattle.device_table.specs.Screens.{Screen}
 use Rattle.machine_model.specs.State.{State, is_living}
 use Rattle.machine_model.specs.Run.{status_of}
+use Rattle.std.proofs.lemmas.Bool.{cases_eq}
 use Rattle.os9_boot.specs.Console.{IsTold}
+use Rattle.os9_boot.specs.End.{number_of}
+use Rattle.os9_boot.specs.declared.status.End.{End}
+use Rattle.os9_boot.specs.declared.status.End.TheVariants.{Ended, Living}
 use Rattle.os9_boot.specs.TopCall.{Boots, Performs, Checks, tree_line}
 use Rattle.os9_boot.proofs.RunLemmas.{any-none, any-some}
 
 -- the status of a state where nobody lives, and of one where somebody does
-pub status-idle : (t : State) (living : ℕ) → living ≡ count_by is_living t.inner.processes → living ≡ 0 → 0 ≡ status_of t
-status-idle t living counted none = rw (any-none t.inner.processes (sym counted ∙ none)) refl
+status-idle : (s : State) (living : ℕ) → living ≡ count_by is_living s.inner.processes → living ≡ 0 → 0 ≡ status_of s
+status-idle s living counted none = rw (any-none s.inner.processes (sym counted ∙ none)) refl
 
-pub status-living : (t : State) (living : ℕ) → living ≡ count_by is_living t.inner.processes → living ≢ 0 → 5 ≡ status_of t
-status-living t living counted some = rw (any-some t.inner.processes (λ none. some (counted ∙ none))) refl
+status-living : (s : State) (living : ℕ) → living ≡ count_by is_living s.inner.processes → living ≢ 0 → 5 ≡ status_of s
+status-living s living counted some = rw (any-some s.inner.processes (λ none. some (counted ∙ none))) refl
+
+-- the end of a run that came to a state
+pub status-at_end : (s : State) (living : ℕ) (end : End) → living ≡ count_by is_living s.inner.processes → (living ≡ 0 → end ≡ Ended) → (living ≢ 0 → end ≡ Living) → number_of end ≡ status_of s
+status-at_end s living end counted idle lives =
+    elim (cases_eq living 0) [
+      | inl none ↦ ap number_of (idle none) ∙ status-idle s living counted none
+      | inr some ↦ ap number_of (lives some) ∙ status-living s living counted some
+    ]
 
 -- the two files of the words were read, and the slice text gives slices
 pub performs : (told told_then : Option (List ℕ → Option (List ℕ))) (run : RunWords) (text file slices first_name second_name modules : List ℕ) (terms : List Screen) (before before_then now : Option (List ℕ)) (status : ℕ) → told_then ≡ told → IfSome told (λ files. text ≡ contents_of files first_name) → IfSome told_then (λ files. file ≡ contents_of files second_name) → first_name ≡ run.slices → second_name ≡ modules → slice_get run.files 0 ≡ Some modules → slices_of text ≡ Ok slices → before_then ≡ before → (All IsTold terms → Boots file run.blocks slices terms before_then now status) → IfSome told (λ files. All IsTold terms → Performs files run terms before now status)

@@ -1,5 +1,10 @@
 -- How a command ended.
-use Rattle.std.specs.Prelude.{ℕ}
+use Rattle.std.specs.Prelude.{ℕ, List, [], slice_index_or}
+use Rattle.os9_words.specs.declared.command.Command.{Command}
+use Rattle.os9_words.specs.declared.command.Command.TheVariants.{Run, Check}
+use Rattle.os9_words.specs.Lines.{cannot_read_line, cannot_write_output_line, no_memory_line, image_fault_line, boot_module_line, boot_too_large_line, no_first_line}
+use Rattle.os9_boot.specs.declared.status.Input.{Input}
+use Rattle.os9_boot.specs.declared.status.Input.TheVariants.{Slices, Modules, Image}
 use Rattle.os9_boot.specs.declared.status.End.{End}
 use Rattle.os9_boot.specs.declared.status.End.TheVariants.{Ended, Living, CannotRead, CannotWrite, NoMemory, BadImage, BadText, BadModule, NoFirst, TooLarge}
 
@@ -15,3 +20,23 @@ number_of BadText = 7
 number_of (BadModule _ _) = 8
 number_of NoFirst = 8
 number_of TooLarge = 8
+
+-- the name of a file that the words give
+abbrev pub file_name : Command → Input → List ℕ
+file_name (Check image) _ = image
+file_name (Run run) Slices = run.slices
+file_name (Run run) Modules = slice_index_or run.files 0 []
+file_name (Run run) Image = slice_index_or run.files 0 []
+
+-- the line that tells why a command ended; none where no line does
+abbrev pub line_of : Command → End → List ℕ
+line_of command (CannotRead input) = cannot_read_line (file_name command input)
+line_of command CannotWrite = cannot_write_output_line
+line_of command NoMemory = no_memory_line
+line_of command (BadImage fault) = image_fault_line (file_name command Image) fault.rule fault.lsn
+line_of command (BadModule at error) = boot_module_line error at
+line_of command NoFirst = no_first_line
+line_of command TooLarge = boot_too_large_line
+line_of command Ended = []
+line_of command Living = []
+line_of command BadText = []

@@ -1,9 +1,10 @@
-ghost use Rattle.std.specs.Prelude.{◌≡◌};
+ghost use Rattle.std.specs.Prelude.{◌≡◌, OnOk};
+ghost use Rattle.os9_outer.specs.Stream.{appended, GainsPrefix};
 ghost use Rattle.os9_words.specs.Command.{HasOneFile};
 ghost use Rattle.os9_words.specs.Lines.{ChangesErrOnly};
-ghost use Rattle.os9_boot.specs.End.{number_of};
+ghost use Rattle.os9_boot.specs.End.{number_of, file_name, line_of};
 
-use os9_outer::host::Host;
+use os9_outer::host::{Host, HostFault};
 use os9_words::command::Command;
 use os9_words::lines::{
     tell_boot_module, tell_boot_too_large, tell_cannot_read, tell_cannot_write_output,
@@ -66,11 +67,15 @@ impl End {
 }
 
 /// Tells on the error stream why the command ended, where a line says so.
-pub fn tell<H: Host>(host: &mut H, end: End, command: &Command)
+pub fn tell<H: Host>(host: &mut H, end: End, command: &Command) -> Result<(), HostFault>
     requires { HasOneFile command.now }
-    ensures { ChangesErrOnly ⟦<H as Host>⟧ host.old host.new }
+    ensures told { OnOk result (H.bytes_err host.new
+        ≡ appended (H.bytes_err host.old) (line_of command.now end)) }
+    ensures prefix { GainsPrefix (H.bytes_err host.old) (line_of command.now end)
+        (H.bytes_err host.new) }
+    ensures others { ChangesErrOnly ⟦<H as Host>⟧ host.old host.new }
 {
-    let _ = match end {
+    match end {
         End::CannotRead(input) => tell_cannot_read(host, name_of(command, input)),
         End::CannotWrite => tell_cannot_write_output(host),
         End::NoMemory => tell_no_memory(host),
@@ -81,12 +86,13 @@ pub fn tell<H: Host>(host: &mut H, end: End, command: &Command)
         End::NoFirst => tell_no_first(host),
         End::TooLarge => tell_boot_too_large(host),
         End::Ended | End::Living | End::BadText => Ok(()),
-    };
+    }
 }
 
 /// The name of a file that the words give.
 fn name_of(command: &Command, input: Input) -> &str
     requires { HasOneFile command.now }
+    ensures { result.now ≡ file_name command.now input }
 {
     match (command, input) {
         (Command::Check(image), _) => image.text(),

@@ -89,7 +89,7 @@ fn do_command<H: Host>(alloc: Global, command: &Command, host: &mut H, devices: 
         Command::Run(run) => run_modules(alloc, run, host, devices),
         Command::Check(image) => check_image(alloc, image, host),
     };
-    tell(host, end, command);
+    let _ = tell(host, end, command);
     end.number()
 }
 
@@ -169,14 +169,18 @@ fn boot<H: Host>(
         Err(BootFault::TooLarge) => return End::TooLarge,
     };
     match run_slices(&mut kernel, slices, host, devices) {
-        Ok(()) => {
-            if kernel.living() == 0 {
-                End::Ended
-            } else {
-                End::Living
-            }
-        }
+        Ok(()) => end_of(kernel.living()),
         Err(Stop::Output) => End::CannotWrite,
         Err(Stop::NoMemory) => End::NoMemory,
     }
+}
+
+/// How a run ended after which so many processes live.
+fn end_of(living: u8) -> End
+    ensures idle { living ≡ 0 → result ≡ End.Ended }
+    ensures lives { living ≢ 0 → result ≡ End.Living }
+    ensures answered { IsAnswered (number_of result) }
+    ensures not_silent { ¬ IsSilent (number_of result) }
+{
+    if living == 0 { End::Ended } else { End::Living }
 }
