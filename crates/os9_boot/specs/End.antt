@@ -29,14 +29,14 @@ file_name (Run run) Modules = slice_index_or run.files 0 []
 file_name (Run run) Image = slice_index_or run.files 0 []
 
 -- the line that tells why a command ended; none where no line does
-abbrev pub line_of : Command → End → List ℕ
-line_of command (CannotRead input) = cannot_read_line (file_name command input)
-line_of command CannotWrite = cannot_write_output_line
-line_of command NoMemory = no_memory_line
-line_of command (BadImage fault) = image_fault_line (file_name command Image) fault.rule fault.lsn
-line_of command (BadModule at error) = boot_module_line error at
-line_of command NoFirst = no_first_line
-line_of command TooLarge = boot_too_large_line
-line_of command Ended = []
-line_of command Living = []
-line_of command BadText = []
+abbrev pub end_line : Command → End → List ℕ
+end_line command (CannotRead input) = cannot_read_line (file_name command input)
+end_line command CannotWrite = cannot_write_output_line
+end_line command NoMemory = no_memory_line
+end_line command (BadImage fault) = image_fault_line (file_name command Image) fault.rule fault.lsn
+end_line command (BadModule at error) = boot_module_line error at
+end_line command NoFirst = no_first_line
+end_line command TooLarge = boot_too_large_line
+end_line command Ended = []
+end_line command Living = []
+end_line command BadText = []

@@ -1,8 +1,10 @@
 ghost use Rattle.std.specs.Prelude.{◌≡◌, OnOk};
+ghost use Rattle.os9_base.specs.Count.{Rose};
+ghost use Rattle.os9_outer.specs.Host.{OnFailed};
 ghost use Rattle.os9_outer.specs.Stream.{appended, GainsPrefix};
 ghost use Rattle.os9_words.specs.Command.{HasOneFile};
 ghost use Rattle.os9_words.specs.Lines.{ChangesErrOnly};
-ghost use Rattle.os9_boot.specs.End.{number_of, file_name, line_of};
+ghost use Rattle.os9_boot.specs.End.{number_of, file_name, end_line};
 
 use os9_outer::host::{Host, HostFault};
 use os9_words::command::Command;
@@ -67,12 +69,18 @@ impl End {
 }
 
 /// Tells on the error stream why the command ended, where a line says so.
+///
+/// # Errors
+///
+/// The line is not whole on the error stream: of its bytes the first ones are there, or none.
 pub fn tell<H: Host>(host: &mut H, end: End, command: &Command) -> Result<(), HostFault>
     requires { HasOneFile command.now }
     ensures told { OnOk result (H.bytes_err host.new
-        ≡ appended (H.bytes_err host.old) (line_of command.now end)) }
-    ensures prefix { GainsPrefix (H.bytes_err host.old) (line_of command.now end)
+        ≡ appended (H.bytes_err host.old) (end_line command.now end)) }
+    ensures prefix { GainsPrefix (H.bytes_err host.old) (end_line command.now end)
         (H.bytes_err host.new) }
+    ensures fault_counted { OnFailed result
+        (Rose (H.err_stream_faults host.old) (H.err_stream_faults host.new)) }
     ensures others { ChangesErrOnly ⟦<H as Host>⟧ host.old host.new }
 {
     match end {
