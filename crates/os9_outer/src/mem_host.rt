@@ -1,5 +1,6 @@
 ghost use Rattle.std.specs.Prelude.{◌≡◌, ◌≢◌, ℕ, ◌+◌, ◌-◌, ◌^◌, ◌≤◌, min, Bool, false, Option, Some, None, option_map, OnOk, OnErr, IfOk, IsOkUnless, List, [], position, string_bytes};
 ghost use Rattle.os9_outer.specs.HostFile.{file_named};
+ghost use Rattle.os9_outer.specs.Plans.{is_planned};
 
 use crate::failure::Failure;
 use crate::host::{Host, HostFault};
@@ -52,7 +53,8 @@ impl MemHost {
 
     // Counts a call, and says whether it is to fail.
     fn fails_next(&mut self) -> bool
-        ensures { self.new ≡ record self.old { calls = min (self.old.calls + 1) (2 ^ 64 - 1) } }
+        ensures planned { result ≡ is_planned self.old.plan.items self.new.calls }
+        ensures call_counted { self.new ≡ record self.old { calls = min (self.old.calls + 1) (2 ^ 64 - 1) } }
     {
         self.calls = self.calls.saturating_add(1);
         self.plan.contains(&self.calls)

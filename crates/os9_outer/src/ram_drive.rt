@@ -1,4 +1,6 @@
-ghost use Rattle.std.specs.Prelude.{◌≡◌, ℕ, ◌+◌, ◌-◌, ◌^◌, ◌≤◌, min, Some, None, IfErr, OnOk, OnErr};
+ghost use Rattle.std.specs.Prelude.{◌≡◌, ℕ, ◌+◌, ◌-◌, ◌^◌, ◌≤◌, ◌==◌, min, Some, None, find, IfErr, OnOk, OnErr};
+ghost use Rattle.std.specs.Result.{result_err};
+ghost use Rattle.os9_outer.specs.Plans.{listed_fault, lasting_fault, fault_in, planned_fault};
 
 use crate::drive::{BlockDriver, DriveFault};
 use crate::slot::Slot;
@@ -22,16 +24,30 @@ enum Plan {
 
 impl Plan {
     // The fault of the call of this number.
-    fn fault_at(&self, call: u64) -> Option<DriveFault> {
+    fn fault_at(&self, call: u64) -> Option<DriveFault>
+        ensures { result ≡ fault_in self.now call }
+    {
         match self {
-            Plan::Calls(faults) => {
-                let planned = faults.iter().find(|planned| planned.call == call)?;
-                Some(planned.fault)
-            }
+            Plan::Calls(faults) => fault_of(faults, call),
             Plan::Stop(first) if first.call <= call => Some(first.fault),
             Plan::Stop(_) => None,
         }
     }
+}
+
+// The first plan for the call of this number.
+fn planned_call(faults: &[PlannedFault], call: u64) -> Option<PlannedFault>
+    ensures { result ≡ find (λ planned. planned.call == call) faults.now }
+{
+    faults.iter().copied().find(|planned| planned.call == call)
+}
+
+// The fault that is planned for the call of this number.
+fn fault_of(faults: &[PlannedFault], call: u64) -> Option<DriveFault>
+    ensures { result ≡ listed_fault faults.now call }
+{
+    let planned = planned_call(faults, call)?;
+    Some(planned.fault)
 }
 
 /// A drive over memory for tests, whose calls fail as it was planned.
@@ -50,6 +66,7 @@ impl RamDrive {
         ensures no_media { ⟦<RamDrive as BlockDriver>⟧.media result ≡ None }
         ensures no_calls { ⟦<RamDrive as BlockDriver>⟧.drive_calls result ≡ 0 }
         ensures no_faults { ⟦<RamDrive as BlockDriver>⟧.drive_faults result ≡ 0 }
+        ensures planned { planned_fault result ≡ listed_fault plan.items }
     {
         RamDrive::with_plan(Plan::Calls(plan))
     }
@@ -60,6 +77,7 @@ impl RamDrive {
         ensures no_media { ⟦<RamDrive as BlockDriver>⟧.media result ≡ None }
         ensures no_calls { ⟦<RamDrive as BlockDriver>⟧.drive_calls result ≡ 0 }
         ensures no_faults { ⟦<RamDrive as BlockDriver>⟧.drive_faults result ≡ 0 }
+        ensures planned { planned_fault result ≡ lasting_fault call fault }
     {
         RamDrive::with_plan(Plan::Stop(PlannedFault { call, fault }))
     }
@@ -68,6 +86,7 @@ impl RamDrive {
         ensures no_media { result.slot ≡ None }
         ensures no_calls { result.calls ≡ 0 }
         ensures no_faults { result.faults ≡ 0 }
+        ensures plan { result.plan ≡ plan }
     {
         RamDrive {
             slot: Slot::empty(),
@@ -87,6 +106,8 @@ impl RamDrive {
 
     // Counts a call, and its fault where it is to fail.
     fn begin_call(&mut self) -> Result<(), DriveFault>
+        ensures planned { result_err result ≡ planned_fault self.old self.new.calls }
+        ensures plan_kept { self.new.plan ≡ self.old.plan }
         ensures slot_kept { self.new.slot ≡ self.old.slot }
         ensures call_counted { self.new.calls ≡ min (self.old.calls + 1) (2 ^ 64 - 1) }
         ensures fault_counted { OnErr result (self.new.faults ≡ min (self.old.faults + 1) (2 ^ 64 - 1)) }

@@ -1,5 +1,6 @@
 ghost use Rattle.std.specs.Prelude.{◌≡◌, ℕ, ◌+◌, ◌-◌, ◌^◌, ◌≤◌, min, Some, []};
 ghost use Rattle.std.specs.Bool.{OnTrue, OnFalse};
+ghost use Rattle.os9_outer.specs.Plans.{is_planned, planned_calls};
 
 use crate::pending::Pending;
 use crate::terminal::{CharDriver, Key, PutFault, TermFault};
@@ -23,6 +24,7 @@ impl ScriptTty {
         ensures no_keys { ⟦<ScriptTty as CharDriver>⟧.keys_left result ≡ [] }
         ensures no_bytes { ⟦<ScriptTty as CharDriver>⟧.bytes_put result ≡ Some [] }
         ensures no_faults { ⟦<ScriptTty as CharDriver>⟧.term_faults result ≡ 0 }
+        ensures planned { planned_calls result ≡ plan.items }
     {
         ScriptTty {
             pending: Pending::new(alloc),
@@ -35,6 +37,9 @@ impl ScriptTty {
 
     // Counts a call, and its fault where it is to fail; says whether it is.
     fn fails_next(&mut self) -> bool
+        ensures planned { result ≡ is_planned (planned_calls self.old) self.new.calls }
+        ensures plan_kept { planned_calls self.new ≡ planned_calls self.old }
+        ensures call_counted { self.new.calls ≡ min (self.old.calls + 1) (2 ^ 64 - 1) }
         ensures keys_kept { self.new.pending ≡ self.old.pending }
         ensures bytes_kept { self.new.bytes.items ≡ self.old.bytes.items }
         ensures fault_counted { OnTrue result (self.new.faults ≡ min (self.old.faults + 1) (2 ^ 64 - 1)) }
