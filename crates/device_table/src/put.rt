@@ -1,4 +1,4 @@
-ghost use Rattle.std.specs.Prelude.{◌≡◌, ℕ, ◌≤◌, Option, OnOk, OnErr, List, [], ◌∷◌, ◌<◌, vec_len};
+ghost use Rattle.std.specs.Prelude.{◌≡◌, ℕ, ◌≤◌, Option, OnOk, OnErr, List, [], ◌∷◌, ◌<◌, length, vec_len};
 ghost use Rattle.os9_base.specs.Count.{Rose};
 ghost use Rattle.os9_outer.specs.Stream.{appended, GainsPrefix};
 ghost use Rattle.os9_outer.specs.Terminal.{OnFault, UnlessFault};
@@ -18,13 +18,15 @@ fn put_byte(term: &mut dyn CharDriver, byte: u8) -> Result<(), PutFault>
     term.put(byte)
 }
 
-/// Puts the bytes on a terminal, one after another, until one is refused.
+/// Puts the bytes on a terminal, one after another, until one is refused. Without a byte there is no
+/// refusal.
 pub fn put_bytes(term: &mut dyn CharDriver, bytes: &[u8]) -> Result<(), PutFault>
     ensures put_all { OnOk result (bytes_put term.new ≡ appended (bytes_put term.old) bytes.now) }
     ensures put_prefix { GainsPrefix (bytes_put term.old) bytes.now (bytes_put term.new) }
     ensures fault_counted { OnFault result (Rose (term_faults term.old) (term_faults term.new)) }
     ensures faults_kept { UnlessFault result (term_faults term.new ≡ term_faults term.old) }
     ensures keys_kept { keys_left term.new ≡ keys_left term.old }
+    ensures some { OnErr result (0 < length bytes.now) }
 {
     for byte in bytes {
         match put_byte(term, *byte) {
@@ -42,17 +44,20 @@ fn put_in_box(term: &mut Box<dyn CharDriver>, bytes: &[u8]) -> Result<(), PutFau
     ensures fault_counted { OnFault result (Rose (term_faults term.old) (term_faults term.new)) }
     ensures faults_kept { UnlessFault result (term_faults term.new ≡ term_faults term.old) }
     ensures keys_kept { keys_left term.new ≡ keys_left term.old }
+    ensures some { OnErr result (0 < length bytes.now) }
 {
     put_bytes(&mut **term, bytes)
 }
 
-/// Puts the bytes on the terminal of this number, one after another, until one is refused.
+/// Puts the bytes on the terminal of this number, one after another, until one is refused. Without a
+/// byte there is no refusal.
 pub fn put_on(devices: &mut Devices, n: u8, bytes: &[u8]) -> Result<(), PutFault>
     requires { n < vec_len devices.old.terms }
     ensures terminal { ChangesOne (Puts result bytes.now) n
         (screens ⟦<dyn CharDriver as CharDriver>⟧ devices.old.terms.items)
         (screens ⟦<dyn CharDriver as CharDriver>⟧ devices.new.terms.items) }
     ensures drives_kept { devices.new.drives ≡ devices.old.drives }
+    ensures some { OnErr result (0 < length bytes.now) }
 {
     put_in_box(&mut devices.terms[n as usize], bytes)
 }

@@ -1,5 +1,5 @@
 -- What an attempt of I$WritLn came to.
-use Rattle.std.specs.Prelude.{◌≡◌, ℕ, ◌⊎◌, Option, List, length, slice_get, slice_set, MatchBool, MatchOption}
+use Rattle.std.specs.Prelude.{◌≡◌, ℕ, ◌<◌, ◌⊎◌, true, Option, List, length, slice_get, slice_set, MatchBool, MatchOption}
 use Rattle.os9_base.specs.Count.{Rose}
 use Rattle.os9_outer.specs.Stream.{appended, GainsPrefix}
 use Rattle.device_table.specs.Screens.{Screen}
@@ -19,3 +19,7 @@ IsLineAnswer line path end before now =
     (λ line. MatchBool (is_standard_path path)
     (MatchOption (slice_get before 0) ⊥ (IsPut line end before now))
     ((end ≡ Refused 201) × (now ≡ before)))
+
+-- this line, if it can be read, has a byte, and this path is one that it can be put on
+abbrev pub HasByteToPut : Option (List ℕ) → ℕ → Type 0
+HasByteToPut line path = MatchOption line ⊥ (λ line. (0 < length line) × (is_standard_path path ≡ true))

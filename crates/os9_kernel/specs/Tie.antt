@@ -1,15 +1,18 @@
 -- How the running kernel is tied to the abstract machine.
 use Rattle.std.specs.Prelude.{◌≡◌, ◌≢◌, ℕ, true, false, Option, Some, None, option_map, List, map, slice_get, if◌then◌else◌}
+use Rattle.block_map.specs.Window.{cells_of}
 use Rattle.block_pool.specs.Blocks.{Blocks, IsLive, block_bytes}
 use Rattle.device_table.specs.Screens.{Screen}
 use Rattle.machine_model.specs.declared.activity.Activity.{Activity}
 use Rattle.machine_model.specs.declared.activity.Activity.TheVariants.{Running, Calling, Finished}
+use Rattle.machine_model.specs.Call.{line_at}
 use Rattle.machine_model.specs.State.{State, Process, lives}
 use Rattle.machine_model.specs.Start.{only_process}
 use Rattle.module_dir.specs.declared.dir.ModId.{ModId}
 use Rattle.proc_model.specs.declared.group.BlockId.{BlockId}
 use Rattle.proc_model.specs.ModuleList.{ModuleEntry}
 use Rattle.proc_model.specs.Slots.{Slots}
+use Rattle.os9_kernel.specs.Line.{HasByteToPut}
 use Rattle.os9_kernel.specs.declared.kernel.Kernel.{Kernel}
 
 -- Live blocks stand for objects by their numbers: each has the object's bytes, and different blocks stand for different objects.
@@ -85,3 +88,8 @@ pending kernel = pending_in kernel.activity
     pending_in Running = 0
     pending_in (Calling code) = 1
     pending_in (Finished status) = 0
+
+-- the process is in I$WritLn, and has a byte to put on TERM
+pub record PutsByte (kernel : Kernel) : Type 0 where
+  pub calling : kernel.activity ≡ Calling 0x8C
+  pub has : HasByteToPut (line_at (cells_of kernel.map kernel.pool) kernel.regs.x kernel.regs.y) kernel.regs.a

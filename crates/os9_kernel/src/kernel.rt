@@ -48,7 +48,7 @@ pub struct Kernel {
 }
 
 impl Kernel {
-    ghost use Rattle.os9_kernel.specs.Tie.{Stands, IsGoing, HasFinished, IsUnknownCall, ticks, pending, process_of};
+    ghost use Rattle.os9_kernel.specs.Tie.{Stands, IsGoing, HasFinished, IsUnknownCall, PutsByte, ticks, pending, process_of};
 
     /// How many processes live.
     pub fn living(&self) -> u8
@@ -92,6 +92,7 @@ impl Kernel {
         ensures attempted { result ≡ EventEnd.Ran → pending self.old + pending self.new ≤ 1 }
         ensures ended { result ≡ EventEnd.Ended → HasFinished self.new }
         ensures never_waits { result ≢ EventEnd.Waits }
+        ensures memory { result ≡ EventEnd.NoMemory → PutsByte self.old }
         ensures terminals { vec_len devices.new.terms ≡ vec_len devices.old.terms }
         ensures count { ticks self.new ≡ ticks self.old }
         ensures drives_kept { devices.new.drives ≡ devices.old.drives }
@@ -224,6 +225,7 @@ impl Kernel {
             → Stands self.old (screens ⟦<dyn CharDriver as CharDriver>⟧ devices.old.terms.items) s
             → (t : State) × Event s result t
             × Stands self.new (screens ⟦<dyn CharDriver as CharDriver>⟧ devices.new.terms.items) t }
+        ensures memory { result ≡ EventEnd.NoMemory → PutsByte self.old }
         ensures ran { result ≢ EventEnd.NoMemory → result ≡ EventEnd.Ran }
         ensures going { result ≡ EventEnd.Ran → IsGoing self.new }
         ensures running { result ≡ EventEnd.Ran → pending self.new ≡ 0 }

@@ -1,8 +1,9 @@
-ghost use Rattle.std.specs.Prelude.{◌≡◌, ◌≢◌, ◌<◌, ◌≤◌, None, Some, IfNone, IfSome, OnOk, length, take, vec_len};
+ghost use Rattle.std.specs.Prelude.{◌≡◌, ◌≢◌, ◌<◌, ◌≤◌, None, Some, IfNone, IfSome, OnOk, OnErr, length, take, vec_len};
 ghost use Rattle.os9_base.specs.declared.registers.Regs.{Regs};
 ghost use Rattle.device_table.specs.Screens.{screens, ChangesOne, Puts};
 ghost use Rattle.machine_model.specs.Call.{line_at, shown, ends_in_return as ends_in_return_lem};
-ghost use Rattle.os9_kernel.specs.Line.{IsLineAnswer};
+ghost use Rattle.std.specs.Bool.{OnTrue};
+ghost use Rattle.os9_kernel.specs.Line.{IsLineAnswer, HasByteToPut};
 
 use device_table::devices::Devices;
 use device_table::put::put_on;
@@ -55,6 +56,7 @@ fn put_line(devices: &mut Devices, line: &[u8]) -> Result<(), PutFault>
         (screens ⟦<dyn CharDriver as CharDriver>⟧ devices.new.terms.items) }
     ensures terminals { vec_len devices.new.terms ≡ vec_len devices.old.terms }
     ensures drives_kept { devices.new.drives ≡ devices.old.drives }
+    ensures some { OnErr result (0 < length line.now) }
 {
     match put_on(devices, 0, line) {
         Ok(()) => {}
@@ -68,7 +70,8 @@ fn put_line(devices: &mut Devices, line: &[u8]) -> Result<(), PutFault>
 
 /// Does the line end in a carriage return?
 fn ends_in_return(line: &[u8]) -> bool
-    ensures { result ≡ ends_in_return_lem line.now }
+    ensures ends { result ≡ ends_in_return_lem line.now }
+    ensures some { OnTrue result (0 < length line.now) }
 {
     match line.last() {
         Some(last) => *last == RETURN,
@@ -78,7 +81,8 @@ fn ends_in_return(line: &[u8]) -> bool
 
 /// I$WritLn by the registers of a process with this memory (System Programmer's Manual): the line
 /// at X of at most Y bytes is put on path A, which has to be one of the standard paths. The line
-/// passes through a buffer, which has room for the longest one.
+/// passes through a buffer, which has room for the longest one. `NoMemory` comes only where there is
+/// a byte to put.
 pub fn write_line<B: Bus>(
     memory: &B,
     regs: &Regs,
@@ -92,6 +96,8 @@ pub fn write_line<B: Bus>(
         regs.now.a result
         (screens ⟦<dyn CharDriver as CharDriver>⟧ devices.old.terms.items)
         (screens ⟦<dyn CharDriver as CharDriver>⟧ devices.new.terms.items) }
+    ensures memory { result ≡ LineEnd.NoMemory → HasByteToPut
+        (line_at (B.cells memory.now) regs.now.x regs.now.y) regs.now.a }
     ensures terminals { vec_len devices.new.terms ≡ vec_len devices.old.terms }
     ensures drives_kept { devices.new.drives ≡ devices.old.drives }
 {

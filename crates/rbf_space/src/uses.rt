@@ -19,23 +19,23 @@ pub struct Uses {
     /// For each sector the place of the owner that used it last.
     pub users: Vec<Option<usize>>,
     /// For each cluster the descriptor of the owner that has it.
-    pub owners: Vec<Option<usize>>,
+    pub owners: Vec<Option<u32>>,
     /// The least sector that breaks the rule, or the total of the volume.
     pub least: u32,
 }
 
 // Gives a cluster to an owner, if it has none. Has it another one?
-fn give(owners: &mut Vec<Option<usize>>, n: u32, c: u32) -> bool
+fn give(owners: &mut Vec<Option<u32>>, n: u32, c: u32) -> bool
     requires { c < length owners.old.items }
     ensures given { IsGiven owners.old.items owners.new.items n c }
     ensures another { MatchBool result ((m : ℕ) × (slice_index_or owners.old.items c None ≡ Some m) × (m ≢ n)) ((m : ℕ) → slice_index_or owners.old.items c None ≡ Some m → m ≡ n) }
 {
     match owners[c as usize] {
         None => {
-            owners[c as usize] = Some(n as usize);
+            owners[c as usize] = Some(n);
             false
         }
-        Some(m) => m != n as usize,
+        Some(m) => m != n,
     }
 }
 
