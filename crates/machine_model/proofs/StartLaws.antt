@@ -1,12 +1,15 @@
--- A boot file comes to one end.
-use Rattle.std.proofs.Common.{◌≡◌, ◌<◌, ◌≤◌, ◌+◌, ℕ, Option, None, Result, Ok, Err, List, length, refl, sym, ap, ◌∙◌, inl, inr, arith}
-use Rattle.proc_model.specs.ModuleList.{ModuleEntry, entry_at}
-use Rattle.proc_model.proofs.LoadingLemmas.{Enters-one}
+-- A boot file comes to an end, and to one only.
+use Rattle.std.proofs.Common.{◌≡◌, ◌<◌, ◌≤◌, ◌+◌, ◌⊎◌, ℕ, true, Option, Some, None, Result, Ok, Err, List, length, codes, refl, sym, ap, ◌∙◌, inl, inr, arith}
+use Rattle.std.proofs.lemmas.Bool.{cases_lt}
+use Rattle.proc_model.specs.ModuleList.{ModuleEntry, entry_at, answers_to}
+use Rattle.proc_model.specs.Loading.{no_entries}
+use Rattle.proc_model.proofs.LoadingLemmas.{Enters-one, Enters-some}
+use Rattle.proc_model.proofs.ModuleListLaws.{found_entry}
 use Rattle.device_table.specs.Screens.{Screen}
 use Rattle.machine_model.specs.declared.ends.BootFault.{BootFault}
 use Rattle.machine_model.specs.declared.ends.BootFault.TheVariants.{OutOfMemory, BadModule, NoFirst, TooLarge}
 use Rattle.machine_model.specs.State.{State}
-use Rattle.machine_model.specs.Start.{EntersBoot, HasFirst, Starts, Refuses, first_program, data_blocks, file_blocks, room_for, longest_file}
+use Rattle.machine_model.specs.Start.{EntersBoot, HasFirst, Starts, Refuses, boot_group, first_program, data_blocks, file_blocks, room_for, longest_file, start_of}
 
 -- a file enters one list of entries
 entries-one : (file : List ℕ) (entries others : List (Option ModuleEntry)) → EntersBoot file (Ok entries) → EntersBoot file (Ok others) → entries ≡ others
@@ -80,3 +83,36 @@ Refuses-one file blocks (BadModule at error) TooLarge (short, two) (inl long) = 
 Refuses-one file blocks (BadModule at error) TooLarge (short, refusal) (inr (entries, number, program, has, wants)) = absurd (never-refused file entries at error has.entered refusal)
 Refuses-one file blocks NoFirst (BadModule at error) (short, (entries, ending, without)) (again, refusal) = absurd (never-refused file entries at error ending refusal)
 Refuses-one file blocks (BadModule at error) NoFirst (short, refusal) (again, (entries, ending, without)) = absurd (never-refused file entries at error ending refusal)
+
+-- what is found has an entry
+first_entry : (entries : List (Option ModuleEntry)) (number : ℕ) → first_program entries ≡ Some number → (program : ModuleEntry) × (entry_at entries number ≡ Some program)
+first_entry entries number found_it = found_entry (answers_to entries (codes "SysGo") 0x11) entries number found_it
+
+-- a machine starts a file, or refuses it
+abbrev Ends : List ℕ → ℕ → List Screen → Type 0
+Ends file blocks terms = ((s : State) × Starts file blocks terms s) ⊎ ((fault : BootFault) × Refuses file blocks fault)
+
+-- a file with a first program starts where there is room for both
+by_room : (file : List ℕ) (blocks : ℕ) (terms : List Screen) (entries : List (Option ModuleEntry)) (number : ℕ) (program : ModuleEntry) → HasFirst file entries number program → Ends file blocks terms
+by_room file blocks terms entries number program has =
+    elim (cases_lt (room_for blocks) (data_blocks program + file_blocks file)) [
+      | inl wants ↦ inr (TooLarge, inr (entries, number, program, has, wants))
+      | inr fits ↦ inl (start_of file entries number program terms, record { entries = entries; number = number; program = program; has = has; fits = fits; is = refl })
+    ]
+
+by_first : (file : List ℕ) (blocks : ℕ) (terms : List Screen) (entries : List (Option ModuleEntry)) (first : Option ℕ) → length file ≤ longest_file → EntersBoot file (Ok entries) → first_program entries ≡ first → Ends file blocks terms
+by_first file blocks terms entries None short entering without = inr (NoFirst, (short, (entries, entering, without)))
+by_first file blocks terms entries (Some number) short entering found_it =
+    let first = first_entry entries number found_it in
+    by_room file blocks terms entries number first.0 (record { short = short; entered = entering; found_it = found_it; is = first.1 })
+
+by_outcome : (file : List ℕ) (blocks : ℕ) (terms : List Screen) (outcome : Result (List (Option ModuleEntry)) (ℕ × ℕ)) → length file ≤ longest_file → EntersBoot file outcome → Ends file blocks terms
+by_outcome file blocks terms (Err (at, error)) short entering = inr (BadModule at error, (short, entering))
+by_outcome file blocks terms (Ok entries) short entering = by_first file blocks terms entries (first_program entries) short entering refl
+
+pub some-end : (file : List ℕ) (blocks : ℕ) (terms : List Screen) → ((s : State) × Starts file blocks terms s) ⊎ ((fault : BootFault) × Refuses file blocks fault)
+some-end file blocks terms =
+    elim (cases_lt longest_file (length file)) [
+      | inl long ↦ inr (TooLarge, inl long)
+      | inr short ↦ (let entering = Enters-some file (boot_group file) true 0 no_entries in by_outcome file blocks terms entering.0 short entering.1)
+    ]

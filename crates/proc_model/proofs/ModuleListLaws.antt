@@ -1,9 +1,11 @@
--- The room of the module directory and the number that a new entry gets.
-use Rattle.std.proofs.Common.{◌≡◌, ℕ, zero, suc, ◌+◌, ◌<◌, ◌≤◌, nat_lt, cond, not, Bool, true, false, Option, Some, None, is_none, MatchOption, List, [], ◌∷◌, length, refl, sym, ap, ◌∙◌, arith}
+-- The room of the module directory, the number that a new entry gets, and the entry of a number that is found.
+use Rattle.std.proofs.Common.{◌≡◌, ℕ, zero, suc, ◌+◌, ◌<◌, ◌≤◌, nat_lt, cond, not, Bool, true, false, Option, Some, None, is_none, option_and_then, MatchOption, List, [], ◌∷◌, length, get_or, position, refl, sym, ap, ◌∙◌, arith}
 use Rattle.std.specs.List.{prefix_len}
 use Rattle.std.proofs.lemmas.List.Recursion.{is_count_by}
-use Rattle.std.proofs.lemmas.Bool.{ltb-true, ltb-false}
-use Rattle.proc_model.specs.ModuleList.{ModuleEntry, room_of, free_number, entry_at, with_entry}
+use Rattle.std.proofs.lemmas.List.Quantifiers.{position-Some}
+use Rattle.std.proofs.lemmas.Option.{slice_get-get_or}
+use Rattle.std.proofs.lemmas.Bool.{ltb-true, ltb-false, false≢true}
+use Rattle.proc_model.specs.ModuleList.{ModuleEntry, passes, room_of, free_number, entry_at, with_entry}
 
 -- the places that no entry has, counted
 nones : List (Option ModuleEntry) → ℕ
@@ -87,3 +89,13 @@ entry_at-with_entry_other (place ∷ entries) zero zero entry apart = absurd (ap
 entry_at-with_entry_other (place ∷ entries) zero (suc other) entry apart = refl
 entry_at-with_entry_other (place ∷ entries) (suc number) zero entry apart = refl
 entry_at-with_entry_other (place ∷ entries) (suc number) (suc other) entry apart = entry_at-with_entry_other entries number other entry (λ e. apart (ap suc e))
+
+-- a number that is found is that of an entry
+pub found_entry : (test : ModuleEntry → Bool) (entries : List (Option ModuleEntry)) (number : ℕ) → position (passes test) entries ≡ Some number → (entry : ModuleEntry) × (entry_at entries number ≡ Some entry)
+found_entry test entries number is =
+    let here = position-Some (passes test) entries number None is in by_place here.0 here.1 (get_or entries number None) refl
+  where
+    by_place : number < length entries → passes test (get_or entries number None) ≡ true → (place : Option ModuleEntry) → get_or entries number None ≡ place → (entry : ModuleEntry) × (entry_at entries number ≡ Some entry)
+    by_place within passed None same = absurd (false≢true (ap (passes test) (sym same) ∙ passed))
+    by_place within passed (Some entry) same =
+        (entry, ap (option_and_then (λ place. place)) (slice_get-get_or entries number None within ∙ ap (λ (place : Option ModuleEntry). Some place) same))
