@@ -85,7 +85,7 @@ Refuses-one file blocks NoFirst (BadModule at error) (short, (entries, ending, w
 Refuses-one file blocks (BadModule at error) NoFirst (short, refusal) (again, (entries, ending, without)) = absurd (never-refused file entries at error ending refusal)
 
 -- what is found has an entry
-first_entry : (entries : List (Option ModuleEntry)) (number : ℕ) → first_program entries ≡ Some number → (program : ModuleEntry) × (entry_at entries number ≡ Some program)
+pub first_entry : (entries : List (Option ModuleEntry)) (number : ℕ) → first_program entries ≡ Some number → (program : ModuleEntry) × (entry_at entries number ≡ Some program)
 first_entry entries number found_it = found_entry (answers_to entries (codes "SysGo") 0x11) entries number found_it
 
 -- a machine starts a file, or refuses it

@@ -13,7 +13,7 @@ use Rattle.device_table.specs.Screens.{Screen}
 use Rattle.module_dir.specs.declared.dir.ModId.{ModId}
 use Rattle.proc_model.specs.Group.{blocks_of}
 use Rattle.proc_model.specs.Loading.{Enters, no_entries}
-use Rattle.proc_model.specs.ModuleList.{ModuleEntry, entry_at, entered_groups, answers_to, linked, with_entry}
+use Rattle.proc_model.specs.ModuleList.{ModuleEntry, entry_at, entered_groups, linked, with_entry}
 use Rattle.proc_model.proofs.ModuleListLaws.{entry_at-with_entry_same}
 use Rattle.proc_model.specs.Slots.{Slots, no_slots, naming, named_in, with_low, with_group}
 use Rattle.proc_model.specs.declared.group.BlockId.{BlockId}
@@ -30,7 +30,7 @@ use Rattle.os9_kernel.specs.Tie.{StandFor, Stands, renamed_map, renamed_entry, r
 use Rattle.os9_kernel.proofs.EndLemmas.{entry_at-renamed, entry_within}
 use Rattle.os9_kernel.proofs.GainLemmas.{Gains-old, Gains-new, Gains-live, Takes-Gains}
 use Rattle.os9_kernel.proofs.ListLemmas.{map_same, map-map}
-use Rattle.os9_kernel.proofs.LoadLemmas.{IsOfFile, AreOfFile, AreOfFile-none, Enters-of_file, entry_at-with_entry, found_entry}
+use Rattle.os9_kernel.proofs.LoadLemmas.{IsOfFile, AreOfFile, AreOfFile-none, Enters-of_file, entry_at-with_entry}
 use Rattle.os9_kernel.proofs.NamingLemmas.{between, first_places, named_in-first_places, entered_groups-one, count_of-shared_all-times, times-start}
 use Rattle.os9_kernel.proofs.RenameLemmas.{found-renamed, with_entry-renamed, Enters-renamed}
 use Rattle.os9_kernel.proofs.StandLemmas.{numbered, numbered-other, map-numbered, StandFor-none, StandFor-gains, StandFor-shared_all}
@@ -135,10 +135,6 @@ module _ {file : List ℕ} {blocks : ℕ} {before : Blocks} {group : Group} {loa
   enough_left room = omega (arith, placed.enough, placed.len, free_count-unnamed before blocks placed.unnamed)
 
 -- ---- its first program
-
--- what is found has an entry
-pub first_entry : (dir : List (Option ModuleEntry)) (number : ℕ) → first_program dir ≡ Some number → (entry : ModuleEntry) × (entry_at dir number ≡ Some entry)
-first_entry dir number found = found_entry (answers_to dir (codes "SysGo") 0x11) dir number found
 
 -- the modules are entered, and one of them is the first program
 pub record IsFound (file : List ℕ) (group : Group) (dir : List (Option ModuleEntry)) (number : ℕ) (entry : ModuleEntry) : Type 0 where

@@ -4,7 +4,7 @@ use Rattle.proc_model.specs.Group.{blocks_of}
 use Rattle.proc_model.specs.Loading.{Enters, at_end, broken, refused, entered}
 use Rattle.proc_model.specs.Module.{step_from}
 use Rattle.proc_model.specs.declared.module.ModuleStep.TheVariants.{Module}
-use Rattle.os9_kernel.proofs.LoadLemmas.{LiesIn-step}
+use Rattle.proc_model.proofs.LoadingLemmas.{LiesIn-step}
 use Rattle.os9_kernel.proofs.load.enter_modules.Goals as goal
 use Rattle.os9_kernel.proofs.load.enter_modules.Goals.{In-Some}
 
