@@ -1,7 +1,7 @@
 -- The descriptors that are found on a search from the root.
 use Rattle.std.specs.Prelude.{◌≡◌, ◌⊎◌, ℕ, ◌<◌, ◌≤◌, Bool, true, false, List, [], ◌∷◌, ◌++◌, length, get_or, count_by, if◌then◌else◌}
 use Rattle.rbf_model.specs.Geometry.{Geometry, IsNumber}
-use Rattle.rbf_model.specs.Segments.{has}
+use Rattle.rbf_model.specs.Segments.{has, AreDistinct}
 use Rattle.rbf_model.specs.Tree.{NamesIn}
 use Rattle.rbf_search.specs.Slots.{NamesAt}
 
@@ -9,6 +9,7 @@ use Rattle.rbf_search.specs.Slots.{NamesAt}
 pub record IsSearch (seen : List Bool) (found : List ℕ) : Type 0 where
   pub same : (n : ℕ) → n < length seen → get_or seen n false ≡ has found n
   pub numbers : (n : ℕ) → has found n ≡ true → n < length seen
+  pub once : AreDistinct found
   pub counted : length found ≡ count_by (λ mark. mark) seen
 
 -- the list with a number behind it, if it does not have it

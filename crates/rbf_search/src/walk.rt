@@ -1,6 +1,7 @@
 ghost use Rattle.std.specs.Prelude.{◌≡◌, ◌≢◌, ℕ, ◌+◌, ◌*◌, ◌<◌, ◌≤◌, true, length, MatchOption, OnOk, IfOk};
 ghost use Rattle.rbf_model.specs.Fields.{is_used, descriptor_field};
 ghost use Rattle.rbf_model.specs.Geometry.{IsNumber, sector as sector_of};
+ghost use Rattle.rbf_model.specs.Segments.{AreDistinct};
 ghost use Rattle.rbf_model.specs.Tree.{NamesIn};
 ghost use Rattle.rbf_model.specs.Faults.{IsFound};
 ghost use Rattle.rbf_search.specs.Found.{IsSearch, IsVisited, AreFound, added};
@@ -137,7 +138,8 @@ impl Search {
 pub fn find_descriptors(alloc: Global, image: &[u8], ident: &Ident) -> Result<Vec<u32>, AllocError>
     requires { IsIdent image.now ident.now }
     ensures found { IfOk result (λ found. IsFound (geometry_of ident.now) (sector_of image.now) found.items) }
-    ensures once { IfOk result (λ found. length found.items ≤ ident.now.total) }
+    ensures once { IfOk result (λ found. AreDistinct found.items) }
+    ensures few { IfOk result (λ found. length found.items ≤ ident.now.total) }
 {
     let mut search = Search {
         seen: vec![in alloc; false; ident.total as usize]?,
