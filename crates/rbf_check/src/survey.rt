@@ -20,8 +20,8 @@ pub struct Survey {
 ///
 /// # Errors
 ///
-/// The fault of the image: the least rule that it breaks, at the least sector. It comes exactly
-/// where the image stands for no volume.
+/// `Fault` with the least rule that the image breaks, at the least sector: exactly where the image
+/// stands for no volume, unless memory was wanting. `OutOfMemory` where memory was wanting.
 pub fn survey_image(alloc: Global, image: &[u8]) -> Result<Survey, CheckError>
     ensures survey { IfOk result (IsSurvey image.now) }
     ensures fault { IfErr result (IsErrorOf image.now) }

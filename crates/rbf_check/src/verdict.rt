@@ -14,8 +14,8 @@ use std::alloc::Global;
 ///
 /// # Errors
 ///
-/// The fault of the image: the least rule that it breaks, at the least sector. It comes exactly
-/// where the image stands for no volume.
+/// `Fault` with the least rule that the image breaks, at the least sector: exactly where the image
+/// stands for no volume, unless memory was wanting. `OutOfMemory` where memory was wanting.
 pub fn check(alloc: Global, image: &[u8]) -> Result<Tree, CheckError>
     ensures tree { IfOk result (IsTreeOf image.now) }
     ensures fault { IfErr result (IsErrorOf image.now) }

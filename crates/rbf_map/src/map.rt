@@ -122,7 +122,8 @@ impl RbfMap {
         }
     }
 
-    /// The bytes of the `n`-th sector of the map, with zeros behind its end.
+    /// The bytes of the `n`-th sector of the map, with zeros behind its end. `n` counts from 0,
+    /// LSN 1 on a disk.
     pub fn sector(&self, n: u16, into: &mut [u8; 256])
         ensures { IsSectorOf self.now.bytes n into.new }
     {

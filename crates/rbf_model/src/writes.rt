@@ -26,7 +26,8 @@ pub fn cleared_clusters_are_free()
         → Vol (put_sector image s bytes) (with_lost v (λ c. v.lost c && not (freed c))) }
 {}
 
-/// A write to a sector that nothing owns, or to one of a file's past its size, leaves the volume.
+/// A write to a sector of a free or lost cluster, to one that nothing owns, or to a file's sector
+/// of which no byte below the file's size changes, leaves the volume as it was.
 pub fn unseen_writes_leave_the_volume()
     ensures { (image : List ℕ) (v : DiskVolume) (s : ℕ) (bytes : List ℕ) →
         Vol image v → length bytes ≡ 256

@@ -43,6 +43,10 @@ fn add_links(
 }
 
 /// All links of the descriptors that are found.
+///
+/// # Errors
+///
+/// Memory is wanting.
 pub fn list_links(
     alloc: Global,
     image: &[u8],

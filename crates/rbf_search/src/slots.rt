@@ -18,6 +18,10 @@ pub fn slot_bytes(image: &[u8], e: u32) -> [u8; 32]
 
 /// Lists the slots of a directory's entries, in order, as runs: each by its first slot and how many
 /// it has.
+///
+/// # Errors
+///
+/// Memory is wanting.
 pub fn list_slots(dir: &Directory, runs: &mut Vec<(u32, u32)>) -> Result<(), AllocError>
     ensures slots { OnOk result (slots_of runs.new.items ≡ take dir.now.entries (segment_slots dir.now.segs)) }
     ensures some { OnOk result (All (λ run. 1 ≤ run.1) runs.new.items) }

@@ -14,6 +14,10 @@ impl Unread {
     ghost use Rattle.rbf_search.specs.Unread.{IsOrdered, IsRead};
 
     /// All of so many slots.
+    ///
+    /// # Errors
+    ///
+    /// Memory is wanting.
     pub fn new(alloc: Global, slots: u32) -> Result<Unread, AllocError>
         requires { slots < 4294967295 }
         ensures size { IfOk result (λ unread. length unread.next.items ≡ slots + 1) }

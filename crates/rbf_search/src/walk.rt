@@ -135,6 +135,10 @@ impl Search {
 /// The descriptors that are reached from the root of a volume, each once: the root, and what a
 /// directory that is reached and can be searched names by a used entry after its first two (this
 /// project's own rule of which files an image has).
+///
+/// # Errors
+///
+/// Memory is wanting.
 pub fn find_descriptors(alloc: Global, image: &[u8], ident: &Ident) -> Result<Vec<u32>, AllocError>
     requires { IsIdent image.now ident.now }
     ensures found { IfOk result (λ found. IsFound (geometry_of ident.now) (sector_of image.now) found.items) }

@@ -15,7 +15,7 @@ pub const MAX_RUNS: usize = 48;
 pub struct SegsFull;
 
 /// The sectors of a file in order, as at most [`MAX_RUNS`] runs: pairs of a first sector, below
-/// 16,777,216, and a count of sectors, at least 1.
+/// 16,777,216, and a count of sectors, at least 1. A run here is a segment of the file descriptor.
 ///
 /// Clauses see the list of the pairs.
 #[derive(Clone, Copy, Debug, PartialEq, Eq)]
@@ -92,14 +92,15 @@ impl Segs {
         Ok(())
     }
 
-    /// The sector at this place of all sectors of the list, counted from 0.
+    /// The sector at this place of all sectors of the list, counted from 0. None where the list has
+    /// no such place.
     pub fn lsn_of(&self, sector: u32) -> Option<u32>
         ensures { result ≡ slice_get (sectors_of self.now) sector }
     {
         sector_at(&self.places[..usize::from(self.len)], sector)
     }
 
-    /// The last sector of all.
+    /// The last sector of all. None where there is no sector.
     pub fn last(&self) -> Option<u32>
         ensures { result ≡ slice_get (sectors_of self.now) (length (sectors_of self.now) - 1) }
     {

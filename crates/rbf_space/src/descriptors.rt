@@ -64,7 +64,7 @@ fn breach_of(image: &[u8], ident: &Ident, rule: OwnRule, n: u32) -> Option<u32>
     }
 }
 
-/// The least descriptor of those found that breaks the rule.
+/// The least descriptor of those found that breaks the rule. None where the rule is kept.
 pub fn least_breach(image: &[u8], ident: &Ident, found: &[u32], rule: OwnRule) -> Option<u32>
     requires ident { IsIdent image.now ident.now }
     requires found { IsFound (geometry_of ident.now) (sector_of image.now) found.now }

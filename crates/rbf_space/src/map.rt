@@ -14,7 +14,7 @@ fn has_map(ident: &Ident) -> bool
     u64::from(ident.total) <= bits && u32::from(system_sectors(ident)) <= ident.total
 }
 
-/// The breach of rule 2, the map's, which is shown at LSN 1.
+/// The breach of rule 2, the map's, which is shown at LSN 1. None where the rule is kept.
 pub fn map_breach(image: &[u8], ident: &Ident) -> Option<u32>
     requires { IsIdent image.now ident.now }
     ensures { IsLeastBreach (geometry_of ident.now) (sector_of image.now) 2 result }

@@ -64,7 +64,12 @@ fn least_unmarked_of(
     Ok(least)
 }
 
-/// The least sector that breaks rule 3: it is in use, and the map does not mark its cluster.
+/// The least sector that breaks rule 3: it is in use, and the map does not mark its cluster. None
+/// where the rule is kept. The image has to keep rules 1 and 2.
+///
+/// # Errors
+///
+/// Memory is wanting.
 pub fn least_unmarked(
     alloc: Global,
     image: &[u8],

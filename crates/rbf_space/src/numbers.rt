@@ -88,7 +88,11 @@ fn badly_numbered(
 }
 
 /// The least descriptor that breaks rule 1: a segment of it is not within the volume, or a used
-/// entry of it names no descriptor of the volume.
+/// entry of it names no descriptor of the volume. None where the rule is kept.
+///
+/// # Errors
+///
+/// Memory is wanting.
 pub fn least_bad_number(
     alloc: Global,
     image: &[u8],

@@ -22,6 +22,10 @@ fn push_segments(runs: &mut Vec<(u32, u16)>, segs: &Segs) -> Result<(), AllocErr
 
 /// Lists the runs of sectors of an owner, each by its first sector and how many it has: for the
 /// root's file the identification sector and the map, then the descriptor, then the segments.
+///
+/// # Errors
+///
+/// Memory is wanting.
 pub fn list_runs(
     image: &[u8],
     ident: &Ident,

@@ -10,7 +10,11 @@ use rbf_sector::Ident;
 use std::alloc::{AllocError, Global};
 
 /// The least sector that breaks rule 4: one owner uses it twice, or it is the first of a cluster
-/// that has two owners.
+/// that has two owners. None where the rule is kept. The image has to keep rules 1 and 2.
+///
+/// # Errors
+///
+/// Memory is wanting.
 pub fn least_used_again(
     alloc: Global,
     image: &[u8],

@@ -63,6 +63,10 @@ impl Uses {
     ghost use Rattle.rbf_space.specs.Noted.{HasUser, HasOwner, IsNoted};
 
     /// No owner has been gone over, of a volume of so many sectors.
+    ///
+    /// # Errors
+    ///
+    /// Memory is wanting.
     pub fn new(alloc: Global, total: u32) -> Result<Uses, AllocError>
         ensures users { IfOk result (λ uses. length uses.users.items ≡ total) }
         ensures owners { IfOk result (λ uses. length uses.owners.items ≡ total) }

@@ -106,7 +106,12 @@ fn without_dots(image: &[u8], ident: &Ident, dotted: &[bool], n: u32) -> Option<
     Some(n)
 }
 
-/// The least directory that breaks rule 7: it does not begin with itself and its parent.
+/// The least directory that breaks rule 7: it does not begin with itself and its parent. None where
+/// the rule is kept.
+///
+/// # Errors
+///
+/// Memory is wanting.
 pub fn least_without_dots(
     alloc: Global,
     image: &[u8],

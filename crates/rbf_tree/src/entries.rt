@@ -87,7 +87,11 @@ fn badly_named(
 }
 
 /// The least directory that breaks rule 8: an entry after the first two has no proper name, or
-/// two have the same, with the case of letters ignored.
+/// two have the same, with the case of letters ignored. None where the rule is kept.
+///
+/// # Errors
+///
+/// Memory is wanting.
 pub fn least_badly_named(
     alloc: Global,
     image: &[u8],

@@ -58,6 +58,11 @@ fn named_again(
 }
 
 /// The least descriptor that breaks rule 9: two entries name it, or it is the root's and one does.
+/// None where the rule is kept.
+///
+/// # Errors
+///
+/// Memory is wanting.
 pub fn least_named_again(
     alloc: Global,
     image: &[u8],
