@@ -1,5 +1,5 @@
 -- System calls: what each answers, and what it changes.
-use Rattle.std.specs.Prelude.{◌≡◌, ℕ, zero, suc, ◌+◌, ◌-◌, ◌%◌, ◌==◌, nat_lt, Bool, Option, Some, None, option_map, unwrap_or, ◌⊎◌, List, [], ◌∷◌, ◌++◌, length, slice_get, slice_set, if◌then◌else◌, MatchBool, MatchOption}
+use Rattle.std.specs.Prelude.{◌≡◌, ℕ, zero, suc, ◌+◌, ◌-◌, ◌%◌, ◌<◌, ◌==◌, nat_lt, Bool, Option, Some, None, option_map, unwrap_or, ◌⊎◌, List, [], ◌∷◌, ◌++◌, length, slice_get, slice_set, if◌then◌else◌, MatchBool, MatchOption}
 use Rattle.os9_base.specs.declared.registers.Regs.{Regs}
 use Rattle.os9_base.specs.Count.{Rose}
 use Rattle.os9_outer.specs.Stream.{appended, GainsPrefix}
@@ -76,10 +76,10 @@ is_standard_path path = nat_lt path 3
 abbrev pub with_term : State → Screen → State
 with_term s screen = record s { terms = slice_set s.terms 0 screen }
 
--- the line is put on TERM: then Y is its length; or TERM fails behind some byte of it: error 245
+-- the line is put on TERM: then Y is its length; or it has a byte, and TERM fails at one: error 245
 abbrev pub PutsLine : State → ℕ → Process → List ℕ → Screen → State → Type 0
 PutsLine s number process line old t =
-    (screen : Screen) × (screen.keys ≡ old.keys) × (((screen.put ≡ appended old.put (shown line)) × (screen.faults ≡ old.faults) × (t ≡ with_term (answered s number process (done (record process.regs { y = length line }))) screen)) ⊎ (GainsPrefix old.put (shown line) screen.put × Rose old.faults screen.faults × (t ≡ with_term (answered s number process (refused process.regs 245)) screen)))
+    (screen : Screen) × (screen.keys ≡ old.keys) × (((screen.put ≡ appended old.put (shown line)) × (screen.faults ≡ old.faults) × (t ≡ with_term (answered s number process (done (record process.regs { y = length line }))) screen)) ⊎ ((0 < length line) × GainsPrefix old.put (shown line) screen.put × Rose old.faults screen.faults × (t ≡ with_term (answered s number process (refused process.regs 245)) screen)))
 
 -- I$WritLn (System Programmer's Manual): path A, the line at X of at most Y bytes
 abbrev pub WritesLine : State → ℕ → Process → EventEnd → State → Type 0

@@ -62,7 +62,7 @@ impl Dir {
     }
 
     /// Enters a module, with one link where it is the boot file's and else without links. It gets
-    /// the least number that no entry has.
+    /// the least number that no entry has. There are 64 places.
     ///
     /// # Errors
     ///
@@ -76,6 +76,7 @@ impl Dir {
         ensures there { IfOk result (λ id. entry_at self.new id.0 ≡ Some (new_entry info (blocks_of group) boot)) }
         ensures room { OnOk result (room_of self.new + 1 ≡ room_of self.old) }
         ensures refused { OnErr result (self.new ≡ self.old) }
+        ensures places { length self.new ≡ 64 }
     {
         if self.knows(&info) {
             return Err(DirFault::Known);
@@ -97,7 +98,8 @@ impl Dir {
     /// The entry of this name whose type and language match `kind`, where a half of 0 matches any,
     /// among those that no greater revision shadows. Of several it is the one of least number.
     pub fn find(&self, name: &Name, kind: u8) -> Option<ModId>
-        ensures { option_map (λ id. id.0) result ≡ found self.now name.now kind }
+        ensures found { option_map (λ id. id.0) result ≡ found self.now name.now kind }
+        ensures places { length self.now ≡ 64 }
     {
         find_entry(&self.entries, name, kind).map(|number| ModId(number as u8))
     }
@@ -111,7 +113,8 @@ impl Dir {
 
     /// How many more modules can be entered.
     pub fn room(&self) -> u8
-        ensures { result ≡ room_of self.now }
+        ensures room { result ≡ room_of self.now }
+        ensures places { length self.now ≡ 64 }
     {
         self.entries.iter().filter(|place| place.is_none()).count() as u8
     }
@@ -179,13 +182,15 @@ impl Dir {
 
     fn put(&mut self, id: ModId, entry: Entry)
         requires { id.0 < length self.old }
-        ensures { self.new ≡ with_entry self.old id.0 (seen entry) }
+        ensures entered { self.new ≡ with_entry self.old id.0 (seen entry) }
+        ensures places { length self.new ≡ length self.old }
     {
         self.entries[id.0 as usize] = Some(entry);
     }
 
     fn knows(&self, info: &ModuleInfo) -> bool
-        ensures { result ≡ is_known_lem self.now info.now }
+        ensures known { result ≡ is_known_lem self.now info.now }
+        ensures places { length self.now ≡ 64 }
     {
         is_known(&self.entries, info)
     }

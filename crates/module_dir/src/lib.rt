@@ -16,6 +16,13 @@ mod tests {
     use std::test::Fail;
 
     #[test]
+    fn ample_memory(rt: HostRuntime) -> Result<(), Fail> {
+        let dir = Dir::new(rt.alloc())?;
+        assert_eq!(rt; dir.room(), 64);
+        Ok(())
+    }
+
+    #[test]
     fn newer_revision(rt: HostRuntime) -> Result<(), Fail> {
         let name = header_name(b"Mat\xe8").ok().ok_or("no name")?;
         let module = |attr: u8| ModuleInfo {
@@ -31,7 +38,7 @@ mod tests {
             blocks: [BlockId(block); 7],
             len: 1,
         };
-        let mut dir = Dir::new(rt.alloc()).ok().ok_or("no memory")?;
+        let mut dir = Dir::new(rt.alloc())?;
         assert_eq!(rt; dir.find(&name, 0x20), None);
         assert_eq!(rt; dir.enter(module(0x81), group(3), true), Ok(ModId(0)));
         assert_eq!(rt;

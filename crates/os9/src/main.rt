@@ -8,8 +8,13 @@ use os9_outer::real_host::RealHost;
 use os9_outer::sure_drive::SureDrive;
 use os9_outer::sure_tty::SureTty;
 use os9_outer::terminal::CharDriver;
+use os9_words::lines::tell_words;
+use std::env;
+use std::io::{self, ErrorKind};
 use std::process::ExitCode;
-use std::{env, io};
+
+/// The status where a word is no text, and so the words are no command line.
+const NO_COMMAND: u8 = 1;
 
 /// The status where there is no memory for the words or the devices.
 const NO_MEMORY: u8 = 4;
@@ -21,8 +26,13 @@ fn main(rt: HostRuntime) -> ExitCode {
 /// Does what the words after the program's name say.
 fn run(rt: HostRuntime) -> io::Result<u8> {
     let alloc = rt.alloc();
+    let args = match env::args(&rt) {
+        Ok(args) => args,
+        Err(error) if error.kind() == ErrorKind::InvalidData => return Ok(refuse_words(rt)),
+        Err(error) => return Err(error),
+    };
     let mut words = Vec::new(alloc);
-    for word in env::args(&rt)?.skip(1) {
+    for word in args.skip(1) {
         words.push(word)?;
     }
     let mut drives: Vec<Box<dyn BlockDriver>> = Vec::new(alloc);
@@ -37,4 +47,10 @@ fn run(rt: HostRuntime) -> io::Result<u8> {
     let mut devices = Devices { drives, terms };
     let mut host = RealHost::new(rt);
     Ok(os9_main(alloc, words.as_slice(), &mut host, &mut devices))
+}
+
+/// Tells that the words are no command line.
+fn refuse_words(rt: HostRuntime) -> u8 {
+    let _ = tell_words(&mut RealHost::new(rt));
+    NO_COMMAND
 }

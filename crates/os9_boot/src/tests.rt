@@ -147,6 +147,14 @@ fn group_limit(rt: HostRuntime) -> Result<(), Fail> {
     let longer = call(rt.alloc(), &words, &file, b"100", &[])?;
     assert_eq!(rt; longer.status, 8);
     assert!(rt; longer.err.as_slice() == b"os9: boot too large\n".as_slice());
+    let larger = changed(&[(11, 0x20), (12, 0x01), (40, 0x1D), (41, 0x4E), (42, 0xAC)]);
+    let mut file = Vec::from_slice(rt.alloc(), &larger)?;
+    file.resize(57344, 0)?;
+    for words in [words.as_slice(), &RUN] {
+        let two_blocks_of_data = call(rt.alloc(), words, &file, b"100", &[])?;
+        assert_eq!(rt; two_blocks_of_data.status, 8);
+        assert!(rt; two_blocks_of_data.err.as_slice() == b"os9: boot too large\n".as_slice());
+    }
     Ok(())
 }
 

@@ -7,10 +7,10 @@ use Rattle.machine_model.specs.Call.{shown, is_standard_path}
 use Rattle.os9_kernel.specs.declared.line.LineEnd.{LineEnd}
 use Rattle.os9_kernel.specs.declared.line.LineEnd.TheVariants.{Written, Refused}
 
--- the whole line was put on TERM, or a part of it where TERM failed
+-- the whole line was put on TERM, or it has a byte, and a part of it was put where TERM failed
 abbrev pub IsPut : List ℕ → LineEnd → List Screen → List Screen → Screen → Type 0
 IsPut line end before now old =
-    (screen : Screen) × (screen.keys ≡ old.keys) × (now ≡ slice_set before 0 screen) × (((end ≡ Written (length line)) × (screen.put ≡ appended old.put (shown line)) × (screen.faults ≡ old.faults)) ⊎ ((end ≡ Refused 245) × GainsPrefix old.put (shown line) screen.put × Rose old.faults screen.faults))
+    (screen : Screen) × (screen.keys ≡ old.keys) × (now ≡ slice_set before 0 screen) × (((end ≡ Written (length line)) × (screen.put ≡ appended old.put (shown line)) × (screen.faults ≡ old.faults)) ⊎ ((end ≡ Refused 245) × (0 < length line) × GainsPrefix old.put (shown line) screen.put × Rose old.faults screen.faults))
 
 -- the answer for this line, if it can be read, on this path; the terminals before and now
 abbrev pub IsLineAnswer : Option (List ℕ) → ℕ → LineEnd → List Screen → List Screen → Type 0

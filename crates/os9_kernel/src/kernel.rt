@@ -57,7 +57,7 @@ impl Kernel {
         if self.is_living() { 1 } else { 0 }
     }
 
-    /// The tick of a new slice.
+    /// Begins a slice: the tick rises by 1. It is below 4,294,000,000 before.
     pub fn tick(&mut self)
         requires { ticks self.old < 4294000000 }
         ensures step { (terms : List Screen) (s : State) → Stands self.old terms s
@@ -67,7 +67,7 @@ impl Kernel {
         self.tick += 1;
     }
 
-    /// Chooses a process that is ready; None exactly where nobody is.
+    /// Chooses the process that lives; None exactly where none does.
     pub fn choose(&mut self) -> Option<Pid>
         ensures step { (terms : List Screen) (s : State) → Stands self.old terms s
             → (t : State) × Choose s t × Stands self.new terms t × (option_map (λ p. p.0) result ≡ t.inner.chosen) }
@@ -78,9 +78,10 @@ impl Kernel {
         self.chosen.then_some(FIRST)
     }
 
-    /// One event of the process that was chosen: the first attempt of its call, else an instruction.
-    /// The process goes on where the answer is `Ran`. `NoMemory` comes only where a byte is put on a
-    /// terminal; the kernel is then used no more.
+    /// One event of the process that was chosen, which has to live: an attempt of its call, else an
+    /// instruction. There has to be a terminal. The process goes on where the answer is `Ran`.
+    /// `NoMemory` comes only where the process has a byte to put on a terminal, and is then still in
+    /// its call; the kernel is used no more.
     pub fn event(&mut self, devices: &mut Devices) -> EventEnd
         requires going { IsGoing self.old }
         requires terminal { 0 < vec_len devices.old.terms }
@@ -93,6 +94,7 @@ impl Kernel {
         ensures ended { result ≡ EventEnd.Ended → HasFinished self.new }
         ensures never_waits { result ≢ EventEnd.Waits }
         ensures memory { result ≡ EventEnd.NoMemory → PutsByte self.old }
+        ensures stopped { result ≡ EventEnd.NoMemory → PutsByte self.new }
         ensures terminals { vec_len devices.new.terms ≡ vec_len devices.old.terms }
         ensures count { ticks self.new ≡ ticks self.old }
         ensures drives_kept { devices.new.drives ≡ devices.old.drives }
@@ -106,9 +108,10 @@ impl Kernel {
         }
     }
 
-    /// A slice: the tick rises, a process is chosen, and it has its events until it has executed `n`
-    /// instructions, its call waits or it has ended. `Idle` comes exactly where nobody is ready.
-    /// After `NoMemory` the kernel is used no more.
+    /// A slice: the tick rises, the process that lives is chosen, and it has its events until it has
+    /// executed `n` instructions or has ended. There has to be a terminal. `Idle` comes exactly where
+    /// no process lives. `NoMemory` comes only where the process has a byte to put on a terminal; the
+    /// kernel is then used no more.
     pub fn slice(&mut self, n: u32, devices: &mut Devices) -> SliceEnd
         requires tick { ticks self.old < 4294000000 }
         requires terminal { 0 < vec_len devices.old.terms }
@@ -116,6 +119,7 @@ impl Kernel {
             → Stands self.old (screens ⟦<dyn CharDriver as CharDriver>⟧ devices.old.terms.items) s
             → (t : State) × Slice n s result t
             × Stands self.new (screens ⟦<dyn CharDriver as CharDriver>⟧ devices.new.terms.items) t }
+        ensures memory { result ≡ SliceEnd.NoMemory → PutsByte self.new }
         ensures count { ticks self.new ≡ ticks self.old + 1 }
         ensures terminals { vec_len devices.new.terms ≡ vec_len devices.old.terms }
         ensures drives_kept { devices.new.drives ≡ devices.old.drives }
@@ -135,6 +139,7 @@ impl Kernel {
             → Stands self.old (screens ⟦<dyn CharDriver as CharDriver>⟧ devices.old.terms.items) s
             → (states : List State) × (t : State) × Goes n s states t
             × Stands self.new (screens ⟦<dyn CharDriver as CharDriver>⟧ devices.new.terms.items) t }
+        ensures memory { result ≡ SliceEnd.NoMemory → PutsByte self.new }
         ensures ran { result ≢ SliceEnd.NoMemory → result ≡ SliceEnd.Ran }
         ensures count { ticks self.new ≡ ticks self.old }
         ensures terminals { vec_len devices.new.terms ≡ vec_len devices.old.terms }
@@ -226,6 +231,7 @@ impl Kernel {
             → (t : State) × Event s result t
             × Stands self.new (screens ⟦<dyn CharDriver as CharDriver>⟧ devices.new.terms.items) t }
         ensures memory { result ≡ EventEnd.NoMemory → PutsByte self.old }
+        ensures stopped { result ≡ EventEnd.NoMemory → PutsByte self.new }
         ensures ran { result ≢ EventEnd.NoMemory → result ≡ EventEnd.Ran }
         ensures going { result ≡ EventEnd.Ran → IsGoing self.new }
         ensures running { result ≡ EventEnd.Ran → pending self.new ≡ 0 }

@@ -1,6 +1,6 @@
 ghost use Rattle.std.specs.Prelude.{◌≡◌, OnOk};
 ghost use Rattle.os9_base.specs.Count.{Rose};
-ghost use Rattle.os9_outer.specs.Host.{OnFailed};
+ghost use Rattle.os9_outer.specs.Host.{OnFailed, UnlessFailed};
 ghost use Rattle.os9_outer.specs.Stream.{appended, GainsPrefix};
 ghost use Rattle.os9_words.specs.Lines.{words_line, cannot_read_line, cannot_write_output_line, no_memory_line, image_fault_line, boot_module_line, boot_too_large_line, no_first_line, ChangesErrOnly};
 
@@ -9,17 +9,27 @@ use itoa::Buffer;
 use os9_outer::host::{Host, HostFault};
 
 /// Tells on the error stream that the words are no command line: `os9: words`.
+///
+/// # Errors
+///
+/// Those of [`Host::err`]. A part of the line may be out then.
 pub fn tell_words<H: Host>(host: &mut H) -> Result<(), HostFault>
     ensures told { OnOk result (H.bytes_err host.new ≡ appended (H.bytes_err host.old) words_line) }
     ensures prefix { GainsPrefix (H.bytes_err host.old) words_line (H.bytes_err host.new) }
     ensures fault_counted { OnFailed result
         (Rose (H.err_stream_faults host.old) (H.err_stream_faults host.new)) }
+    ensures err_count_kept { UnlessFailed result
+        (H.err_stream_faults host.new ≡ H.err_stream_faults host.old) }
     ensures others { ChangesErrOnly ⟦<H as Host>⟧ host.old host.new }
 {
     host.err(b"os9: words\n")
 }
 
 /// Tells on the error stream that a file could not be read: `os9: cannot read NAME`.
+///
+/// # Errors
+///
+/// Those of [`Host::err`]. A part of the line may be out then.
 pub fn tell_cannot_read<H: Host>(host: &mut H, name: &str) -> Result<(), HostFault>
     ensures told { OnOk result (H.bytes_err host.new
         ≡ appended (H.bytes_err host.old) (cannot_read_line name.now)) }
@@ -27,6 +37,8 @@ pub fn tell_cannot_read<H: Host>(host: &mut H, name: &str) -> Result<(), HostFau
         (H.bytes_err host.new) }
     ensures fault_counted { OnFailed result
         (Rose (H.err_stream_faults host.old) (H.err_stream_faults host.new)) }
+    ensures err_count_kept { UnlessFailed result
+        (H.err_stream_faults host.new ≡ H.err_stream_faults host.old) }
     ensures others { ChangesErrOnly ⟦<H as Host>⟧ host.old host.new }
 {
     tell_pieces(host, &[b"os9: cannot read ", name.as_bytes(), b"\n"])
@@ -34,6 +46,10 @@ pub fn tell_cannot_read<H: Host>(host: &mut H, name: &str) -> Result<(), HostFau
 
 /// Tells on the error stream that the output stream could not be written:
 /// `os9: cannot write output`.
+///
+/// # Errors
+///
+/// Those of [`Host::err`]. A part of the line may be out then.
 pub fn tell_cannot_write_output<H: Host>(host: &mut H) -> Result<(), HostFault>
     ensures told { OnOk result (H.bytes_err host.new
         ≡ appended (H.bytes_err host.old) cannot_write_output_line) }
@@ -41,18 +57,26 @@ pub fn tell_cannot_write_output<H: Host>(host: &mut H) -> Result<(), HostFault>
         (H.bytes_err host.new) }
     ensures fault_counted { OnFailed result
         (Rose (H.err_stream_faults host.old) (H.err_stream_faults host.new)) }
+    ensures err_count_kept { UnlessFailed result
+        (H.err_stream_faults host.new ≡ H.err_stream_faults host.old) }
     ensures others { ChangesErrOnly ⟦<H as Host>⟧ host.old host.new }
 {
     host.err(b"os9: cannot write output\n")
 }
 
 /// Tells on the error stream that memory is wanting: `os9: no memory`.
+///
+/// # Errors
+///
+/// Those of [`Host::err`]. A part of the line may be out then.
 pub fn tell_no_memory<H: Host>(host: &mut H) -> Result<(), HostFault>
     ensures told { OnOk result (H.bytes_err host.new
         ≡ appended (H.bytes_err host.old) no_memory_line) }
     ensures prefix { GainsPrefix (H.bytes_err host.old) no_memory_line (H.bytes_err host.new) }
     ensures fault_counted { OnFailed result
         (Rose (H.err_stream_faults host.old) (H.err_stream_faults host.new)) }
+    ensures err_count_kept { UnlessFailed result
+        (H.err_stream_faults host.new ≡ H.err_stream_faults host.old) }
     ensures others { ChangesErrOnly ⟦<H as Host>⟧ host.old host.new }
 {
     host.err(b"os9: no memory\n")
@@ -60,6 +84,10 @@ pub fn tell_no_memory<H: Host>(host: &mut H) -> Result<(), HostFault>
 
 /// Tells on the error stream that the image in a file is not well formed:
 /// `os9: NAME: rule R at LSN L`, with the numbers in decimal digits.
+///
+/// # Errors
+///
+/// Those of [`Host::err`]. A part of the line may be out then.
 pub fn tell_image_fault<H: Host>(
     host: &mut H,
     name: &str,
@@ -72,6 +100,8 @@ pub fn tell_image_fault<H: Host>(
         (H.bytes_err host.new) }
     ensures fault_counted { OnFailed result
         (Rose (H.err_stream_faults host.old) (H.err_stream_faults host.new)) }
+    ensures err_count_kept { UnlessFailed result
+        (H.err_stream_faults host.new ≡ H.err_stream_faults host.old) }
     ensures others { ChangesErrOnly ⟦<H as Host>⟧ host.old host.new }
 {
     let mut rule_text = Buffer::new();
@@ -93,6 +123,10 @@ pub fn tell_image_fault<H: Host>(
 /// Tells on the error stream that a module of the boot file is refused:
 /// `os9: boot module E at O`, with the error number and the byte at which the module begins, in
 /// decimal digits.
+///
+/// # Errors
+///
+/// Those of [`Host::err`]. A part of the line may be out then.
 pub fn tell_boot_module<H: Host>(host: &mut H, number: u8, at: u32) -> Result<(), HostFault>
     ensures told { OnOk result (H.bytes_err host.new
         ≡ appended (H.bytes_err host.old) (boot_module_line number at)) }
@@ -100,6 +134,8 @@ pub fn tell_boot_module<H: Host>(host: &mut H, number: u8, at: u32) -> Result<()
         (H.bytes_err host.new) }
     ensures fault_counted { OnFailed result
         (Rose (H.err_stream_faults host.old) (H.err_stream_faults host.new)) }
+    ensures err_count_kept { UnlessFailed result
+        (H.err_stream_faults host.new ≡ H.err_stream_faults host.old) }
     ensures others { ChangesErrOnly ⟦<H as Host>⟧ host.old host.new }
 {
     let mut number_text = Buffer::new();
@@ -116,8 +152,12 @@ pub fn tell_boot_module<H: Host>(host: &mut H, number: u8, at: u32) -> Result<()
     )
 }
 
-/// Tells on the error stream that the boot file and its first process need more memory than there
-/// is: `os9: boot too large`.
+/// Tells on the error stream that the boot file is too long, or that it and the data area of its
+/// program need more than eight slots: `os9: boot too large`.
+///
+/// # Errors
+///
+/// Those of [`Host::err`]. A part of the line may be out then.
 pub fn tell_boot_too_large<H: Host>(host: &mut H) -> Result<(), HostFault>
     ensures told { OnOk result (H.bytes_err host.new
         ≡ appended (H.bytes_err host.old) boot_too_large_line) }
@@ -125,18 +165,26 @@ pub fn tell_boot_too_large<H: Host>(host: &mut H) -> Result<(), HostFault>
         (H.bytes_err host.new) }
     ensures fault_counted { OnFailed result
         (Rose (H.err_stream_faults host.old) (H.err_stream_faults host.new)) }
+    ensures err_count_kept { UnlessFailed result
+        (H.err_stream_faults host.new ≡ H.err_stream_faults host.old) }
     ensures others { ChangesErrOnly ⟦<H as Host>⟧ host.old host.new }
 {
     host.err(b"os9: boot too large\n")
 }
 
 /// Tells on the error stream that the boot file has no program `SysGo`: `os9: boot no SysGo`.
+///
+/// # Errors
+///
+/// Those of [`Host::err`]. A part of the line may be out then.
 pub fn tell_no_first<H: Host>(host: &mut H) -> Result<(), HostFault>
     ensures told { OnOk result (H.bytes_err host.new
         ≡ appended (H.bytes_err host.old) no_first_line) }
     ensures prefix { GainsPrefix (H.bytes_err host.old) no_first_line (H.bytes_err host.new) }
     ensures fault_counted { OnFailed result
         (Rose (H.err_stream_faults host.old) (H.err_stream_faults host.new)) }
+    ensures err_count_kept { UnlessFailed result
+        (H.err_stream_faults host.new ≡ H.err_stream_faults host.old) }
     ensures others { ChangesErrOnly ⟦<H as Host>⟧ host.old host.new }
 {
     host.err(b"os9: boot no SysGo\n")

@@ -15,6 +15,8 @@ pub(crate) fn tell_pieces<H: Host>(host: &mut H, pieces: &[&[u8]]) -> Result<(),
         (H.bytes_err host.new) }
     ensures fault_counted { OnFailed result
         (Rose (H.err_stream_faults host.old) (H.err_stream_faults host.new)) }
+    ensures err_count_kept { UnlessFailed result
+        (H.err_stream_faults host.new ≡ H.err_stream_faults host.old) }
     ensures others { ChangesErrOnly ⟦<H as Host>⟧ host.old host.new }
 {
     for piece in pieces {

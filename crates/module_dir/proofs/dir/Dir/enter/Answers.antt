@@ -8,7 +8,7 @@ use Rattle.module_dir.proofs.dir.Dir.enter.Goals as goal
 pub returns-clause-room : goal.returns-clause-room
 returns-clause-room c =
     let number : free_number c.args.self.now ≡ Some c.in_ok-id.id.0 = search rules in
-    rw c.put.ensures (room-with_entry c.args.self.now c.in_ok-id.id.0 _ number)
+    rw c.put.ensures.entered (room-with_entry c.args.self.now c.in_ok-id.id.0 _ number)
 
 pub returns-clause-there : goal.returns-clause-there
 returns-clause-there c =
