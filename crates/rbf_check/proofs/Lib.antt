@@ -2,6 +2,7 @@ pub mod Copied
 pub mod Counted
 pub mod Listed
 pub mod Noted
+pub mod NoVolume
 pub mod Surveys
 pub mod Told
 pub mod Verdicts

@@ -2,6 +2,7 @@
 use Rattle.std.specs.Prelude.{◌≡◌, ◌⊎◌, ℕ, ◌<◌, ◌≤◌, List}
 use Rattle.rbf_model.specs.Geometry.{Geometry}
 use Rattle.rbf_model.specs.Faults.{Breaks, IsFault}
+use Rattle.rbf_model.specs.Volume.{DiskVolume, Vol}
 use Rattle.rbf_check.specs.declared.faults.CheckError.{CheckError}
 use Rattle.rbf_check.specs.declared.faults.CheckError.TheVariants.{Fault, OutOfMemory}
 
@@ -23,3 +24,8 @@ IsLeastError g disk OutOfMemory = Unit {0}
 abbrev pub IsErrorOf : List ℕ → CheckError → Type 0
 IsErrorOf image (Fault fault) = IsFault image fault.rule fault.lsn
 IsErrorOf image OutOfMemory = Unit {0}
+
+-- the image stands for no volume, unless memory was wanting
+abbrev pub StandsForNone : List ℕ → CheckError → Type 0
+StandsForNone image (Fault fault) = (v : DiskVolume) → ¬ Vol image v
+StandsForNone image OutOfMemory = Unit {0}

@@ -1,5 +1,5 @@
 ghost use Rattle.std.specs.Prelude.{IfErr, IfOk};
-ghost use Rattle.rbf_check.specs.Verdict.{IsErrorOf};
+ghost use Rattle.rbf_check.specs.Verdict.{IsErrorOf, StandsForNone};
 ghost use Rattle.rbf_check.specs.Tree.{IsTreeOf};
 
 use crate::faults::CheckError;
@@ -16,9 +16,11 @@ use std::alloc::Global;
 ///
 /// `Fault` with the least rule that the image breaks, at the least sector: exactly where the image
 /// stands for no volume, unless memory was wanting. `OutOfMemory` where memory was wanting.
+#[tactic(auto, using(crate::proofs::NoVolume::stands_for_none))]
 pub fn check(alloc: Global, image: &[u8]) -> Result<Tree, CheckError>
     ensures tree { IfOk result (IsTreeOf image.now) }
     ensures fault { IfErr result (IsErrorOf image.now) }
+    ensures no_volume { IfErr result (StandsForNone image.now) }
 {
     let survey = survey_image(alloc, image)?;
     let nodes = read_nodes(alloc, image, &survey)?;

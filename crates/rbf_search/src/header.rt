@@ -1,4 +1,5 @@
-ghost use Rattle.std.specs.Prelude.{◌≡◌, ◌+◌, ℕ, ◌*◌, ◌/◌, ◌<◌, ◌≤◌, length, MatchBool, MatchOption};
+ghost use Rattle.std.specs.Prelude.{◌≡◌, ◌+◌, ℕ, ◌*◌, ◌/◌, ◌<◌, ◌≤◌, length, IfSome, MatchBool, MatchOption};
+ghost use Rattle.rbf_model.specs.Fields.{boot_field, boot_size_field};
 ghost use Rattle.rbf_model.specs.Geometry.{HasHeader, IsHeader, map_sectors, sector as sector_of};
 ghost use Rattle.rbf_model.specs.Space.{is_marked as is_marked_lem};
 ghost use Rattle.rbf_search.specs.Reading.{geometry_of, IsIdent};
@@ -18,7 +19,9 @@ pub fn sector(image: &[u8], n: u32) -> [u8; 256]
 
 /// The identification of an image, where it has the header of a volume that it holds.
 pub fn read_header(image: &[u8]) -> Option<Ident>
-    ensures { MatchOption result (¬ HasHeader image.now) (IsIdent image.now) }
+    ensures header { MatchOption result (¬ HasHeader image.now) (IsIdent image.now) }
+    ensures boot { IfSome result (λ ident. ident.boot ≡ boot_field (sector_of image.now 0)) }
+    ensures boot_size { IfSome result (λ ident. ident.boot_size ≡ boot_size_field (sector_of image.now 0)) }
 {
     if image.len() < 256 {
         return None;
