@@ -16,7 +16,7 @@ use Rattle.os9_boot.specs.Console.{IsTold}
 use Rattle.os9_boot.specs.End.{number_of}
 use Rattle.os9_boot.specs.declared.status.End.{End}
 use Rattle.os9_boot.specs.declared.status.End.TheVariants.{Ended, Living}
-use Rattle.os9_boot.specs.TopCall.{Boots, Performs, Checks, tree_line}
+use Rattle.os9_boot.specs.TopCall.{Outside, Boots, Performs, Checks, tree_line}
 use Rattle.os9_boot.proofs.RunLemmas.{any-none, any-some}
 
 -- the status of a state where nobody lives, and of one where somebody does
@@ -35,10 +35,10 @@ status-at_end s living end counted idle lives =
     ]
 
 -- the two files of the words were read, and the slice text gives slices
-pub performs : (told told_then : Option (List ℕ → Option (List ℕ))) (run : RunWords) (text file slices first_name second_name modules : List ℕ) (terms : List Screen) (before before_then now : Option (List ℕ)) (status : ℕ) → told_then ≡ told → IfSome told (λ files. text ≡ contents_of files first_name) → IfSome told_then (λ files. file ≡ contents_of files second_name) → first_name ≡ run.slices → second_name ≡ modules → slice_get run.files 0 ≡ Some modules → slices_of text ≡ Ok slices → before_then ≡ before → (All IsTold terms → Boots file run.blocks slices terms before_then now status) → IfSome told (λ files. All IsTold terms → Performs files run terms before now status)
-performs None others run text file slices first_name second_name modules terms before before_then now status kept text_is file_is first second named read same boots =
+pub performs : (told told_then : Option (List ℕ → Option (List ℕ))) (run : RunWords) (text file slices first_name second_name modules : List ℕ) (terms : List Screen) (out out_then : Option (List ℕ)) (after : Outside) (status : ℕ) → told_then ≡ told → IfSome told (λ files. text ≡ contents_of files first_name) → IfSome told_then (λ files. file ≡ contents_of files second_name) → first_name ≡ run.slices → second_name ≡ modules → slice_get run.files 0 ≡ Some modules → slices_of text ≡ Ok slices → out_then ≡ out → (All IsTold terms → Boots file run.blocks slices (record { out = out_then; terms = terms }) after status) → IfSome told (λ files. All IsTold terms → Performs files run (record { out = out; terms = terms }) after status)
+performs None others run text file slices first_name second_name modules terms out out_then after status kept text_is file_is first second named read same boots =
     tt
-performs (Some files) others run text file slices first_name second_name modules terms before before_then now status kept text_is file_is first second named read same boots =
+performs (Some files) others run text file slices first_name second_name modules terms out out_then after status kept text_is file_is first second named read same boots =
     let file_is_there : file ≡ contents_of files second_name = let fact : Option (List ℕ → Option (List ℕ)) → Type 0 = λ told. IfSome told (λ files. file ≡ contents_of files second_name) in subst fact kept file_is in
     λ tells. rw (named, ← first, ← text_is, read, ← second, ← file_is_there, ← same) (boots tells)
 

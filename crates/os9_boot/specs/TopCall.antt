@@ -20,28 +20,33 @@ use Rattle.machine_model.specs.declared.ends.BootFault.{BootFault}
 use Rattle.machine_model.specs.Start.{Starts, Refuses}
 use Rattle.machine_model.specs.Run.{Run, status_of}
 
--- the machine goes on from this state over these slices: the output gains what the run writes, and the status is the run's
-abbrev pub Runs : State → List ℕ → Option (List ℕ) → Option (List ℕ) → ℕ → Type 0
-Runs s slices before now status =
-    (written : List ℕ) × (t : State) × Run slices s written t × (status ≡ status_of t) × (now ≡ appended before written)
+-- what the outside tells: the bytes of the output stream, and the terminals
+pub record Outside : Type 0 where
+  pub out : Option (List ℕ)
+  pub terms : List Screen
+
+-- the machine goes on from this state over these slices: the output gains what the run writes, the terminals are those at its end, and the status is the run's
+abbrev pub Runs : State → List ℕ → Outside → Outside → ℕ → Type 0
+Runs s slices before after status =
+    (written : List ℕ) × (t : State) × Run slices s written t × (status ≡ status_of t) × (after.out ≡ appended before.out written) × (after.terms ≡ t.terms)
 
 -- the boot file starts a machine with so many blocks, which is run; or it is refused with 8
-abbrev pub Boots : List ℕ → ℕ → List ℕ → List Screen → Option (List ℕ) → Option (List ℕ) → ℕ → Type 0
-Boots file blocks slices terms before now status =
-    ((s : State) × Starts file blocks terms s × Runs s slices before now status) ⊎ ((fault : BootFault) × Refuses file blocks fault × (status ≡ 8) × (now ≡ before))
+abbrev pub Boots : List ℕ → ℕ → List ℕ → Outside → Outside → ℕ → Type 0
+Boots file blocks slices before after status =
+    ((s : State) × Starts file blocks before.terms s × Runs s slices before after status) ⊎ ((fault : BootFault) × Refuses file blocks fault × (status ≡ 8) × (after ≡ before))
 
 -- the slice text gives slices, or is refused with 7
-abbrev pub Slices : List ℕ → List ℕ → ℕ → List Screen → Option (List ℕ) → Option (List ℕ) → ℕ → Type 0
-Slices text file blocks terms before now status =
+abbrev pub Slices : List ℕ → List ℕ → ℕ → Outside → Outside → ℕ → Type 0
+Slices text file blocks before after status =
     MatchResult (slices_of text)
-    (λ slices. Boots file blocks slices terms before now status)
-    (λ line. (status ≡ 7) × (now ≡ before))
+    (λ slices. Boots file blocks slices before after status)
+    (λ line. (status ≡ 7) × (after ≡ before))
 
 -- the files that the words name are those of the host
-abbrev pub Performs : (List ℕ → Option (List ℕ)) → RunWords → List Screen → Option (List ℕ) → Option (List ℕ) → ℕ → Type 0
-Performs files run terms before now status =
+abbrev pub Performs : (List ℕ → Option (List ℕ)) → RunWords → Outside → Outside → ℕ → Type 0
+Performs files run before after status =
     MatchOption (slice_get run.files 0) ⊥
-    (λ modules. Slices (contents_of files run.slices) (contents_of files modules) run.blocks terms before now status)
+    (λ modules. Slices (contents_of files run.slices) (contents_of files modules) run.blocks before after status)
 
 -- the line of the counts of a volume
 abbrev pub counts_of : Geometry → DiskVolume → List ℕ
@@ -57,15 +62,16 @@ abbrev pub Checks : List ℕ → Option (List ℕ) → Option (List ℕ) → ℕ
 Checks image before now status =
     ((v : DiskVolume) × Vol image v × (status ≡ 0) × (now ≡ appended before (counts_of (image_geometry image) v))) ⊎ ((rule : ℕ) × (lsn : ℕ) × IsFault image rule lsn × (status ≡ 6) × (now ≡ before))
 
--- what a command does with the files
-abbrev pub PerformsCommand : (List ℕ → Option (List ℕ)) → List Screen → Option (List ℕ) → Option (List ℕ) → ℕ → Command → Type 0
-PerformsCommand files terms before now status (RunCommand run) = Performs files run terms before now status
-PerformsCommand files terms before now status (CheckCommand image) = Checks (contents_of files image) before now status
+-- what a command does with the files; a check leaves the terminals as they are
+abbrev pub PerformsCommand : (List ℕ → Option (List ℕ)) → Outside → Outside → ℕ → Command → Type 0
+PerformsCommand files before after status (RunCommand run) = Performs files run before after status
+PerformsCommand files before after status (CheckCommand image) =
+    Checks (contents_of files image) before.out after.out status × (after.terms ≡ before.terms)
 
 -- the words spell a command, or are refused with 1
-abbrev pub Answers : (List ℕ → Option (List ℕ)) → List (List ℕ) → List Screen → Option (List ℕ) → Option (List ℕ) → ℕ → Type 0
-Answers files words terms before now status =
-    MatchOption (command_of words) ((status ≡ 1) × (now ≡ before)) (PerformsCommand files terms before now status)
+abbrev pub Answers : (List ℕ → Option (List ℕ)) → List (List ℕ) → Outside → Outside → ℕ → Type 0
+Answers files words before after status =
+    MatchOption (command_of words) ((status ≡ 1) × (after ≡ before)) (PerformsCommand files before after status)
 
 -- no file or stream failed, and no memory was wanting
 abbrev pub IsAnswered : ℕ → Type 0

@@ -37,6 +37,7 @@ fn take_from(devices: &mut Devices, n: usize) -> Vec<u8>
         (screens ⟦<dyn CharDriver as CharDriver>⟧ devices.old.terms.items)
         (screens ⟦<dyn CharDriver as CharDriver>⟧ devices.new.terms.items) }
     ensures terminals { vec_len devices.new.terms ≡ vec_len devices.old.terms }
+    ensures drives_kept { devices.new.drives ≡ devices.old.drives }
 {
     take_from_box(&mut devices.terms[n])
 }
@@ -51,6 +52,7 @@ pub fn pass_on<H: Host>(devices: &mut Devices, host: &mut H) -> Result<(), HostF
         → H.bytes_out host.new ≡ appended (H.bytes_out host.old)
         (console_of (screens ⟦<dyn CharDriver as CharDriver>⟧ devices.old.terms.items))) }
     ensures terminals { vec_len devices.new.terms ≡ vec_len devices.old.terms }
+    ensures drives_kept { devices.new.drives ≡ devices.old.drives }
     ensures fault_counted { OnFailed result (Rose (H.host_faults host.old) (H.host_faults host.new)) }
     ensures count_kept { UnlessFailed result (H.host_faults host.new ≡ H.host_faults host.old) }
     ensures files_kept { H.file_map host.new ≡ H.file_map host.old }

@@ -45,6 +45,8 @@ pub fn run_slices<H: Host>(
     ensures fault_counted { OnOutputFault result (Rose (H.host_faults host.old) (H.host_faults host.new)) }
     ensures count_kept { UnlessOutputFault result (H.host_faults host.new ≡ H.host_faults host.old) }
     ensures files_kept { H.file_map host.new ≡ H.file_map host.old }
+    ensures terminals { vec_len devices.new.terms ≡ vec_len devices.old.terms }
+    ensures drives_kept { devices.new.drives ≡ devices.old.drives }
 {
     for n in slices {
         if kernel.living() == 0 {

@@ -30,15 +30,26 @@ use std::alloc::Global;
 /// lives; 1 the words are no command line; 2 a file could not be read; 3 the output stream could
 /// not be written; 4 memory is wanting; 6 the image is not well formed; 7 the slice text is
 /// refused; 8 the file of modules is refused.
+///
+/// A run begins with the terminals as they are when the call is made, and ends with them as they
+/// are when it returns: a terminal fails in the run only where its count of faults rose in this
+/// call. What runs nothing leaves the terminals as they are. No drive is touched.
 pub fn os9_main<H: Host>(alloc: Global, words: &[String], host: &mut H, devices: &mut Devices) -> u8
     requires { 0 < vec_len devices.old.terms }
     // The headline: where nothing failed and the host and the terminals tell what they hold, the
-    // output has gained the bytes of a run of the abstract machine, and the status is that run's.
+    // output has gained the bytes of a run of the abstract machine, which ends with the terminals as
+    // they are now, and the status is that run's.
     ensures run_headline { IsAnswered result → IfSome (H.file_map host.old) (λ files.
         All IsTold (screens ⟦<dyn CharDriver as CharDriver>⟧ devices.old.terms.items)
         → Answers files (map string_bytes words.now)
-        (screens ⟦<dyn CharDriver as CharDriver>⟧ devices.old.terms.items)
-        (H.bytes_out host.old) (H.bytes_out host.new) result) }
+        (record {
+          out = H.bytes_out host.old;
+          terms = screens ⟦<dyn CharDriver as CharDriver>⟧ devices.old.terms.items;
+        })
+        (record {
+          out = H.bytes_out host.new;
+          terms = screens ⟦<dyn CharDriver as CharDriver>⟧ devices.new.terms.items;
+        }) result) }
     ensures refused_words { result ≡ 1 → command_of (map string_bytes words.now) ≡ None }
     ensures words_refused { command_of (map string_bytes words.now) ≡ None
         → (result ≡ 1) ⊎ (result ≡ 4) }
@@ -50,10 +61,17 @@ pub fn os9_main<H: Host>(alloc: Global, words: &[String], host: &mut H, devices:
         → IfSome (H.file_map host.old) (λ files.
         All IsTold (screens ⟦<dyn CharDriver as CharDriver>⟧ devices.old.terms.items)
         → Answers files (map string_bytes words.now)
-        (screens ⟦<dyn CharDriver as CharDriver>⟧ devices.old.terms.items)
-        (H.bytes_out host.old) (H.bytes_out host.new) result) }
+        (record {
+          out = H.bytes_out host.old;
+          terms = screens ⟦<dyn CharDriver as CharDriver>⟧ devices.old.terms.items;
+        })
+        (record {
+          out = H.bytes_out host.new;
+          terms = screens ⟦<dyn CharDriver as CharDriver>⟧ devices.new.terms.items;
+        }) result) }
     ensures silent { IsSilent result → H.bytes_out host.new ≡ H.bytes_out host.old }
     ensures files_kept { H.file_map host.new ≡ H.file_map host.old }
+    ensures drives_kept { devices.new.drives ≡ devices.old.drives }
 {
     match read_words(alloc, words) {
         Ok(command) => do_command(alloc, &command, host, devices),
@@ -76,14 +94,21 @@ fn do_command<H: Host>(alloc: Global, command: &Command, host: &mut H, devices: 
     ensures performed { IsAnswered result → IfSome (H.file_map host.old) (λ files.
         All IsTold (screens ⟦<dyn CharDriver as CharDriver>⟧ devices.old.terms.items)
         → PerformsCommand files
-        (screens ⟦<dyn CharDriver as CharDriver>⟧ devices.old.terms.items)
-        (H.bytes_out host.old) (H.bytes_out host.new) result command.now) }
+        (record {
+          out = H.bytes_out host.old;
+          terms = screens ⟦<dyn CharDriver as CharDriver>⟧ devices.old.terms.items;
+        })
+        (record {
+          out = H.bytes_out host.new;
+          terms = screens ⟦<dyn CharDriver as CharDriver>⟧ devices.new.terms.items;
+        }) result command.now) }
     ensures words { result ≢ 1 }
     ensures read_fault { result ≡ 2 → Rose (H.host_faults host.old) (H.host_faults host.new) }
     ensures output_fault { result ≡ 3 → Rose (H.host_faults host.old) (H.host_faults host.new) }
     ensures count_kept { result ≢ 2 → result ≢ 3 → H.host_faults host.new ≡ H.host_faults host.old }
     ensures silent { IsSilent result → H.bytes_out host.new ≡ H.bytes_out host.old }
     ensures files_kept { H.file_map host.new ≡ H.file_map host.old }
+    ensures drives_kept { devices.new.drives ≡ devices.old.drives }
 {
     let end = match command {
         Command::Run(run) => run_modules(alloc, run, host, devices),
@@ -102,14 +127,21 @@ fn run_modules<H: Host>(alloc: Global, run: &RunWords, host: &mut H, devices: &m
     ensures performed { IsAnswered (number_of result) → IfSome (H.file_map host.old) (λ files.
         All IsTold (screens ⟦<dyn CharDriver as CharDriver>⟧ devices.old.terms.items)
         → Performs files run.now
-        (screens ⟦<dyn CharDriver as CharDriver>⟧ devices.old.terms.items)
-        (H.bytes_out host.old) (H.bytes_out host.new) (number_of result)) }
+        (record {
+          out = H.bytes_out host.old;
+          terms = screens ⟦<dyn CharDriver as CharDriver>⟧ devices.old.terms.items;
+        })
+        (record {
+          out = H.bytes_out host.new;
+          terms = screens ⟦<dyn CharDriver as CharDriver>⟧ devices.new.terms.items;
+        }) (number_of result)) }
     ensures read_fault { number_of result ≡ 2 → Rose (H.host_faults host.old) (H.host_faults host.new) }
     ensures output_fault { number_of result ≡ 3 → Rose (H.host_faults host.old) (H.host_faults host.new) }
     ensures count_kept { number_of result ≢ 2 → number_of result ≢ 3
         → H.host_faults host.new ≡ H.host_faults host.old }
     ensures silent { IsSilent (number_of result) → H.bytes_out host.new ≡ H.bytes_out host.old }
     ensures files_kept { H.file_map host.new ≡ H.file_map host.old }
+    ensures drives_kept { devices.new.drives ≡ devices.old.drives }
 {
     let text = match host.read_file(run.slices.text()) {
         Ok(text) => text,
@@ -153,13 +185,20 @@ fn boot<H: Host>(
     ensures booted { IsAnswered (number_of result)
         → All IsTold (screens ⟦<dyn CharDriver as CharDriver>⟧ devices.old.terms.items)
         → Boots file.now config.blocks slices.now
-        (screens ⟦<dyn CharDriver as CharDriver>⟧ devices.old.terms.items)
-        (H.bytes_out host.old) (H.bytes_out host.new) (number_of result) }
+        (record {
+          out = H.bytes_out host.old;
+          terms = screens ⟦<dyn CharDriver as CharDriver>⟧ devices.old.terms.items;
+        })
+        (record {
+          out = H.bytes_out host.new;
+          terms = screens ⟦<dyn CharDriver as CharDriver>⟧ devices.new.terms.items;
+        }) (number_of result) }
     ensures no_read { number_of result ≢ 2 }
     ensures output_fault { number_of result ≡ 3 → Rose (H.host_faults host.old) (H.host_faults host.new) }
     ensures count_kept { number_of result ≢ 3 → H.host_faults host.new ≡ H.host_faults host.old }
     ensures silent { IsSilent (number_of result) → H.bytes_out host.new ≡ H.bytes_out host.old }
     ensures files_kept { H.file_map host.new ≡ H.file_map host.old }
+    ensures drives_kept { devices.new.drives ≡ devices.old.drives }
 {
     let mut kernel = match Kernel::new(alloc, config, file) {
         Ok(kernel) => kernel,

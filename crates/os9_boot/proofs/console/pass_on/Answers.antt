@@ -14,6 +14,7 @@ loop-n-preserved g c =
     record {
       terminals = took.terminals ∙ so_far.terminals;
       within = omega arith;
+      drives = took.drives_kept ∙ so_far.drives;
       emptied = passed.emptied;
       written = written-more c.loop-n.n c.take_from-bytes.result.items _ _ _ _ _ passed so_far.written (rw (← c.as_slice.ensures.value) wrote.written);
       count = wrote.count_kept ∙ so_far.count;

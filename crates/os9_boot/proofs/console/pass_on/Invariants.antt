@@ -13,6 +13,7 @@ invariant-loop-n g l =
     record {
       terminals : vec_len l.devices.terms ≡ vec_len l.initial.devices.terms;
       within : l.n ≤ vec_len l.initial.devices.terms;
+      drives : l.devices.drives ≡ l.initial.devices.drives;
       emptied : screens (λ table. (g.dyn-2.0.entry table).1) l.devices.terms.items ≡ emptied_front l.n before;
       written : All IsTold before → g.H.Host.bytes_out l.host ≡ appended (g.H.Host.bytes_out l.initial.host) (console_of (take l.n before));
       count : g.H.Host.host_faults l.host ≡ g.H.Host.host_faults l.initial.host;

@@ -11,6 +11,7 @@ loop-n-init g c = record {
   reaches = λ s told stood. reaches-none _ c.args.slices.now s c.args.kernel.now _ told stood;
   count = refl;
   files = refl;
+  drives = refl;
 }
 
 pub loop-n-preserved : goal.loop-n-preserved
@@ -25,6 +26,7 @@ loop-n-preserved g c =
           reaches-more c.args.slices.now s _ _ c.loop-n.kernel c.slice.new.self _ _ _ _ _ _ c.slice.result (rw next at (so_far.reaches s told stood)) (λ m tied none. c.if-living-eq0.false (c.living.ensures _ m tied ∙ none)) (c.slice.ensures.step (λ e. c.in_default.not-NoMemory e)) passed.taken passed.written;
       count = passed.count_kept ∙ so_far.count;
       files = passed.files_kept ∙ so_far.files;
+      drives = passed.drives_kept ∙ c.slice.ensures.drives_kept ∙ so_far.drives;
     }
 
 pub returns-then-living-eq0-clause-run : goal.returns-then-living-eq0-clause-run

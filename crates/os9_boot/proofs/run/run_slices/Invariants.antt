@@ -14,4 +14,5 @@ invariant-loop-n g l = record {
   reaches : (s : State) → All IsTold (screens (λ table. (g.dyn-2.0.entry table).1) l.initial.devices.terms.items) → Stands l.initial.kernel (screens (λ table. (g.dyn-2.0.entry table).1) l.initial.devices.terms.items) s → Reaches (g.H.Host.bytes_out l.initial.host) l.slices s l.kernel (screens (λ table. (g.dyn-2.0.entry table).1) l.devices.terms.items) (g.H.Host.bytes_out l.host) (drop l.n-index l.slices);
   count : g.H.Host.host_faults l.host ≡ g.H.Host.host_faults l.initial.host;
   files : g.H.Host.file_map l.host ≡ g.H.Host.file_map l.initial.host;
+  drives : l.devices.drives ≡ l.initial.devices.drives;
 }
