@@ -1,6 +1,6 @@
 ghost use Rattle.std.specs.Prelude.{◌≡◌, OnOk};
 ghost use Rattle.os9_base.specs.Count.{Rose};
-ghost use Rattle.os9_outer.specs.Host.{OnFailed};
+ghost use Rattle.os9_outer.specs.Host.{OnFailed, UnlessFailed};
 ghost use Rattle.os9_outer.specs.Stream.{appended, GainsPrefix};
 ghost use Rattle.os9_words.specs.Command.{HasOneFile};
 ghost use Rattle.os9_words.specs.Lines.{ChangesErrOnly};
@@ -81,6 +81,8 @@ pub fn tell<H: Host>(host: &mut H, end: End, command: &Command) -> Result<(), Ho
         (H.bytes_err host.new) }
     ensures fault_counted { OnFailed result
         (Rose (H.err_stream_faults host.old) (H.err_stream_faults host.new)) }
+    ensures err_count_kept { UnlessFailed result
+        (H.err_stream_faults host.new ≡ H.err_stream_faults host.old) }
     ensures others { ChangesErrOnly ⟦<H as Host>⟧ host.old host.new }
 {
     match end {
