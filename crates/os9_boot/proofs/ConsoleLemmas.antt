@@ -1,15 +1,16 @@
 -- The bytes of the terminals, one terminal after another.
 use Rattle.std.proofs.Common.{◌≡◌, ℕ, ◌+◌, ◌<◌, Option, Some, None, List, [], ◌++◌, length, map, take, drop, slice_set, get_or, sym, ap, ◌∙◌, append-nil, get_or-drop, length-take, All, arith}
-use Rattle.std.specs.Prelude.{IfSome, IsSome, unwrap_or}
-use Rattle.std.proofs.lemmas.List.{take_more, get_or-append_right, length-map}
+use Rattle.std.specs.Prelude.{IfSome, IsSome, OnErr, Result, Ok, Err, unwrap_or}
+use Rattle.std.proofs.lemmas.List.{take-append-drop, take_more, get_or-append_right, length-map}
 use Rattle.std.proofs.lemmas.List.Concat.{flat_map-append}
 use Rattle.std.proofs.lemmas.List.Edits.{map_over_more}
 use Rattle.std.proofs.lemmas.List.Elements.{All-get_or}
 use Rattle.std.proofs.lemmas.Option.{get_or_from_slice_get}
-use Rattle.os9_outer.specs.Stream.{appended, emptied}
+use Rattle.os9_words.proofs.Prefixes.{GainsPrefix-front, GainsPrefix-then}
+use Rattle.os9_outer.specs.Stream.{appended, emptied, GainsPrefix}
 use Rattle.device_table.proofs.StreamLemmas.{appended-twice}
 use Rattle.device_table.specs.Screens.{Screen, ChangesOne}
-use Rattle.machine_model.specs.Run.{console_of, without_bytes}
+use Rattle.machine_model.specs.Run.{bytes_of, console_of, without_bytes}
 use Rattle.os9_boot.specs.Console.{Takes, IsTold}
 
 -- what was taken from a terminal's driver was taken from the terminal
@@ -51,3 +52,16 @@ passes n bytes screens before now within so_far (old, new, is, set, took) =
 pub written-more : (n : ℕ) (bytes : List ℕ) (screens now : List Screen) (first before after : Option (List ℕ)) → Passed n bytes screens now → (All IsTold screens → before ≡ appended first (console_of (take n screens))) → after ≡ appended before bytes → All IsTold screens → after ≡ appended first (console_of (take (n + 1) screens))
 written-more n bytes screens now first before after passed so_far gained told =
     gained ∙ ap (λ stream. appended stream bytes) (so_far told) ∙ appended-twice first (console_of (take n screens)) bytes ∙ ap (appended first) (sym (passed.written told))
+
+-- where the bytes of a terminal are not all written, a prefix of the bytes of all terminals is
+prefix-here : (n : ℕ) (bytes : List ℕ) (screens now : List Screen) (first before after : Option (List ℕ)) → Passed n bytes screens now → (All IsTold screens → before ≡ appended first (console_of (take n screens))) → GainsPrefix before bytes after → All IsTold screens → GainsPrefix first (console_of screens) after
+prefix-here n bytes screens now first before after passed so_far gained told =
+    let front = console_of (take (n + 1) screens) in
+    let behind = console_of (drop (n + 1) screens) in
+    let all : console_of screens ≡ front ++ behind = ap console_of (sym (take-append-drop (n + 1) screens)) ∙ flat_map-append bytes_of (take (n + 1) screens) (drop (n + 1) screens) in
+    rw all (GainsPrefix-front first front behind after (rw (passed.written told) (GainsPrefix-then first (console_of (take n screens)) bytes before after (so_far told) gained)))
+
+-- the same where the call answers an error
+pub prefix-on_error : {Value Fault : Type 0} (answer : Result Value Fault) (n : ℕ) (bytes : List ℕ) (screens now : List Screen) (first before after : Option (List ℕ)) → Passed n bytes screens now → (All IsTold screens → before ≡ appended first (console_of (take n screens))) → GainsPrefix before bytes after → OnErr answer (All IsTold screens → GainsPrefix first (console_of screens) after)
+prefix-on_error (Ok value) n bytes screens now first before after passed so_far gained = tt
+prefix-on_error (Err fault) n bytes screens now first before after passed so_far gained = prefix-here n bytes screens now first before after passed so_far gained

@@ -1,12 +1,15 @@
 -- Slices, one after another, make a run.
-use Rattle.std.proofs.Common.{◌≡◌, ◌≢◌, ℕ, ◌+◌, ◌-◌, ◌||◌, Bool, true, false, Option, Some, None, List, [], ◌∷◌, ◌++◌, get_or, slice_get, eqb, refl, sym, ap, ◌∙◌, append_assoc, append-nil, All, inl, inr, arith}
+use Rattle.std.proofs.Common.{◌≡◌, ◌≢◌, ℕ, ◌+◌, ◌-◌, ◌||◌, Bool, true, false, Option, Some, None, List, [], ◌∷◌, ◌++◌, get_or, slice_get, eqb, refl, sym, ap, ◌∙◌, ◌<◌, take, length, append_assoc, append-nil, All, inl, inr, arith}
 use Rattle.std.specs.Prelude.{IsSome, MatchBool, MatchOption, count_by, if◌then◌else◌}
 use Rattle.std.specs.List.{list_any}
 use Rattle.std.proofs.lemmas.List.Elements.{All-set, All-map, All-get_or}
 use Rattle.std.proofs.lemmas.List.Sums.{sum_by-cons}
 use Rattle.std.proofs.lemmas.Option.{slice_get_within, get_or_from_slice_get}
 use Rattle.cpu_model.specs.Step.{Outcome, Done, Calls, Aborts, step_of}
-use Rattle.os9_outer.specs.Stream.{appended, emptied}
+use Rattle.os9_outer.specs.Stream.{appended, emptied, GainsPrefix}
+use Rattle.os9_words.proofs.PieceLemmas.{GainsPrefix-whole}
+use Rattle.os9_words.proofs.Prefixes.{GainsPrefix-then}
+use Rattle.std.proofs.lemmas.List.{take_more}
 use Rattle.device_table.proofs.StreamLemmas.{appended-twice, appended-nothing}
 use Rattle.device_table.specs.Screens.{Screen}
 use Rattle.machine_model.specs.declared.activity.Activity.{Activity}
@@ -22,6 +25,7 @@ use Rattle.machine_model.specs.Run.{Goes, cost, Slice, Run, taken, console_of, w
 use Rattle.os9_kernel.specs.declared.kernel.Kernel.{Kernel}
 use Rattle.os9_kernel.specs.Tie.{Stands}
 use Rattle.os9_boot.specs.Console.{IsTold}
+use Rattle.os9_boot.specs.Partly.{RunsPartly}
 
 -- ---- what is told stays told
 
@@ -36,7 +40,7 @@ told-here screens old first told =
 told-line : (s : State) (number : ℕ) (process : Process) (line : List ℕ) (old : Screen) (t : State) → slice_get s.terms 0 ≡ Some old → PutsLine s number process line old t → All IsTold s.terms → All IsTold t.terms
 told-line s number process line old t first (screen, keys, inl (put, faults, is)) told =
     rw is (All-set IsTold s.terms 0 screen (told-appended old.put screen.put _ put (told-here s.terms old first told)) told)
-told-line s number process line old t first (screen, keys, inr (gained, rose, is)) told =
+told-line s number process line old t first (screen, keys, inr (some, gained, rose, is)) told =
     rw is (All-set IsTold s.terms 0 screen (told-appended old.put screen.put _ gained.1 (told-here s.terms old first told)) told)
 
 module _ (s : State) (number : ℕ) (process : Process) (end : EventEnd) (t : State) (told : All IsTold s.terms) where
@@ -99,6 +103,10 @@ tied-terms kernel terms other s tied = record {
   is = let with_other : State → State = λ s. record s { terms = other } in ap with_other tied.is;
 }
 
+-- the terminals of a state that they stand for
+pub terms-standing : (kernel : Kernel) (terms : List Screen) (s : State) → Stands kernel terms s → terms ≡ s.terms
+terms-standing kernel terms s tied = sym (ap (λ s. s.terms) tied.is)
+
 -- ---- how many live
 
 counted : (process : Option Process) (processes : List (Option Process)) → count_by is_living (process ∷ processes) ≡ (if is_living process then 1 else 0) + count_by is_living processes
@@ -124,42 +132,50 @@ any-some (process ∷ processes) some =
 
 -- ---- runs in pieces
 
--- whatever runs over the rest of the slices from m, runs over all of them from s, and writes this before
-abbrev pub RunsFrom : List ℕ → State → List ℕ → List ℕ → State → Type 0
-RunsFrom slices s written rest m =
-    (more : List ℕ) (t : State) → Run rest m more t → Run slices s (written ++ more) t
+-- a run where nobody lives is over at once
+run-idle : (slices : List ℕ) (m : State) → has_living m ≡ false → Run slices m [] m
+run-idle [] m idle = (refl, refl)
+run-idle (n ∷ ns) m idle = rw idle (refl, refl)
 
--- nothing was run yet
-pub runs-none : (slices : List ℕ) (s : State) → RunsFrom slices s [] slices s
-runs-none slices s more t run = run
+-- and there is no other
+run-over : (slices : List ℕ) (s : State) (written : List ℕ) (t : State) → has_living s ≡ false → Run slices s written t → (written ≡ []) × (t ≡ s)
+run-over [] s written t idle run = run
+run-over (n ∷ ns) s written t idle run = rw idle at run
 
--- the run is at its end where nobody lives
-pub runs-idle : (slices : List ℕ) (s : State) (written : List ℕ) (n : ℕ) (rest : List ℕ) (m : State) → RunsFrom slices s written (n ∷ rest) m → count_by is_living m.inner.processes ≡ 0 → Run slices s written m
-runs-idle slices s written n rest m so_far none =
-    let idle : has_living m ≡ false = any-none m.inner.processes none in
-    rw (sym (append-nil written)) (so_far [] m (rw idle (refl, refl)))
+-- one slice is a run
+run-slice : (n : ℕ) (m t : State) (end : SliceEnd) → has_living m ≡ true → Slice n m end t → Run (n ∷ []) m (console_of t.terms) (record t { terms = taken t.terms })
+run-slice n m t end lives slice = rw lives (end, t, [], slice, sym (append-nil (console_of t.terms)), (refl, refl))
 
--- and where the slices are used up
-pub runs-all : (slices : List ℕ) (s : State) (written : List ℕ) (m : State) → RunsFrom slices s written [] m → Run slices s written m
-runs-all slices s written m so_far = rw (sym (append-nil written)) (so_far [] m (refl, refl))
+-- a run over the first slices, and one over the rest from where it came to, are a run
+run-append : (first rest : List ℕ) (s m t : State) (written more : List ℕ) → Run first s written m → Run rest m more t → Run (first ++ rest) s (written ++ more) t
+run-append [] rest s m t written more (nothing, same) next = rw nothing (rw same at next)
+run-append (n ∷ first) rest s m t written more run next =
+    by_living (has_living s) refl (λ mid out after. run-append first rest mid m t out more after next) run
+  where
+    by_living : (living : Bool) → has_living s ≡ living → ((mid : State) (out : List ℕ) → Run first mid out m → Run (first ++ rest) mid (out ++ more) t) → MatchBool living ((end : SliceEnd) × (mid : State) × (out : List ℕ) × Slice n s end mid × (written ≡ console_of mid.terms ++ out) × Run first (record mid { terms = taken mid.terms }) out m) ((written ≡ []) × (m ≡ s)) → Run (n ∷ (first ++ rest)) s (written ++ more) t
+    by_living true lives joined (end, mid, out, slice, all, after) =
+        rw lives (
+          end,
+          mid,
+          out ++ more,
+          slice,
+          ap (λ bytes. bytes ++ more) all ∙ append_assoc (console_of mid.terms) out more,
+          joined (record mid { terms = taken mid.terms }) out after,
+        )
+    by_living false idle joined (nothing, same) =
+        let over = run-over rest s more t idle (rw same at next) in
+        rw idle (ap (λ bytes. bytes ++ more) nothing ∙ over.0, over.1)
 
--- one slice more
-pub runs-more : (slices : List ℕ) (s : State) (written : List ℕ) (n : ℕ) (rest : List ℕ) (m t : State) (end : SliceEnd) → RunsFrom slices s written (n ∷ rest) m → count_by is_living m.inner.processes ≢ 0 → Slice n m end t → RunsFrom slices s (written ++ console_of t.terms) rest (record t { terms = taken t.terms })
-runs-more slices s written n rest m t end so_far some slice more last run =
-    let lives : has_living m ≡ true = any-some m.inner.processes some in
-    rw append_assoc (so_far (console_of t.terms ++ more) last (rw lives (end, t, more, slice, refl, run)))
+-- a kernel and its terminals have come so far from s: a run over these slices wrote what the output gained
+abbrev pub Reaches : Option (List ℕ) → List ℕ → State → Kernel → List Screen → Option (List ℕ) → Type 0
+Reaches first ran s kernel screens out =
+    (m : State) × (written : List ℕ) × All IsTold screens × Stands kernel screens m × (out ≡ appended first written) × Run ran s written m
 
--- a kernel and its terminals have come so far from s: this is written, and the rest is still to be run
-abbrev pub Reaches : Option (List ℕ) → List ℕ → State → Kernel → List Screen → Option (List ℕ) → List ℕ → Type 0
-Reaches first slices s kernel screens out rest =
-    (m : State) × (written : List ℕ) × All IsTold screens × Stands kernel screens m × (out ≡ appended first written) × RunsFrom slices s written rest m
+pub reaches-none : (first : Option (List ℕ)) (s : State) (kernel : Kernel) (screens : List Screen) → All IsTold screens → Stands kernel screens s → Reaches first [] s kernel screens first
+reaches-none first s kernel screens told tied = (s, [], told, tied, sym (appended-nothing first), (refl, refl))
 
-pub reaches-none : (first : Option (List ℕ)) (slices : List ℕ) (s : State) (kernel : Kernel) (screens : List Screen) → All IsTold screens → Stands kernel screens s → Reaches first slices s kernel screens first slices
-reaches-none first slices s kernel screens told tied =
-    (s, [], told, tied, sym (appended-nothing first), runs-none slices s)
-
-pub reaches-more : (slices : List ℕ) (s : State) (n : ℕ) (rest : List ℕ) (kernel after : Kernel) (screens mid now : List Screen) (first out next : Option (List ℕ)) (end : SliceEnd) → Reaches first slices s kernel screens out (n ∷ rest) → ((m : State) → Stands kernel screens m → count_by is_living m.inner.processes ≢ 0) → ((m : State) → Stands kernel screens m → (t : State) × Slice n m end t × Stands after mid t) → now ≡ taken mid → (All IsTold mid → next ≡ appended out (console_of mid)) → Reaches first slices s after now next rest
-reaches-more slices s n rest kernel after screens mid now first out next end (m, written, told, tied, is, so_far) some steps emptied gained =
+pub reaches-more : (ran : List ℕ) (s : State) (n : ℕ) (kernel after : Kernel) (screens mid now : List Screen) (first out next : Option (List ℕ)) (end : SliceEnd) → Reaches first ran s kernel screens out → ((m : State) → Stands kernel screens m → count_by is_living m.inner.processes ≢ 0) → ((m : State) → Stands kernel screens m → (t : State) × Slice n m end t × Stands after mid t) → now ≡ taken mid → (All IsTold mid → next ≡ appended out (console_of mid)) → Reaches first (ran ++ n ∷ []) s after now next
+reaches-more ran s n kernel after screens mid now first out next end (m, written, told, tied, is, so_far) some steps emptied gained =
     let step = steps m tied in
     let t : State = step.0 in
     let here : m.terms ≡ screens = ap (λ s. s.terms) tied.is in
@@ -170,13 +186,35 @@ reaches-more slices s n rest kernel after screens mid now first out next end (m,
       rw emptied (told-taken mid told_mid),
       rw (emptied, ← there) (tied-terms after mid (taken t.terms) t step.2),
       gained told_mid ∙ ap (λ stream. appended stream (console_of mid)) is ∙ appended-twice first written (console_of mid) ∙ rw there refl,
-      runs-more slices s written n rest m t end so_far (some m tied) step.1,
+      run-append ran (n ∷ []) s m (record t { terms = taken t.terms }) written (console_of t.terms) so_far (run-slice n m t end (any-some m.inner.processes (some m tied)) step.1),
     )
 
-pub reaches-idle : (first out : Option (List ℕ)) (slices : List ℕ) (s : State) (n : ℕ) (rest : List ℕ) (kernel : Kernel) (screens : List Screen) → Reaches first slices s kernel screens out (n ∷ rest) → ((m : State) → Stands kernel screens m → count_by is_living m.inner.processes ≡ 0) → (written : List ℕ) × (t : State) × Run slices s written t × Stands kernel screens t × (out ≡ appended first written)
-reaches-idle first out slices s n rest kernel screens (m, written, told, tied, is, so_far) none =
-    (written, m, runs-idle slices s written n rest m so_far (none m tied), tied, is)
+pub reaches-idle : (first out : Option (List ℕ)) (slices ran rest : List ℕ) (s : State) (kernel : Kernel) (screens : List Screen) → ran ++ rest ≡ slices → Reaches first ran s kernel screens out → ((m : State) → Stands kernel screens m → count_by is_living m.inner.processes ≡ 0) → (written : List ℕ) × (t : State) × Run slices s written t × Stands kernel screens t × (out ≡ appended first written)
+reaches-idle first out slices ran rest s kernel screens all (m, written, told, tied, is, so_far) none =
+    let ended : Run (ran ++ rest) s (written ++ []) m = run-append ran rest s m m written [] so_far (run-idle rest m (any-none m.inner.processes (none m tied))) in
+    (written, m, rw (all, append-nil) at ended, tied, is)
 
-pub reaches-all : (first out : Option (List ℕ)) (slices : List ℕ) (s : State) (kernel : Kernel) (screens : List Screen) → Reaches first slices s kernel screens out [] → (written : List ℕ) × (t : State) × Run slices s written t × Stands kernel screens t × (out ≡ appended first written)
-reaches-all first out slices s kernel screens (m, written, told, tied, is, so_far) =
-    (written, m, runs-all slices s written m so_far, tied, is)
+pub reaches-all : (first out : Option (List ℕ)) (slices : List ℕ) (s : State) (kernel : Kernel) (screens : List Screen) → Reaches first slices s kernel screens out → (written : List ℕ) × (t : State) × Run slices s written t × Stands kernel screens t × (out ≡ appended first written)
+reaches-all first out slices s kernel screens (m, written, told, tied, is, so_far) = (written, m, so_far, tied, is)
+
+-- where no memory was left for a slice, the output holds all that the slices before it wrote
+pub partly-before : (slices : List ℕ) (count : ℕ) (s : State) (kernel : Kernel) (screens : List Screen) (first out : Option (List ℕ)) → Reaches first (take count slices) s kernel screens out → RunsPartly slices s first out
+partly-before slices count s kernel screens first out (m, written, told, tied, is, so_far) =
+    (count, written, m, so_far, GainsPrefix-whole first written out is)
+
+-- where a slice was run and its bytes were not all passed on, the output holds a prefix
+pub partly-after : (slices : List ℕ) (count : ℕ) (s : State) (kernel after : Kernel) (screens mid : List Screen) (first out next : Option (List ℕ)) (end : SliceEnd) → count < length slices → Reaches first (take count slices) s kernel screens out → ((m : State) → Stands kernel screens m → count_by is_living m.inner.processes ≢ 0) → ((m : State) → Stands kernel screens m → (t : State) × Slice (get_or slices count 0) m end t × Stands after mid t) → (All IsTold mid → GainsPrefix out (console_of mid) next) → RunsPartly slices s first next
+partly-after slices count s kernel after screens mid first out next end within (m, written, told, tied, is, so_far) some steps gained =
+    let step = steps m tied in
+    let t : State = step.0 in
+    let n = get_or slices count 0 in
+    let here : m.terms ≡ screens = ap (λ s. s.terms) tied.is in
+    let there : t.terms ≡ mid = ap (λ s. s.terms) step.2.is in
+    let told_mid : All IsTold mid = rw (← there) (told-slice n m end t step.1 (rw here told)) in
+    let last : State = record t { terms = taken t.terms } in (
+      count + 1,
+      written ++ console_of t.terms,
+      last,
+      rw (take_more slices count 0 within) (run-append (take count slices) (n ∷ []) s m last written (console_of t.terms) so_far (run-slice n m t end (any-some m.inner.processes (some m tied)) step.1)),
+      GainsPrefix-then first written (console_of t.terms) out next is (rw there (gained told_mid)),
+    )

@@ -16,6 +16,7 @@ use Rattle.os9_boot.specs.Console.{IsTold}
 use Rattle.os9_boot.specs.End.{number_of}
 use Rattle.os9_boot.specs.declared.status.End.{End}
 use Rattle.os9_boot.specs.declared.status.End.TheVariants.{Ended, Living}
+use Rattle.os9_boot.specs.Partly.{BootsPartly, PerformsPartly}
 use Rattle.os9_boot.specs.TopCall.{Outside, Boots, Performs, Checks, tree_line}
 use Rattle.os9_boot.proofs.RunLemmas.{any-none, any-some}
 
@@ -41,6 +42,19 @@ performs None others run text file slices first_name second_name modules terms o
 performs (Some files) others run text file slices first_name second_name modules terms out out_then after status kept text_is file_is first second named read same boots =
     let file_is_there : file ≡ contents_of files second_name = let fact : Option (List ℕ → Option (List ℕ)) → Type 0 = λ told. IfSome told (λ files. file ≡ contents_of files second_name) in subst fact kept file_is in
     λ tells. rw (named, ← first, ← text_is, read, ← second, ← file_is_there, ← same) (boots tells)
+
+-- a run of which only a prefix is out, of the two files of the words
+pub performs-partly : (told told_then : Option (List ℕ → Option (List ℕ))) (run : RunWords) (text file slices first_name second_name modules : List ℕ) (terms : List Screen) (out out_then now : Option (List ℕ)) → told_then ≡ told → IfSome told (λ files. text ≡ contents_of files first_name) → IfSome told_then (λ files. file ≡ contents_of files second_name) → first_name ≡ run.slices → second_name ≡ modules → slice_get run.files 0 ≡ Some modules → slices_of text ≡ Ok slices → out_then ≡ out → (All IsTold terms → BootsPartly file run.blocks slices (record { out = out_then; terms = terms }) now) → IfSome told (λ files. All IsTold terms → PerformsPartly files run (record { out = out; terms = terms }) now)
+performs-partly None others run text file slices first_name second_name modules terms out out_then now kept text_is file_is first second named read same boots =
+    tt
+performs-partly (Some files) others run text file slices first_name second_name modules terms out out_then now kept text_is file_is first second named read same boots =
+    let file_is_there : file ≡ contents_of files second_name = let fact : Option (List ℕ → Option (List ℕ)) → Type 0 = λ told. IfSome told (λ files. file ≡ contents_of files second_name) in subst fact kept file_is in
+    λ tells. by_boot file_is_there (boots tells)
+  where
+    by_boot : file ≡ contents_of files second_name → BootsPartly file run.blocks slices (record { out = out_then; terms = terms }) now → PerformsPartly files run (record { out = out; terms = terms }) now
+    by_boot file_is_there (inl nothing) = inl (nothing ∙ same)
+    by_boot file_is_there (inr (s, starts, runs)) =
+        inr (modules, slices, s, named, rw (← first, ← text_is) read, rw (← second, ← file_is_there) starts, rw (← same) runs)
 
 -- the image was read, and its tree's counts were printed
 pub checks : (told : Option (List ℕ → Option (List ℕ))) (image bytes name : List ℕ) (tree : Tree) (before before_then now : Option (List ℕ)) (status : ℕ) → IfSome told (λ files. bytes ≡ contents_of files name) → name ≡ image → IsTreeOf bytes tree → before_then ≡ before → (status ≡ 0) × (now ≡ appended before_then (tree_line tree)) → IfSome told (λ files. Checks (contents_of files image) before now status)

@@ -2,3 +2,4 @@ pub mod Console
 pub mod Stop
 pub mod End
 pub mod TopCall
+pub mod Partly

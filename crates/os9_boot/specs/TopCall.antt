@@ -1,8 +1,11 @@
 -- What the top call answers.
 use Rattle.std.specs.Prelude.{◌≡◌, ◌≢◌, ℕ, ◌⊎◌, not, Option, List, length, count_by, slice_get, MatchOption, MatchResult}
+use Rattle.std.specs.declared.alloc.Global.{Global}
+use Rattle.std.specs.declared.dyn_box.DynBox.{DynBox}
 use Rattle.os9_outer.specs.Host.{contents_of}
 use Rattle.os9_outer.specs.Stream.{appended}
-use Rattle.device_table.specs.Screens.{Screen}
+use Rattle.os9_outer.specs.declared.terminal.CharDriver.{Ghosts}
+use Rattle.device_table.specs.Screens.{Screen, screens}
 use Rattle.script_text.specs.Slices.{slices_of}
 use Rattle.os9_words.specs.declared.command.Command.{Command}
 use Rattle.os9_words.specs.declared.command.Command.TheVariants.{Run as RunCommand, Check as CheckCommand}
@@ -24,6 +27,10 @@ use Rattle.machine_model.specs.Run.{Run, status_of}
 pub record Outside : Type 0 where
   pub out : Option (List ℕ)
   pub terms : List Screen
+
+-- the same of an output stream and of terminals in their boxes, as `outside ⟦<dyn CharDriver as CharDriver>⟧ (H.bytes_out host.now) devices.now.terms.items`
+abbrev pub outside : {Table : Type 0} {Driver : Table → Type 0} → ((table : Table) → Ghosts (Driver table)) → Option (List ℕ) → List (DynBox Table Global Driver) → Outside
+outside members out terminals = record { out = out; terms = screens members terminals }
 
 -- the machine goes on from this state over these slices: the output gains what the run writes, the terminals are those at its end, and the status is the run's
 abbrev pub Runs : State → List ℕ → Outside → Outside → ℕ → Type 0

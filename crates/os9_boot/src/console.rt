@@ -1,5 +1,5 @@
-ghost use Rattle.std.specs.Prelude.{◌≡◌, ◌<◌, ◌≤◌, All, IfSome, OnOk, vec_len};
-ghost use Rattle.os9_outer.specs.Stream.{appended, emptied};
+ghost use Rattle.std.specs.Prelude.{◌≡◌, ◌<◌, ◌≤◌, All, IfSome, OnErr, OnOk, vec_len};
+ghost use Rattle.os9_outer.specs.Stream.{appended, emptied, GainsPrefix};
 ghost use Rattle.os9_outer.specs.Host.{OnFailed, UnlessFailed};
 ghost use Rattle.os9_base.specs.Count.{Rose};
 ghost use Rattle.device_table.specs.Screens.{screens, ChangesOne};
@@ -43,6 +43,10 @@ fn take_from(devices: &mut Devices, n: usize) -> Vec<u8>
 }
 
 /// Passes the bytes that were put on TERM, then those of T1, T2 and T3, to the output stream.
+///
+/// # Errors
+///
+/// The output has gained a prefix of these bytes.
 pub fn pass_on<H: Host>(devices: &mut Devices, host: &mut H) -> Result<(), HostFault>
     ensures taken { OnOk result
         (screens ⟦<dyn CharDriver as CharDriver>⟧ devices.new.terms.items
@@ -51,6 +55,11 @@ pub fn pass_on<H: Host>(devices: &mut Devices, host: &mut H) -> Result<(), HostF
         (screens ⟦<dyn CharDriver as CharDriver>⟧ devices.old.terms.items)
         → H.bytes_out host.new ≡ appended (H.bytes_out host.old)
         (console_of (screens ⟦<dyn CharDriver as CharDriver>⟧ devices.old.terms.items))) }
+    ensures prefix { OnErr result (All IsTold
+        (screens ⟦<dyn CharDriver as CharDriver>⟧ devices.old.terms.items)
+        → GainsPrefix (H.bytes_out host.old)
+        (console_of (screens ⟦<dyn CharDriver as CharDriver>⟧ devices.old.terms.items))
+        (H.bytes_out host.new)) }
     ensures terminals { vec_len devices.new.terms ≡ vec_len devices.old.terms }
     ensures drives_kept { devices.new.drives ≡ devices.old.drives }
     ensures fault_counted { OnFailed result (Rose (H.host_faults host.old) (H.host_faults host.new)) }
@@ -67,6 +76,7 @@ pub fn pass_on<H: Host>(devices: &mut Devices, host: &mut H) -> Result<(), HostF
 // Writes the bytes to the output stream, where there are any.
 fn write_out<H: Host>(host: &mut H, bytes: &[u8]) -> Result<(), HostFault>
     ensures written { OnOk result (H.bytes_out host.new ≡ appended (H.bytes_out host.old) bytes.now) }
+    ensures prefix { OnErr result (GainsPrefix (H.bytes_out host.old) bytes.now (H.bytes_out host.new)) }
     ensures fault_counted { OnFailed result (Rose (H.host_faults host.old) (H.host_faults host.new)) }
     ensures count_kept { UnlessFailed result (H.host_faults host.new ≡ H.host_faults host.old) }
     ensures files_kept { H.file_map host.new ≡ H.file_map host.old }

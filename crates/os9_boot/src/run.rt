@@ -1,4 +1,4 @@
-ghost use Rattle.std.specs.Prelude.{◌≡◌, ◌+◌, ◌<◌, All, List, OnOk, length, vec_len};
+ghost use Rattle.std.specs.Prelude.{◌≡◌, ◌+◌, ◌<◌, All, List, OnErr, OnOk, length, vec_len};
 ghost use Rattle.os9_base.specs.Count.{Rose};
 ghost use Rattle.os9_outer.specs.Stream.{appended};
 ghost use Rattle.device_table.specs.Screens.{screens};
@@ -6,6 +6,7 @@ ghost use Rattle.machine_model.specs.State.{State};
 ghost use Rattle.machine_model.specs.Run.{Run};
 ghost use Rattle.os9_kernel.specs.Tie.{Stands, ticks};
 ghost use Rattle.os9_boot.specs.Console.{IsTold};
+ghost use Rattle.os9_boot.specs.Partly.{RunsPartly};
 ghost use Rattle.os9_boot.specs.Stop.{OnOutputFault, UnlessOutputFault};
 
 use crate::console::pass_on;
@@ -28,6 +29,10 @@ pub enum Stop {
 
 /// Runs the slices, and passes what each writes to the output stream. It stops before a slice
 /// where no process lives.
+///
+/// # Errors
+///
+/// The output has gained a prefix of what the run over some first slices writes.
 pub fn run_slices<H: Host>(
     kernel: &mut Kernel,
     slices: &[u32],
@@ -42,6 +47,10 @@ pub fn run_slices<H: Host>(
         → (written : List _) × (t : State) × Run slices.now s written t
         × Stands kernel.new (screens ⟦<dyn CharDriver as CharDriver>⟧ devices.new.terms.items) t
         × (H.bytes_out host.new ≡ appended (H.bytes_out host.old) written)) }
+    ensures partial { OnErr result ((s : State)
+        → All IsTold (screens ⟦<dyn CharDriver as CharDriver>⟧ devices.old.terms.items)
+        → Stands kernel.old (screens ⟦<dyn CharDriver as CharDriver>⟧ devices.old.terms.items) s
+        → RunsPartly slices.now s (H.bytes_out host.old) (H.bytes_out host.new)) }
     ensures fault_counted { OnOutputFault result (Rose (H.host_faults host.old) (H.host_faults host.new)) }
     ensures count_kept { UnlessOutputFault result (H.host_faults host.new ≡ H.host_faults host.old) }
     ensures files_kept { H.file_map host.new ≡ H.file_map host.old }

@@ -4,7 +4,8 @@ ghost use Rattle.os9_words.specs.Command.{command_of, HasOneFile, HasBlocks};
 ghost use Rattle.device_table.specs.Screens.{screens};
 ghost use Rattle.os9_boot.specs.Console.{IsTold};
 ghost use Rattle.os9_boot.specs.End.{number_of};
-ghost use Rattle.os9_boot.specs.TopCall.{Answers, Performs, PerformsCommand, Boots, IsAnswered, IsSilent};
+ghost use Rattle.os9_boot.specs.Partly.{AnswersPartly, BootsPartly, IsStopped, OnRun, PerformsPartly};
+ghost use Rattle.os9_boot.specs.TopCall.{Answers, Performs, PerformsCommand, Boots, IsAnswered, IsSilent, outside};
 
 use crate::check::check_image;
 use crate::run::{Stop, run_slices};
@@ -34,6 +35,8 @@ use std::alloc::Global;
 /// A run begins with the terminals as they are when the call is made, and ends with them as they
 /// are when it returns: a terminal fails in the run only where its count of faults rose in this
 /// call. What runs nothing leaves the terminals as they are. No drive is touched.
+///
+/// At 3 and 4 a `run` may have written a prefix of what the machine writes over some first slices.
 pub fn os9_main<H: Host>(alloc: Global, words: &[String], host: &mut H, devices: &mut Devices) -> u8
     requires { 0 < vec_len devices.old.terms }
     // The headline: where nothing failed and the host and the terminals tell what they hold, the
@@ -42,14 +45,9 @@ pub fn os9_main<H: Host>(alloc: Global, words: &[String], host: &mut H, devices:
     ensures run_headline { IsAnswered result → IfSome (H.file_map host.old) (λ files.
         All IsTold (screens ⟦<dyn CharDriver as CharDriver>⟧ devices.old.terms.items)
         → Answers files (map string_bytes words.now)
-        (record {
-          out = H.bytes_out host.old;
-          terms = screens ⟦<dyn CharDriver as CharDriver>⟧ devices.old.terms.items;
-        })
-        (record {
-          out = H.bytes_out host.new;
-          terms = screens ⟦<dyn CharDriver as CharDriver>⟧ devices.new.terms.items;
-        }) result) }
+        (outside ⟦<dyn CharDriver as CharDriver>⟧ (H.bytes_out host.old) devices.old.terms.items)
+        (outside ⟦<dyn CharDriver as CharDriver>⟧ (H.bytes_out host.new) devices.new.terms.items)
+        result) }
     ensures refused_words { result ≡ 1 → command_of (map string_bytes words.now) ≡ None }
     ensures words_refused { command_of (map string_bytes words.now) ≡ None
         → (result ≡ 1) ⊎ (result ≡ 4) }
@@ -61,14 +59,16 @@ pub fn os9_main<H: Host>(alloc: Global, words: &[String], host: &mut H, devices:
         → IfSome (H.file_map host.old) (λ files.
         All IsTold (screens ⟦<dyn CharDriver as CharDriver>⟧ devices.old.terms.items)
         → Answers files (map string_bytes words.now)
-        (record {
-          out = H.bytes_out host.old;
-          terms = screens ⟦<dyn CharDriver as CharDriver>⟧ devices.old.terms.items;
-        })
-        (record {
-          out = H.bytes_out host.new;
-          terms = screens ⟦<dyn CharDriver as CharDriver>⟧ devices.new.terms.items;
-        }) result) }
+        (outside ⟦<dyn CharDriver as CharDriver>⟧ (H.bytes_out host.old) devices.old.terms.items)
+        (outside ⟦<dyn CharDriver as CharDriver>⟧ (H.bytes_out host.new) devices.new.terms.items)
+        result) }
+    // Where the output could not be written or memory was wanting, a run has written a prefix of what
+    // the machine writes over some first slices.
+    ensures partial { IsStopped result → IfSome (H.file_map host.old) (λ files.
+        All IsTold (screens ⟦<dyn CharDriver as CharDriver>⟧ devices.old.terms.items)
+        → AnswersPartly files (map string_bytes words.now)
+        (outside ⟦<dyn CharDriver as CharDriver>⟧ (H.bytes_out host.old) devices.old.terms.items)
+        (H.bytes_out host.new)) }
     ensures silent { IsSilent result → H.bytes_out host.new ≡ H.bytes_out host.old }
     ensures files_kept { H.file_map host.new ≡ H.file_map host.old }
     ensures drives_kept { devices.new.drives ≡ devices.old.drives }
@@ -94,18 +94,18 @@ fn do_command<H: Host>(alloc: Global, command: &Command, host: &mut H, devices: 
     ensures performed { IsAnswered result → IfSome (H.file_map host.old) (λ files.
         All IsTold (screens ⟦<dyn CharDriver as CharDriver>⟧ devices.old.terms.items)
         → PerformsCommand files
-        (record {
-          out = H.bytes_out host.old;
-          terms = screens ⟦<dyn CharDriver as CharDriver>⟧ devices.old.terms.items;
-        })
-        (record {
-          out = H.bytes_out host.new;
-          terms = screens ⟦<dyn CharDriver as CharDriver>⟧ devices.new.terms.items;
-        }) result command.now) }
+        (outside ⟦<dyn CharDriver as CharDriver>⟧ (H.bytes_out host.old) devices.old.terms.items)
+        (outside ⟦<dyn CharDriver as CharDriver>⟧ (H.bytes_out host.new) devices.new.terms.items)
+        result command.now) }
     ensures words { result ≢ 1 }
     ensures read_fault { result ≡ 2 → Rose (H.host_faults host.old) (H.host_faults host.new) }
     ensures output_fault { result ≡ 3 → Rose (H.host_faults host.old) (H.host_faults host.new) }
     ensures count_kept { result ≢ 2 → result ≢ 3 → H.host_faults host.new ≡ H.host_faults host.old }
+    ensures partial { IsStopped result → IfSome (H.file_map host.old) (λ files.
+        All IsTold (screens ⟦<dyn CharDriver as CharDriver>⟧ devices.old.terms.items)
+        → OnRun command.now (λ run. PerformsPartly files run
+        (outside ⟦<dyn CharDriver as CharDriver>⟧ (H.bytes_out host.old) devices.old.terms.items)
+        (H.bytes_out host.new))) }
     ensures silent { IsSilent result → H.bytes_out host.new ≡ H.bytes_out host.old }
     ensures files_kept { H.file_map host.new ≡ H.file_map host.old }
     ensures drives_kept { devices.new.drives ≡ devices.old.drives }
@@ -127,18 +127,18 @@ fn run_modules<H: Host>(alloc: Global, run: &RunWords, host: &mut H, devices: &m
     ensures performed { IsAnswered (number_of result) → IfSome (H.file_map host.old) (λ files.
         All IsTold (screens ⟦<dyn CharDriver as CharDriver>⟧ devices.old.terms.items)
         → Performs files run.now
-        (record {
-          out = H.bytes_out host.old;
-          terms = screens ⟦<dyn CharDriver as CharDriver>⟧ devices.old.terms.items;
-        })
-        (record {
-          out = H.bytes_out host.new;
-          terms = screens ⟦<dyn CharDriver as CharDriver>⟧ devices.new.terms.items;
-        }) (number_of result)) }
+        (outside ⟦<dyn CharDriver as CharDriver>⟧ (H.bytes_out host.old) devices.old.terms.items)
+        (outside ⟦<dyn CharDriver as CharDriver>⟧ (H.bytes_out host.new) devices.new.terms.items)
+        (number_of result)) }
     ensures read_fault { number_of result ≡ 2 → Rose (H.host_faults host.old) (H.host_faults host.new) }
     ensures output_fault { number_of result ≡ 3 → Rose (H.host_faults host.old) (H.host_faults host.new) }
     ensures count_kept { number_of result ≢ 2 → number_of result ≢ 3
         → H.host_faults host.new ≡ H.host_faults host.old }
+    ensures partial { IsStopped (number_of result) → IfSome (H.file_map host.old) (λ files.
+        All IsTold (screens ⟦<dyn CharDriver as CharDriver>⟧ devices.old.terms.items)
+        → PerformsPartly files run.now
+        (outside ⟦<dyn CharDriver as CharDriver>⟧ (H.bytes_out host.old) devices.old.terms.items)
+        (H.bytes_out host.new)) }
     ensures silent { IsSilent (number_of result) → H.bytes_out host.new ≡ H.bytes_out host.old }
     ensures files_kept { H.file_map host.new ≡ H.file_map host.old }
     ensures drives_kept { devices.new.drives ≡ devices.old.drives }
@@ -185,17 +185,17 @@ fn boot<H: Host>(
     ensures booted { IsAnswered (number_of result)
         → All IsTold (screens ⟦<dyn CharDriver as CharDriver>⟧ devices.old.terms.items)
         → Boots file.now config.blocks slices.now
-        (record {
-          out = H.bytes_out host.old;
-          terms = screens ⟦<dyn CharDriver as CharDriver>⟧ devices.old.terms.items;
-        })
-        (record {
-          out = H.bytes_out host.new;
-          terms = screens ⟦<dyn CharDriver as CharDriver>⟧ devices.new.terms.items;
-        }) (number_of result) }
+        (outside ⟦<dyn CharDriver as CharDriver>⟧ (H.bytes_out host.old) devices.old.terms.items)
+        (outside ⟦<dyn CharDriver as CharDriver>⟧ (H.bytes_out host.new) devices.new.terms.items)
+        (number_of result) }
     ensures no_read { number_of result ≢ 2 }
     ensures output_fault { number_of result ≡ 3 → Rose (H.host_faults host.old) (H.host_faults host.new) }
     ensures count_kept { number_of result ≢ 3 → H.host_faults host.new ≡ H.host_faults host.old }
+    ensures partial { IsStopped (number_of result)
+        → All IsTold (screens ⟦<dyn CharDriver as CharDriver>⟧ devices.old.terms.items)
+        → BootsPartly file.now config.blocks slices.now
+        (outside ⟦<dyn CharDriver as CharDriver>⟧ (H.bytes_out host.old) devices.old.terms.items)
+        (H.bytes_out host.new) }
     ensures silent { IsSilent (number_of result) → H.bytes_out host.new ≡ H.bytes_out host.old }
     ensures files_kept { H.file_map host.new ≡ H.file_map host.old }
     ensures drives_kept { devices.new.drives ≡ devices.old.drives }
@@ -219,6 +219,7 @@ fn end_of(living: u8) -> End
     ensures idle { living ≡ 0 → result ≡ End.Ended }
     ensures lives { living ≢ 0 → result ≡ End.Living }
     ensures answered { IsAnswered (number_of result) }
+    ensures not_stopped { ¬ IsStopped (number_of result) }
     ensures not_silent { ¬ IsSilent (number_of result) }
 {
     if living == 0 { End::Ended } else { End::Living }
