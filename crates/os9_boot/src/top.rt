@@ -34,7 +34,8 @@ use std::alloc::Global;
 ///
 /// A run begins with the terminals as they are when the call is made, and ends with them as they
 /// are when it returns: a terminal fails in the run only where its count of faults rose in this
-/// call. What runs nothing leaves the terminals as they are. No drive is touched.
+/// call. Where nothing runs, at 1, 2, 6, 7 and 8 and in a `check` that is done, the terminals are as
+/// they were. No drive is touched.
 ///
 /// At 3 and 4 a `run` may have written a prefix of what the machine writes over some first slices.
 pub fn os9_main<H: Host>(alloc: Global, words: &[String], host: &mut H, devices: &mut Devices) -> u8
@@ -70,6 +71,9 @@ pub fn os9_main<H: Host>(alloc: Global, words: &[String], host: &mut H, devices:
         (outside ⟦<dyn CharDriver as CharDriver>⟧ (H.bytes_out host.old) devices.old.terms.items)
         (H.bytes_out host.new)) }
     ensures silent { IsSilent result → H.bytes_out host.new ≡ H.bytes_out host.old }
+    ensures terminals_kept { IsSilent result
+        → screens ⟦<dyn CharDriver as CharDriver>⟧ devices.new.terms.items
+        ≡ screens ⟦<dyn CharDriver as CharDriver>⟧ devices.old.terms.items }
     ensures files_kept { H.file_map host.new ≡ H.file_map host.old }
     ensures drives_kept { devices.new.drives ≡ devices.old.drives }
 {
@@ -107,6 +111,9 @@ fn do_command<H: Host>(alloc: Global, command: &Command, host: &mut H, devices: 
         (outside ⟦<dyn CharDriver as CharDriver>⟧ (H.bytes_out host.old) devices.old.terms.items)
         (H.bytes_out host.new))) }
     ensures silent { IsSilent result → H.bytes_out host.new ≡ H.bytes_out host.old }
+    ensures terminals_kept { IsSilent result
+        → screens ⟦<dyn CharDriver as CharDriver>⟧ devices.new.terms.items
+        ≡ screens ⟦<dyn CharDriver as CharDriver>⟧ devices.old.terms.items }
     ensures files_kept { H.file_map host.new ≡ H.file_map host.old }
     ensures drives_kept { devices.new.drives ≡ devices.old.drives }
 {
@@ -140,6 +147,9 @@ fn run_modules<H: Host>(alloc: Global, run: &RunWords, host: &mut H, devices: &m
         (outside ⟦<dyn CharDriver as CharDriver>⟧ (H.bytes_out host.old) devices.old.terms.items)
         (H.bytes_out host.new)) }
     ensures silent { IsSilent (number_of result) → H.bytes_out host.new ≡ H.bytes_out host.old }
+    ensures terminals_kept { IsSilent (number_of result)
+        → screens ⟦<dyn CharDriver as CharDriver>⟧ devices.new.terms.items
+        ≡ screens ⟦<dyn CharDriver as CharDriver>⟧ devices.old.terms.items }
     ensures files_kept { H.file_map host.new ≡ H.file_map host.old }
     ensures drives_kept { devices.new.drives ≡ devices.old.drives }
 {
@@ -197,6 +207,9 @@ fn boot<H: Host>(
         (outside ⟦<dyn CharDriver as CharDriver>⟧ (H.bytes_out host.old) devices.old.terms.items)
         (H.bytes_out host.new) }
     ensures silent { IsSilent (number_of result) → H.bytes_out host.new ≡ H.bytes_out host.old }
+    ensures terminals_kept { IsSilent (number_of result)
+        → screens ⟦<dyn CharDriver as CharDriver>⟧ devices.new.terms.items
+        ≡ screens ⟦<dyn CharDriver as CharDriver>⟧ devices.old.terms.items }
     ensures files_kept { H.file_map host.new ≡ H.file_map host.old }
     ensures drives_kept { devices.new.drives ≡ devices.old.drives }
 {
