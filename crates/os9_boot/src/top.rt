@@ -34,15 +34,16 @@ use std::alloc::Global;
 ///
 /// A run begins with the terminals as they are when the call is made, and ends with them as they
 /// are when it returns: a terminal fails in the run only where its count of faults rose in this
-/// call. Where nothing runs, at 1, 2, 6, 7 and 8 and in a `check` that is done, the terminals are as
-/// they were. No drive is touched.
+/// call. Where nothing runs, at 1, 2, 6, 7 and 8 and in a `check` that is done, the terminals are
+/// as they were. No drive is touched.
 ///
-/// At 3 and 4 a `run` may have written a prefix of what the machine writes over some first slices.
+/// At 3 and 4 a `run` has written nothing, or a prefix of what the machine writes over some first
+/// slices.
 pub fn os9_main<H: Host>(alloc: Global, words: &[String], host: &mut H, devices: &mut Devices) -> u8
     requires { 0 < vec_len devices.old.terms }
     // The headline: where nothing failed and the host and the terminals tell what they hold, the
-    // output has gained the bytes of a run of the abstract machine, which ends with the terminals as
-    // they are now, and the status is that run's.
+    // output has gained the bytes of a run of the abstract machine, which ends with the terminals
+    // as they are now, and the status is that run's.
     ensures run_headline { IsAnswered result → IfSome (H.file_map host.old) (λ files.
         All IsTold (screens ⟦<dyn CharDriver as CharDriver>⟧ devices.old.terms.items)
         → Answers files (map string_bytes words.now)
@@ -63,8 +64,8 @@ pub fn os9_main<H: Host>(alloc: Global, words: &[String], host: &mut H, devices:
         (outside ⟦<dyn CharDriver as CharDriver>⟧ (H.bytes_out host.old) devices.old.terms.items)
         (outside ⟦<dyn CharDriver as CharDriver>⟧ (H.bytes_out host.new) devices.new.terms.items)
         result) }
-    // Where the output could not be written or memory was wanting, a run has written a prefix of what
-    // the machine writes over some first slices.
+    // Where the output could not be written or memory was wanting, the output has gained nothing,
+    // or a prefix of what the machine writes over some first slices.
     ensures partial { IsStopped result → IfSome (H.file_map host.old) (λ files.
         All IsTold (screens ⟦<dyn CharDriver as CharDriver>⟧ devices.old.terms.items)
         → AnswersPartly files (map string_bytes words.now)
