@@ -1,3 +1,6 @@
+ghost use Rattle.std.specs.Prelude.{◌≡◌, true, bytes_eq};
+ghost use Rattle.std.specs.Bool.{OnTrue};
+
 use crate::row::Row;
 use device_table::devices::Devices;
 use os9_boot::os9_main;
@@ -17,7 +20,10 @@ pub(crate) struct Shown {
 
 impl Shown {
     /// Is it what the row says?
-    pub(crate) fn is_as(&self, row: &Row) -> bool {
+    pub(crate) fn is_as(&self, row: &Row) -> bool
+        ensures status { OnTrue result (self.now.status ≡ row.now.status) }
+        ensures out { OnTrue result (bytes_eq self.now.out.items row.now.out.items ≡ true) }
+    {
         let told = match self.err.as_slice().strip_suffix(b"\n") {
             Some(line) => line == row.err.as_bytes(),
             None => self.err.is_empty() && row.err.is_empty(),

@@ -118,7 +118,7 @@ mod tests {
             (b"Term", Some(Dev::Term(0))),
             (b"T1", None),
             (b"pipe", Some(Dev::Pipe)),
-            (b"T9", None),
+            (b"printer", None),
         ] {
             let name = parse_name(text).ok().ok_or("no name")?;
             assert_eq!(rt; devices.find(&name), device);

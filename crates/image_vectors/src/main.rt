@@ -2,6 +2,8 @@
 //! many there were and how many came out otherwise.
 #![tactic(auto)]
 
+ghost use Rattle.std.specs.Prelude.{◌≡◌, not, bytes_eq};
+
 use anyhow::Result;
 use rbf_check::check;
 use std::alloc::{AllocError, Global};
@@ -21,6 +23,13 @@ fn answer(alloc: Global, image: &[u8]) -> Result<String, AllocError> {
     }
 }
 
+/// Is the answer another one than is known?
+fn differs(found: &str, expected: &str) -> bool
+    ensures { result ≡ not (bytes_eq found.now expected.now) }
+{
+    found != expected
+}
+
 fn main(rt: HostRuntime) -> Result<()> {
     let list = fs::read_to_string(&rt, "expected.txt")?;
     let mut images: u64 = 0;
@@ -30,7 +39,7 @@ fn main(rt: HostRuntime) -> Result<()> {
         let image = fs::read(&rt, name)?;
         let found = answer(rt.alloc(), &image)?;
         images = images.saturating_add(1);
-        if found.as_str() != expected {
+        if differs(&found, expected) {
             differ = differ.saturating_add(1);
             println!(rt; "differs: {line}: {found}")?;
         }

@@ -39,7 +39,7 @@ fn put_files(image: &mut Vec<u8>) {
 }
 
 // A volume whose 100 files have the same sectors, 48 times each.
-pub fn overlapping_files(alloc: Global) -> Result<Vec<u8>, AllocError> {
+pub(super) fn overlapping_files(alloc: Global) -> Result<Vec<u8>, AllocError> {
     let mut image = vec![in alloc; 0u8; 76800]?;
     put(&mut image, &ROOT);
     for at in 256..294 {
@@ -50,7 +50,7 @@ pub fn overlapping_files(alloc: Global) -> Result<Vec<u8>, AllocError> {
 }
 
 // The same, whose files are directories as long as their sectors.
-pub fn overlapping_directories(alloc: Global) -> Result<Vec<u8>, AllocError> {
+pub(super) fn overlapping_directories(alloc: Global) -> Result<Vec<u8>, AllocError> {
     let mut image = overlapping_files(alloc)?;
     for lsn in 16..116usize {
         let at = 256 * lsn;
