@@ -6,8 +6,8 @@ use Rattle.std.proofs.lemmas.Bool.{cases_eq, cases_lt}
 use borrow.Rule.Slice.PartMut.{put_mid}
 use Rattle.block_pool.specs.Blocks.{Blocks, IsLive}
 use Rattle.proc_model.specs.declared.group.BlockId.{BlockId}
-use Rattle.proc_model.specs.Slots.{Slots, IsMap, Names, put_places, naming, named_in}
-use Rattle.block_map.specs.Takes.{AreNew, NamesLive, shared_all, given_all}
+use Rattle.proc_model.specs.Slots.{Slots, IsMap, NamesBlock, put_places, filled_places, blocks_in}
+use Rattle.block_map.specs.TakenBlocks.{AreNewBlocks, NamesLiveBlocks, pool_after_sharing, pool_after_giving}
 use Rattle.block_map.proofs.Places.{at, Once, Once-put, length-put, Once-naming, at-naming, at-put, at-cleared, at-within, All-named_in, same_id}
 use Rattle.block_map.proofs.Counts.{Takes-live, Takes-free, Takes-named, Takes-once, count_of-shared_all, count_of-given_all}
 
@@ -38,17 +38,17 @@ GroupsFit-clear groups first eight within old slot other here =
     ]
 
 -- no new block is one that a live map names
-new_apart : (places new : List (Option BlockId)) (before after : Blocks) → ((slot : ℕ) (id : BlockId) → at places slot ≡ Some id → IsLive before id.0) → AreNew new before after → (k : ℕ) (id : BlockId) → at new k ≡ Some id → (slot : ℕ) → at places slot ≡ Some id → ⊥
+new_apart : (places new : List (Option BlockId)) (before after : Blocks) → ((slot : ℕ) (id : BlockId) → at places slot ≡ Some id → IsLive before id.0) → AreNewBlocks new before after → (k : ℕ) (id : BlockId) → at new k ≡ Some id → (slot : ℕ) → at places slot ≡ Some id → ⊥
 new_apart places new before after live news k id here slot there =
     let free = Takes-free before after news.blocks k id news.taken (ap (λ (list : List (Option BlockId)). at list k) (sym news.named) ∙ here) in
     absurd (omega (arith, live slot id there, free.1))
 
 -- the places that are put name each block once
-pub Once-new : (places new : List (Option BlockId)) (before after : Blocks) (first : ℕ) → first + length new ≤ length places → Once places → ((slot : ℕ) (id : BlockId) → at places slot ≡ Some id → IsLive before id.0) → AreNew new before after → Once (put_places places first new)
+pub Once-new : (places new : List (Option BlockId)) (before after : Blocks) (first : ℕ) → first + length new ≤ length places → Once places → ((slot : ℕ) (id : BlockId) → at places slot ≡ Some id → IsLive before id.0) → AreNewBlocks new before after → Once (put_places places first new)
 Once-new places new before after first fits once live news =
     Once-put places new first fits once (subst Once (sym news.named) (Takes-once before after news.blocks news.taken)) (new_apart places new before after live news)
 
-pub live-new : (places new : List (Option BlockId)) (before after : Blocks) (first : ℕ) → first + length new ≤ length places → ((slot : ℕ) (id : BlockId) → at places slot ≡ Some id → IsLive before id.0) → AreNew new before after → (slot : ℕ) (id : BlockId) → at (put_places places first new) slot ≡ Some id → IsLive after id.0
+pub live-new : (places new : List (Option BlockId)) (before after : Blocks) (first : ℕ) → first + length new ≤ length places → ((slot : ℕ) (id : BlockId) → at places slot ≡ Some id → IsLive before id.0) → AreNewBlocks new before after → (slot : ℕ) (id : BlockId) → at (put_places places first new) slot ≡ Some id → IsLive after id.0
 live-new places new before after first fits live news slot id here =
     elim (at-put places new first slot fits) [
       | inl a ↦ Takes-named before after news.blocks (slot - first) id news.taken (ap (λ (list : List (Option BlockId)). at list (slot - first)) (sym news.named) ∙ (sym a.2 ∙ here))
@@ -56,17 +56,17 @@ live-new places new before after first fits live news slot id here =
     ]
 
 -- the same where a group is put
-pub Once-group : (places : List (Option BlockId)) (ids : List BlockId) (first : ℕ) → first + length ids ≤ length places → Once places → AllPairs (λ a b. a ≢ b) ids → All (λ id. (slot : ℕ) × (at places slot ≡ Some id) → ⊥) ids → Once (put_places places first (naming ids))
+pub Once-group : (places : List (Option BlockId)) (ids : List BlockId) (first : ℕ) → first + length ids ≤ length places → Once places → AllPairs (λ a b. a ≢ b) ids → All (λ id. (slot : ℕ) × (at places slot ≡ Some id) → ⊥) ids → Once (put_places places first (filled_places ids))
 Once-group places ids first fits once different unnamed =
-    Once-put places (naming ids) first (omega (arith, length-map ids (λ (block : BlockId). Some block))) once (Once-naming ids different)
+    Once-put places (filled_places ids) first (omega (arith, length-map ids (λ (block : BlockId). Some block))) once (Once-naming ids different)
     (λ k id here slot there.
     let named = at-naming ids k id here in
     subst (λ (b : BlockId). (s : ℕ) × (at places s ≡ Some b) → ⊥) named.1 (unnamed k id named.0) (slot, there))
 
-pub live-group : (places : List (Option BlockId)) (ids : List BlockId) (before : Blocks) (first : ℕ) → first + length ids ≤ length places → ((slot : ℕ) (id : BlockId) → at places slot ≡ Some id → IsLive before id.0) → All (λ id. IsLive before id.0) ids → (slot : ℕ) (id : BlockId) → at (put_places places first (naming ids)) slot ≡ Some id → IsLive (shared_all before ids) id.0
+pub live-group : (places : List (Option BlockId)) (ids : List BlockId) (before : Blocks) (first : ℕ) → first + length ids ≤ length places → ((slot : ℕ) (id : BlockId) → at places slot ≡ Some id → IsLive before id.0) → All (λ id. IsLive before id.0) ids → (slot : ℕ) (id : BlockId) → at (put_places places first (filled_places ids)) slot ≡ Some id → IsLive (pool_after_sharing before ids) id.0
 live-group places ids before first fits live each slot id here =
     let grown = count_of-shared_all before ids id.0 in
-    elim (at-put places (naming ids) first slot (omega (arith, length-map ids (λ (block : BlockId). Some block)))) [
+    elim (at-put places (filled_places ids) first slot (omega (arith, length-map ids (λ (block : BlockId). Some block)))) [
       | inl a ↦
           let named = at-naming ids (slot - first) id (sym a.2 ∙ here) in
           let was : IsLive before id.0 = subst (λ (b : BlockId). IsLive before b.0) named.1 (each (slot - first) id named.0) in
@@ -105,7 +105,7 @@ Once-clear places first len fits once =
     let cleared : List (Option BlockId) = replicate len None in
     Once-put places cleared first (omega (arith, length-replicate {A = Option BlockId} len None)) once (λ k other id here there. absurd (at-cleared len k id here)) (λ k id here slot there. absurd (at-cleared len k id here))
 
-pub live-clear : (places : List (Option BlockId)) (first len : ℕ) (before : Blocks) → first + len ≤ length places → Once places → ((slot : ℕ) (id : BlockId) → at places slot ≡ Some id → IsLive before id.0) → (slot : ℕ) (id : BlockId) → at (put_places places first (replicate len None)) slot ≡ Some id → IsLive (given_all before (named_in (take len (drop first places)))) id.0
+pub live-clear : (places : List (Option BlockId)) (first len : ℕ) (before : Blocks) → first + len ≤ length places → Once places → ((slot : ℕ) (id : BlockId) → at places slot ≡ Some id → IsLive before id.0) → (slot : ℕ) (id : BlockId) → at (put_places places first (replicate len None)) slot ≡ Some id → IsLive (pool_after_giving before (blocks_in (take len (drop first places)))) id.0
 live-clear places first len before fits once live slot id here =
     let cleared : List (Option BlockId) = replicate len None in
     let many = length-replicate {A = Option BlockId} len None in
@@ -114,11 +114,11 @@ live-clear places first len before fits once live slot id here =
       | inr a ↦
           let kept : at places slot ≡ Some id = sym a.1 ∙ here in
           let part = take len (drop first places) in
-          let others : All (λ (b : BlockId). b.0 ≢ id.0) (named_in part) = All-named_in (λ (b : BlockId). b.0 ≢ id.0) part (λ k b there same.
+          let others : All (λ (b : BlockId). b.0 ≢ id.0) (blocks_in part) = All-named_in (λ (b : BlockId). b.0 ≢ id.0) part (λ k b there same.
           let inside : k < len = omega (arith, at-within part k b there, length-part places first len fits) in
           let place = once (first + k) slot id (sym (at-part places first len k inside) ∙ there ∙ ap (λ (block : BlockId). Some block) (same_id b id same)) kept in
           outside first len slot k (subst (λ (n : ℕ). (slot < first) ⊎ (first + n ≤ slot)) many a.0) inside place) in
-          omega (arith, count_of-given_all before (named_in part) id.0 others, live slot id kept)
+          omega (arith, count_of-given_all before (blocks_in part) id.0 others, live slot id kept)
     ]
 
 -- what a part that was cleared leaves of the places
@@ -135,7 +135,7 @@ abbrev pub slots_of : List (Option BlockId) → ℕ → List (Option ℕ) → Sl
 slots_of places low groups = record { places = places; low = low; groups = groups }
 
 -- the low area grows by new blocks
-pub IsMap-low : (slots : Slots BlockId) (new : List (Option BlockId)) (len : ℕ) (before after : Blocks) → IsMap slots → slots.low + len ≤ 8 → length new ≡ slots.low + len - slots.low → NamesLive slots before → AreNew new before after → IsMap (slots_of (put_mid slots.low (slots.low + len - slots.low) slots.places new) (slots.low + len) slots.groups)
+pub IsMap-low : (slots : Slots BlockId) (new : List (Option BlockId)) (len : ℕ) (before after : Blocks) → IsMap slots → slots.low + len ≤ 8 → length new ≡ slots.low + len - slots.low → NamesLiveBlocks slots before → AreNewBlocks new before after → IsMap (slots_of (put_mid slots.low (slots.low + len - slots.low) slots.places new) (slots.low + len) slots.groups)
 IsMap-low slots new len before after map fits many live news =
     let eight = map.eight_places in
     let mid = put_mid-put slots.places new slots.low (slots.low + len - slots.low) many in
@@ -148,14 +148,14 @@ IsMap-low slots new len before after map fits many live news =
     }
 
 -- a group is named
-pub IsMap-group : (slots : Slots BlockId) (new : List (Option BlockId)) (ids : List BlockId) (first len : ℕ) → IsMap slots → 1 ≤ len → first + len ≤ 8 → new ≡ naming ids → length ids ≡ len → AllPairs (λ a b. a ≢ b) ids → All (λ id. Names slots id → ⊥) ids → IsMap (slots_of (put_mid first (first + len - first) slots.places new) slots.low (set slots.groups first (Some len)))
+pub IsMap-group : (slots : Slots BlockId) (new : List (Option BlockId)) (ids : List BlockId) (first len : ℕ) → IsMap slots → 1 ≤ len → first + len ≤ 8 → new ≡ filled_places ids → length ids ≡ len → AllPairs (λ a b. a ≢ b) ids → All (λ id. NamesBlock slots id → ⊥) ids → IsMap (slots_of (put_mid first (first + len - first) slots.places new) slots.low (set slots.groups first (Some len)))
 IsMap-group slots new ids first len map some fits named count different unnamed =
     let eight = map.eight_places in
     let length-naming = length-map ids (λ (block : BlockId). Some block) in
     let many : length new ≡ first + len - first = ap (λ (list : List (Option BlockId)). length list) named ∙ length-naming ∙ omega arith in
     let mid = put_mid-put slots.places new first (first + len - first) many ∙ ap (put_places slots.places first) named in
     record {
-      eight_places = ap (λ (list : List (Option BlockId)). length list) mid ∙ length-put slots.places (naming ids) first (omega (arith, length-naming)) ∙ eight;
+      eight_places = ap (λ (list : List (Option BlockId)). length list) mid ∙ length-put slots.places (filled_places ids) first (omega (arith, length-naming)) ∙ eight;
       eight_groups = length-set slots.groups first (Some len) ∙ map.eight_groups;
       low_fits = map.low_fits;
       group_fits = GroupsFit-set slots.groups first len map.eight_groups (omega arith) fits map.group_fits;

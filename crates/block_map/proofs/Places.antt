@@ -4,7 +4,7 @@ use Rattle.std.proofs.lemmas.List.{get_or_append_left, get_or-append_right, get_
 use Rattle.std.proofs.lemmas.Option.{same_Some, none-some}
 use Rattle.std.proofs.lemmas.Bool.{cases_lt, cases_order}
 use Rattle.proc_model.specs.declared.group.BlockId.{BlockId}
-use Rattle.proc_model.specs.Slots.{put_places, named_in, naming}
+use Rattle.proc_model.specs.Slots.{put_places, blocks_in, filled_places}
 
 -- what stands at a place
 abbrev pub at : List (Option BlockId) → ℕ → Option BlockId
@@ -27,13 +27,13 @@ at-within places k id named =
     ]
 
 -- the block at a place of those that were put
-pub at-naming : (ids : List BlockId) (k : ℕ) (id : BlockId) → at (naming ids) k ≡ Some id → (k < length ids) × (get_or ids k id ≡ id)
+pub at-naming : (ids : List BlockId) (k : ℕ) (id : BlockId) → at (filled_places ids) k ≡ Some id → (k < length ids) × (get_or ids k id ≡ id)
 at-naming ids k id named =
-    let within : k < length ids = subst (λ (n : ℕ). k < n) (length-map ids (λ (block : BlockId). Some block)) (at-within (naming ids) k id named) in
+    let within : k < length ids = subst (λ (n : ℕ). k < n) (length-map ids (λ (block : BlockId). Some block)) (at-within (filled_places ids) k id named) in
     (within, same_Some (get_or ids k id) id (sym (get_or-map (λ (block : BlockId). Some block) ids k id None within) ∙ named))
 
 -- blocks that differ stand in places that name each once
-pub Once-naming : (ids : List BlockId) → AllPairs (λ a b. a ≢ b) ids → Once (naming ids)
+pub Once-naming : (ids : List BlockId) → AllPairs (λ a b. a ≢ b) ids → Once (filled_places ids)
 Once-naming ids different k other id here there =
     let a = at-naming ids k id here in
     let b = at-naming ids other id there in
@@ -101,11 +101,11 @@ pub at-part : (places : List (Option BlockId)) (first end k : ℕ) → first + k
 at-part places first end k within = get_or-take (end - first) (drop first places) k None (omega arith) ∙ get_or-drop first places k None
 
 -- what is true of each block that places name
-pub All-named_in : (P : BlockId → Type 0) (places : List (Option BlockId)) → ((k : ℕ) (id : BlockId) → at places k ≡ Some id → P id) → All P (named_in places)
+pub All-named_in : (P : BlockId → Type 0) (places : List (Option BlockId)) → ((k : ℕ) (id : BlockId) → at places k ≡ Some id → P id) → All P (blocks_in places)
 All-named_in P [] each = λ k d within. absurd (omega arith)
 All-named_in P (None ∷ places) each = All-named_in P places (λ k. each (suc k))
 All-named_in P (Some x ∷ places) each =
-    λ k d within. elim k as (λ (n : ℕ). n < length (x ∷ named_in places) → P (get_or (x ∷ named_in places) n d)) [
+    λ k d within. elim k as (λ (n : ℕ). n < length (x ∷ blocks_in places) → P (get_or (x ∷ blocks_in places) n d)) [
       | zero ↦ λ w. each zero x refl
       | suc n ↦ λ w. All-named_in P places (λ j. each (suc j)) n d (omega arith)
     ] within

@@ -1,3 +1,3 @@
-pub mod Takes
+pub mod TakenBlocks
 pub mod Window
 pub mod Beside

@@ -3,19 +3,19 @@ use Rattle.std.specs.Prelude.{◌≡◌, ℕ, ◌/◌, ◌%◌, ◌≤◌, IsSom
 use Rattle.std.proofs.Common.{◌∙◌, subst, sym, refl}
 use Rattle.block_pool.specs.Blocks.{Blocks, IsPool, IsLive, is_live, block_bytes}
 use Rattle.proc_model.specs.declared.group.BlockId.{BlockId}
-use Rattle.proc_model.specs.Slots.{Slots, place_of, Names}
+use Rattle.proc_model.specs.Slots.{Slots, block_at, NamesBlock}
 
 -- a byte of a block that is live
 abbrev pub live_byte : Blocks → ℕ → BlockId → Option ℕ
 live_byte pool at id = if is_live pool id.0 then slice_get (block_bytes pool id.0) at else None
 
 -- the byte at an address: that of the block which the address's slot names
-abbrev pub cells_of : Slots BlockId → Blocks → ℕ → Option ℕ
-cells_of slots pool address = option_and_then (live_byte pool (address % 8192)) (place_of slots (address / 8192))
+abbrev pub map_cells : Slots BlockId → Blocks → ℕ → Option ℕ
+map_cells slots pool address = option_and_then (live_byte pool (address % 8192)) (block_at slots (address / 8192))
 
 -- the slot names a live block
 abbrev pub IsSlotLive : Slots BlockId → Blocks → ℕ → Type 0
-IsSlotLive slots pool slot = IsSomeAnd (place_of slots slot) (λ id. IsLive pool id.0)
+IsSlotLive slots pool slot = IsSomeAnd (block_at slots slot) (λ id. IsLive pool id.0)
 
 -- each slot from one to another does
 abbrev pub AllSlotsLive : Slots BlockId → Blocks → ℕ → ℕ → Type 0
@@ -26,7 +26,7 @@ pub record SameBeyond (slots : Slots BlockId) (before after : Blocks) : Type 0 w
   pub shape : IsPool before → IsPool after
   pub counts : after.counts ≡ before.counts
   pub blocks : length after.bytes ≡ length before.bytes
-  pub bytes : (id : BlockId) → (Names slots id → ⊥) → block_bytes after id.0 ≡ block_bytes before id.0
+  pub bytes : (id : BlockId) → (NamesBlock slots id → ⊥) → block_bytes after id.0 ≡ block_bytes before id.0
 
 pub SameBeyond-self : (slots : Slots BlockId) (pool : Blocks) → SameBeyond slots pool pool
 SameBeyond-self slots pool = record { shape = λ pool. pool; counts = refl; blocks = refl; bytes = λ id apart. refl }
@@ -36,5 +36,5 @@ SameBeyond-then slots other first middle last same one two = record {
   shape = λ pool. two.shape (one.shape pool);
   counts = two.counts ∙ one.counts;
   blocks = two.blocks ∙ one.blocks;
-  bytes = λ id apart. two.bytes id (subst (λ m. Names m id → ⊥) (sym same) apart) ∙ one.bytes id apart;
+  bytes = λ id apart. two.bytes id (subst (λ m. NamesBlock m id → ⊥) (sym same) apart) ∙ one.bytes id apart;
 }

@@ -1,9 +1,9 @@
 ghost use Rattle.std.specs.Prelude.{◌≡◌, ◌≢◌, ℕ, ◌+◌, ◌-◌, ◌<◌, ◌≤◌, ◌↔◌, length, replicate, IsTrue, IsSome, OnOk, OnErr, IfOk, IfSome, IfNone, All, AllPairs, slice_index_or, None, Some, [], ◌∷◌};
 ghost use Rattle.std.specs.Option.{ForSome};
 ghost use Rattle.proc_model.specs.declared.group.BlockId.{BlockId};
-ghost use Rattle.block_pool.specs.Blocks.{Blocks, IsPool, IsLive, count_of, free_count};
-ghost use Rattle.proc_model.specs.Slots.{Slots, naming, named_in};
-ghost use Rattle.block_map.specs.Takes.{AreNew, shared_all, given_all, NamesLive, GainsLow, group_blocks};
+ghost use Rattle.block_pool.specs.Blocks.{Blocks, IsPool, IsLive, reference_count, free_block_count};
+ghost use Rattle.proc_model.specs.Slots.{Slots, filled_places, blocks_in};
+ghost use Rattle.block_map.specs.TakenBlocks.{AreNewBlocks, pool_after_sharing, pool_after_giving, NamesLiveBlocks, GainsLow, group_blocks};
 
 use block_pool::pool::Pool;
 use proc_model::group::{BlockId, Group};
@@ -45,7 +45,7 @@ impl Model for Map {
 }
 
 impl Map {
-    ghost use Rattle.proc_model.specs.Slots.{IsMap, no_slots, place_of, group_of, Names, IsFreeRun, IsHighestFreeRun, named_from, cut_low_to, with_group, without_group};
+    ghost use Rattle.proc_model.specs.Slots.{IsMap, no_slots, block_at, group_of, NamesBlock, IsFreeRun, IsHighestFreeRun, blocks_between, cut_low_to, with_group, map_without_group};
 
     /// A map that names nothing.
     pub fn empty() -> Map
@@ -61,7 +61,7 @@ impl Map {
     /// The block in a slot, if there is one.
     pub fn place(&self, slot: u8) -> Option<BlockId>
         requires { slot < 8 }
-        ensures place { result ≡ place_of self.now slot }
+        ensures place { result ≡ block_at self.now slot }
         ensures shape { IsMap self.now }
     {
         self.places[slot as usize]
@@ -72,15 +72,15 @@ impl Map {
     /// `NoSlot` where fewer than `n` slots follow or one of them names a block, else `NoBlock` where
     /// fewer than `n` blocks are free. After a refusal nothing has changed.
     pub fn map_low(&mut self, pool: &mut Pool, n: u8) -> Result<(), MapFault>
-        requires { NamesLive self.old pool.old }
+        requires { NamesLiveBlocks self.old pool.old }
 
         ensures no_slot { (result ≡ Err MapFault.NoSlot) ↔ (IsFreeRun self.old self.old.low n → ⊥) }
         ensures no_block { (result ≡ Err MapFault.NoBlock)
-            ↔ (IsFreeRun self.old self.old.low n × (free_count pool.old < n)) }
+            ↔ (IsFreeRun self.old self.old.low n × (free_block_count pool.old < n)) }
         ensures refused { OnErr result ((self.new ≡ self.old) × (pool.new ≡ pool.old)) }
 
         ensures gains { OnOk result (GainsLow n self.old pool.old self.new pool.new) }
-        ensures live { NamesLive self.new pool.new }
+        ensures live { NamesLiveBlocks self.new pool.new }
         ensures shape { IsMap self.new }
         ensures pool { IsPool pool.old → IsPool pool.new }
     {
@@ -100,12 +100,12 @@ impl Map {
     /// Keeps the first `n` slots of the low area, and gives the blocks of its other slots back. A low
     /// area of no more than `n` slots stays.
     pub fn cut_low(&mut self, pool: &mut Pool, n: u8)
-        requires { NamesLive self.old pool.old }
+        requires { NamesLiveBlocks self.old pool.old }
 
         ensures whole { self.old.low ≤ n → (self.new ≡ self.old) × (pool.new ≡ pool.old) }
         ensures cut { n < self.old.low → self.new ≡ cut_low_to self.old n }
-        ensures given { n < self.old.low → pool.new ≡ given_all pool.old (named_from self.old n self.old.low) }
-        ensures live { NamesLive self.new pool.new }
+        ensures given { n < self.old.low → pool.new ≡ pool_after_giving pool.old (blocks_between self.old n self.old.low) }
+        ensures live { NamesLiveBlocks self.new pool.new }
         ensures shape { IsMap self.new }
         ensures pool { IsPool pool.old → IsPool pool.new }
     {
@@ -123,9 +123,9 @@ impl Map {
         requires some { 1 ≤ g.now.len }
         requires different { AllPairs (λ a b. a ≢ b) (group_blocks g.now) }
         requires group_live { All (λ id. IsLive pool.old id.0) (group_blocks g.now) }
-        requires countable { All (λ id. count_of pool.old id.0 < 65000) (group_blocks g.now) }
-        requires unnamed { All (λ id. Names self.old id → ⊥) (group_blocks g.now) }
-        requires live { NamesLive self.old pool.old }
+        requires countable { All (λ id. reference_count pool.old id.0 < 65000) (group_blocks g.now) }
+        requires unnamed { All (λ id. NamesBlock self.old id → ⊥) (group_blocks g.now) }
+        requires live { NamesLiveBlocks self.old pool.old }
 
         ensures no_slot { (result ≡ Err MapFault.NoSlot) ↔ ((first : ℕ) → IsFreeRun self.old first g.now.len → ⊥) }
         ensures no_other_fault { result ≢ Err MapFault.NoBlock }
@@ -133,8 +133,8 @@ impl Map {
 
         ensures highest { IfOk result (IsHighestFreeRun self.old g.now.len) }
         ensures grouped { IfOk result (λ first. self.new ≡ with_group self.old first (group_blocks g.now)) }
-        ensures shared { OnOk result (pool.new ≡ shared_all pool.old (group_blocks g.now)) }
-        ensures live { NamesLive self.new pool.new }
+        ensures shared { OnOk result (pool.new ≡ pool_after_sharing pool.old (group_blocks g.now)) }
+        ensures live { NamesLiveBlocks self.new pool.new }
         ensures shape { IsMap self.new }
         ensures pool { IsPool pool.old → IsPool pool.new }
     {
@@ -151,12 +151,12 @@ impl Map {
     /// Gives back the blocks of the group that begins at the slot, and frees its slots.
     pub fn unmap(&mut self, pool: &mut Pool, slot: u8)
         requires begins { IsSome (group_of self.old slot) }
-        requires live { NamesLive self.old pool.old }
+        requires live { NamesLiveBlocks self.old pool.old }
 
-        ensures cut { IfSome (group_of self.old slot) (λ len. self.new ≡ without_group self.old slot len) }
+        ensures cut { IfSome (group_of self.old slot) (λ len. self.new ≡ map_without_group self.old slot len) }
         ensures given { IfSome (group_of self.old slot)
-            (λ len. pool.new ≡ given_all pool.old (named_from self.old slot (slot + len))) }
-        ensures live { NamesLive self.new pool.new }
+            (λ len. pool.new ≡ pool_after_giving pool.old (blocks_between self.old slot (slot + len))) }
+        ensures live { NamesLiveBlocks self.new pool.new }
         ensures shape { IsMap self.new }
         ensures pool { IsPool pool.old → IsPool pool.new }
     {
@@ -169,9 +169,9 @@ impl Map {
 
     /// Gives back every block that the map names: it names nothing then.
     pub fn clear(&mut self, pool: &mut Pool)
-        requires { NamesLive self.old pool.old }
+        requires { NamesLiveBlocks self.old pool.old }
         ensures empty { self.new ≡ no_slots }
-        ensures given { pool.new ≡ given_all pool.old (named_in self.old.places) }
+        ensures given { pool.new ≡ pool_after_giving pool.old (blocks_in self.old.places) }
         ensures shape { IsMap self.new }
         ensures pool { IsPool pool.old → IsPool pool.new }
     {
@@ -204,8 +204,8 @@ impl Map {
 
 // Names a new block in each of these places.
 fn name_new(places: &mut [Option<BlockId>], pool: &mut Pool)
-    requires { length places.old ≤ free_count pool.old }
-    ensures { AreNew places.new pool.old pool.new }
+    requires { length places.old ≤ free_block_count pool.old }
+    ensures { AreNewBlocks places.new pool.old pool.new }
 {
     for place in places.iter_mut() {
         *place = pool.take();
@@ -217,9 +217,9 @@ fn name_shared(places: &mut [Option<BlockId>], blocks: &[BlockId], pool: &mut Po
     requires as_many { length places.old ≡ length blocks.now }
     requires few { length blocks.now ≤ 7 }
     requires live { All (λ id. IsLive pool.old id.0) blocks.now }
-    requires countable { All (λ id. count_of pool.old id.0 < 65000) blocks.now }
-    ensures named { places.new ≡ naming blocks.now }
-    ensures shared { pool.new ≡ shared_all pool.old blocks.now }
+    requires countable { All (λ id. reference_count pool.old id.0 < 65000) blocks.now }
+    ensures named { places.new ≡ filled_places blocks.now }
+    ensures shared { pool.new ≡ pool_after_sharing pool.old blocks.now }
     ensures pool { IsPool pool.old → IsPool pool.new }
 {
     for (k, id) in blocks.iter().enumerate() {
@@ -234,7 +234,7 @@ fn give_back(places: &mut [Option<BlockId>], pool: &mut Pool)
     requires once { (k other : ℕ) (id : BlockId) → slice_index_or places.old k None ≡ Some id
         → slice_index_or places.old other None ≡ Some id → k ≡ other }
     ensures cleared { places.new ≡ replicate (length places.old) None }
-    ensures given { pool.new ≡ given_all pool.old (named_in places.old) }
+    ensures given { pool.new ≡ pool_after_giving pool.old (blocks_in places.old) }
     ensures pool { IsPool pool.old → IsPool pool.new }
 {
     for place in places.iter_mut() {
@@ -246,7 +246,7 @@ fn give_back(places: &mut [Option<BlockId>], pool: &mut Pool)
 fn give_place(place: &mut Option<BlockId>, pool: &mut Pool)
     requires { ForSome place.old (λ id. IsLive pool.old id.0) }
     ensures cleared { place.new ≡ None }
-    ensures given { pool.new ≡ given_all pool.old (named_in (place.old ∷ [])) }
+    ensures given { pool.new ≡ pool_after_giving pool.old (blocks_in (place.old ∷ [])) }
 {
     if let Some(id) = place.take() {
         pool.give(id);

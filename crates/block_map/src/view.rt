@@ -14,10 +14,10 @@ pub struct View<'a> {
 }
 
 impl Bus for View<'_> {
-    ghost use Rattle.block_map.specs.Window.{cells_of};
+    ghost use Rattle.block_map.specs.Window.{map_cells};
     ghost use Rattle.block_map.specs.Beside.{SameBeside, SameBeside-self, SameBeside-then};
 
-    ghost cells = { λ view. cells_of view.map.now view.pool.now };
+    ghost cells = { λ view. map_cells view.map.now view.pool.now };
 
     ghost same_beside = { SameBeside };
 
@@ -55,10 +55,10 @@ impl Map {
 }
 
 impl UserMem for View<'_> {
-    ghost use Rattle.block_map.specs.Window.{cells_of};
+    ghost use Rattle.block_map.specs.Window.{map_cells};
     ghost use Rattle.block_map.specs.Beside.{SameBeside, SameBeside-self, SameBeside-then};
 
-    ghost cells = { λ view. cells_of view.map.now view.pool.now };
+    ghost cells = { λ view. map_cells view.map.now view.pool.now };
 
     ghost same_beside = { SameBeside };
 
@@ -86,7 +86,7 @@ impl UserMem for View<'_> {
 }
 
 impl View<'_> {
-    ghost use Rattle.proc_model.specs.Slots.{IsMap, place_of};
+    ghost use Rattle.proc_model.specs.Slots.{IsMap, block_at};
     ghost use Rattle.block_pool.specs.Blocks.{IsPool, IsLive};
     ghost use Rattle.block_map.specs.Window.{IsSlotLive, AllSlotsLive};
 

@@ -6,7 +6,7 @@ use Rattle.std.proofs.lemmas.List.Quantifiers.{all_pairs_push}
 use Rattle.std.proofs.lemmas.List.Elements.{All-push}
 use Rattle.std.proofs.lemmas.Grind.{common_steps}
 use Rattle.std.proofs.lemmas.Bool.Decides.{nat_tests}
-use Rattle.block_pool.specs.FreeList.{IsUnnamed, IsFreeList}
+use Rattle.block_pool.specs.FreeList.{IsUnreferenced, IsFreeList}
 use Rattle.proc_model.specs.declared.group.BlockId.{BlockId}
 
 -- the number of zeros after a write at one place
@@ -19,11 +19,11 @@ IsFreeList-pop counts free id list =
     let longer = length_push free id in
     let last : (d : BlockId) → get_or (free ++ id ∷ []) (length free) d ≡ id = λ d. get_or_push free id d (length free) refl in
     let here : (k : ℕ) (d : BlockId) → k < length free → get_or (free ++ id ∷ []) k d ≡ get_or free k d = λ k d within. get_or_append_left free (id ∷ []) d k within in
-    let was : IsUnnamed counts id = subst (IsUnnamed counts) (last id) (list.unnamed (length free) id (omega arith)) in
+    let was : IsUnreferenced counts id = subst (IsUnreferenced counts) (last id) (list.unnamed (length free) id (omega arith)) in
     let apart : (k : ℕ) (d : BlockId) → k < length free → (get_or free k d).0 ≢ id.0 = λ k d within e. list.once k (length free) d within (omega arith) (ap (λ (b : BlockId). b.0) (here k d within) ∙ e ∙ sym (ap (λ (b : BlockId). b.0) (last d))) in
     record {
       unnamed = λ k d within.
-          let named_not : IsUnnamed counts (get_or free k d) = subst (IsUnnamed counts) (here k d within) (list.unnamed k d (omega arith)) in
+          let named_not : IsUnreferenced counts (get_or free k d) = subst (IsUnreferenced counts) (here k d within) (list.unnamed k d (omega arith)) in
           (omega (arith, length-set counts id.0 1, named_not.0), get_or-set_other counts id.0 (get_or free k d).0 1 0 (apart k d within) ∙ named_not.1);
       once = λ i j d below within e.
           list.once i j d below (omega arith) (ap (λ (b : BlockId). b.0) (here i d (omega arith)) ∙ e ∙ sym (ap (λ (b : BlockId). b.0) (here j d within)));
@@ -36,7 +36,7 @@ IsFreeList-push counts free id named list =
     let within : id.0 < length counts = grind (arith, get_or_past counts id.0 0) in
     let apart : (k : ℕ) (d : BlockId) → k < length free → (get_or free k d).0 ≢ id.0 = λ k d inside e. absurd (omega (arith, sym (list.unnamed k d inside).1 ∙ ap (λ b. get_or counts b 0) e ∙ named)) in
     record {
-      unnamed = All-push (IsUnnamed (set counts id.0 0)) free id
+      unnamed = All-push (IsUnreferenced (set counts id.0 0)) free id
           (λ k d inside. (omega (arith, length-set counts id.0 0, (list.unnamed k d inside).0), get_or-set_other counts id.0 (get_or free k d).0 0 0 (apart k d inside) ∙ (list.unnamed k d inside).1))
           (omega (arith, length-set counts id.0 0), get_or-set_same counts id.0 0 0 within);
       once = all_pairs_push (λ (a b : BlockId). a.0 ≢ b.0) free id list.once apart;

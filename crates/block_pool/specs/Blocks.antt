@@ -15,48 +15,48 @@ pub record IsPool (pool : Blocks) : Type 0 where
   pub full : All (λ bytes. length bytes ≡ 8192) pool.bytes
 
 -- how often a block is named
-abbrev pub count_of : Blocks → ℕ → ℕ
-count_of pool block = slice_index pool.counts block
+abbrev pub reference_count : Blocks → ℕ → ℕ
+reference_count pool block = slice_index pool.counts block
 
 -- a block that something names
 abbrev pub IsLive : Blocks → ℕ → Type 0
-IsLive pool block = 0 < count_of pool block
+IsLive pool block = 0 < reference_count pool block
 
 -- the test of it
 abbrev pub is_live : Blocks → ℕ → Bool
-is_live pool block = nat_lt 0 (count_of pool block)
+is_live pool block = nat_lt 0 (reference_count pool block)
 
 -- a block of the pool that nothing names
-abbrev pub IsFree : Blocks → ℕ → Type 0
-IsFree pool block = (block < length pool.counts) × (count_of pool block ≡ 0)
+abbrev pub IsFreeBlock : Blocks → ℕ → Type 0
+IsFreeBlock pool block = (block < length pool.counts) × (reference_count pool block ≡ 0)
 
 -- the bytes of a block
 abbrev pub block_bytes : Blocks → ℕ → List ℕ
 block_bytes pool block = slice_index_or pool.bytes block []
 
 -- how many blocks nothing names
-abbrev pub free_count : Blocks → ℕ
-free_count pool = count_by (λ count. count == 0) pool.counts
+abbrev pub free_block_count : Blocks → ℕ
+free_block_count pool = count_by (λ count. count == 0) pool.counts
 
 -- the pool with another count of one block
-abbrev pub with_count : Blocks → ℕ → ℕ → Blocks
-with_count pool block count = record pool { counts = slice_set pool.counts block count }
+abbrev pub with_reference_count : Blocks → ℕ → ℕ → Blocks
+with_reference_count pool block count = record pool { counts = slice_set pool.counts block count }
 
 -- the pool with other bytes in one block
-abbrev pub with_bytes : Blocks → ℕ → List ℕ → Blocks
-with_bytes pool block bytes = record pool { bytes = slice_set pool.bytes block bytes }
+abbrev pub with_block_bytes : Blocks → ℕ → List ℕ → Blocks
+with_block_bytes pool block bytes = record pool { bytes = slice_set pool.bytes block bytes }
 
 -- the pool after a free block was taken: it is named once, and its bytes are zeros
-abbrev pub taken : Blocks → ℕ → Blocks
-taken pool block = with_bytes (with_count pool block 1) block (replicate (length (block_bytes pool block)) 0)
+abbrev pub pool_after_take : Blocks → ℕ → Blocks
+pool_after_take pool block = with_block_bytes (with_reference_count pool block 1) block (replicate (length (block_bytes pool block)) 0)
 
 -- the pool with one naming more of a block
-abbrev pub shared : Blocks → ℕ → Blocks
-shared pool block = with_count pool block (count_of pool block + 1)
+abbrev pub pool_after_share : Blocks → ℕ → Blocks
+pool_after_share pool block = with_reference_count pool block (reference_count pool block + 1)
 
 -- the pool with one naming less of a block
-abbrev pub given : Blocks → ℕ → Blocks
-given pool block = with_count pool block (count_of pool block - 1)
+abbrev pub pool_after_give : Blocks → ℕ → Blocks
+pool_after_give pool block = with_reference_count pool block (reference_count pool block - 1)
 
 -- the list with these bytes from one place on
 abbrev pub overwritten : List ℕ → ℕ → List ℕ → List ℕ

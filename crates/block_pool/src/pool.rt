@@ -38,7 +38,7 @@ impl Model for Pool {
 }
 
 impl Pool {
-    ghost use Rattle.block_pool.specs.Blocks.{Blocks, IsPool, count_of, IsLive, is_live, IsFree, block_bytes, free_count, with_bytes, taken, shared, given, overwritten};
+    ghost use Rattle.block_pool.specs.Blocks.{Blocks, IsPool, reference_count, IsLive, is_live, IsFreeBlock, block_bytes, free_block_count, with_block_bytes, pool_after_take, pool_after_share, pool_after_give, overwritten};
 
     /// A pool of 8 to 256 blocks that nothing names. Only this call takes memory.
     pub fn new(alloc: Global, blocks: u16) -> Result<Pool, OutOfMemory>
@@ -60,8 +60,8 @@ impl Pool {
     pub fn take(&mut self) -> Option<BlockId>
         ensures none { IfNone result (All (λ count. 0 < count) self.old.counts) }
         ensures refused { IfNone result (self.new ≡ self.old) }
-        ensures was_free { IfSome result (λ id. IsFree self.old id.0) }
-        ensures one_block { IfSome result (λ id. self.new ≡ taken self.old id.0) }
+        ensures was_free { IfSome result (λ id. IsFreeBlock self.old id.0) }
+        ensures one_block { IfSome result (λ id. self.new ≡ pool_after_take self.old id.0) }
         ensures shape { IsPool self.new }
     {
         let id = self.free.pop()?;
@@ -74,8 +74,8 @@ impl Pool {
     /// Names a block once more.
     pub fn share(&mut self, id: BlockId)
         requires live { IsLive self.old id.0 }
-        requires countable { count_of self.old id.0 < 65535 }
-        ensures one_count { self.new ≡ shared self.old id.0 }
+        requires countable { reference_count self.old id.0 < 65535 }
+        ensures one_count { self.new ≡ pool_after_share self.old id.0 }
         ensures shape { IsPool self.new }
     {
         self.counts[id.0 as usize] += 1;
@@ -84,7 +84,7 @@ impl Pool {
     /// Names a block once less. One that nothing names any more is free.
     pub fn give(&mut self, id: BlockId)
         requires { IsLive self.old id.0 }
-        ensures one_count { self.new ≡ given self.old id.0 }
+        ensures one_count { self.new ≡ pool_after_give self.old id.0 }
         ensures shape { IsPool self.new }
     {
         let count = &mut self.counts[id.0 as usize];
@@ -97,7 +97,7 @@ impl Pool {
     /// How often a block is named.
     pub fn count(&self, id: BlockId) -> u16
         requires { id.0 < length self.now.counts }
-        ensures count { result ≡ count_of self.now id.0 }
+        ensures count { result ≡ reference_count self.now id.0 }
         ensures shape { IsPool self.now }
     {
         self.counts[id.0 as usize]
@@ -115,7 +115,7 @@ impl Pool {
 
     /// How many blocks nothing names.
     pub fn free_blocks(&self) -> u16
-        ensures count { result ≡ free_count self.now }
+        ensures count { result ≡ free_block_count self.now }
         ensures shape { IsPool self.now }
     {
         self.free.len() as u16
@@ -135,7 +135,7 @@ impl Pool {
     pub fn copy_in(&mut self, id: BlockId, at: u16, from: &[u8])
         requires live { IsLive self.old id.0 }
         requires fits { at + length from.now ≤ 8192 }
-        ensures bytes { self.new ≡ with_bytes self.old id.0 (overwritten (block_bytes self.old id.0) at from.now) }
+        ensures bytes { self.new ≡ with_block_bytes self.old id.0 (overwritten (block_bytes self.old id.0) at from.now) }
         ensures shape { IsPool self.new }
     {
         let block = &mut self.blocks[id.0 as usize];

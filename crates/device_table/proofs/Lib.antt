@@ -1,2 +1,2 @@
-pub mod ScreenLemmas
+pub mod TerminalLemmas
 pub mod StreamLemmas

@@ -1,15 +1,15 @@
 ghost use Rattle.std.specs.Prelude.{◌≡◌, ℕ, ◌≤◌, Option, OnOk, OnErr, List, [], ◌∷◌, ◌<◌, length, vec_len};
 ghost use Rattle.os9_base.specs.Count.{Rose};
-ghost use Rattle.os9_outer.specs.Stream.{appended, GainsPrefix};
+ghost use Rattle.os9_outer.specs.Stream.{stream_with, GainsPrefix};
 ghost use Rattle.os9_outer.specs.Terminal.{OnFault, UnlessFault};
-ghost use Rattle.device_table.specs.Screens.{screens, ChangesOne, Puts};
+ghost use Rattle.os9_outer.specs.TerminalState.{terminal_states, ChangesOneTerminal, Puts};
 
 use crate::devices::Devices;
 use os9_outer::terminal::{CharDriver, PutFault};
 
 // `CharDriver::put` with its clauses by name.
 fn put_byte(term: &mut dyn CharDriver, byte: u8) -> Result<(), PutFault>
-    ensures put_last { OnOk result (bytes_put term.new ≡ appended (bytes_put term.old) (byte ∷ [])) }
+    ensures put_last { OnOk result (bytes_put term.new ≡ stream_with (bytes_put term.old) (byte ∷ [])) }
     ensures put_kept { OnErr result (bytes_put term.new ≡ bytes_put term.old) }
     ensures fault_counted { OnFault result (Rose (term_faults term.old) (term_faults term.new)) }
     ensures faults_kept { UnlessFault result (term_faults term.new ≡ term_faults term.old) }
@@ -21,7 +21,7 @@ fn put_byte(term: &mut dyn CharDriver, byte: u8) -> Result<(), PutFault>
 /// Puts the bytes on a terminal, one after another, until one is refused. Without a byte there is no
 /// refusal.
 pub fn put_bytes(term: &mut dyn CharDriver, bytes: &[u8]) -> Result<(), PutFault>
-    ensures put_all { OnOk result (bytes_put term.new ≡ appended (bytes_put term.old) bytes.now) }
+    ensures put_all { OnOk result (bytes_put term.new ≡ stream_with (bytes_put term.old) bytes.now) }
     ensures put_prefix { GainsPrefix (bytes_put term.old) bytes.now (bytes_put term.new) }
     ensures fault_counted { OnFault result (Rose (term_faults term.old) (term_faults term.new)) }
     ensures faults_kept { UnlessFault result (term_faults term.new ≡ term_faults term.old) }
@@ -39,7 +39,7 @@ pub fn put_bytes(term: &mut dyn CharDriver, bytes: &[u8]) -> Result<(), PutFault
 
 // `put_bytes` on the terminal in a box.
 fn put_in_box(term: &mut Box<dyn CharDriver>, bytes: &[u8]) -> Result<(), PutFault>
-    ensures put_all { OnOk result (bytes_put term.new ≡ appended (bytes_put term.old) bytes.now) }
+    ensures put_all { OnOk result (bytes_put term.new ≡ stream_with (bytes_put term.old) bytes.now) }
     ensures put_prefix { GainsPrefix (bytes_put term.old) bytes.now (bytes_put term.new) }
     ensures fault_counted { OnFault result (Rose (term_faults term.old) (term_faults term.new)) }
     ensures faults_kept { UnlessFault result (term_faults term.new ≡ term_faults term.old) }
@@ -53,9 +53,9 @@ fn put_in_box(term: &mut Box<dyn CharDriver>, bytes: &[u8]) -> Result<(), PutFau
 /// byte there is no refusal.
 pub fn put_on(devices: &mut Devices, n: u8, bytes: &[u8]) -> Result<(), PutFault>
     requires { n < vec_len devices.old.terms }
-    ensures terminal { ChangesOne (Puts result bytes.now) n
-        (screens ⟦<dyn CharDriver as CharDriver>⟧ devices.old.terms.items)
-        (screens ⟦<dyn CharDriver as CharDriver>⟧ devices.new.terms.items) }
+    ensures terminal { ChangesOneTerminal (Puts result bytes.now) n
+        (terminal_states ⟦<dyn CharDriver as CharDriver>⟧ devices.old.terms.items)
+        (terminal_states ⟦<dyn CharDriver as CharDriver>⟧ devices.new.terms.items) }
     ensures drives_kept { devices.new.drives ≡ devices.old.drives }
     ensures some { OnErr result (0 < length bytes.now) }
 {

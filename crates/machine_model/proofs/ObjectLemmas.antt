@@ -6,7 +6,7 @@ use Rattle.std.proofs.lemmas.Option.{slice_get-get_or, slice_get_past, slice_get
 use Rattle.std.proofs.lemmas.Bool.{cases_lt, cases_eq, eqb-true, eq-eqb}
 use Rattle.os9_base.specs.Cells.{put_cell}
 use Rattle.cpu_model.specs.Step.{all_named, write_cells}
-use Rattle.machine_model.specs.Objects.{slot_of, object_byte, cells_of, with_cell, with_writes, IsMap}
+use Rattle.machine_model.specs.Objects.{slot_of, object_byte, object_cells, with_cell, with_writes, NamesObjects}
 
 module _ {X : Type 0} where
   -- what a list has at a place that was written
@@ -34,7 +34,7 @@ record Leads (objects : List (List ℕ)) (places : List (Option ℕ)) (at : ℕ)
   pub is_object : slice_get objects number ≡ Some object
   pub is_byte : slice_get object (at % 8192) ≡ Some old
 
-leads : (objects : List (List ℕ)) (places : List (Option ℕ)) (at : ℕ) → is_some (cells_of objects places at) ≡ true → Leads objects places at
+leads : (objects : List (List ℕ)) (places : List (Option ℕ)) (at : ℕ) → is_some (object_cells objects places at) ≡ true → Leads objects places at
 leads objects places at named = by_slot (slot_of places (at / 8192)) refl named
   where
     by_byte : (number : ℕ) → slot_of places (at / 8192) ≡ Some number → (object : List ℕ) → slice_get objects number ≡ Some object → (byte : Option ℕ) → slice_get object (at % 8192) ≡ byte → is_some byte ≡ true → Leads objects places at
@@ -51,7 +51,7 @@ leads objects places at named = by_slot (slot_of places (at / 8192)) refl named
     by_slot None is_slot named = cc
     by_slot (Some number) is_slot named = by_object number is_slot (slice_get objects number) refl named
 
-module _ (objects : List (List ℕ)) (places : List (Option ℕ)) (at byte : ℕ) (map : IsMap objects places) (here : Leads objects places at) where
+module _ (objects : List (List ℕ)) (places : List (Option ℕ)) (at byte : ℕ) (map : NamesObjects objects places) (here : Leads objects places at) where
   written : with_cell objects places at byte ≡ slice_set objects here.number (slice_set here.object (at % 8192) byte)
   written = rw (here.is_slot, here.is_object) refl
 
@@ -81,13 +81,13 @@ module _ (objects : List (List ℕ)) (places : List (Option ℕ)) (at byte : ℕ
       by_test true is = let same : address ≡ at = eqb-true address at is in absurd (differ (rw same here.is_slot) (rw same refl))
 
   -- a cell of the map after the write
-  cell_after : (address : ℕ) → cells_of (with_cell objects places at byte) places address ≡ put_cell (cells_of objects places) at byte address
+  cell_after : (address : ℕ) → object_cells (with_cell objects places at byte) places address ≡ put_cell (object_cells objects places) at byte address
   cell_after address = by_slot (slot_of places (address / 8192)) refl
     where
-      kept : (number : ℕ) → slot_of places (address / 8192) ≡ Some number → (slot_of places (address / 8192) ≡ Some here.number → address % 8192 ≡ at % 8192 → ⊥) → object_byte (with_cell objects places at byte) (address % 8192) number ≡ object_byte objects (address % 8192) number → cells_of (with_cell objects places at byte) places address ≡ put_cell (cells_of objects places) at byte address
+      kept : (number : ℕ) → slot_of places (address / 8192) ≡ Some number → (slot_of places (address / 8192) ≡ Some here.number → address % 8192 ≡ at % 8192 → ⊥) → object_byte (with_cell objects places at byte) (address % 8192) number ≡ object_byte objects (address % 8192) number → object_cells (with_cell objects places at byte) places address ≡ put_cell (object_cells objects places) at byte address
       kept number is differ same = rw (not_here address differ, is) same
 
-      by_offset : (number : ℕ) → slot_of places (address / 8192) ≡ Some number → number ≡ here.number → (address % 8192 ≡ at % 8192) ⊎ (address % 8192 ≢ at % 8192) → cells_of (with_cell objects places at byte) places address ≡ put_cell (cells_of objects places) at byte address
+      by_offset : (number : ℕ) → slot_of places (address / 8192) ≡ Some number → number ≡ here.number → (address % 8192 ≡ at % 8192) ⊎ (address % 8192 ≢ at % 8192) → object_cells (with_cell objects places at byte) places address ≡ put_cell (object_cells objects places) at byte address
       by_offset number is same (inl offset) =
           let slot : address / 8192 ≡ at / 8192 = map.apart (address / 8192) (at / 8192) here.number (rw (← same) is) here.is_slot in
           let here_it_is : address ≡ at = omega arith in
@@ -95,26 +95,26 @@ module _ (objects : List (List ℕ)) (places : List (Option ℕ)) (at byte : ℕ
       by_offset number is same (inr offset) =
           kept number is (λ _ e. offset e) (rw same (other_byte (address % 8192) offset))
 
-      by_number : (number : ℕ) → slot_of places (address / 8192) ≡ Some number → (number ≡ here.number) ⊎ (number ≢ here.number) → cells_of (with_cell objects places at byte) places address ≡ put_cell (cells_of objects places) at byte address
+      by_number : (number : ℕ) → slot_of places (address / 8192) ≡ Some number → (number ≡ here.number) ⊎ (number ≢ here.number) → object_cells (with_cell objects places at byte) places address ≡ put_cell (object_cells objects places) at byte address
       by_number number is (inl same) = by_offset number is same (cases_eq (address % 8192) (at % 8192))
       by_number number is (inr differ) =
           kept number is (λ other _. differ (cc (is, other))) (other_object number (address % 8192) differ)
 
-      by_slot : (slot : Option ℕ) → slot_of places (address / 8192) ≡ slot → cells_of (with_cell objects places at byte) places address ≡ put_cell (cells_of objects places) at byte address
+      by_slot : (slot : Option ℕ) → slot_of places (address / 8192) ≡ slot → object_cells (with_cell objects places at byte) places address ≡ put_cell (object_cells objects places) at byte address
       by_slot None is = rw (not_here address (λ other _. cc (is, other)), is) refl
       by_slot (Some number) is = by_number number is (cases_eq number here.number)
 
-  map_after : IsMap (with_cell objects places at byte) places
+  map_after : NamesObjects (with_cell objects places at byte) places
   map_after = record {
     there = λ slot number is. rw (written, length-set) (map.there slot number is);
     apart = map.apart;
   }
 
 -- the cells of a map after a write at a named address
-pub cells_of-with_cell : (objects : List (List ℕ)) (places : List (Option ℕ)) (at byte : ℕ) → IsMap objects places → is_some (cells_of objects places at) ≡ true → cells_of (with_cell objects places at byte) places ≡ put_cell (cells_of objects places) at byte
+pub cells_of-with_cell : (objects : List (List ℕ)) (places : List (Option ℕ)) (at byte : ℕ) → NamesObjects objects places → is_some (object_cells objects places at) ≡ true → object_cells (with_cell objects places at byte) places ≡ put_cell (object_cells objects places) at byte
 cells_of-with_cell objects places at byte map named = λ i address. cell_after objects places at byte map (leads objects places at named) address i
 
-pub IsMap-with_cell : (objects : List (List ℕ)) (places : List (Option ℕ)) (at byte : ℕ) → IsMap objects places → is_some (cells_of objects places at) ≡ true → IsMap (with_cell objects places at byte) places
+pub IsMap-with_cell : (objects : List (List ℕ)) (places : List (Option ℕ)) (at byte : ℕ) → NamesObjects objects places → is_some (object_cells objects places at) ≡ true → NamesObjects (with_cell objects places at byte) places
 IsMap-with_cell objects places at byte map named = map_after objects places at byte map (leads objects places at named)
 
 -- ---- the writes of an instruction
@@ -138,10 +138,10 @@ all_named_after cells at byte (write ∷ writes) named =
     rw (named_after cells at byte write.0 parts.0) (all_named_after cells at byte writes parts.1)
 
 -- the objects after the writes are a map's still, and its cells are those written
-pub with_writes-tied : (objects : List (List ℕ)) (places : List (Option ℕ)) (writes : List (ℕ × ℕ)) → IsMap objects places → all_named (cells_of objects places) writes ≡ true → IsMap (with_writes objects places writes) places × (cells_of (with_writes objects places writes) places ≡ write_cells (cells_of objects places) writes)
+pub with_writes-tied : (objects : List (List ℕ)) (places : List (Option ℕ)) (writes : List (ℕ × ℕ)) → NamesObjects objects places → all_named (object_cells objects places) writes ≡ true → NamesObjects (with_writes objects places writes) places × (object_cells (with_writes objects places writes) places ≡ write_cells (object_cells objects places) writes)
 with_writes-tied objects places [] map named = (map, refl)
 with_writes-tied objects places (write ∷ writes) map named =
-    let parts = both_true (is_some (cells_of objects places write.0)) (all_named (cells_of objects places) writes) named in
+    let parts = both_true (is_some (object_cells objects places write.0)) (all_named (object_cells objects places) writes) named in
     let first = cells_of-with_cell objects places write.0 write.1 map parts.0 in
-    let rest = with_writes-tied (with_cell objects places write.0 write.1) places writes (IsMap-with_cell objects places write.0 write.1 map parts.0) (rw first (all_named_after (cells_of objects places) write.0 write.1 writes parts.1)) in
+    let rest = with_writes-tied (with_cell objects places write.0 write.1) places writes (IsMap-with_cell objects places write.0 write.1 map parts.0) (rw first (all_named_after (object_cells objects places) write.0 write.1 writes parts.1)) in
     (rest.0, rest.1 ∙ ap (λ cells. write_cells cells writes) first)

@@ -1,11 +1,11 @@
 -- A boot file comes to an end, and to one only.
 use Rattle.std.proofs.Common.{◌≡◌, ◌<◌, ◌≤◌, ◌+◌, ◌⊎◌, ℕ, true, Option, Some, None, Result, Ok, Err, List, length, codes, refl, sym, ap, ◌∙◌, inl, inr, arith}
 use Rattle.std.proofs.lemmas.Bool.{cases_lt}
-use Rattle.proc_model.specs.ModuleList.{ModuleEntry, entry_at, answers_to}
+use Rattle.proc_model.specs.ModuleList.{ModuleEntry, module_entry_at, answers_to}
 use Rattle.proc_model.specs.Loading.{no_entries}
 use Rattle.proc_model.proofs.LoadingLemmas.{Enters-one, Enters-some}
 use Rattle.proc_model.proofs.ModuleListLaws.{found_entry}
-use Rattle.device_table.specs.Screens.{Screen}
+use Rattle.os9_outer.specs.TerminalState.{TerminalState}
 use Rattle.machine_model.specs.declared.ends.BootFault.{BootFault}
 use Rattle.machine_model.specs.declared.ends.BootFault.TheVariants.{OutOfMemory, BadModule, NoFirst, TooLarge}
 use Rattle.machine_model.specs.State.{State}
@@ -30,7 +30,7 @@ first-one file entries others number other program second one two =
     let lists : entries ≡ others = entries-one file entries others one.entered two.entered in
     let programs : first_program entries ≡ first_program others = ap first_program lists in
     let numbers : number ≡ other = cc (one.found_it, two.found_it, programs) in
-    let at : entry_at entries number ≡ entry_at others other = rw (lists, numbers) refl in
+    let at : module_entry_at entries number ≡ module_entry_at others other = rw (lists, numbers) refl in
     record { one_list = lists; one_number = numbers; one_program = cc (one.is, two.is, at) }
 
 -- a file with a first program is not one without
@@ -40,7 +40,7 @@ never-without file entries others number program has ending without =
     let programs : first_program entries ≡ first_program others = ap first_program lists in
     cc (has.found_it, without, programs)
 
-pub Starts-one : (file : List ℕ) (blocks : ℕ) (terms : List Screen) (s t : State) → Starts file blocks terms s → Starts file blocks terms t → s ≡ t
+pub Starts-one : (file : List ℕ) (blocks : ℕ) (terms : List TerminalState) (s t : State) → Starts file blocks terms s → Starts file blocks terms t → s ≡ t
 Starts-one file blocks terms s t one other =
     let same = first-one file one.entries other.entries one.number other.number one.program other.program one.has other.has in
     one.is ∙ rw (same.one_list, same.one_number, same.one_program) (sym other.is)
@@ -52,7 +52,7 @@ fits-one file blocks entries others number other program second one two fits wan
     let areas : data_blocks program ≡ data_blocks second = ap data_blocks same.one_program in
     absurd (omega arith)
 
-pub never-both : (file : List ℕ) (blocks : ℕ) (terms : List Screen) (s : State) (fault : BootFault) → Starts file blocks terms s → Refuses file blocks fault → ⊥
+pub never-both : (file : List ℕ) (blocks : ℕ) (terms : List TerminalState) (s : State) (fault : BootFault) → Starts file blocks terms s → Refuses file blocks fault → ⊥
 never-both file blocks terms s TooLarge starts (inl long) = let short : length file ≤ longest_file = starts.has.short in absurd (omega arith)
 never-both file blocks terms s TooLarge starts (inr (entries, number, program, has, wants)) = fits-one file blocks starts.entries entries starts.number number starts.program program starts.has has starts.fits wants
 never-both file blocks terms s (BadModule at error) starts (short, refusal) = never-refused file starts.entries at error starts.has.entered refusal
@@ -85,32 +85,32 @@ Refuses-one file blocks NoFirst (BadModule at error) (short, (entries, ending, w
 Refuses-one file blocks (BadModule at error) NoFirst (short, refusal) (again, (entries, ending, without)) = absurd (never-refused file entries at error ending refusal)
 
 -- what is found has an entry
-pub first_entry : (entries : List (Option ModuleEntry)) (number : ℕ) → first_program entries ≡ Some number → (program : ModuleEntry) × (entry_at entries number ≡ Some program)
+pub first_entry : (entries : List (Option ModuleEntry)) (number : ℕ) → first_program entries ≡ Some number → (program : ModuleEntry) × (module_entry_at entries number ≡ Some program)
 first_entry entries number found_it = found_entry (answers_to entries (codes "SysGo") 0x11) entries number found_it
 
 -- a machine starts a file, or refuses it
-abbrev Ends : List ℕ → ℕ → List Screen → Type 0
+abbrev Ends : List ℕ → ℕ → List TerminalState → Type 0
 Ends file blocks terms = ((s : State) × Starts file blocks terms s) ⊎ ((fault : BootFault) × Refuses file blocks fault)
 
 -- a file with a first program starts where there is room for both
-by_room : (file : List ℕ) (blocks : ℕ) (terms : List Screen) (entries : List (Option ModuleEntry)) (number : ℕ) (program : ModuleEntry) → HasFirst file entries number program → Ends file blocks terms
+by_room : (file : List ℕ) (blocks : ℕ) (terms : List TerminalState) (entries : List (Option ModuleEntry)) (number : ℕ) (program : ModuleEntry) → HasFirst file entries number program → Ends file blocks terms
 by_room file blocks terms entries number program has =
     elim (cases_lt (room_for blocks) (data_blocks program + file_blocks file)) [
       | inl wants ↦ inr (TooLarge, inr (entries, number, program, has, wants))
       | inr fits ↦ inl (start_of file entries number program terms, record { entries = entries; number = number; program = program; has = has; fits = fits; is = refl })
     ]
 
-by_first : (file : List ℕ) (blocks : ℕ) (terms : List Screen) (entries : List (Option ModuleEntry)) (first : Option ℕ) → length file ≤ longest_file → EntersBoot file (Ok entries) → first_program entries ≡ first → Ends file blocks terms
+by_first : (file : List ℕ) (blocks : ℕ) (terms : List TerminalState) (entries : List (Option ModuleEntry)) (first : Option ℕ) → length file ≤ longest_file → EntersBoot file (Ok entries) → first_program entries ≡ first → Ends file blocks terms
 by_first file blocks terms entries None short entering without = inr (NoFirst, (short, (entries, entering, without)))
 by_first file blocks terms entries (Some number) short entering found_it =
     let first = first_entry entries number found_it in
     by_room file blocks terms entries number first.0 (record { short = short; entered = entering; found_it = found_it; is = first.1 })
 
-by_outcome : (file : List ℕ) (blocks : ℕ) (terms : List Screen) (outcome : Result (List (Option ModuleEntry)) (ℕ × ℕ)) → length file ≤ longest_file → EntersBoot file outcome → Ends file blocks terms
+by_outcome : (file : List ℕ) (blocks : ℕ) (terms : List TerminalState) (outcome : Result (List (Option ModuleEntry)) (ℕ × ℕ)) → length file ≤ longest_file → EntersBoot file outcome → Ends file blocks terms
 by_outcome file blocks terms (Err (at, error)) short entering = inr (BadModule at error, (short, entering))
 by_outcome file blocks terms (Ok entries) short entering = by_first file blocks terms entries (first_program entries) short entering refl
 
-pub some-end : (file : List ℕ) (blocks : ℕ) (terms : List Screen) → ((s : State) × Starts file blocks terms s) ⊎ ((fault : BootFault) × Refuses file blocks fault)
+pub some-end : (file : List ℕ) (blocks : ℕ) (terms : List TerminalState) → ((s : State) × Starts file blocks terms s) ⊎ ((fault : BootFault) × Refuses file blocks fault)
 some-end file blocks terms =
     elim (cases_lt longest_file (length file)) [
       | inl long ↦ inr (TooLarge, inl long)

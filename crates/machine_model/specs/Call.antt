@@ -2,15 +2,17 @@
 use Rattle.std.specs.Prelude.{◌≡◌, ℕ, zero, suc, ◌+◌, ◌-◌, ◌%◌, ◌<◌, ◌==◌, nat_lt, Bool, Option, Some, None, option_map, unwrap_or, ◌⊎◌, List, [], ◌∷◌, ◌++◌, length, slice_get, slice_set, if◌then◌else◌, MatchBool, MatchOption}
 use Rattle.os9_base.specs.declared.registers.Regs.{Regs}
 use Rattle.os9_base.specs.Count.{Rose}
-use Rattle.os9_outer.specs.Stream.{appended, GainsPrefix}
+use Rattle.os9_outer.specs.Stream.{stream_with, GainsPrefix}
 use Rattle.proc_model.specs.Slots.{no_slots}
 use Rattle.proc_model.specs.ModuleList.{without_link}
-use Rattle.device_table.specs.Screens.{Screen}
+use Rattle.os9_outer.specs.TerminalState.{TerminalState}
 use Rattle.machine_model.specs.declared.activity.Activity.TheVariants.{Running, Finished}
 use Rattle.machine_model.specs.declared.ends.EventEnd.{EventEnd}
 use Rattle.machine_model.specs.declared.ends.EventEnd.TheVariants.{Ran, Ended}
-use Rattle.machine_model.specs.Objects.{cells_of}
+use Rattle.machine_model.specs.Objects.{object_cells}
 use Rattle.machine_model.specs.State.{State, Process, with_process, with_inner}
+use Rattle.os9_base.specs.declared.errors.TheConstants.{E_BPNUM, E_UNKSVC, E_BPADDR, E_WRITE}
+use Rattle.os9_base.specs.declared.calls.TheConstants.{F_EXIT, I_WRITLN}
 
 -- the condition codes with carry clear, and with carry set
 abbrev pub carry_clear : ℕ → ℕ
@@ -73,22 +75,22 @@ abbrev pub is_standard_path : ℕ → Bool
 is_standard_path path = nat_lt path 3
 
 -- TERM is now this one
-abbrev pub with_term : State → Screen → State
-with_term s screen = record s { terms = slice_set s.terms 0 screen }
+abbrev pub with_term : State → TerminalState → State
+with_term s terminal = record s { terms = slice_set s.terms 0 terminal }
 
--- the line is put on TERM: then Y is its length; or it has a byte, and TERM fails at one: error 245
-abbrev pub PutsLine : State → ℕ → Process → List ℕ → Screen → State → Type 0
+-- the line is put on TERM: then Y is its length; or it has a byte, and TERM fails at one: error E$Write
+abbrev pub PutsLine : State → ℕ → Process → List ℕ → TerminalState → State → Type 0
 PutsLine s number process line old t =
-    (screen : Screen) × (screen.keys ≡ old.keys) × (((screen.put ≡ appended old.put (shown line)) × (screen.faults ≡ old.faults) × (t ≡ with_term (answered s number process (done (record process.regs { y = length line }))) screen)) ⊎ ((0 < length line) × GainsPrefix old.put (shown line) screen.put × Rose old.faults screen.faults × (t ≡ with_term (answered s number process (refused process.regs 245)) screen)))
+    (terminal : TerminalState) × (terminal.keys ≡ old.keys) × (((terminal.put ≡ stream_with old.put (shown line)) × (terminal.faults ≡ old.faults) × (t ≡ with_term (answered s number process (done (record process.regs { y = length line }))) terminal)) ⊎ ((0 < length line) × GainsPrefix old.put (shown line) terminal.put × Rose old.faults terminal.faults × (t ≡ with_term (answered s number process (refused process.regs E_WRITE)) terminal)))
 
 -- I$WritLn (System Programmer's Manual): path A, the line at X of at most Y bytes
 abbrev pub WritesLine : State → ℕ → Process → EventEnd → State → Type 0
 WritesLine s number process end t =
-    (end ≡ Ran) × MatchOption (line_at (cells_of s.inner.objects process.map.places) process.regs.x process.regs.y)
-    (t ≡ answered s number process (refused process.regs 210))
+    (end ≡ Ran) × MatchOption (line_at (object_cells s.inner.objects process.map.places) process.regs.x process.regs.y)
+    (t ≡ answered s number process (refused process.regs E_BPADDR))
     (λ line. MatchBool (is_standard_path process.regs.a)
     (MatchOption (slice_get s.terms 0) ⊥ (λ old. PutsLine s number process line old t))
-    (t ≡ answered s number process (refused process.regs 201)))
+    (t ≡ answered s number process (refused process.regs E_BPNUM)))
 
 -- ---- all calls by their code
 
@@ -96,9 +98,9 @@ WritesLine s number process end t =
 abbrev pub Exits : State → ℕ → Process → EventEnd → State → Type 0
 Exits s number process end t = (end ≡ Ended) × (t ≡ ended s number process process.regs.b)
 
--- an attempt of a call; a code that is no call's is refused with 208
+-- an attempt of a call; a code that is no call's is refused with E$UnkSvc
 abbrev pub Attempt : ℕ → State → ℕ → Process → EventEnd → State → Type 0
 Attempt code s number process end t =
-    MatchBool (code == 0x06) (Exits s number process end t)
-    (MatchBool (code == 0x8C) (WritesLine s number process end t)
-    ((end ≡ Ran) × (t ≡ answered s number process (refused process.regs 208))))
+    MatchBool (code == F_EXIT) (Exits s number process end t)
+    (MatchBool (code == I_WRITLN) (WritesLine s number process end t)
+    ((end ≡ Ran) × (t ≡ answered s number process (refused process.regs E_UNKSVC))))

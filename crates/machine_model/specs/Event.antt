@@ -5,7 +5,7 @@ use Rattle.machine_model.specs.declared.activity.Activity.{Activity}
 use Rattle.machine_model.specs.declared.activity.Activity.TheVariants.{Running, Calling, Finished}
 use Rattle.machine_model.specs.declared.ends.EventEnd.{EventEnd}
 use Rattle.machine_model.specs.declared.ends.EventEnd.TheVariants.{Ran, Ended}
-use Rattle.machine_model.specs.Objects.{cells_of, with_writes}
+use Rattle.machine_model.specs.Objects.{object_cells, with_writes}
 use Rattle.machine_model.specs.State.{State, Process, process_at, with_process, with_inner}
 use Rattle.machine_model.specs.Call.{Attempt, ended}
 
@@ -21,7 +21,7 @@ Executes (Aborts status) s number process end t = (end ≡ Ended) × (t ≡ ende
 -- what the process does next: an attempt of its call, else an instruction
 abbrev pub Acts : Activity → State → ℕ → Process → EventEnd → State → Type 0
 Acts Running s number process end t =
-    Executes (step_of (cells_of s.inner.objects process.map.places) process.regs) s number process end t
+    Executes (step_of (object_cells s.inner.objects process.map.places) process.regs) s number process end t
 Acts (Calling code) s number process end t = Attempt code s number process end t
 Acts (Finished _) s number process end t = ⊥
 

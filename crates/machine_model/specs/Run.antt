@@ -1,7 +1,7 @@
 -- Slices and whole runs (this project's own: a list of slices decides every interleaving).
 use Rattle.std.specs.Prelude.{◌≡◌, ℕ, ◌+◌, ◌-◌, ◌==◌, ◌||◌, not, Bool, true, false, Option, Some, None, unwrap_or, is_some, option_and_then, List, [], ◌∷◌, ◌++◌, map, flat_map, position, if◌then◌else◌, MatchBool}
 use Rattle.os9_outer.specs.Stream.{emptied}
-use Rattle.device_table.specs.Screens.{Screen}
+use Rattle.os9_outer.specs.TerminalState.{TerminalState}
 use Rattle.machine_model.specs.declared.activity.Activity.{Activity}
 use Rattle.machine_model.specs.declared.activity.Activity.TheVariants.{Running, Calling, Finished}
 use Rattle.machine_model.specs.declared.ends.EventEnd.{EventEnd}
@@ -40,30 +40,30 @@ abbrev pub is_over : ℕ → State → Bool
 is_over left s = (left == 0) || not (is_going s)
 
 -- from s through these states, until the slice is over
-abbrev pub Goes : ℕ → State → List State → State → Type 0
-Goes left s [] t = (is_over left s ≡ true) × (t ≡ s)
-Goes left s (m ∷ ms) t = (is_over left s ≡ false) × (end : EventEnd) × Event s end m × Goes (left - cost s) m ms t
+abbrev pub Steps : ℕ → State → List State → State → Type 0
+Steps left s [] t = (is_over left s ≡ true) × (t ≡ s)
+Steps left s (m ∷ ms) t = (is_over left s ≡ false) × (end : EventEnd) × Event s end m × Steps (left - cost s) m ms t
 
 -- one slice of so many instructions; nobody is ready where no process was chosen
 abbrev pub Slice : ℕ → State → SliceEnd → State → Type 0
 Slice n s end t =
-    (ticked : State) × (chosen : State) × (states : List State) × Tick s ticked × Choose ticked chosen × (end ≡ (if is_some chosen.inner.chosen then Ran else Idle)) × Goes n chosen states t
+    (ticked : State) × (chosen : State) × (states : List State) × Tick s ticked × Choose ticked chosen × (end ≡ (if is_some chosen.inner.chosen then Ran else Idle)) × Steps n chosen states t
 
 -- the bytes that a terminal was given
-abbrev pub bytes_of : Screen → List ℕ
-bytes_of screen = unwrap_or screen.put []
+abbrev pub put_bytes : TerminalState → List ℕ
+put_bytes terminal = unwrap_or terminal.put []
 
 -- the bytes of TERM, T1, T2, T3
-abbrev pub console_of : List Screen → List ℕ
-console_of screens = flat_map bytes_of screens
+abbrev pub console_bytes : List TerminalState → List ℕ
+console_bytes terminals = flat_map put_bytes terminals
 
 -- the terminal without the bytes that it was given
-abbrev pub without_bytes : Screen → Screen
-without_bytes screen = record screen { put = emptied screen.put }
+abbrev pub without_bytes : TerminalState → TerminalState
+without_bytes terminal = record terminal { put = emptied terminal.put }
 
 -- the bytes are taken from every terminal
-abbrev pub taken : List Screen → List Screen
-taken screens = map without_bytes screens
+abbrev pub terminals_emptied : List TerminalState → List TerminalState
+terminals_emptied terminals = map without_bytes terminals
 
 -- a whole run over these slices: the bytes that it writes, and the state at its end. It stops where no
 -- process lives, or where the slices are used up
@@ -71,7 +71,7 @@ abbrev pub Run : List ℕ → State → List ℕ → State → Type 0
 Run [] s written t = (written ≡ []) × (t ≡ s)
 Run (n ∷ ns) s written t =
     MatchBool (has_living s)
-    ((end : SliceEnd) × (m : State) × (rest : List ℕ) × Slice n s end m × (written ≡ console_of m.terms ++ rest) × Run ns (record m { terms = taken m.terms }) rest t)
+    ((end : SliceEnd) × (m : State) × (rest : List ℕ) × Slice n s end m × (written ≡ console_bytes m.terms ++ rest) × Run ns (record m { terms = terminals_emptied m.terms }) rest t)
     ((written ≡ []) × (t ≡ s))
 
 -- the status of a run that ended so: 0 where no process lives, else 5

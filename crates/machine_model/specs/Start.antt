@@ -3,31 +3,32 @@ use Rattle.std.specs.Prelude.{◌≡◌, ◌⊎◌, ℕ, ◌+◌, ◌-◌, ◌*�
 use Rattle.std.specs.List.{range_with_len}
 use Rattle.os9_base.specs.declared.registers.Regs.{Regs}
 use Rattle.proc_model.specs.Slots.{Slots}
-use Rattle.proc_model.specs.ModuleList.{ModuleEntry, entry_at, found, linked, with_entry}
-use Rattle.proc_model.specs.Loading.{Enters, no_entries}
-use Rattle.device_table.specs.Screens.{Screen}
+use Rattle.proc_model.specs.ModuleList.{ModuleEntry, module_entry_at, found_module, entry_linked, with_module_entry}
+use Rattle.proc_model.specs.Loading.{EntersModules, no_entries}
+use Rattle.os9_outer.specs.TerminalState.{TerminalState}
 use Rattle.machine_model.specs.declared.activity.Activity.TheVariants.{Running}
 use Rattle.machine_model.specs.declared.ends.BootFault.{BootFault}
 use Rattle.machine_model.specs.declared.ends.BootFault.TheVariants.{OutOfMemory, BadModule, NoFirst, TooLarge}
 use Rattle.machine_model.specs.State.{State, Process}
+use Rattle.os9_base.specs.declared.limits.TheConstants.{MOST_GROUP_BYTES}
 
 -- so many bytes are so many pages of 256, and so many blocks of 8,192
-abbrev pub pages_of : ℕ → ℕ
-pages_of bytes = (bytes + 255) / 256
+abbrev pub page_count : ℕ → ℕ
+page_count bytes = (bytes + 255) / 256
 
-abbrev pub blocks_of : ℕ → ℕ
-blocks_of bytes = (bytes + 8191) / 8192
+abbrev pub block_count : ℕ → ℕ
+block_count bytes = (bytes + 8191) / 8192
 
 -- the size of a program's data area in bytes: its storage in whole pages, and at least one page
 abbrev pub data_size : ModuleEntry → ℕ
-data_size program = 256 * max 1 (pages_of program.info.storage)
+data_size program = 256 * max 1 (page_count program.info.storage)
 
 -- the blocks of a program's data area, and of the file that holds it
 abbrev pub data_blocks : ModuleEntry → ℕ
-data_blocks program = blocks_of (data_size program)
+data_blocks program = block_count (data_size program)
 
 abbrev pub file_blocks : List ℕ → ℕ
-file_blocks file = blocks_of (length file)
+file_blocks file = block_count (length file)
 
 -- the numbers of the objects that hold the boot file: they are the first to appear
 abbrev pub boot_group : List ℕ → List ℕ
@@ -36,15 +37,15 @@ boot_group file = range_with_len 0 (file_blocks file)
 -- what comes of the modules of the boot file, entered in a directory without entries: its entries, or the place and the error of
 -- the first module that is refused
 abbrev pub EntersBoot : List ℕ → Result (List (Option ModuleEntry)) (ℕ × ℕ) → Type 0
-EntersBoot file outcome = Enters file (boot_group file) true 0 no_entries outcome
+EntersBoot file outcome = EntersModules file (boot_group file) true 0 no_entries outcome
 
 -- the most bytes of a group of modules: seven blocks
 abbrev pub longest_file : ℕ
-longest_file = 57344
+longest_file = MOST_GROUP_BYTES
 
 -- the first program that is run: the name SysGo, case ignored, and the type and language of a program in 6809 code
 abbrev pub first_program : List (Option ModuleEntry) → Option ℕ
-first_program entries = found entries (codes "SysGo") 0x11
+first_program entries = found_module entries (codes "SysGo") 0x11
 
 -- how many slots of a map, of a machine with so many blocks, there are for the boot file and the data area
 abbrev pub room_for : ℕ → ℕ
@@ -55,7 +56,7 @@ pub record HasFirst (file : List ℕ) (entries : List (Option ModuleEntry)) (num
   pub short : length file ≤ longest_file
   pub entered : EntersBoot file (Ok entries)
   pub found_it : first_program entries ≡ Some number
-  pub is : entry_at entries number ≡ Some program
+  pub is : module_entry_at entries number ≡ Some program
 
 -- Why a boot file does not start a machine with so many blocks: the first cause of those below.
 abbrev pub Refuses : List ℕ → ℕ → BootFault → Type 0
@@ -75,16 +76,16 @@ abbrev pub zero_object : List ℕ
 zero_object = replicate 8192 0
 
 -- the k-th block of a file; zeros fill the last one
-abbrev pub block_of : List ℕ → ℕ → List ℕ
-block_of file k = take 8192 (drop (8192 * k) file ++ zero_object)
+abbrev pub file_block : List ℕ → ℕ → List ℕ
+file_block file k = take 8192 (drop (8192 * k) file ++ zero_object)
 
 -- the objects that hold a file
-abbrev pub objects_of : List ℕ → List (List ℕ)
-objects_of file = map (block_of file) (range_with_len 0 (file_blocks file))
+abbrev pub file_objects : List ℕ → List (List ℕ)
+file_objects file = map (file_block file) (range_with_len 0 (file_blocks file))
 
 -- the objects of the start: those of the boot file, then the data area of the first process
 abbrev pub first_objects : List ℕ → ModuleEntry → List (List ℕ)
-first_objects file program = objects_of file ++ replicate (data_blocks program) zero_object
+first_objects file program = file_objects file ++ replicate (data_blocks program) zero_object
 
 -- the first process's map: its data area from slot 0 up, the group of the boot file in the highest slots
 abbrev pub first_map : List ℕ → ModuleEntry → Slots ℕ
@@ -115,11 +116,11 @@ abbrev pub only_process : Process → List (Option Process)
 only_process process = replicate 2 None ++ Some process ∷ replicate 30 None
 
 -- the state in which the first program starts, with these terminals: its entry has one link more
-abbrev pub start_of : List ℕ → List (Option ModuleEntry) → ℕ → ModuleEntry → List Screen → State
+abbrev pub start_of : List ℕ → List (Option ModuleEntry) → ℕ → ModuleEntry → List TerminalState → State
 start_of file entries number program terms = record {
   inner = record {
     objects = first_objects file program;
-    modules = with_entry entries number (linked program);
+    modules = with_module_entry entries number (entry_linked program);
     processes = only_process (record { regs = first_regs file program; map = first_map file program; primary = Some number; activity = Running });
     tick = 0;
     chosen = None;
@@ -128,7 +129,7 @@ start_of file entries number program terms = record {
 }
 
 -- a machine with so many blocks and these terminals starts a boot file in this state
-pub record Starts (file : List ℕ) (blocks : ℕ) (terms : List Screen) (s : State) : Type 0 where
+pub record Starts (file : List ℕ) (blocks : ℕ) (terms : List TerminalState) (s : State) : Type 0 where
   pub entries : List (Option ModuleEntry)
   pub number : ℕ
   pub program : ModuleEntry

@@ -5,7 +5,7 @@ use Rattle.std.specs.List.{list_any}
 use Rattle.os9_base.specs.declared.registers.Regs.{Regs}
 use Rattle.proc_model.specs.Slots.{Slots}
 use Rattle.proc_model.specs.ModuleList.{ModuleEntry}
-use Rattle.device_table.specs.Screens.{Screen}
+use Rattle.os9_outer.specs.TerminalState.{TerminalState}
 use Rattle.machine_model.specs.declared.activity.Activity.{Activity}
 use Rattle.machine_model.specs.declared.activity.Activity.TheVariants.{Running, Calling, Finished}
 
@@ -26,7 +26,7 @@ pub record Inner : Type 0 where
 
 pub record State : Type 0 where
   pub inner : Inner
-  pub terms : List Screen  -- what TERM, T1, T2, T3 tell
+  pub terms : List TerminalState  -- what TERM, T1, T2, T3 tell
 
 -- the process of a number, if there is one
 abbrev pub process_at : Inner → ℕ → Option Process

@@ -4,9 +4,9 @@ use Rattle.std.specs.List.{list_any, prefix_len, position_or_len}
 use Rattle.std.specs.Cmp.Lexicographic.{pointwise}
 use Rattle.std.proofs.lemmas.List.{length-map, get_or-map, ext_get_or}
 use Rattle.proc_model.specs.declared.group.BlockId.{BlockId}
-use Rattle.proc_model.specs.ModuleList.{outside, without_group}
+use Rattle.proc_model.specs.ModuleList.{place_without_group, modules_without_group}
 use Rattle.module_dir.specs.declared.entry.Entry.{Entry}
-use Rattle.module_dir.specs.Entries.{seen, entries_of}
+use Rattle.module_dir.specs.Entries.{seen, held_entries}
 
 pub list_any-map : {A B : Type 0} (f : A → B) (p : B → Bool) (xs : List A) → list_any p (map f xs) ≡ list_any (λ x. p (f x)) xs
 list_any-map f p [] = refl
@@ -39,16 +39,16 @@ pointwise-numbers (x ∷ xs) (y ∷ ys) = ap (λ (b : Bool). nat_eq x.0 y.0 && b
 
 -- two lists of entries of which the one has at each place what is left of the other's
 pub entries_outside : (group : List ℕ) (xs ys : List (Option Entry)) → length xs ≡ length ys
-    → ((k : ℕ) → k < length ys → option_map seen (get_or xs k None) ≡ outside group (option_map seen (get_or ys k None)))
-    → entries_of xs ≡ without_group (entries_of ys) group
+    → ((k : ℕ) → k < length ys → option_map seen (get_or xs k None) ≡ place_without_group group (option_map seen (get_or ys k None)))
+    → held_entries xs ≡ modules_without_group (held_entries ys) group
 entries_outside group xs ys same at =
-    ext_get_or None (entries_of xs) (without_group (entries_of ys) group)
-    (omega (arith, length-map xs (option_map seen), length-map ys (option_map seen), length-map (entries_of ys) (outside group)))
+    ext_get_or None (held_entries xs) (modules_without_group (held_entries ys) group)
+    (omega (arith, length-map xs (option_map seen), length-map ys (option_map seen), length-map (held_entries ys) (place_without_group group)))
     (λ i h.
     let within : i < length xs = omega (arith, length-map xs (option_map seen)) in
     let inside : i < length ys = omega arith in
-    let shown : i < length (entries_of ys) = omega (arith, length-map ys (option_map seen)) in
+    let shown : i < length (held_entries ys) = omega (arith, length-map ys (option_map seen)) in
     get_or-map (option_map seen) xs i None None within
     ∙ at i inside
-    ∙ ap (outside group) (sym (get_or-map (option_map seen) ys i None None inside))
-    ∙ sym (get_or-map (outside group) (entries_of ys) i None None shown))
+    ∙ ap (place_without_group group) (sym (get_or-map (option_map seen) ys i None None inside))
+    ∙ sym (get_or-map (place_without_group group) (held_entries ys) i None None shown))

@@ -1,6 +1,6 @@
 ghost use Rattle.std.specs.Prelude.{◌≡◌, ◌+◌, ◌-◌, ◌<◌, ◌≤◌, ◌↔◌, false, IsTrue, IsSome, IsSomeAnd, IfSome, IfOk, OnOk, OnErr, MatchOption, Option, Some, None, option_map, is_some, length, replicate};
-ghost use Rattle.proc_model.specs.Group.{blocks_of};
-ghost use Rattle.proc_model.specs.ModuleList.{ModuleEntry, entry_at, is_known as is_known_lem, room_of, free_number as free_number_lem, found, new_entry, with_entry, linked, is_in_use as is_in_use_lem, without_group, leaving_group, after_unlink};
+ghost use Rattle.proc_model.specs.Group.{group_block_numbers};
+ghost use Rattle.proc_model.specs.ModuleList.{ModuleEntry, module_entry_at, is_known as is_known_lem, module_room, free_number as free_number_lem, found_module, new_entry, with_module_entry, entry_linked, is_in_use as is_in_use_lem, modules_without_group, leaving_group, after_unlink};
 
 use crate::entry::Entry;
 use crate::list::{find_entry, free_number, is_in_use, is_known, remove_group};
@@ -40,11 +40,11 @@ pub struct Dir {
 impl Model for Dir {
     ghost use Rattle.std.specs.Prelude.{◌≡◌, List, Option, length};
     ghost use Rattle.proc_model.specs.ModuleList.{ModuleEntry};
-    ghost use Rattle.module_dir.specs.Entries.{entries_of};
+    ghost use Rattle.module_dir.specs.Entries.{held_entries};
 
     ghost Value = { List (Option ModuleEntry) };
 
-    ghost view = { λ dir. entries_of dir.entries.items };
+    ghost view = { λ dir. held_entries dir.entries.items };
 
     ghost invariant = { λ dir. length dir.entries.items ≡ 64 };
 }
@@ -70,11 +70,11 @@ impl Dir {
     /// `DirFull` where 64 modules are entered.
     pub fn enter(&mut self, info: ModuleInfo, group: Group, boot: bool) -> Result<ModId, DirFault>
         ensures known { (result ≡ Err DirFault.Known) ↔ IsTrue (is_known_lem self.old info) }
-        ensures full { (result ≡ Err DirFault.DirFull) ↔ ((is_known_lem self.old info ≡ false) × (room_of self.old ≡ 0)) }
+        ensures full { (result ≡ Err DirFault.DirFull) ↔ ((is_known_lem self.old info ≡ false) × (module_room self.old ≡ 0)) }
         ensures number { IfOk result (λ id. free_number_lem self.old ≡ Some id.0) }
-        ensures entered { IfOk result (λ id. self.new ≡ with_entry self.old id.0 (new_entry info (blocks_of group) boot)) }
-        ensures there { IfOk result (λ id. entry_at self.new id.0 ≡ Some (new_entry info (blocks_of group) boot)) }
-        ensures room { OnOk result (room_of self.new + 1 ≡ room_of self.old) }
+        ensures entered { IfOk result (λ id. self.new ≡ with_module_entry self.old id.0 (new_entry info (group_block_numbers group) boot)) }
+        ensures there { IfOk result (λ id. module_entry_at self.new id.0 ≡ Some (new_entry info (group_block_numbers group) boot)) }
+        ensures room { OnOk result (module_room self.new + 1 ≡ module_room self.old) }
         ensures refused { OnErr result (self.new ≡ self.old) }
         ensures places { length self.new ≡ 64 }
     {
@@ -98,7 +98,7 @@ impl Dir {
     /// The entry of this name whose type and language match `kind`, where a half of 0 matches any,
     /// among those that no greater revision shadows. Of several it is the one of least number.
     pub fn find(&self, name: &Name, kind: u8) -> Option<ModId>
-        ensures found { option_map (λ id. id.0) result ≡ found self.now name.now kind }
+        ensures found { option_map (λ id. id.0) result ≡ found_module self.now name.now kind }
         ensures places { length self.now ≡ 64 }
     {
         find_entry(&self.entries, name, kind).map(|number| ModId(number as u8))
@@ -106,14 +106,14 @@ impl Dir {
 
     /// Has an entry this number?
     pub fn is_entered(&self, id: ModId) -> bool
-        ensures { result ≡ is_some (entry_at self.now id.0) }
+        ensures { result ≡ is_some (module_entry_at self.now id.0) }
     {
         matches!(self.entries.get(id.0 as usize), Some(Some(_)))
     }
 
     /// How many more modules can be entered.
     pub fn room(&self) -> u8
-        ensures room { result ≡ room_of self.now }
+        ensures room { result ≡ module_room self.now }
         ensures places { length self.now ≡ 64 }
     {
         self.entries.iter().filter(|place| place.is_none()).count() as u8
@@ -121,24 +121,24 @@ impl Dir {
 
     /// What the header of an entered module says. Its `at` is the module's offset in the group.
     pub fn info(&self, id: ModId) -> ModuleInfo
-        requires { IsSome (entry_at self.now id.0) }
-        ensures { option_map (λ entry. entry.info) (entry_at self.now id.0) ≡ Some result }
+        requires { IsSome (module_entry_at self.now id.0) }
+        ensures { option_map (λ entry. entry.info) (module_entry_at self.now id.0) ≡ Some result }
     {
         self.entry(id).info
     }
 
     /// The group of an entered module.
     pub fn group(&self, id: ModId) -> Group
-        requires { IsSome (entry_at self.now id.0) }
-        ensures { option_map (λ entry. entry.group) (entry_at self.now id.0) ≡ Some (blocks_of result) }
+        requires { IsSome (module_entry_at self.now id.0) }
+        ensures { option_map (λ entry. entry.group) (module_entry_at self.now id.0) ≡ Some (group_block_numbers result) }
     {
         self.entry(id).group
     }
 
     /// How many links an entered module has.
     pub fn links(&self, id: ModId) -> u32
-        requires { IsSome (entry_at self.now id.0) }
-        ensures links { option_map (λ entry. entry.links) (entry_at self.now id.0) ≡ Some result }
+        requires { IsSome (module_entry_at self.now id.0) }
+        ensures links { option_map (λ entry. entry.links) (module_entry_at self.now id.0) ≡ Some result }
         ensures most { result ≤ 65535 }
     {
         u32::from(self.entry(id).links)
@@ -146,8 +146,8 @@ impl Dir {
 
     /// Counts one link more of an entered module.
     pub fn link(&mut self, id: ModId)
-        requires { IsSomeAnd (entry_at self.old id.0) (λ entry. entry.links < 65535) }
-        ensures { option_map (λ entry. with_entry self.old id.0 (linked entry)) (entry_at self.old id.0) ≡ Some self.new }
+        requires { IsSomeAnd (module_entry_at self.old id.0) (λ entry. entry.links < 65535) }
+        ensures { option_map (λ entry. with_module_entry self.old id.0 (entry_linked entry)) (module_entry_at self.old id.0) ≡ Some self.new }
     {
         let entry = self.entry(id);
         let links = entry.links + 1;
@@ -158,9 +158,9 @@ impl Dir {
     /// link then, and the group is not the boot file's, the entries of the group go, and the
     /// answer is the group.
     pub fn unlink(&mut self, id: ModId) -> Option<Group>
-        requires { IsSome (entry_at self.old id.0) }
-        ensures list { option_map (after_unlink self.old id.0) (entry_at self.old id.0) ≡ Some self.new }
-        ensures group { option_map (leaving_group self.old id.0) (entry_at self.old id.0) ≡ Some (option_map blocks_of result) }
+        requires { IsSome (module_entry_at self.old id.0) }
+        ensures list { option_map (after_unlink self.old id.0) (module_entry_at self.old id.0) ≡ Some self.new }
+        ensures group { option_map (leaving_group self.old id.0) (module_entry_at self.old id.0) ≡ Some (option_map group_block_numbers result) }
     {
         let entry = self.entry(id);
         let links = entry.links.saturating_sub(1);
@@ -173,8 +173,8 @@ impl Dir {
     }
 
     fn entry(&self, id: ModId) -> Entry
-        requires { IsSome (entry_at self.now id.0) }
-        ensures entry { entry_at self.now id.0 ≡ Some (seen result) }
+        requires { IsSome (module_entry_at self.now id.0) }
+        ensures entry { module_entry_at self.now id.0 ≡ Some (seen result) }
         ensures within { id.0 < length self.now }
     {
         self.entries[id.0 as usize].unwrap()
@@ -182,7 +182,7 @@ impl Dir {
 
     fn put(&mut self, id: ModId, entry: Entry)
         requires { id.0 < length self.old }
-        ensures entered { self.new ≡ with_entry self.old id.0 (seen entry) }
+        ensures entered { self.new ≡ with_module_entry self.old id.0 (seen entry) }
         ensures places { length self.new ≡ length self.old }
     {
         self.entries[id.0 as usize] = Some(entry);
@@ -198,19 +198,19 @@ impl Dir {
     fn free_number(&self) -> Option<ModId>
         ensures number { option_map (λ id. id.0) result ≡ free_number_lem self.now }
         ensures within { IfSome result (λ id. id.0 < length self.now) }
-        ensures room { MatchOption result (room_of self.now ≡ 0) (λ _. 0 < room_of self.now) }
+        ensures room { MatchOption result (module_room self.now ≡ 0) (λ _. 0 < module_room self.now) }
     {
         free_number(&self.entries).map(|number| ModId(number as u8))
     }
 
     fn uses(&self, group: &Group) -> bool
-        ensures { result ≡ is_in_use_lem self.now (blocks_of group.now) }
+        ensures { result ≡ is_in_use_lem self.now (group_block_numbers group.now) }
     {
         is_in_use(&self.entries, group)
     }
 
     fn remove(&mut self, group: &Group)
-        ensures { self.new ≡ without_group self.old (blocks_of group.now) }
+        ensures { self.new ≡ modules_without_group self.old (group_block_numbers group.now) }
     {
         remove_group(&mut self.entries, group);
     }

@@ -1,5 +1,5 @@
 ghost use Rattle.std.specs.Prelude.{◌≡◌, take};
-ghost use Rattle.proc_model.specs.Group.{blocks_of};
+ghost use Rattle.proc_model.specs.Group.{group_block_numbers};
 ghost use Rattle.proc_model.specs.ModuleList.{is_of_group as is_of_group_lem, are_namesakes as are_namesakes_lem, half_matches as half_matches_lem, kind_matches as kind_matches_lem};
 ghost use Rattle.module_dir.specs.Entries.{seen};
 
@@ -40,7 +40,7 @@ fn half_matches(wanted: u8, half: u8) -> bool
 
 /// Is the entry of this group?
 pub fn is_of_group(entry: &Entry, group: &Group) -> bool
-    ensures { result ≡ is_of_group_lem (blocks_of group.now) (seen entry.now) }
+    ensures { result ≡ is_of_group_lem (group_block_numbers group.now) (seen entry.now) }
 {
     blocks(group) == blocks(&entry.group)
 }

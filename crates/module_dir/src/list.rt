@@ -1,7 +1,7 @@
 ghost use Rattle.std.specs.Prelude.{◌≡◌, ◌<◌, ◌≤◌, ◌&&◌, nat_lt, nat_le, option_map, MatchOption, length};
-ghost use Rattle.proc_model.specs.Group.{blocks_of};
-ghost use Rattle.proc_model.specs.ModuleList.{passes, revision_of, are_namesakes as are_namesakes_lem, is_known as is_known_lem, is_shadowed as is_shadowed_lem, answers_to, found, free_number as free_number_lem, room_of, is_of_group as is_of_group_lem, is_in_use as is_in_use_lem, outside as outside_lem, without_group};
-ghost use Rattle.module_dir.specs.Entries.{seen, entries_of};
+ghost use Rattle.proc_model.specs.Group.{group_block_numbers};
+ghost use Rattle.proc_model.specs.ModuleList.{passes, revision_of, are_namesakes as are_namesakes_lem, is_known as is_known_lem, is_shadowed as is_shadowed_lem, answers_to, found_module, free_number as free_number_lem, module_room, is_of_group as is_of_group_lem, is_in_use as is_in_use_lem, place_without_group as outside_lem, modules_without_group};
+ghost use Rattle.module_dir.specs.Entries.{seen, held_entries};
 
 use crate::entry::{Entry, are_namesakes, is_of_group, kind_matches};
 use os9_base::name::{Name, same_name};
@@ -10,14 +10,14 @@ use proc_model::module::ModuleInfo;
 
 /// Is there an entry of the module's name and type with its revision or a greater one?
 pub fn is_known(entries: &[Option<Entry>], info: &ModuleInfo) -> bool
-    ensures { result ≡ is_known_lem (entries_of entries.now) info.now }
+    ensures { result ≡ is_known_lem (held_entries entries.now) info.now }
 {
     entries.iter().any(|place| makes_known(place, info))
 }
 
 /// Is there an entry of the module's name and type with a greater revision?
 fn is_shadowed(entries: &[Option<Entry>], info: &ModuleInfo) -> bool
-    ensures { result ≡ is_shadowed_lem (entries_of entries.now) info.now }
+    ensures { result ≡ is_shadowed_lem (held_entries entries.now) info.now }
 {
     entries.iter().any(|place| shadows(place, info))
 }
@@ -25,7 +25,7 @@ fn is_shadowed(entries: &[Option<Entry>], info: &ModuleInfo) -> bool
 /// The least number of an entry that has the name, matches the type and language, and is not
 /// shadowed.
 pub fn find_entry(entries: &[Option<Entry>], name: &Name, kind: u8) -> Option<usize>
-    ensures { result ≡ found (entries_of entries.now) name.now kind }
+    ensures { result ≡ found_module (held_entries entries.now) name.now kind }
 {
     entries
         .iter()
@@ -34,25 +34,25 @@ pub fn find_entry(entries: &[Option<Entry>], name: &Name, kind: u8) -> Option<us
 
 /// The least number that no entry has.
 pub fn free_number(entries: &[Option<Entry>]) -> Option<usize>
-    ensures number { result ≡ free_number_lem (entries_of entries.now) }
-    ensures room { MatchOption result (room_of (entries_of entries.now) ≡ 0) (λ _. 0 < room_of (entries_of entries.now)) }
+    ensures number { result ≡ free_number_lem (held_entries entries.now) }
+    ensures room { MatchOption result (module_room (held_entries entries.now) ≡ 0) (λ _. 0 < module_room (held_entries entries.now)) }
 {
     entries.iter().position(|place| place.is_none())
 }
 
 /// Has an entry of this group a link?
 pub fn is_in_use(entries: &[Option<Entry>], group: &Group) -> bool
-    ensures { result ≡ is_in_use_lem (entries_of entries.now) (blocks_of group.now) }
+    ensures { result ≡ is_in_use_lem (held_entries entries.now) (group_block_numbers group.now) }
 {
     entries.iter().any(|place| uses(place, group))
 }
 
 /// Removes the entries of this group.
 pub fn remove_group(entries: &mut [Option<Entry>], group: &Group)
-    ensures { entries_of entries.new ≡ without_group (entries_of entries.old) (blocks_of group.now) }
+    ensures { held_entries entries.new ≡ modules_without_group (held_entries entries.old) (group_block_numbers group.now) }
 {
     for place in entries.iter_mut() {
-        *place = outside(place, group);
+        *place = place_without_group(place, group);
     }
 }
 
@@ -80,7 +80,7 @@ fn shadows(place: &Option<Entry>, info: &ModuleInfo) -> bool
 
 /// Is there an entry here that has the name, matches the type and language, and is not shadowed?
 fn answers(entries: &[Option<Entry>], name: &Name, kind: u8, place: &Option<Entry>) -> bool
-    ensures { result ≡ passes (answers_to (entries_of entries.now) name.now kind) (option_map seen place.now) }
+    ensures { result ≡ passes (answers_to (held_entries entries.now) name.now kind) (option_map seen place.now) }
 {
     match place {
         None => false,
@@ -94,7 +94,7 @@ fn answers(entries: &[Option<Entry>], name: &Name, kind: u8, place: &Option<Entr
 
 /// Is there an entry of this group here, and has it a link?
 fn uses(place: &Option<Entry>, group: &Group) -> bool
-    ensures { result ≡ passes (λ entry. is_of_group_lem (blocks_of group.now) entry && nat_lt 0 entry.links) (option_map seen place.now) }
+    ensures { result ≡ passes (λ entry. is_of_group_lem (group_block_numbers group.now) entry && nat_lt 0 entry.links) (option_map seen place.now) }
 {
     match place {
         None => false,
@@ -103,8 +103,8 @@ fn uses(place: &Option<Entry>, group: &Group) -> bool
 }
 
 /// What is left of a place where the entries of this group are removed.
-fn outside(place: &Option<Entry>, group: &Group) -> Option<Entry>
-    ensures { option_map seen result ≡ outside_lem (blocks_of group.now) (option_map seen place.now) }
+fn place_without_group(place: &Option<Entry>, group: &Group) -> Option<Entry>
+    ensures { option_map seen result ≡ outside_lem (group_block_numbers group.now) (option_map seen place.now) }
 {
     match place {
         Some(entry) if is_of_group(entry, group) => None,

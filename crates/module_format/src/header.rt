@@ -1,7 +1,7 @@
 ghost use Rattle.std.specs.Prelude.{◌≡◌, ◌+◌, ◌<◌, ◌≤◌, ◌&&◌, length, take, true, is_some, IfOk, IfSome, Option, Some};
 ghost use Rattle.std.specs.Result.{result_err};
 ghost use Rattle.proc_model.specs.Crc.{crc_register};
-ghost use Rattle.proc_model.specs.Module.{word_at, module_size, module_name, module_entry, is_program as is_program_lem, header_length as header_length_lem, program_word as program_word_lem, has_sync, has_size, has_name, crc_offset, keeps_header_rule, keeps_parity_rule, keeps_crc_rule, module_fault, info_at, IsModule};
+ghost use Rattle.proc_model.specs.Module.{header_word, module_size, module_name, module_entry, is_program as is_program_lem, header_length as header_length_lem, program_word as program_word_lem, has_sync, has_size, has_module_name, crc_offset, keeps_header_rule, keeps_parity_rule, keeps_crc_rule, module_fault, info_at, IsModule};
 
 use crate::crc::crc24;
 use byteorder::{BigEndian, ByteOrder};
@@ -82,7 +82,7 @@ fn is_sized(bytes: &[u8]) -> bool
 /// The name between the header and the CRC, if one stands there.
 fn read_name(bytes: &[u8]) -> Option<Name>
     requires { has_size bytes.now ≡ true }
-    ensures rule { is_some result ≡ has_name bytes.now }
+    ensures rule { is_some result ≡ has_module_name bytes.now }
     ensures name { IfSome result (λ name. module_name bytes.now ≡ Some name) }
 {
     let offset = word(bytes, 4);
@@ -114,7 +114,7 @@ fn has_crc(bytes: &[u8], end: u16) -> bool
 /// The word at a place, high byte first.
 fn word(bytes: &[u8], at: usize) -> u16
     requires { at + 2 ≤ length bytes.now }
-    ensures { result ≡ word_at bytes.now at }
+    ensures { result ≡ header_word bytes.now at }
 {
     BigEndian::read_u16(&bytes[at..])
 }

@@ -53,8 +53,8 @@ pub record IsName (name : List ℕ) : Type 0 where
   pub characters : All (λ c. is_stored_character c ≡ true) name
 
 -- a name in a field of 29 bytes, zeros after it
-abbrev pub padded : List ℕ → List ℕ
-padded name = name ++ replicate (29 - length name) 0
+abbrev pub padded_name : List ℕ → List ℕ
+padded_name name = name ++ replicate (29 - length name) 0
 
 -- the first so many bytes are a stored name up to and with its last character
 pub record EndsName (bytes : List ℕ) (len : ℕ) : Type 0 where

@@ -1,18 +1,18 @@
 -- The fields of a `Name`.
 use Rattle.std.specs.Prelude.{◌≡◌, ℕ, ◌≤◌, List, take, length}
 use Rattle.std.proofs.Common.{sym, ap, ◌∙◌, arith, length-take}
-use Rattle.os9_base.specs.Name.{IsName, padded}
+use Rattle.os9_base.specs.Name.{IsName, padded_name}
 use Rattle.os9_base.specs.declared.name.Name.TheInside.{Inside}
 
 -- the name stands at the front of its field, and zeros fill the rest
 pub record IsNameField (field : Inside) : Type 0 where
   pub holds_name : IsName (take field.len field.characters)
   pub in_field : field.len ≤ length field.characters
-  pub zeros_after : field.characters ≡ padded (take field.len field.characters)
+  pub zeros_after : field.characters ≡ padded_name (take field.len field.characters)
 
 -- the field of a name
 abbrev pub name_field : List ℕ → Inside
-name_field name = record { characters = padded name; len = length name }
+name_field name = record { characters = padded_name name; len = length name }
 
 -- the field is told by the name in it
 pub name_field-view : (field : Inside) → IsNameField field → name_field (take field.len field.characters) ≡ field

@@ -3,6 +3,9 @@
 #![tactic(auto)]
 
 pub mod call;
+pub mod calls;
+pub mod errors;
+pub mod limits;
 pub mod memory;
 pub mod name;
 pub mod registers;

@@ -7,23 +7,23 @@ use Rattle.std.proofs.lemmas.List.Edits.{map_over_more}
 use Rattle.std.proofs.lemmas.List.Elements.{All-get_or}
 use Rattle.std.proofs.lemmas.Option.{get_or_from_slice_get}
 use Rattle.os9_words.proofs.Prefixes.{GainsPrefix-front, GainsPrefix-then}
-use Rattle.os9_outer.specs.Stream.{appended, emptied, GainsPrefix}
+use Rattle.os9_outer.specs.Stream.{stream_with, emptied, GainsPrefix}
 use Rattle.device_table.proofs.StreamLemmas.{appended-twice}
-use Rattle.device_table.specs.Screens.{Screen, ChangesOne}
-use Rattle.machine_model.specs.Run.{bytes_of, console_of, without_bytes}
-use Rattle.os9_boot.specs.Console.{Takes, IsTold}
+use Rattle.os9_outer.specs.TerminalState.{TerminalState, ChangesOneTerminal}
+use Rattle.machine_model.specs.Run.{put_bytes, console_bytes, without_bytes}
+use Rattle.os9_boot.specs.Console.{TakesBytes, IsObserved}
 
 -- what was taken from a terminal's driver was taken from the terminal
-pub Takes-from : (bytes : List ℕ) (old new : Screen) → IfSome old.put (λ put. bytes ≡ put) → new.put ≡ emptied old.put → new.keys ≡ old.keys → new.faults ≡ old.faults → Takes bytes old new
+pub Takes-from : (bytes : List ℕ) (old new : TerminalState) → IfSome old.put (λ put. bytes ≡ put) → new.put ≡ emptied old.put → new.keys ≡ old.keys → new.faults ≡ old.faults → TakesBytes bytes old new
 Takes-from bytes old new handed none keys faults =
-    let by : List _ → Option (List ℕ) → ℕ → Screen = λ keys put faults. record { keys = keys; put = put; faults = faults } in
+    let by : List _ → Option (List ℕ) → ℕ → TerminalState = λ keys put faults. record { keys = keys; put = put; faults = faults } in
     record {
       handed_over = handed;
       none_left = ap (λ k. by k new.put new.faults) keys ∙ ap (λ p. by old.keys p new.faults) none ∙ ap (λ f. by old.keys (emptied old.put) f) faults;
     }
 
 -- the terminals, of which the first so many were emptied
-abbrev pub emptied_front : ℕ → List Screen → List Screen
+abbrev pub emptied_front : ℕ → List TerminalState → List TerminalState
 emptied_front n screens = map without_bytes (take n screens) ++ drop n screens
 
 told_bytes : (bytes : List ℕ) (put : Option (List ℕ)) → IsSome put → IfSome put (λ put. bytes ≡ put) → bytes ≡ unwrap_or put []
@@ -31,11 +31,11 @@ told_bytes bytes None told is = cc
 told_bytes bytes (Some put) told is = is
 
 -- one terminal more
-pub record Passed (n : ℕ) (bytes : List ℕ) (screens now : List Screen) : Type 0 where
+pub record Passed (n : ℕ) (bytes : List ℕ) (screens now : List TerminalState) : Type 0 where
   pub emptied : now ≡ emptied_front (n + 1) screens
-  pub written : All IsTold screens → console_of (take (n + 1) screens) ≡ console_of (take n screens) ++ bytes
+  pub written : All IsObserved screens → console_bytes (take (n + 1) screens) ≡ console_bytes (take n screens) ++ bytes
 
-pub passes : (n : ℕ) (bytes : List ℕ) (screens before now : List Screen) → n < length screens → before ≡ emptied_front n screens → ChangesOne (Takes bytes) n before now → Passed n bytes screens now
+pub passes : (n : ℕ) (bytes : List ℕ) (screens before now : List TerminalState) → n < length screens → before ≡ emptied_front n screens → ChangesOneTerminal (TakesBytes bytes) n before now → Passed n bytes screens now
 passes n bytes screens before now within so_far (old, new, is, set, took) =
     let here : old ≡ get_or before n old = sym (get_or_from_slice_get before n old old is) in
     let size : length (map without_bytes (take n screens)) ≡ n = simp (length-map, length-take) (omega arith) in
@@ -44,24 +44,24 @@ passes n bytes screens before now within so_far (old, new, is, set, took) =
     record {
       emptied = set ∙ ap (λ screen. slice_set before n screen) took.none_left ∙ map_over_more without_bytes screens before n old within so_far here;
       written = λ told.
-          let tells : IsSome old.put = rw same (All-get_or IsTold screens n old within told) in
-          rw (take_more screens n old within, flat_map-append, told_bytes bytes old.put tells took.handed_over, ← same) (ap (λ rest. console_of (take n screens) ++ rest) (append-nil (unwrap_or old.put [])));
+          let tells : IsSome old.put = rw same (All-get_or IsObserved screens n old within told) in
+          rw (take_more screens n old within, flat_map-append, told_bytes bytes old.put tells took.handed_over, ← same) (ap (λ rest. console_bytes (take n screens) ++ rest) (append-nil (unwrap_or old.put [])));
     }
 
 -- what was written after one terminal more
-pub written-more : (n : ℕ) (bytes : List ℕ) (screens now : List Screen) (first before after : Option (List ℕ)) → Passed n bytes screens now → (All IsTold screens → before ≡ appended first (console_of (take n screens))) → after ≡ appended before bytes → All IsTold screens → after ≡ appended first (console_of (take (n + 1) screens))
+pub written-more : (n : ℕ) (bytes : List ℕ) (screens now : List TerminalState) (first before after : Option (List ℕ)) → Passed n bytes screens now → (All IsObserved screens → before ≡ stream_with first (console_bytes (take n screens))) → after ≡ stream_with before bytes → All IsObserved screens → after ≡ stream_with first (console_bytes (take (n + 1) screens))
 written-more n bytes screens now first before after passed so_far gained told =
-    gained ∙ ap (λ stream. appended stream bytes) (so_far told) ∙ appended-twice first (console_of (take n screens)) bytes ∙ ap (appended first) (sym (passed.written told))
+    gained ∙ ap (λ stream. stream_with stream bytes) (so_far told) ∙ appended-twice first (console_bytes (take n screens)) bytes ∙ ap (stream_with first) (sym (passed.written told))
 
 -- where the bytes of a terminal are not all written, a prefix of the bytes of all terminals is
-prefix-here : (n : ℕ) (bytes : List ℕ) (screens now : List Screen) (first before after : Option (List ℕ)) → Passed n bytes screens now → (All IsTold screens → before ≡ appended first (console_of (take n screens))) → GainsPrefix before bytes after → All IsTold screens → GainsPrefix first (console_of screens) after
+prefix-here : (n : ℕ) (bytes : List ℕ) (screens now : List TerminalState) (first before after : Option (List ℕ)) → Passed n bytes screens now → (All IsObserved screens → before ≡ stream_with first (console_bytes (take n screens))) → GainsPrefix before bytes after → All IsObserved screens → GainsPrefix first (console_bytes screens) after
 prefix-here n bytes screens now first before after passed so_far gained told =
-    let front = console_of (take (n + 1) screens) in
-    let behind = console_of (drop (n + 1) screens) in
-    let all : console_of screens ≡ front ++ behind = ap console_of (sym (take-append-drop (n + 1) screens)) ∙ flat_map-append bytes_of (take (n + 1) screens) (drop (n + 1) screens) in
-    rw all (GainsPrefix-front first front behind after (rw (passed.written told) (GainsPrefix-then first (console_of (take n screens)) bytes before after (so_far told) gained)))
+    let front = console_bytes (take (n + 1) screens) in
+    let behind = console_bytes (drop (n + 1) screens) in
+    let all : console_bytes screens ≡ front ++ behind = ap console_bytes (sym (take-append-drop (n + 1) screens)) ∙ flat_map-append put_bytes (take (n + 1) screens) (drop (n + 1) screens) in
+    rw all (GainsPrefix-front first front behind after (rw (passed.written told) (GainsPrefix-then first (console_bytes (take n screens)) bytes before after (so_far told) gained)))
 
 -- the same where the call answers an error
-pub prefix-on_error : {Value Fault : Type 0} (answer : Result Value Fault) (n : ℕ) (bytes : List ℕ) (screens now : List Screen) (first before after : Option (List ℕ)) → Passed n bytes screens now → (All IsTold screens → before ≡ appended first (console_of (take n screens))) → GainsPrefix before bytes after → OnErr answer (All IsTold screens → GainsPrefix first (console_of screens) after)
+pub prefix-on_error : {Value Fault : Type 0} (answer : Result Value Fault) (n : ℕ) (bytes : List ℕ) (screens now : List TerminalState) (first before after : Option (List ℕ)) → Passed n bytes screens now → (All IsObserved screens → before ≡ stream_with first (console_bytes (take n screens))) → GainsPrefix before bytes after → OnErr answer (All IsObserved screens → GainsPrefix first (console_bytes screens) after)
 prefix-on_error (Ok value) n bytes screens now first before after passed so_far gained = tt
 prefix-on_error (Err fault) n bytes screens now first before after passed so_far gained = prefix-here n bytes screens now first before after passed so_far gained

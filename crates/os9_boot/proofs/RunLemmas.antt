@@ -6,88 +6,88 @@ use Rattle.std.proofs.lemmas.List.Elements.{All-set, All-map, All-get_or}
 use Rattle.std.proofs.lemmas.List.Sums.{sum_by-cons}
 use Rattle.std.proofs.lemmas.Option.{slice_get_within, get_or_from_slice_get}
 use Rattle.cpu_model.specs.Step.{Outcome, Done, Calls, Aborts, step_of}
-use Rattle.os9_outer.specs.Stream.{appended, emptied, GainsPrefix}
+use Rattle.os9_outer.specs.Stream.{stream_with, emptied, GainsPrefix}
 use Rattle.os9_words.proofs.PieceLemmas.{GainsPrefix-whole}
 use Rattle.os9_words.proofs.Prefixes.{GainsPrefix-then}
 use Rattle.std.proofs.lemmas.List.{take_more}
 use Rattle.device_table.proofs.StreamLemmas.{appended-twice, appended-nothing}
-use Rattle.device_table.specs.Screens.{Screen}
+use Rattle.os9_outer.specs.TerminalState.{TerminalState}
 use Rattle.machine_model.specs.declared.activity.Activity.{Activity}
 use Rattle.machine_model.specs.declared.activity.Activity.TheVariants.{Running, Calling, Finished}
 use Rattle.machine_model.specs.declared.ends.EventEnd.{EventEnd}
 use Rattle.machine_model.specs.declared.ends.EventEnd.TheVariants.{Ran as Went}
 use Rattle.machine_model.specs.declared.ends.SliceEnd.{SliceEnd}
-use Rattle.machine_model.specs.Objects.{cells_of}
+use Rattle.machine_model.specs.Objects.{object_cells}
 use Rattle.machine_model.specs.State.{State, Process, is_living, has_living}
 use Rattle.machine_model.specs.Call.{Attempt, PutsLine, WritesLine, Exits, answered, refused, line_at, is_standard_path}
 use Rattle.machine_model.specs.Event.{Acts, Executes}
-use Rattle.machine_model.specs.Run.{Goes, cost, Slice, Run, taken, console_of, without_bytes}
+use Rattle.machine_model.specs.Run.{Steps, cost, Slice, Run, terminals_emptied, console_bytes, without_bytes}
 use Rattle.os9_kernel.specs.declared.kernel.Kernel.{Kernel}
-use Rattle.os9_kernel.specs.Tie.{Stands}
-use Rattle.os9_boot.specs.Console.{IsTold}
+use Rattle.os9_kernel.specs.Tie.{Represents}
+use Rattle.os9_boot.specs.Console.{IsObserved}
 use Rattle.os9_boot.specs.Partly.{RunsPartly}
 
 -- ---- what is told stays told
 
-told-appended : (put now : Option (List ℕ)) (bytes : List ℕ) → now ≡ appended put bytes → IsSome put → IsSome now
+told-appended : (put now : Option (List ℕ)) (bytes : List ℕ) → now ≡ stream_with put bytes → IsSome put → IsSome now
 told-appended None now bytes is told = cc
 told-appended (Some before) now bytes is told = rw is refl
 
-told-here : (screens : List Screen) (old : Screen) → slice_get screens 0 ≡ Some old → All IsTold screens → IsSome old.put
+told-here : (screens : List TerminalState) (old : TerminalState) → slice_get screens 0 ≡ Some old → All IsObserved screens → IsSome old.put
 told-here screens old first told =
-    rw (sym (get_or_from_slice_get screens 0 old old first)) (All-get_or IsTold screens 0 old (slice_get_within screens 0 old first) told)
+    rw (sym (get_or_from_slice_get screens 0 old old first)) (All-get_or IsObserved screens 0 old (slice_get_within screens 0 old first) told)
 
-told-line : (s : State) (number : ℕ) (process : Process) (line : List ℕ) (old : Screen) (t : State) → slice_get s.terms 0 ≡ Some old → PutsLine s number process line old t → All IsTold s.terms → All IsTold t.terms
+told-line : (s : State) (number : ℕ) (process : Process) (line : List ℕ) (old : TerminalState) (t : State) → slice_get s.terms 0 ≡ Some old → PutsLine s number process line old t → All IsObserved s.terms → All IsObserved t.terms
 told-line s number process line old t first (screen, keys, inl (put, faults, is)) told =
-    rw is (All-set IsTold s.terms 0 screen (told-appended old.put screen.put _ put (told-here s.terms old first told)) told)
+    rw is (All-set IsObserved s.terms 0 screen (told-appended old.put screen.put _ put (told-here s.terms old first told)) told)
 told-line s number process line old t first (screen, keys, inr (some, gained, rose, is)) told =
-    rw is (All-set IsTold s.terms 0 screen (told-appended old.put screen.put _ gained.1 (told-here s.terms old first told)) told)
+    rw is (All-set IsObserved s.terms 0 screen (told-appended old.put screen.put _ gained.1 (told-here s.terms old first told)) told)
 
-module _ (s : State) (number : ℕ) (process : Process) (end : EventEnd) (t : State) (told : All IsTold s.terms) where
-  told-executes : (outcome : Outcome) → Executes outcome s number process end t → All IsTold t.terms
+module _ (s : State) (number : ℕ) (process : Process) (end : EventEnd) (t : State) (told : All IsObserved s.terms) where
+  told-executes : (outcome : Outcome) → Executes outcome s number process end t → All IsObserved t.terms
   told-executes (Done effect) (ran, is) = rw is told
   told-executes (Calls code regs) (ran, is) = rw is told
   told-executes (Aborts status) (ended, is) = rw is told
 
-  told-writes : (line : Option (List ℕ)) → MatchOption line (t ≡ answered s number process (refused process.regs 210)) (λ line. MatchBool (is_standard_path process.regs.a) (MatchOption (slice_get s.terms 0) ⊥ (λ old. PutsLine s number process line old t)) (t ≡ answered s number process (refused process.regs 201))) → All IsTold t.terms
+  told-writes : (line : Option (List ℕ)) → MatchOption line (t ≡ answered s number process (refused process.regs 210)) (λ line. MatchBool (is_standard_path process.regs.a) (MatchOption (slice_get s.terms 0) ⊥ (λ old. PutsLine s number process line old t)) (t ≡ answered s number process (refused process.regs 201))) → All IsObserved t.terms
   told-writes None is = rw is told
   told-writes (Some line) answer = by_path (is_standard_path process.regs.a) answer
     where
-      by_screen : (first : Option Screen) → slice_get s.terms 0 ≡ first → MatchOption first ⊥ (λ old. PutsLine s number process line old t) → All IsTold t.terms
+      by_screen : (first : Option TerminalState) → slice_get s.terms 0 ≡ first → MatchOption first ⊥ (λ old. PutsLine s number process line old t) → All IsObserved t.terms
       by_screen None is answer = absurd answer
       by_screen (Some old) is answer = told-line s number process line old t is answer told
 
-      by_path : (standard : Bool) → MatchBool standard (MatchOption (slice_get s.terms 0) ⊥ (λ old. PutsLine s number process line old t)) (t ≡ answered s number process (refused process.regs 201)) → All IsTold t.terms
+      by_path : (standard : Bool) → MatchBool standard (MatchOption (slice_get s.terms 0) ⊥ (λ old. PutsLine s number process line old t)) (t ≡ answered s number process (refused process.regs 201)) → All IsObserved t.terms
       by_path true answer = by_screen (slice_get s.terms 0) refl answer
       by_path false is = rw is told
 
-  told-attempt : (code : ℕ) → Attempt code s number process end t → All IsTold t.terms
+  told-attempt : (code : ℕ) → Attempt code s number process end t → All IsObserved t.terms
   told-attempt code attempt = by_exit (eqb code 0x06) attempt
     where
-      by_line : (is_line : Bool) → MatchBool is_line (WritesLine s number process end t) ((end ≡ Went) × (t ≡ answered s number process (refused process.regs 208))) → All IsTold t.terms
-      by_line true (ran, answer) = told-writes (line_at (cells_of s.inner.objects process.map.places) process.regs.x process.regs.y) answer
+      by_line : (is_line : Bool) → MatchBool is_line (WritesLine s number process end t) ((end ≡ Went) × (t ≡ answered s number process (refused process.regs 208))) → All IsObserved t.terms
+      by_line true (ran, answer) = told-writes (line_at (object_cells s.inner.objects process.map.places) process.regs.x process.regs.y) answer
       by_line false (ran, is) = rw is told
 
-      by_exit : (is_exit : Bool) → MatchBool is_exit (Exits s number process end t) (MatchBool (eqb code 0x8C) (WritesLine s number process end t) ((end ≡ Went) × (t ≡ answered s number process (refused process.regs 208)))) → All IsTold t.terms
+      by_exit : (is_exit : Bool) → MatchBool is_exit (Exits s number process end t) (MatchBool (eqb code 0x8C) (WritesLine s number process end t) ((end ≡ Went) × (t ≡ answered s number process (refused process.regs 208)))) → All IsObserved t.terms
       by_exit true (ended, is) = rw is told
       by_exit false attempt = by_line (eqb code 0x8C) attempt
 
-  told-acts : (activity : Activity) → Acts activity s number process end t → All IsTold t.terms
-  told-acts Running acts = told-executes (step_of (cells_of s.inner.objects process.map.places) process.regs) acts
+  told-acts : (activity : Activity) → Acts activity s number process end t → All IsObserved t.terms
+  told-acts Running acts = told-executes (step_of (object_cells s.inner.objects process.map.places) process.regs) acts
   told-acts (Calling code) acts = told-attempt code acts
   told-acts (Finished status) acts = absurd acts
 
-told-goes : (left : ℕ) (s : State) (states : List State) (t : State) → Goes left s states t → All IsTold s.terms → All IsTold t.terms
+told-goes : (left : ℕ) (s : State) (states : List State) (t : State) → Steps left s states t → All IsObserved s.terms → All IsObserved t.terms
 told-goes left s [] t (over, is) told = rw is told
 told-goes left s (m ∷ ms) t (going, end, event, goes) told =
     told-goes (left - cost s) m ms t goes (told-acts s event.0 event.1 end m told event.1.activity event.4)
 
-told-slice : (n : ℕ) (s : State) (end : SliceEnd) (t : State) → Slice n s end t → All IsTold s.terms → All IsTold t.terms
+told-slice : (n : ℕ) (s : State) (end : SliceEnd) (t : State) → Slice n s end t → All IsObserved s.terms → All IsObserved t.terms
 told-slice n s end t (ticked, chosen, states, ticks, chooses, how, goes) told =
     told-goes n chosen states t goes (rw chooses (rw ticks told))
 
-told-taken : (screens : List Screen) → All IsTold screens → All IsTold (taken screens)
-told-taken screens told = All-map IsTold without_bytes screens (λ k d within. told-emptied (get_or screens k d).put (told k d within))
+told-taken : (screens : List TerminalState) → All IsObserved screens → All IsObserved (terminals_emptied screens)
+told-taken screens told = All-map IsObserved without_bytes screens (λ k d within. told-emptied (get_or screens k d).put (told k d within))
   where
     told-emptied : (put : Option (List ℕ)) → IsSome put → IsSome (emptied put)
     told-emptied None tells = tells
@@ -95,7 +95,7 @@ told-taken screens told = All-map IsTold without_bytes screens (λ k d within. t
 
 -- ---- a kernel with other terminals
 
-pub tied-terms : (kernel : Kernel) (terms other : List Screen) (s : State) → Stands kernel terms s → Stands kernel other (record s { terms = other })
+pub tied-terms : (kernel : Kernel) (terms other : List TerminalState) (s : State) → Represents kernel terms s → Represents kernel other (record s { terms = other })
 tied-terms kernel terms other s tied = record {
   number = tied.number;
   objects = tied.objects;
@@ -104,7 +104,7 @@ tied-terms kernel terms other s tied = record {
 }
 
 -- the terminals of a state that they stand for
-pub terms-standing : (kernel : Kernel) (terms : List Screen) (s : State) → Stands kernel terms s → terms ≡ s.terms
+pub terms-standing : (kernel : Kernel) (terms : List TerminalState) (s : State) → Represents kernel terms s → terms ≡ s.terms
 terms-standing kernel terms s tied = sym (ap (λ s. s.terms) tied.is)
 
 -- ---- how many live
@@ -143,8 +143,8 @@ run-over [] s written t idle run = run
 run-over (n ∷ ns) s written t idle run = rw idle at run
 
 -- one slice is a run
-run-slice : (n : ℕ) (m t : State) (end : SliceEnd) → has_living m ≡ true → Slice n m end t → Run (n ∷ []) m (console_of t.terms) (record t { terms = taken t.terms })
-run-slice n m t end lives slice = rw lives (end, t, [], slice, sym (append-nil (console_of t.terms)), (refl, refl))
+run-slice : (n : ℕ) (m t : State) (end : SliceEnd) → has_living m ≡ true → Slice n m end t → Run (n ∷ []) m (console_bytes t.terms) (record t { terms = terminals_emptied t.terms })
+run-slice n m t end lives slice = rw lives (end, t, [], slice, sym (append-nil (console_bytes t.terms)), (refl, refl))
 
 -- a run over the first slices, and one over the rest from where it came to, are a run
 run-append : (first rest : List ℕ) (s m t : State) (written more : List ℕ) → Run first s written m → Run rest m more t → Run (first ++ rest) s (written ++ more) t
@@ -152,69 +152,69 @@ run-append [] rest s m t written more (nothing, same) next = rw nothing (rw same
 run-append (n ∷ first) rest s m t written more run next =
     by_living (has_living s) refl (λ mid out after. run-append first rest mid m t out more after next) run
   where
-    by_living : (living : Bool) → has_living s ≡ living → ((mid : State) (out : List ℕ) → Run first mid out m → Run (first ++ rest) mid (out ++ more) t) → MatchBool living ((end : SliceEnd) × (mid : State) × (out : List ℕ) × Slice n s end mid × (written ≡ console_of mid.terms ++ out) × Run first (record mid { terms = taken mid.terms }) out m) ((written ≡ []) × (m ≡ s)) → Run (n ∷ (first ++ rest)) s (written ++ more) t
+    by_living : (living : Bool) → has_living s ≡ living → ((mid : State) (out : List ℕ) → Run first mid out m → Run (first ++ rest) mid (out ++ more) t) → MatchBool living ((end : SliceEnd) × (mid : State) × (out : List ℕ) × Slice n s end mid × (written ≡ console_bytes mid.terms ++ out) × Run first (record mid { terms = terminals_emptied mid.terms }) out m) ((written ≡ []) × (m ≡ s)) → Run (n ∷ (first ++ rest)) s (written ++ more) t
     by_living true lives joined (end, mid, out, slice, all, after) =
         rw lives (
           end,
           mid,
           out ++ more,
           slice,
-          ap (λ bytes. bytes ++ more) all ∙ append_assoc (console_of mid.terms) out more,
-          joined (record mid { terms = taken mid.terms }) out after,
+          ap (λ bytes. bytes ++ more) all ∙ append_assoc (console_bytes mid.terms) out more,
+          joined (record mid { terms = terminals_emptied mid.terms }) out after,
         )
     by_living false idle joined (nothing, same) =
         let over = run-over rest s more t idle (rw same at next) in
         rw idle (ap (λ bytes. bytes ++ more) nothing ∙ over.0, over.1)
 
 -- a kernel and its terminals have come so far from s: a run over these slices wrote what the output gained
-abbrev pub Reaches : Option (List ℕ) → List ℕ → State → Kernel → List Screen → Option (List ℕ) → Type 0
+abbrev pub Reaches : Option (List ℕ) → List ℕ → State → Kernel → List TerminalState → Option (List ℕ) → Type 0
 Reaches first ran s kernel screens out =
-    (m : State) × (written : List ℕ) × All IsTold screens × Stands kernel screens m × (out ≡ appended first written) × Run ran s written m
+    (m : State) × (written : List ℕ) × All IsObserved screens × Represents kernel screens m × (out ≡ stream_with first written) × Run ran s written m
 
-pub reaches-none : (first : Option (List ℕ)) (s : State) (kernel : Kernel) (screens : List Screen) → All IsTold screens → Stands kernel screens s → Reaches first [] s kernel screens first
+pub reaches-none : (first : Option (List ℕ)) (s : State) (kernel : Kernel) (screens : List TerminalState) → All IsObserved screens → Represents kernel screens s → Reaches first [] s kernel screens first
 reaches-none first s kernel screens told tied = (s, [], told, tied, sym (appended-nothing first), (refl, refl))
 
-pub reaches-more : (ran : List ℕ) (s : State) (n : ℕ) (kernel after : Kernel) (screens mid now : List Screen) (first out next : Option (List ℕ)) (end : SliceEnd) → Reaches first ran s kernel screens out → ((m : State) → Stands kernel screens m → count_by is_living m.inner.processes ≢ 0) → ((m : State) → Stands kernel screens m → (t : State) × Slice n m end t × Stands after mid t) → now ≡ taken mid → (All IsTold mid → next ≡ appended out (console_of mid)) → Reaches first (ran ++ n ∷ []) s after now next
+pub reaches-more : (ran : List ℕ) (s : State) (n : ℕ) (kernel after : Kernel) (screens mid now : List TerminalState) (first out next : Option (List ℕ)) (end : SliceEnd) → Reaches first ran s kernel screens out → ((m : State) → Represents kernel screens m → count_by is_living m.inner.processes ≢ 0) → ((m : State) → Represents kernel screens m → (t : State) × Slice n m end t × Represents after mid t) → now ≡ terminals_emptied mid → (All IsObserved mid → next ≡ stream_with out (console_bytes mid)) → Reaches first (ran ++ n ∷ []) s after now next
 reaches-more ran s n kernel after screens mid now first out next end (m, written, told, tied, is, so_far) some steps emptied gained =
     let step = steps m tied in
     let t : State = step.0 in
     let here : m.terms ≡ screens = ap (λ s. s.terms) tied.is in
     let there : t.terms ≡ mid = ap (λ s. s.terms) step.2.is in
-    let told_mid : All IsTold mid = rw (← there) (told-slice n m end t step.1 (rw here told)) in (
-      record t { terms = taken t.terms },
-      written ++ console_of t.terms,
+    let told_mid : All IsObserved mid = rw (← there) (told-slice n m end t step.1 (rw here told)) in (
+      record t { terms = terminals_emptied t.terms },
+      written ++ console_bytes t.terms,
       rw emptied (told-taken mid told_mid),
-      rw (emptied, ← there) (tied-terms after mid (taken t.terms) t step.2),
-      gained told_mid ∙ ap (λ stream. appended stream (console_of mid)) is ∙ appended-twice first written (console_of mid) ∙ rw there refl,
-      run-append ran (n ∷ []) s m (record t { terms = taken t.terms }) written (console_of t.terms) so_far (run-slice n m t end (any-some m.inner.processes (some m tied)) step.1),
+      rw (emptied, ← there) (tied-terms after mid (terminals_emptied t.terms) t step.2),
+      gained told_mid ∙ ap (λ stream. stream_with stream (console_bytes mid)) is ∙ appended-twice first written (console_bytes mid) ∙ rw there refl,
+      run-append ran (n ∷ []) s m (record t { terms = terminals_emptied t.terms }) written (console_bytes t.terms) so_far (run-slice n m t end (any-some m.inner.processes (some m tied)) step.1),
     )
 
-pub reaches-idle : (first out : Option (List ℕ)) (slices ran rest : List ℕ) (s : State) (kernel : Kernel) (screens : List Screen) → ran ++ rest ≡ slices → Reaches first ran s kernel screens out → ((m : State) → Stands kernel screens m → count_by is_living m.inner.processes ≡ 0) → (written : List ℕ) × (t : State) × Run slices s written t × Stands kernel screens t × (out ≡ appended first written)
+pub reaches-idle : (first out : Option (List ℕ)) (slices ran rest : List ℕ) (s : State) (kernel : Kernel) (screens : List TerminalState) → ran ++ rest ≡ slices → Reaches first ran s kernel screens out → ((m : State) → Represents kernel screens m → count_by is_living m.inner.processes ≡ 0) → (written : List ℕ) × (t : State) × Run slices s written t × Represents kernel screens t × (out ≡ stream_with first written)
 reaches-idle first out slices ran rest s kernel screens all (m, written, told, tied, is, so_far) none =
     let ended : Run (ran ++ rest) s (written ++ []) m = run-append ran rest s m m written [] so_far (run-idle rest m (any-none m.inner.processes (none m tied))) in
     (written, m, rw (all, append-nil) at ended, tied, is)
 
-pub reaches-all : (first out : Option (List ℕ)) (slices : List ℕ) (s : State) (kernel : Kernel) (screens : List Screen) → Reaches first slices s kernel screens out → (written : List ℕ) × (t : State) × Run slices s written t × Stands kernel screens t × (out ≡ appended first written)
+pub reaches-all : (first out : Option (List ℕ)) (slices : List ℕ) (s : State) (kernel : Kernel) (screens : List TerminalState) → Reaches first slices s kernel screens out → (written : List ℕ) × (t : State) × Run slices s written t × Represents kernel screens t × (out ≡ stream_with first written)
 reaches-all first out slices s kernel screens (m, written, told, tied, is, so_far) = (written, m, so_far, tied, is)
 
 -- where no memory was left for a slice, the output holds all that the slices before it wrote
-pub partly-before : (slices : List ℕ) (count : ℕ) (s : State) (kernel : Kernel) (screens : List Screen) (first out : Option (List ℕ)) → Reaches first (take count slices) s kernel screens out → RunsPartly slices s first out
+pub partly-before : (slices : List ℕ) (count : ℕ) (s : State) (kernel : Kernel) (screens : List TerminalState) (first out : Option (List ℕ)) → Reaches first (take count slices) s kernel screens out → RunsPartly slices s first out
 partly-before slices count s kernel screens first out (m, written, told, tied, is, so_far) =
     (count, written, m, so_far, GainsPrefix-whole first written out is)
 
 -- where a slice was run and its bytes were not all passed on, the output holds a prefix
-pub partly-after : (slices : List ℕ) (count : ℕ) (s : State) (kernel after : Kernel) (screens mid : List Screen) (first out next : Option (List ℕ)) (end : SliceEnd) → count < length slices → Reaches first (take count slices) s kernel screens out → ((m : State) → Stands kernel screens m → count_by is_living m.inner.processes ≢ 0) → ((m : State) → Stands kernel screens m → (t : State) × Slice (get_or slices count 0) m end t × Stands after mid t) → (All IsTold mid → GainsPrefix out (console_of mid) next) → RunsPartly slices s first next
+pub partly-after : (slices : List ℕ) (count : ℕ) (s : State) (kernel after : Kernel) (screens mid : List TerminalState) (first out next : Option (List ℕ)) (end : SliceEnd) → count < length slices → Reaches first (take count slices) s kernel screens out → ((m : State) → Represents kernel screens m → count_by is_living m.inner.processes ≢ 0) → ((m : State) → Represents kernel screens m → (t : State) × Slice (get_or slices count 0) m end t × Represents after mid t) → (All IsObserved mid → GainsPrefix out (console_bytes mid) next) → RunsPartly slices s first next
 partly-after slices count s kernel after screens mid first out next end within (m, written, told, tied, is, so_far) some steps gained =
     let step = steps m tied in
     let t : State = step.0 in
     let n = get_or slices count 0 in
     let here : m.terms ≡ screens = ap (λ s. s.terms) tied.is in
     let there : t.terms ≡ mid = ap (λ s. s.terms) step.2.is in
-    let told_mid : All IsTold mid = rw (← there) (told-slice n m end t step.1 (rw here told)) in
-    let last : State = record t { terms = taken t.terms } in (
+    let told_mid : All IsObserved mid = rw (← there) (told-slice n m end t step.1 (rw here told)) in
+    let last : State = record t { terms = terminals_emptied t.terms } in (
       count + 1,
-      written ++ console_of t.terms,
+      written ++ console_bytes t.terms,
       last,
-      rw (take_more slices count 0 within) (run-append (take count slices) (n ∷ []) s m last written (console_of t.terms) so_far (run-slice n m t end (any-some m.inner.processes (some m tied)) step.1)),
-      GainsPrefix-then first written (console_of t.terms) out next is (rw there (gained told_mid)),
+      rw (take_more slices count 0 within) (run-append (take count slices) (n ∷ []) s m last written (console_bytes t.terms) so_far (run-slice n m t end (any-some m.inner.processes (some m tied)) step.1)),
+      GainsPrefix-then first written (console_bytes t.terms) out next is (rw there (gained told_mid)),
     )

@@ -9,17 +9,17 @@ use Rattle.os9_boot.specs.declared.status.End.{End}
 use Rattle.os9_boot.specs.declared.status.End.TheVariants.{Ended, Living, CannotRead, CannotWrite, NoMemory, BadImage, BadText, BadModule, NoFirst, TooLarge}
 
 -- the status that the end gives
-abbrev pub number_of : End → ℕ
-number_of Ended = 0
-number_of Living = 5
-number_of (CannotRead _) = 2
-number_of CannotWrite = 3
-number_of NoMemory = 4
-number_of (BadImage _) = 6
-number_of BadText = 7
-number_of (BadModule _ _) = 8
-number_of NoFirst = 8
-number_of TooLarge = 8
+abbrev pub status_number : End → ℕ
+status_number Ended = 0
+status_number Living = 5
+status_number (CannotRead _) = 2
+status_number CannotWrite = 3
+status_number NoMemory = 4
+status_number (BadImage _) = 6
+status_number BadText = 7
+status_number (BadModule _ _) = 8
+status_number NoFirst = 8
+status_number TooLarge = 8
 
 -- the name of a file that the words give
 abbrev pub file_name : Command → Input → List ℕ

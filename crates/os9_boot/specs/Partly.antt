@@ -1,6 +1,6 @@
 -- What the output has gained where it could not be written, or memory was wanting.
 use Rattle.std.specs.Prelude.{◌≡◌, ◌⊎◌, ⊤, ℕ, Option, Some, Ok, List, take, slice_get, IfSome}
-use Rattle.os9_outer.specs.Host.{contents_of}
+use Rattle.os9_outer.specs.Host.{file_contents}
 use Rattle.os9_outer.specs.Stream.{GainsPrefix}
 use Rattle.script_text.specs.Slices.{slices_of}
 use Rattle.os9_words.specs.declared.command.Command.{Command}
@@ -29,7 +29,7 @@ BootsPartly file blocks slices before now =
 -- nothing was run; or the slice text gives slices, and the boot file that the words name is run over the first of them
 abbrev pub PerformsPartly : (List ℕ → Option (List ℕ)) → RunWords → Outside → Option (List ℕ) → Type 0
 PerformsPartly files run before now =
-    (now ≡ before.out) ⊎ ((modules : List ℕ) × (slices : List ℕ) × (s : State) × (slice_get run.files 0 ≡ Some modules) × (slices_of (contents_of files run.slices) ≡ Ok slices) × Starts (contents_of files modules) run.blocks before.terms s × RunsPartly slices s before.out now)
+    (now ≡ before.out) ⊎ ((modules : List ℕ) × (slices : List ℕ) × (s : State) × (slice_get run.files 0 ≡ Some modules) × (slices_of (file_contents files run.slices) ≡ Ok slices) × Starts (file_contents files modules) run.blocks before.terms s × RunsPartly slices s before.out now)
 
 -- the fact holds of the words of a run, where the command is one
 abbrev pub OnRun : Command → (RunWords → Type 0) → Type 0

@@ -2,10 +2,10 @@
 use Rattle.std.specs.Prelude.{◌≡◌, ◌≢◌, ℕ, ◌⊎◌, not, Option, List, length, count_by, slice_get, MatchOption, MatchResult}
 use Rattle.std.specs.declared.alloc.Global.{Global}
 use Rattle.std.specs.declared.dyn_box.DynBox.{DynBox}
-use Rattle.os9_outer.specs.Host.{contents_of}
-use Rattle.os9_outer.specs.Stream.{appended}
+use Rattle.os9_outer.specs.Host.{file_contents}
+use Rattle.os9_outer.specs.Stream.{stream_with}
 use Rattle.os9_outer.specs.declared.terminal.CharDriver.{Ghosts}
-use Rattle.device_table.specs.Screens.{Screen, screens}
+use Rattle.os9_outer.specs.TerminalState.{TerminalState, terminal_states}
 use Rattle.script_text.specs.Slices.{slices_of}
 use Rattle.os9_words.specs.declared.command.Command.{Command}
 use Rattle.os9_words.specs.declared.command.Command.TheVariants.{Run as RunCommand, Check as CheckCommand}
@@ -26,16 +26,16 @@ use Rattle.machine_model.specs.Run.{Run, status_of}
 -- what the outside tells: the bytes of the output stream, and the terminals
 pub record Outside : Type 0 where
   pub out : Option (List ℕ)
-  pub terms : List Screen
+  pub terms : List TerminalState
 
 -- the same of an output stream and of terminals in their boxes, as `outside ⟦<dyn CharDriver as CharDriver>⟧ (H.bytes_out host.now) devices.now.terms.items`
 abbrev pub outside : {Table : Type 0} {Driver : Table → Type 0} → ((table : Table) → Ghosts (Driver table)) → Option (List ℕ) → List (DynBox Table Global Driver) → Outside
-outside members out terminals = record { out = out; terms = screens members terminals }
+outside members out terminals = record { out = out; terms = terminal_states members terminals }
 
 -- the machine goes on from this state over these slices: the output gains what the run writes, the terminals are those at its end, and the status is the run's
 abbrev pub Runs : State → List ℕ → Outside → Outside → ℕ → Type 0
 Runs s slices before after status =
-    (written : List ℕ) × (t : State) × Run slices s written t × (status ≡ status_of t) × (after.out ≡ appended before.out written) × (after.terms ≡ t.terms)
+    (written : List ℕ) × (t : State) × Run slices s written t × (status ≡ status_of t) × (after.out ≡ stream_with before.out written) × (after.terms ≡ t.terms)
 
 -- the boot file starts a machine with so many blocks, which is run; or it is refused with 8
 abbrev pub Boots : List ℕ → ℕ → List ℕ → Outside → Outside → ℕ → Type 0
@@ -53,7 +53,7 @@ Slices text file blocks before after status =
 abbrev pub Performs : (List ℕ → Option (List ℕ)) → RunWords → Outside → Outside → ℕ → Type 0
 Performs files run before after status =
     MatchOption (slice_get run.files 0) ⊥
-    (λ modules. Slices (contents_of files run.slices) (contents_of files modules) run.blocks before after status)
+    (λ modules. Slices (file_contents files run.slices) (file_contents files modules) run.blocks before after status)
 
 -- the line of the counts of a volume
 abbrev pub counts_of : Geometry → DiskVolume → List ℕ
@@ -67,13 +67,13 @@ tree_line tree =
 -- the image stands for a volume, whose counts are printed; or it is refused with 6
 abbrev pub Checks : List ℕ → Option (List ℕ) → Option (List ℕ) → ℕ → Type 0
 Checks image before now status =
-    ((v : DiskVolume) × Vol image v × (status ≡ 0) × (now ≡ appended before (counts_of (image_geometry image) v))) ⊎ ((rule : ℕ) × (lsn : ℕ) × IsFault image rule lsn × (status ≡ 6) × (now ≡ before))
+    ((v : DiskVolume) × Vol image v × (status ≡ 0) × (now ≡ stream_with before (counts_of (image_geometry image) v))) ⊎ ((rule : ℕ) × (lsn : ℕ) × IsFault image rule lsn × (status ≡ 6) × (now ≡ before))
 
 -- what a command does with the files; a check leaves the terminals as they are
 abbrev pub PerformsCommand : (List ℕ → Option (List ℕ)) → Outside → Outside → ℕ → Command → Type 0
 PerformsCommand files before after status (RunCommand run) = Performs files run before after status
 PerformsCommand files before after status (CheckCommand image) =
-    Checks (contents_of files image) before.out after.out status × (after.terms ≡ before.terms)
+    Checks (file_contents files image) before.out after.out status × (after.terms ≡ before.terms)
 
 -- the words spell a command, or are refused with 1
 abbrev pub Answers : (List ℕ → Option (List ℕ)) → List (List ℕ) → Outside → Outside → ℕ → Type 0

@@ -1,10 +1,10 @@
 ghost use Rattle.std.specs.Prelude.{◌≡◌, ◌<◌, ◌≤◌, All, IfSome, OnErr, OnOk, vec_len};
-ghost use Rattle.os9_outer.specs.Stream.{appended, emptied, GainsPrefix};
+ghost use Rattle.os9_outer.specs.Stream.{stream_with, emptied, GainsPrefix};
 ghost use Rattle.os9_outer.specs.Host.{OnFailed, UnlessFailed};
 ghost use Rattle.os9_base.specs.Count.{Rose};
-ghost use Rattle.device_table.specs.Screens.{screens, ChangesOne};
-ghost use Rattle.machine_model.specs.Run.{console_of, taken};
-ghost use Rattle.os9_boot.specs.Console.{Takes, IsTold};
+ghost use Rattle.os9_outer.specs.TerminalState.{terminal_states, ChangesOneTerminal};
+ghost use Rattle.machine_model.specs.Run.{console_bytes, terminals_emptied};
+ghost use Rattle.os9_boot.specs.Console.{TakesBytes, IsObserved};
 
 use device_table::devices::Devices;
 use os9_outer::host::{Host, HostFault};
@@ -33,9 +33,9 @@ fn take_from_box(term: &mut Box<dyn CharDriver>) -> Vec<u8>
 // Takes the bytes that were put on the terminal of this number.
 fn take_from(devices: &mut Devices, n: usize) -> Vec<u8>
     requires { n < vec_len devices.old.terms }
-    ensures terminal { ChangesOne (Takes result.items) n
-        (screens ⟦<dyn CharDriver as CharDriver>⟧ devices.old.terms.items)
-        (screens ⟦<dyn CharDriver as CharDriver>⟧ devices.new.terms.items) }
+    ensures terminal { ChangesOneTerminal (TakesBytes result.items) n
+        (terminal_states ⟦<dyn CharDriver as CharDriver>⟧ devices.old.terms.items)
+        (terminal_states ⟦<dyn CharDriver as CharDriver>⟧ devices.new.terms.items) }
     ensures terminals { vec_len devices.new.terms ≡ vec_len devices.old.terms }
     ensures drives_kept { devices.new.drives ≡ devices.old.drives }
 {
@@ -49,16 +49,16 @@ fn take_from(devices: &mut Devices, n: usize) -> Vec<u8>
 /// The output has gained a prefix of these bytes.
 pub fn pass_on<H: Host>(devices: &mut Devices, host: &mut H) -> Result<(), HostFault>
     ensures taken { OnOk result
-        (screens ⟦<dyn CharDriver as CharDriver>⟧ devices.new.terms.items
-        ≡ taken (screens ⟦<dyn CharDriver as CharDriver>⟧ devices.old.terms.items)) }
-    ensures written { OnOk result (All IsTold
-        (screens ⟦<dyn CharDriver as CharDriver>⟧ devices.old.terms.items)
-        → H.bytes_out host.new ≡ appended (H.bytes_out host.old)
-        (console_of (screens ⟦<dyn CharDriver as CharDriver>⟧ devices.old.terms.items))) }
-    ensures prefix { OnErr result (All IsTold
-        (screens ⟦<dyn CharDriver as CharDriver>⟧ devices.old.terms.items)
+        (terminal_states ⟦<dyn CharDriver as CharDriver>⟧ devices.new.terms.items
+        ≡ terminals_emptied (terminal_states ⟦<dyn CharDriver as CharDriver>⟧ devices.old.terms.items)) }
+    ensures written { OnOk result (All IsObserved
+        (terminal_states ⟦<dyn CharDriver as CharDriver>⟧ devices.old.terms.items)
+        → H.bytes_out host.new ≡ stream_with (H.bytes_out host.old)
+        (console_bytes (terminal_states ⟦<dyn CharDriver as CharDriver>⟧ devices.old.terms.items))) }
+    ensures prefix { OnErr result (All IsObserved
+        (terminal_states ⟦<dyn CharDriver as CharDriver>⟧ devices.old.terms.items)
         → GainsPrefix (H.bytes_out host.old)
-        (console_of (screens ⟦<dyn CharDriver as CharDriver>⟧ devices.old.terms.items))
+        (console_bytes (terminal_states ⟦<dyn CharDriver as CharDriver>⟧ devices.old.terms.items))
         (H.bytes_out host.new)) }
     ensures terminals { vec_len devices.new.terms ≡ vec_len devices.old.terms }
     ensures drives_kept { devices.new.drives ≡ devices.old.drives }
@@ -75,7 +75,7 @@ pub fn pass_on<H: Host>(devices: &mut Devices, host: &mut H) -> Result<(), HostF
 
 // Writes the bytes to the output stream, where there are any.
 fn write_out<H: Host>(host: &mut H, bytes: &[u8]) -> Result<(), HostFault>
-    ensures written { OnOk result (H.bytes_out host.new ≡ appended (H.bytes_out host.old) bytes.now) }
+    ensures written { OnOk result (H.bytes_out host.new ≡ stream_with (H.bytes_out host.old) bytes.now) }
     ensures prefix { OnErr result (GainsPrefix (H.bytes_out host.old) bytes.now (H.bytes_out host.new)) }
     ensures fault_counted { OnFailed result (Rose (H.host_faults host.old) (H.host_faults host.new)) }
     ensures count_kept { UnlessFailed result (H.host_faults host.new ≡ H.host_faults host.old) }

@@ -1,14 +1,15 @@
 ghost use Rattle.std.specs.Prelude.{◌≡◌, ◌+◌, ◌<◌, All, List, OnErr, OnOk, length, vec_len};
 ghost use Rattle.os9_base.specs.Count.{Rose};
-ghost use Rattle.os9_outer.specs.Stream.{appended};
-ghost use Rattle.device_table.specs.Screens.{screens};
+ghost use Rattle.os9_outer.specs.Stream.{stream_with};
+ghost use Rattle.os9_outer.specs.TerminalState.{terminal_states};
 ghost use Rattle.machine_model.specs.State.{State};
 ghost use Rattle.machine_model.specs.Run.{Run};
-ghost use Rattle.os9_kernel.specs.Tie.{Stands, ticks};
-ghost use Rattle.os9_boot.specs.Console.{IsTold};
+ghost use Rattle.os9_kernel.specs.Tie.{Represents, ticks};
+ghost use Rattle.os9_boot.specs.Console.{IsObserved};
 ghost use Rattle.os9_boot.specs.Partly.{RunsPartly};
 ghost use Rattle.os9_boot.specs.Stop.{OnOutputFault, UnlessOutputFault};
 
+use os9_base::limits::LAST_TICK;
 use crate::console::pass_on;
 use device_table::devices::Devices;
 use os9_kernel::{Kernel, SliceEnd};
@@ -39,17 +40,17 @@ pub fn run_slices<H: Host>(
     host: &mut H,
     devices: &mut Devices,
 ) -> Result<(), Stop>
-    requires few { ticks kernel.old + length slices.now < 4294000000 }
+    requires few { ticks kernel.old + length slices.now < LAST_TICK }
     requires terminal { 0 < vec_len devices.old.terms }
     ensures run { OnOk result ((s : State)
-        → All IsTold (screens ⟦<dyn CharDriver as CharDriver>⟧ devices.old.terms.items)
-        → Stands kernel.old (screens ⟦<dyn CharDriver as CharDriver>⟧ devices.old.terms.items) s
+        → All IsObserved (terminal_states ⟦<dyn CharDriver as CharDriver>⟧ devices.old.terms.items)
+        → Represents kernel.old (terminal_states ⟦<dyn CharDriver as CharDriver>⟧ devices.old.terms.items) s
         → (written : List _) × (t : State) × Run slices.now s written t
-        × Stands kernel.new (screens ⟦<dyn CharDriver as CharDriver>⟧ devices.new.terms.items) t
-        × (H.bytes_out host.new ≡ appended (H.bytes_out host.old) written)) }
+        × Represents kernel.new (terminal_states ⟦<dyn CharDriver as CharDriver>⟧ devices.new.terms.items) t
+        × (H.bytes_out host.new ≡ stream_with (H.bytes_out host.old) written)) }
     ensures partial { OnErr result ((s : State)
-        → All IsTold (screens ⟦<dyn CharDriver as CharDriver>⟧ devices.old.terms.items)
-        → Stands kernel.old (screens ⟦<dyn CharDriver as CharDriver>⟧ devices.old.terms.items) s
+        → All IsObserved (terminal_states ⟦<dyn CharDriver as CharDriver>⟧ devices.old.terms.items)
+        → Represents kernel.old (terminal_states ⟦<dyn CharDriver as CharDriver>⟧ devices.old.terms.items) s
         → RunsPartly slices.now s (H.bytes_out host.old) (H.bytes_out host.new)) }
     ensures fault_counted { OnOutputFault result (Rose (H.host_faults host.old) (H.host_faults host.new)) }
     ensures count_kept { UnlessOutputFault result (H.host_faults host.new ≡ H.host_faults host.old) }

@@ -1,10 +1,10 @@
 ghost use Rattle.std.specs.Prelude.{◌≡◌, OnOk};
 ghost use Rattle.os9_base.specs.Count.{Rose};
 ghost use Rattle.os9_outer.specs.Host.{OnFailed, UnlessFailed};
-ghost use Rattle.os9_outer.specs.Stream.{appended, GainsPrefix};
+ghost use Rattle.os9_outer.specs.Stream.{stream_with, GainsPrefix};
 ghost use Rattle.os9_words.specs.Command.{HasOneFile};
 ghost use Rattle.os9_words.specs.Lines.{ChangesErrOnly};
-ghost use Rattle.os9_boot.specs.End.{number_of, file_name, end_line};
+ghost use Rattle.os9_boot.specs.End.{status_number, file_name, end_line};
 
 use os9_outer::host::{Host, HostFault};
 use os9_words::command::Command;
@@ -53,7 +53,7 @@ pub enum End {
 impl End {
     /// The status that the end gives.
     pub fn number(self) -> u8
-        ensures { result ≡ number_of self }
+        ensures { result ≡ status_number self }
     {
         match self {
             End::Ended => 0,
@@ -76,7 +76,7 @@ impl End {
 pub fn tell<H: Host>(host: &mut H, end: End, command: &Command) -> Result<(), HostFault>
     requires { HasOneFile command.now }
     ensures told { OnOk result (H.bytes_err host.new
-        ≡ appended (H.bytes_err host.old) (end_line command.now end)) }
+        ≡ stream_with (H.bytes_err host.old) (end_line command.now end)) }
     ensures prefix { GainsPrefix (H.bytes_err host.old) (end_line command.now end)
         (H.bytes_err host.new) }
     ensures fault_counted { OnFailed result

@@ -1,12 +1,13 @@
 ghost use Rattle.std.specs.Prelude.{◌≡◌, ◌≢◌, ◌<◌, ◌≤◌, ◌⊎◌, All, IfSome, None, map, string_bytes, length, vec_len};
 ghost use Rattle.os9_base.specs.Count.{Rose};
 ghost use Rattle.os9_words.specs.Command.{command_of, HasOneFile, HasBlocks};
-ghost use Rattle.device_table.specs.Screens.{screens};
-ghost use Rattle.os9_boot.specs.Console.{IsTold};
-ghost use Rattle.os9_boot.specs.End.{number_of};
+ghost use Rattle.os9_outer.specs.TerminalState.{terminal_states};
+ghost use Rattle.os9_boot.specs.Console.{IsObserved};
+ghost use Rattle.os9_boot.specs.End.{status_number};
 ghost use Rattle.os9_boot.specs.Partly.{AnswersPartly, BootsPartly, IsStopped, OnRun, PerformsPartly};
 ghost use Rattle.os9_boot.specs.TopCall.{Answers, Performs, PerformsCommand, Boots, IsAnswered, IsSilent, outside};
 
+use os9_base::limits::LAST_TICK;
 use crate::check::check_image;
 use crate::run::{Stop, run_slices};
 use crate::status::{End, Input, tell};
@@ -45,7 +46,7 @@ pub fn os9_main<H: Host>(alloc: Global, words: &[String], host: &mut H, devices:
     // output has gained the bytes of a run of the abstract machine, which ends with the terminals
     // as they are now, and the status is that run's.
     ensures run_headline { IsAnswered result → IfSome (H.file_map host.old) (λ files.
-        All IsTold (screens ⟦<dyn CharDriver as CharDriver>⟧ devices.old.terms.items)
+        All IsObserved (terminal_states ⟦<dyn CharDriver as CharDriver>⟧ devices.old.terms.items)
         → Answers files (map string_bytes words.now)
         (outside ⟦<dyn CharDriver as CharDriver>⟧ (H.bytes_out host.old) devices.old.terms.items)
         (outside ⟦<dyn CharDriver as CharDriver>⟧ (H.bytes_out host.new) devices.new.terms.items)
@@ -59,7 +60,7 @@ pub fn os9_main<H: Host>(alloc: Global, words: &[String], host: &mut H, devices:
     // Where no count of faults rose, the status is as the machine or the disk says, or 4.
     ensures complete { ¬ Rose (H.host_faults host.old) (H.host_faults host.new) → result ≢ 4
         → IfSome (H.file_map host.old) (λ files.
-        All IsTold (screens ⟦<dyn CharDriver as CharDriver>⟧ devices.old.terms.items)
+        All IsObserved (terminal_states ⟦<dyn CharDriver as CharDriver>⟧ devices.old.terms.items)
         → Answers files (map string_bytes words.now)
         (outside ⟦<dyn CharDriver as CharDriver>⟧ (H.bytes_out host.old) devices.old.terms.items)
         (outside ⟦<dyn CharDriver as CharDriver>⟧ (H.bytes_out host.new) devices.new.terms.items)
@@ -67,14 +68,14 @@ pub fn os9_main<H: Host>(alloc: Global, words: &[String], host: &mut H, devices:
     // Where the output could not be written or memory was wanting, the output has gained nothing,
     // or a prefix of what the machine writes over some first slices.
     ensures partial { IsStopped result → IfSome (H.file_map host.old) (λ files.
-        All IsTold (screens ⟦<dyn CharDriver as CharDriver>⟧ devices.old.terms.items)
+        All IsObserved (terminal_states ⟦<dyn CharDriver as CharDriver>⟧ devices.old.terms.items)
         → AnswersPartly files (map string_bytes words.now)
         (outside ⟦<dyn CharDriver as CharDriver>⟧ (H.bytes_out host.old) devices.old.terms.items)
         (H.bytes_out host.new)) }
     ensures silent { IsSilent result → H.bytes_out host.new ≡ H.bytes_out host.old }
     ensures terminals_kept { IsSilent result
-        → screens ⟦<dyn CharDriver as CharDriver>⟧ devices.new.terms.items
-        ≡ screens ⟦<dyn CharDriver as CharDriver>⟧ devices.old.terms.items }
+        → terminal_states ⟦<dyn CharDriver as CharDriver>⟧ devices.new.terms.items
+        ≡ terminal_states ⟦<dyn CharDriver as CharDriver>⟧ devices.old.terms.items }
     ensures files_kept { H.file_map host.new ≡ H.file_map host.old }
     ensures drives_kept { devices.new.drives ≡ devices.old.drives }
 {
@@ -97,7 +98,7 @@ fn do_command<H: Host>(alloc: Global, command: &Command, host: &mut H, devices: 
     requires files { HasOneFile command.now }
     requires blocks { HasBlocks command.now }
     ensures performed { IsAnswered result → IfSome (H.file_map host.old) (λ files.
-        All IsTold (screens ⟦<dyn CharDriver as CharDriver>⟧ devices.old.terms.items)
+        All IsObserved (terminal_states ⟦<dyn CharDriver as CharDriver>⟧ devices.old.terms.items)
         → PerformsCommand files
         (outside ⟦<dyn CharDriver as CharDriver>⟧ (H.bytes_out host.old) devices.old.terms.items)
         (outside ⟦<dyn CharDriver as CharDriver>⟧ (H.bytes_out host.new) devices.new.terms.items)
@@ -107,14 +108,14 @@ fn do_command<H: Host>(alloc: Global, command: &Command, host: &mut H, devices: 
     ensures output_fault { result ≡ 3 → Rose (H.host_faults host.old) (H.host_faults host.new) }
     ensures count_kept { result ≢ 2 → result ≢ 3 → H.host_faults host.new ≡ H.host_faults host.old }
     ensures partial { IsStopped result → IfSome (H.file_map host.old) (λ files.
-        All IsTold (screens ⟦<dyn CharDriver as CharDriver>⟧ devices.old.terms.items)
+        All IsObserved (terminal_states ⟦<dyn CharDriver as CharDriver>⟧ devices.old.terms.items)
         → OnRun command.now (λ run. PerformsPartly files run
         (outside ⟦<dyn CharDriver as CharDriver>⟧ (H.bytes_out host.old) devices.old.terms.items)
         (H.bytes_out host.new))) }
     ensures silent { IsSilent result → H.bytes_out host.new ≡ H.bytes_out host.old }
     ensures terminals_kept { IsSilent result
-        → screens ⟦<dyn CharDriver as CharDriver>⟧ devices.new.terms.items
-        ≡ screens ⟦<dyn CharDriver as CharDriver>⟧ devices.old.terms.items }
+        → terminal_states ⟦<dyn CharDriver as CharDriver>⟧ devices.new.terms.items
+        ≡ terminal_states ⟦<dyn CharDriver as CharDriver>⟧ devices.old.terms.items }
     ensures files_kept { H.file_map host.new ≡ H.file_map host.old }
     ensures drives_kept { devices.new.drives ≡ devices.old.drives }
 {
@@ -132,25 +133,25 @@ fn run_modules<H: Host>(alloc: Global, run: &RunWords, host: &mut H, devices: &m
     requires files { length run.now.files ≡ 1 }
     requires least { 8 ≤ run.now.blocks }
     requires most { run.now.blocks ≤ 256 }
-    ensures performed { IsAnswered (number_of result) → IfSome (H.file_map host.old) (λ files.
-        All IsTold (screens ⟦<dyn CharDriver as CharDriver>⟧ devices.old.terms.items)
+    ensures performed { IsAnswered (status_number result) → IfSome (H.file_map host.old) (λ files.
+        All IsObserved (terminal_states ⟦<dyn CharDriver as CharDriver>⟧ devices.old.terms.items)
         → Performs files run.now
         (outside ⟦<dyn CharDriver as CharDriver>⟧ (H.bytes_out host.old) devices.old.terms.items)
         (outside ⟦<dyn CharDriver as CharDriver>⟧ (H.bytes_out host.new) devices.new.terms.items)
-        (number_of result)) }
-    ensures read_fault { number_of result ≡ 2 → Rose (H.host_faults host.old) (H.host_faults host.new) }
-    ensures output_fault { number_of result ≡ 3 → Rose (H.host_faults host.old) (H.host_faults host.new) }
-    ensures count_kept { number_of result ≢ 2 → number_of result ≢ 3
+        (status_number result)) }
+    ensures read_fault { status_number result ≡ 2 → Rose (H.host_faults host.old) (H.host_faults host.new) }
+    ensures output_fault { status_number result ≡ 3 → Rose (H.host_faults host.old) (H.host_faults host.new) }
+    ensures count_kept { status_number result ≢ 2 → status_number result ≢ 3
         → H.host_faults host.new ≡ H.host_faults host.old }
-    ensures partial { IsStopped (number_of result) → IfSome (H.file_map host.old) (λ files.
-        All IsTold (screens ⟦<dyn CharDriver as CharDriver>⟧ devices.old.terms.items)
+    ensures partial { IsStopped (status_number result) → IfSome (H.file_map host.old) (λ files.
+        All IsObserved (terminal_states ⟦<dyn CharDriver as CharDriver>⟧ devices.old.terms.items)
         → PerformsPartly files run.now
         (outside ⟦<dyn CharDriver as CharDriver>⟧ (H.bytes_out host.old) devices.old.terms.items)
         (H.bytes_out host.new)) }
-    ensures silent { IsSilent (number_of result) → H.bytes_out host.new ≡ H.bytes_out host.old }
-    ensures terminals_kept { IsSilent (number_of result)
-        → screens ⟦<dyn CharDriver as CharDriver>⟧ devices.new.terms.items
-        ≡ screens ⟦<dyn CharDriver as CharDriver>⟧ devices.old.terms.items }
+    ensures silent { IsSilent (status_number result) → H.bytes_out host.new ≡ H.bytes_out host.old }
+    ensures terminals_kept { IsSilent (status_number result)
+        → terminal_states ⟦<dyn CharDriver as CharDriver>⟧ devices.new.terms.items
+        ≡ terminal_states ⟦<dyn CharDriver as CharDriver>⟧ devices.old.terms.items }
     ensures files_kept { H.file_map host.new ≡ H.file_map host.old }
     ensures drives_kept { devices.new.drives ≡ devices.old.drives }
 {
@@ -192,25 +193,25 @@ fn boot<H: Host>(
     requires terminals { 0 < vec_len devices.old.terms }
     requires least { 8 ≤ config.blocks }
     requires most { config.blocks ≤ 256 }
-    requires few { length slices.now < 4294000000 }
-    ensures booted { IsAnswered (number_of result)
-        → All IsTold (screens ⟦<dyn CharDriver as CharDriver>⟧ devices.old.terms.items)
+    requires few { length slices.now < LAST_TICK }
+    ensures booted { IsAnswered (status_number result)
+        → All IsObserved (terminal_states ⟦<dyn CharDriver as CharDriver>⟧ devices.old.terms.items)
         → Boots file.now config.blocks slices.now
         (outside ⟦<dyn CharDriver as CharDriver>⟧ (H.bytes_out host.old) devices.old.terms.items)
         (outside ⟦<dyn CharDriver as CharDriver>⟧ (H.bytes_out host.new) devices.new.terms.items)
-        (number_of result) }
-    ensures no_read { number_of result ≢ 2 }
-    ensures output_fault { number_of result ≡ 3 → Rose (H.host_faults host.old) (H.host_faults host.new) }
-    ensures count_kept { number_of result ≢ 3 → H.host_faults host.new ≡ H.host_faults host.old }
-    ensures partial { IsStopped (number_of result)
-        → All IsTold (screens ⟦<dyn CharDriver as CharDriver>⟧ devices.old.terms.items)
+        (status_number result) }
+    ensures no_read { status_number result ≢ 2 }
+    ensures output_fault { status_number result ≡ 3 → Rose (H.host_faults host.old) (H.host_faults host.new) }
+    ensures count_kept { status_number result ≢ 3 → H.host_faults host.new ≡ H.host_faults host.old }
+    ensures partial { IsStopped (status_number result)
+        → All IsObserved (terminal_states ⟦<dyn CharDriver as CharDriver>⟧ devices.old.terms.items)
         → BootsPartly file.now config.blocks slices.now
         (outside ⟦<dyn CharDriver as CharDriver>⟧ (H.bytes_out host.old) devices.old.terms.items)
         (H.bytes_out host.new) }
-    ensures silent { IsSilent (number_of result) → H.bytes_out host.new ≡ H.bytes_out host.old }
-    ensures terminals_kept { IsSilent (number_of result)
-        → screens ⟦<dyn CharDriver as CharDriver>⟧ devices.new.terms.items
-        ≡ screens ⟦<dyn CharDriver as CharDriver>⟧ devices.old.terms.items }
+    ensures silent { IsSilent (status_number result) → H.bytes_out host.new ≡ H.bytes_out host.old }
+    ensures terminals_kept { IsSilent (status_number result)
+        → terminal_states ⟦<dyn CharDriver as CharDriver>⟧ devices.new.terms.items
+        ≡ terminal_states ⟦<dyn CharDriver as CharDriver>⟧ devices.old.terms.items }
     ensures files_kept { H.file_map host.new ≡ H.file_map host.old }
     ensures drives_kept { devices.new.drives ≡ devices.old.drives }
 {
@@ -232,9 +233,9 @@ fn boot<H: Host>(
 fn end_of(living: u8) -> End
     ensures idle { living ≡ 0 → result ≡ End.Ended }
     ensures lives { living ≢ 0 → result ≡ End.Living }
-    ensures answered { IsAnswered (number_of result) }
-    ensures not_stopped { ¬ IsStopped (number_of result) }
-    ensures not_silent { ¬ IsSilent (number_of result) }
+    ensures answered { IsAnswered (status_number result) }
+    ensures not_stopped { ¬ IsStopped (status_number result) }
+    ensures not_silent { ¬ IsSilent (status_number result) }
 {
     if living == 0 { End::Ended } else { End::Living }
 }

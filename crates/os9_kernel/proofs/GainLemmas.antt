@@ -6,12 +6,12 @@ use Rattle.std.proofs.lemmas.List.{append-nil, nil_from_length, take_all, drop_a
 use Rattle.std.proofs.lemmas.List.Elements.{All-nil, All-cons, All-head, All-tail, All-append, All-weaker}
 use Rattle.std.proofs.lemmas.List.Sums.{sum_by-cons, sum_by-append, get_or-le-sum_by}
 use Rattle.std.proofs.lemmas.Bool.{cases_eq, cases_lt, cond-true, cond-false, eq-eqb, ne_eqb}
-use Rattle.block_pool.specs.Blocks.{Blocks, IsPool, IsFree, IsLive, count_of, block_bytes, with_count, with_bytes, taken, overwritten}
-use Rattle.machine_model.specs.Start.{block_of, zero_object}
-use Rattle.block_map.specs.Takes.{Takes}
+use Rattle.block_pool.specs.Blocks.{Blocks, IsPool, IsFreeBlock, IsLive, reference_count, block_bytes, with_reference_count, with_block_bytes, pool_after_take, overwritten}
+use Rattle.machine_model.specs.Start.{file_block, zero_object}
+use Rattle.block_map.specs.TakenBlocks.{TakesBlocks}
 use Rattle.block_map.proofs.Pools.{IsPool-taken}
 use Rattle.proc_model.specs.declared.group.BlockId.{BlockId}
-use Rattle.os9_kernel.specs.Load.{times_in, Gains}
+use Rattle.os9_kernel.specs.Load.{times_in, GainsBlocks}
 use Rattle.os9_kernel.proofs.ListLemmas.{AllPairs-append, map_same}
 
 -- ---- how often a block is among others
@@ -52,24 +52,24 @@ times_in-where (id ∷ ids) block d some =
 -- ---- blocks that are gained
 
 -- a block that was live is live after others were gained
-pub Gains-live : {before : Blocks} {group : List BlockId} {contents : List (List ℕ)} {after : Blocks} → Gains before group contents after → (block : ℕ) → IsLive before block → IsLive after block
+pub Gains-live : {before : Blocks} {group : List BlockId} {contents : List (List ℕ)} {after : Blocks} → GainsBlocks before group contents after → (block : ℕ) → IsLive before block → IsLive after block
 Gains-live gains block live = omega (arith, gains.counts block)
 
 -- a block that was gained is live
-pub Gains-new : {before : Blocks} {group : List BlockId} {contents : List (List ℕ)} {after : Blocks} → Gains before group contents after → All (λ id. IsLive after id.0) group
+pub Gains-new : {before : Blocks} {group : List BlockId} {contents : List (List ℕ)} {after : Blocks} → GainsBlocks before group contents after → All (λ id. IsLive after id.0) group
 Gains-new {group = group} gains = λ k d within. omega (arith, gains.counts (get_or group k d).0, times_in-one group k d within)
 
 -- a block that was live is none of those that are gained, and its count stays
-pub Gains-old : {before : Blocks} {group : List BlockId} {contents : List (List ℕ)} {after : Blocks} → Gains before group contents after → (block : ℕ) → IsLive before block → All (λ id. id.0 ≢ block) group
-Gains-old {before} gains block live = λ k d within same. absurd (omega (arith, gains.were_free k d within, ap (count_of before) same))
+pub Gains-old : {before : Blocks} {group : List BlockId} {contents : List (List ℕ)} {after : Blocks} → GainsBlocks before group contents after → (block : ℕ) → IsLive before block → All (λ id. id.0 ≢ block) group
+Gains-old {before} gains block live = λ k d within same. absurd (omega (arith, gains.were_free k d within, ap (reference_count before) same))
 
-pub count_of-old : {before : Blocks} {group : List BlockId} {contents : List (List ℕ)} {after : Blocks} → Gains before group contents after → (block : ℕ) → IsLive before block → count_of after block ≡ count_of before block
+pub count_of-old : {before : Blocks} {group : List BlockId} {contents : List (List ℕ)} {after : Blocks} → GainsBlocks before group contents after → (block : ℕ) → IsLive before block → reference_count after block ≡ reference_count before block
 count_of-old {group = group} gains block live = omega (arith, gains.counts block, times_in-none group block (Gains-old gains block live))
 
 -- none is gained
-pub Gains-none : (pool : Blocks) → Gains pool [] [] pool
+pub Gains-none : (pool : Blocks) → GainsBlocks pool [] [] pool
 Gains-none pool = record {
-  were_free = All-nil (λ id. IsFree pool id.0);
+  were_free = All-nil (λ id. IsFreeBlock pool id.0);
   different = λ i j d below within. absurd (omega arith);
   holds = refl;
   as_many = refl;
@@ -78,31 +78,31 @@ Gains-none pool = record {
 }
 
 -- one free block is
-pub Gains-one : (pool : Blocks) (id : BlockId) (bytes : List ℕ) → length pool.bytes ≡ length pool.counts → IsFree pool id.0 → Gains pool (id ∷ []) (bytes ∷ []) (with_bytes (with_count pool id.0 1) id.0 bytes)
+pub Gains-one : (pool : Blocks) (id : BlockId) (bytes : List ℕ) → length pool.bytes ≡ length pool.counts → IsFreeBlock pool id.0 → GainsBlocks pool (id ∷ []) (bytes ∷ []) (with_block_bytes (with_reference_count pool id.0 1) id.0 bytes)
 Gains-one pool id bytes whole free = record {
-  were_free = All-cons (λ id. IsFree pool id.0) id [] free (All-nil (λ id. IsFree pool id.0));
+  were_free = All-cons (λ id. IsFreeBlock pool id.0) id [] free (All-nil (λ id. IsFreeBlock pool id.0));
   different = λ i j d below within. absurd (omega arith);
   holds = ap (λ block. block ∷ []) (get_or-set_same pool.bytes id.0 bytes [] (omega arith));
   as_many = length-set pool.counts id.0 1;
   counts = λ block. times block (cases_eq block id.0);
-  kept = λ block live. get_or-set_other pool.bytes id.0 block bytes [] (λ same. absurd (omega (arith, ap (count_of pool) same)));
+  kept = λ block live. get_or-set_other pool.bytes id.0 block bytes [] (λ same. absurd (omega (arith, ap (reference_count pool) same)));
 }
   where
-    times : (block : ℕ) → (block ≡ id.0) ⊎ (block ≢ id.0) → count_of (with_bytes (with_count pool id.0 1) id.0 bytes) block ≡ count_of pool block + times_in (id ∷ []) block
+    times : (block : ℕ) → (block ≡ id.0) ⊎ (block ≢ id.0) → reference_count (with_block_bytes (with_reference_count pool id.0 1) id.0 bytes) block ≡ reference_count pool block + times_in (id ∷ []) block
     times block (inl same) =
-        omega (arith, ap (count_of (with_count pool id.0 1)) same, get_or-set_same pool.counts id.0 1 0 free.0, ap (count_of pool) same, times_in-cons id [] block, cond-true {A = ℕ} (id.0 == block) 1 0 (eq-eqb id.0 block (sym same)))
+        omega (arith, ap (reference_count (with_reference_count pool id.0 1)) same, get_or-set_same pool.counts id.0 1 0 free.0, ap (reference_count pool) same, times_in-cons id [] block, cond-true {A = ℕ} (id.0 == block) 1 0 (eq-eqb id.0 block (sym same)))
     times block (inr differ) =
         omega (arith, get_or-set_other pool.counts id.0 block 1 0 differ, times_in-cons id [] block, cond-false {A = ℕ} (id.0 == block) 1 0 (ne_eqb id.0 block (λ same. differ (sym same))))
 
 -- some are, and then others
-pub Gains-then : {before middle after : Blocks} {group others : List BlockId} {contents more : List (List ℕ)} → Gains before group contents middle → Gains middle others more after → Gains before (group ++ others) (contents ++ more) after
+pub Gains-then : {before middle after : Blocks} {group others : List BlockId} {contents more : List (List ℕ)} → GainsBlocks before group contents middle → GainsBlocks middle others more after → GainsBlocks before (group ++ others) (contents ++ more) after
 Gains-then {before} {middle} {after} {group} {others} {contents} {more} one two = record {
   were_free =
-      All-append (λ id. IsFree before id.0) group others one.were_free
-      (All-weaker (λ id. IsFree middle id.0) (λ id. IsFree before id.0) (λ id free. (omega (arith, one.as_many, free.0), omega (arith, one.counts id.0, free.1))) others two.were_free);
+      All-append (λ id. IsFreeBlock before id.0) group others one.were_free
+      (All-weaker (λ id. IsFreeBlock middle id.0) (λ id. IsFreeBlock before id.0) (λ id free. (omega (arith, one.as_many, free.0), omega (arith, one.counts id.0, free.1))) others two.were_free);
   different =
       AllPairs-append (λ a b. a ≢ b) group others one.different two.different
-      (λ k d within. λ j e inside same. absurd (omega (arith, Gains-new one k d within, two.were_free j e inside, ap (λ (id : BlockId). count_of middle id.0) same)));
+      (λ k d within. λ j e inside same. absurd (omega (arith, Gains-new one k d within, two.were_free j e inside, ap (λ (id : BlockId). reference_count middle id.0) same)));
   holds =
       map-append (λ (id : BlockId). block_bytes after id.0) group others
       ∙ ap (λ front. front ++ map (λ (id : BlockId). block_bytes after id.0) others)
@@ -123,11 +123,11 @@ filled n bytes short =
     ∙ sym (ap (λ (k : ℕ). take k (bytes ++ replicate n 0)) (sym rest) ∙ take-append-add bytes (replicate n 0) (n - length bytes) ∙ ap (λ (back : List ℕ). bytes ++ back) (take-replicate (n - length bytes) n 0 (omega arith)))
 
 -- a block that is taken is one of the pool's, and has the size of every block
-taken_within : (pool : Blocks) (block : ℕ) → IsFree pool block → IsPool (taken pool block) → block < length pool.bytes
+taken_within : (pool : Blocks) (block : ℕ) → IsFreeBlock pool block → IsPool (pool_after_take pool block) → block < length pool.bytes
 taken_within pool block free shape =
     omega (arith, shape.whole, free.0, length-set pool.counts block 1, length-set pool.bytes block (replicate (length (block_bytes pool block)) 0))
 
-taken_length : (pool : Blocks) (block : ℕ) → IsFree pool block → IsPool (taken pool block) → length (block_bytes pool block) ≡ 8192
+taken_length : (pool : Blocks) (block : ℕ) → IsFreeBlock pool block → IsPool (pool_after_take pool block) → length (block_bytes pool block) ≡ 8192
 taken_length pool block free shape =
     let zeros : List ℕ = replicate (length (block_bytes pool block)) 0 in
     let within = taken_within pool block free shape in
@@ -136,21 +136,21 @@ taken_length pool block free shape =
 
 -- what a block of n bytes has after it was taken and written
 written : (n : ℕ) (pool : Blocks) (block : ℕ) (bytes : List ℕ) → length (block_bytes pool block) ≡ n → block < length pool.bytes → length bytes ≤ n
-    → with_bytes (taken pool block) block (overwritten (block_bytes (taken pool block) block) 0 bytes) ≡ with_bytes (with_count pool block 1) block (take n (bytes ++ replicate n 0))
+    → with_block_bytes (pool_after_take pool block) block (overwritten (block_bytes (pool_after_take pool block) block) 0 bytes) ≡ with_block_bytes (with_reference_count pool block 1) block (take n (bytes ++ replicate n 0))
 written n pool block bytes size within short =
     let zeros : List ℕ = replicate (length (block_bytes pool block)) 0 in
-    let clear : block_bytes (taken pool block) block ≡ replicate n 0 = get_or-set_same pool.bytes block zeros [] within ∙ ap (λ (k : ℕ). replicate k 0) size in
-    let content : overwritten (block_bytes (taken pool block) block) 0 bytes ≡ take n (bytes ++ replicate n 0) = ap (λ (old : List ℕ). overwritten old 0 bytes) clear ∙ filled n bytes short in
-    ap (with_bytes (taken pool block) block) content
+    let clear : block_bytes (pool_after_take pool block) block ≡ replicate n 0 = get_or-set_same pool.bytes block zeros [] within ∙ ap (λ (k : ℕ). replicate k 0) size in
+    let content : overwritten (block_bytes (pool_after_take pool block) block) 0 bytes ≡ take n (bytes ++ replicate n 0) = ap (λ (old : List ℕ). overwritten old 0 bytes) clear ∙ filled n bytes short in
+    ap (with_block_bytes (pool_after_take pool block) block) content
     ∙ ap (λ (all : List (List ℕ)). let made : Blocks = record { counts = set pool.counts block 1; bytes = all } in made) (set-set pool.bytes block zeros (take n (bytes ++ replicate n 0)))
 
 -- a free block gains bytes, zeros behind them
-pub Gains-written : (pool : Blocks) (id : BlockId) (bytes : List ℕ) → IsFree pool id.0 → IsPool (taken pool id.0) → length bytes ≤ 8192
-    → Gains pool (id ∷ []) (block_of bytes 0 ∷ []) (with_bytes (taken pool id.0) id.0 (overwritten (block_bytes (taken pool id.0) id.0) 0 bytes))
+pub Gains-written : (pool : Blocks) (id : BlockId) (bytes : List ℕ) → IsFreeBlock pool id.0 → IsPool (pool_after_take pool id.0) → length bytes ≤ 8192
+    → GainsBlocks pool (id ∷ []) (file_block bytes 0 ∷ []) (with_block_bytes (pool_after_take pool id.0) id.0 (overwritten (block_bytes (pool_after_take pool id.0) id.0) 0 bytes))
 Gains-written pool id bytes free shape short =
     let within = taken_within pool id.0 free shape in
     let whole : length pool.bytes ≡ length pool.counts = sym (length-set pool.bytes id.0 (replicate (length (block_bytes pool id.0)) 0)) ∙ shape.whole ∙ length-set pool.counts id.0 1 in
-    subst (Gains pool (id ∷ []) (block_of bytes 0 ∷ [])) (sym (written 8192 pool id.0 bytes (taken_length pool id.0 free shape) within short)) (Gains-one pool id (block_of bytes 0) whole free)
+    subst (GainsBlocks pool (id ∷ []) (file_block bytes 0 ∷ [])) (sym (written 8192 pool id.0 bytes (taken_length pool id.0 free shape) within short)) (Gains-one pool id (file_block bytes 0) whole free)
 
 -- ---- the parts of a file
 
@@ -178,16 +178,16 @@ front-filled n xs zeros =
     ]
 
 -- the only block of a part of a file is a block of the file
-pub block_of-part : (file part : List ℕ) (k : ℕ) → part ≡ take 8192 (drop (8192 * k) file) → block_of part 0 ≡ block_of file k
+pub block_of-part : (file part : List ℕ) (k : ℕ) → part ≡ take 8192 (drop (8192 * k) file) → file_block part 0 ≡ file_block file k
 block_of-part file part k is = ap (λ (xs : List ℕ). take 8192 (xs ++ zero_object)) is ∙ front-filled 8192 (drop (8192 * k) file) zero_object
 
 -- ---- blocks that are taken
 
 -- blocks that are taken have zeros
-pub Takes-Gains : (pool after : Blocks) (ids : List BlockId) → IsPool pool → Takes pool ids after → Gains pool ids (replicate (length ids) zero_object) after
-Takes-Gains pool after [] shape took = subst (Gains pool [] []) (sym took) (Gains-none pool)
+pub Takes-Gains : (pool after : Blocks) (ids : List BlockId) → IsPool pool → TakesBlocks pool ids after → GainsBlocks pool ids (replicate (length ids) zero_object) after
+Takes-Gains pool after [] shape took = subst (GainsBlocks pool [] []) (sym took) (Gains-none pool)
 Takes-Gains pool after (id ∷ ids) shape took =
     let zeros : List ℕ = replicate (length (block_bytes pool id.0)) 0 in
     let clear : zeros ≡ zero_object = ap (λ (n : ℕ). replicate n 0) (shape.full id.0 [] (omega (arith, shape.whole, took.0.0))) in
-    let one : Gains pool (id ∷ []) (zero_object ∷ []) (taken pool id.0) = subst (λ (bytes : List ℕ). Gains pool (id ∷ []) (bytes ∷ []) (taken pool id.0)) clear (Gains-one pool id zeros shape.whole took.0) in
-    Gains-then one (Takes-Gains (taken pool id.0) after ids (IsPool-taken pool id.0 shape took.0.0) took.1)
+    let one : GainsBlocks pool (id ∷ []) (zero_object ∷ []) (pool_after_take pool id.0) = subst (λ (bytes : List ℕ). GainsBlocks pool (id ∷ []) (bytes ∷ []) (pool_after_take pool id.0)) clear (Gains-one pool id zeros shape.whole took.0) in
+    Gains-then one (Takes-Gains (pool_after_take pool id.0) after ids (IsPool-taken pool id.0 shape took.0.0) took.1)

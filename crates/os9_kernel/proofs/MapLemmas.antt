@@ -5,13 +5,13 @@ use Rattle.std.proofs.lemmas.Option.{same_Some, none-some}
 use Rattle.std.specs.Result.{result_ok}
 use Rattle.std.proofs.lemmas.Bool.{cases_lt}
 use Rattle.block_pool.specs.Blocks.{Blocks, IsLive}
-use Rattle.block_map.specs.Takes.{Takes}
+use Rattle.block_map.specs.TakenBlocks.{TakesBlocks}
 use Rattle.block_map.specs.declared.map.MapFault.{MapFault}
 use Rattle.block_map.specs.declared.map.MapFault.TheVariants.{NoSlot, NoBlock}
 use Rattle.block_map.proofs.Places.{at, at-put}
 use Rattle.block_map.proofs.Counts.{Takes-free}
 use Rattle.proc_model.specs.declared.group.BlockId.{BlockId}
-use Rattle.proc_model.specs.Slots.{no_slots, place_of, Names, IsFreeRun, IsHighestFreeRun, naming, with_low}
+use Rattle.proc_model.specs.Slots.{no_slots, block_at, NamesBlock, IsFreeRun, IsHighestFreeRun, filled_places, with_low}
 
 -- a call that answers a value is not refused
 pub was_ok : {T : Type 0} (answer : Result T MapFault) (value : T) → result_ok answer ≡ Some value → answer ≡ Ok value
@@ -31,21 +31,21 @@ pub free_at_first : (len : ℕ) → len ≤ 8 → IsFreeRun {Block = BlockId} no
 free_at_first len short = (omega arith, λ slot from below. none_at 8 slot)
 
 module _ (area : List BlockId) (fits : length area ≤ 8) where
-  size : length (naming area) ≡ length area
+  size : length (filled_places area) ≡ length area
   size = length-map area (λ (id : BlockId). Some id)
 
   -- a slot of the area
-  pub area_slot : (slot : ℕ) (d : BlockId) → slot < length area → place_of (with_low no_slots area) slot ≡ Some (get_or area slot d)
+  pub area_slot : (slot : ℕ) (d : BlockId) → slot < length area → block_at (with_low no_slots area) slot ≡ Some (get_or area slot d)
   area_slot slot d below =
-      elim (at-put (replicate 8 None) (naming area) 0 slot (omega (arith, size))) [
-        | inl here ↦ here.2 ∙ ap (at (naming area)) (omega arith) ∙ get_or-map (λ (id : BlockId). Some id) area slot d None below
+      elim (at-put (replicate 8 None) (filled_places area) 0 slot (omega (arith, size))) [
+        | inl here ↦ here.2 ∙ ap (at (filled_places area)) (omega arith) ∙ get_or-map (λ (id : BlockId). Some id) area slot d None below
         | inr other ↦ absurd (elim (other.0) [ inl before ↦ omega arith | inr past ↦ omega (arith, size) ])
       ]
 
   -- a slot behind it
-  pub behind_area : (slot : ℕ) → length area ≤ slot → place_of (with_low no_slots area) slot ≡ None
+  pub behind_area : (slot : ℕ) → length area ≤ slot → block_at (with_low no_slots area) slot ≡ None
   behind_area slot past =
-      elim (at-put (replicate 8 None) (naming area) 0 slot (omega (arith, size))) [
+      elim (at-put (replicate 8 None) (filled_places area) 0 slot (omega (arith, size))) [
         | inl here ↦ absurd (omega (arith, size, here.1))
         | inr other ↦ other.1 ∙ none_at 8 slot
       ]
@@ -77,11 +77,11 @@ module _ (area : List BlockId) (fits : length area ≤ 8) where
       (room, omega (arith, highest.0.0, highest.1 (8 - len) (last_are_free len room)))
 
   -- a block that was live is none of the area's
-  pub live-unnamed : (before after : Blocks) → Takes before area after → (id : BlockId) → IsLive before id.0 → Names (with_low no_slots area) id → ⊥
+  pub live-unnamed : (before after : Blocks) → TakesBlocks before area after → (id : BlockId) → IsLive before id.0 → NamesBlock (with_low no_slots area) id → ⊥
   live-unnamed before after took id live (slot, named) =
       elim (cases_lt slot (length area)) [
         | inl inside ↦
-            let stands : at (naming area) slot ≡ Some id = get_or-map (λ (id : BlockId). Some id) area slot id None inside ∙ sym (area_slot slot id inside) ∙ named in
+            let stands : at (filled_places area) slot ≡ Some id = get_or-map (λ (id : BlockId). Some id) area slot id None inside ∙ sym (area_slot slot id inside) ∙ named in
             omega (arith, (Takes-free before after area slot id took stands).1)
         | inr behind ↦ none-some id (sym (behind_area slot behind) ∙ named)
       ]

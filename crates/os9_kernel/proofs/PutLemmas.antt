@@ -6,12 +6,12 @@ use Rattle.std.proofs.lemmas.Bool.{cases_lt}
 use Rattle.std.proofs.Math.Seq.{take-append-add}
 use Rattle.std.specs.Prelude.{OnOk, if◌then◌else◌}
 use Rattle.os9_base.specs.Count.{Rose}
-use Rattle.os9_outer.specs.Stream.{appended, GainsPrefix}
+use Rattle.os9_outer.specs.Stream.{stream_with, GainsPrefix}
 use Rattle.os9_outer.specs.declared.terminal.PutFault.{PutFault}
 use Rattle.os9_outer.specs.declared.terminal.PutFault.TheVariants.{Fault, OutOfMemory}
 use Rattle.os9_outer.specs.Terminal.{OnFault, UnlessFault}
 use Rattle.device_table.proofs.StreamLemmas.{appended-twice}
-use Rattle.device_table.specs.Screens.{Screen, ChangesOne, Puts}
+use Rattle.os9_outer.specs.TerminalState.{TerminalState, ChangesOneTerminal, Puts}
 use Rattle.machine_model.specs.Call.{shown, ends_in_return}
 use Rattle.machine_model.proofs.ObjectLemmas.{slice_get-set_same}
 
@@ -25,14 +25,14 @@ GainsPrefix-longer before now bytes more gained =
     ]
 
 -- and so are those of the list that follows what was given before
-GainsPrefix-then : (before mid now : Option (List ℕ)) (first next : List ℕ) → mid ≡ appended before first → GainsPrefix mid next now → GainsPrefix before (first ++ next) now
+GainsPrefix-then : (before mid now : Option (List ℕ)) (first next : List ℕ) → mid ≡ stream_with before first → GainsPrefix mid next now → GainsPrefix before (first ++ next) now
 GainsPrefix-then before mid now first next given gained = (
   length first + gained.0,
   rw (take-append-add first next gained.0) (gained.1 ∙ rw (given, appended-twice before first (take gained.0 next)) refl),
 )
 
 -- a terminal that refused a byte of a line refused it in a longer line too
-Puts-longer : {Value : Type 0} (refusal : PutFault) (line more : List ℕ) (old new : Screen) → Puts {Value = Value} (Err refusal) line old new → Puts {Value = Value} (Err refusal) (line ++ more) old new
+Puts-longer : {Value : Type 0} (refusal : PutFault) (line more : List ℕ) (old new : TerminalState) → Puts {Value = Value} (Err refusal) line old new → Puts {Value = Value} (Err refusal) (line ++ more) old new
 Puts-longer {Value} refusal line more old new put = record {
   all = put.all;
   prefix = GainsPrefix-longer old.put new.put line more put.prefix;
@@ -51,12 +51,12 @@ unless_fault (Ok value) old mid new same fact = fact ∙ same
 unless_fault (Err Fault) old mid new same fact = fact
 unless_fault (Err OutOfMemory) old mid new same fact = fact ∙ same
 
-on_ok : {Value : Type 0} (answer : Result Value PutFault) (old mid new : Option (List ℕ)) (first next : List ℕ) → mid ≡ appended old first → OnOk answer (new ≡ appended mid next) → OnOk answer (new ≡ appended old (first ++ next))
+on_ok : {Value : Type 0} (answer : Result Value PutFault) (old mid new : Option (List ℕ)) (first next : List ℕ) → mid ≡ stream_with old first → OnOk answer (new ≡ stream_with mid next) → OnOk answer (new ≡ stream_with old (first ++ next))
 on_ok (Ok value) old mid new first next given fact = fact ∙ rw (given, appended-twice old first next) refl
 on_ok (Err refusal) old mid new first next given fact = fact
 
 -- a line, and then more, is the longer line
-Puts-then : {Value Other : Type 0} (value : Value) (answer : Result Other PutFault) (line more : List ℕ) (old mid new : Screen) → Puts {Value = Value} (Ok value) line old mid → Puts answer more mid new → Puts answer (line ++ more) old new
+Puts-then : {Value Other : Type 0} (value : Value) (answer : Result Other PutFault) (line more : List ℕ) (old mid new : TerminalState) → Puts {Value = Value} (Ok value) line old mid → Puts answer more mid new → Puts answer (line ++ more) old new
 Puts-then value answer line more old mid new first next = record {
   all = on_ok answer old.put mid.put new.put line more first.all next.all;
   prefix = GainsPrefix-then old.put mid.put new.put line more first.all next.prefix;
@@ -67,11 +67,11 @@ Puts-then value answer line more old mid new first next = record {
 
 -- ---- on one terminal of several
 
-pub ChangesOne-longer : {Value : Type 0} (refusal : PutFault) (line more : List ℕ) (n : ℕ) (before now : List Screen) → ChangesOne (Puts {Value = Value} (Err refusal) line) n before now → ChangesOne (Puts {Value = Value} (Err refusal) (line ++ more)) n before now
+pub ChangesOne-longer : {Value : Type 0} (refusal : PutFault) (line more : List ℕ) (n : ℕ) (before now : List TerminalState) → ChangesOneTerminal (Puts {Value = Value} (Err refusal) line) n before now → ChangesOneTerminal (Puts {Value = Value} (Err refusal) (line ++ more)) n before now
 ChangesOne-longer {Value} refusal line more n before now (old, new, is, set, put) =
     (old, new, is, set, Puts-longer {Value = Value} refusal line more old new put)
 
-pub ChangesOne-then : {Value Other : Type 0} (value : Value) (answer : Result Other PutFault) (line more : List ℕ) (n : ℕ) (before mid now : List Screen) → ChangesOne (Puts {Value = Value} (Ok value) line) n before mid → ChangesOne (Puts answer more) n mid now → ChangesOne (Puts answer (line ++ more)) n before now
+pub ChangesOne-then : {Value Other : Type 0} (value : Value) (answer : Result Other PutFault) (line more : List ℕ) (n : ℕ) (before mid now : List TerminalState) → ChangesOneTerminal (Puts {Value = Value} (Ok value) line) n before mid → ChangesOneTerminal (Puts answer more) n mid now → ChangesOneTerminal (Puts answer (line ++ more)) n before now
 ChangesOne-then value answer line more n before mid now (old, half, is, set, first) (again, new, is_again, set_again, next) =
     let here = slice_get-set_same before n half (slice_get_within before n old is) in
     let same : again ≡ half = cc in (
@@ -84,10 +84,10 @@ ChangesOne-then value answer line more n before mid now (old, half, is, set, fir
 
 -- ---- a line as it is shown
 
-pub shown-refused : {Value : Type 0} (refusal : PutFault) (line : List ℕ) (n : ℕ) (before now : List Screen) → ChangesOne (Puts {Value = Value} (Err refusal) line) n before now → ChangesOne (Puts {Value = Value} (Err refusal) (shown line)) n before now
+pub shown-refused : {Value : Type 0} (refusal : PutFault) (line : List ℕ) (n : ℕ) (before now : List TerminalState) → ChangesOneTerminal (Puts {Value = Value} (Err refusal) line) n before now → ChangesOneTerminal (Puts {Value = Value} (Err refusal) (shown line)) n before now
 shown-refused {Value} refusal line n before now changed = by_end (ends_in_return line)
   where
-    by_end : (return : Bool) → ChangesOne (Puts {Value = Value} (Err refusal) (if return then line ++ 10 ∷ [] else line)) n before now
+    by_end : (return : Bool) → ChangesOneTerminal (Puts {Value = Value} (Err refusal) (if return then line ++ 10 ∷ [] else line)) n before now
     by_end true = ChangesOne-longer {Value = Value} refusal line (10 ∷ []) n before now changed
     by_end false = changed
 

@@ -6,15 +6,15 @@ use Rattle.std.proofs.lemmas.List.Elements.{All-head, All-tail, All-weaker}
 use Rattle.std.proofs.lemmas.List.FromFn.{get_or-range_with_len}
 use Rattle.std.proofs.lemmas.Option.{slice_get_within, slice_get-get_or}
 use Rattle.std.proofs.lemmas.Bool.{cases_eq, cases_lt, cond-true, cond-false, eq-eqb, ne_eqb}
-use Rattle.block_pool.specs.Blocks.{Blocks, IsPool, IsFree, IsLive, count_of, block_bytes, with_bytes, taken, shared}
-use Rattle.block_map.specs.Takes.{shared_all}
+use Rattle.block_pool.specs.Blocks.{Blocks, IsPool, IsFreeBlock, IsLive, reference_count, block_bytes, with_block_bytes, pool_after_take, pool_after_share}
+use Rattle.block_map.specs.TakenBlocks.{pool_after_sharing}
 use Rattle.block_map.proofs.Counts.{live-within, count_of-shared}
 use Rattle.block_map.proofs.Places.{same_id}
 use Rattle.machine_model.specs.Start.{zero_object}
 use Rattle.machine_model.proofs.ObjectLemmas.{slice_get-set_same, slice_get-set_other}
 use Rattle.proc_model.specs.declared.group.BlockId.{BlockId}
-use Rattle.os9_kernel.specs.Load.{Gains}
-use Rattle.os9_kernel.specs.Tie.{StandFor}
+use Rattle.os9_kernel.specs.Load.{GainsBlocks}
+use Rattle.os9_kernel.specs.Tie.{RepresentObjects}
 use Rattle.os9_kernel.proofs.ListLemmas.{AllPairs-head, AllPairs-tail, slice_get-left, slice_get-right}
 use Rattle.os9_kernel.proofs.GainLemmas.{Gains-old, Takes-Gains, times_in-where}
 
@@ -49,7 +49,7 @@ map-numbered (id ∷ ids) next number different =
 -- ---- what live blocks stand for
 
 -- a pool that nothing names stands for no objects
-pub StandFor-none : (number : ℕ → ℕ) (pool : Blocks) → ((block : ℕ) → IsLive pool block → ⊥) → StandFor number pool []
+pub StandFor-none : (number : ℕ → ℕ) (pool : Blocks) → ((block : ℕ) → IsLive pool block → ⊥) → RepresentObjects number pool []
 StandFor-none number pool none = record {
   same_bytes = λ block live. absurd (none block live);
   apart = λ one other live live_too same. absurd (none one live);
@@ -60,7 +60,7 @@ abbrev no_block : BlockId
 no_block = record { 0 = 0 }
 
 -- new blocks stand for new objects, in order
-module _ (number : ℕ → ℕ) (before after : Blocks) (objects contents : List (List ℕ)) (group : List BlockId) (stand_for : StandFor number before objects) (gains : Gains before group contents after) where
+module _ (number : ℕ → ℕ) (before after : Blocks) (objects contents : List (List ℕ)) (group : List BlockId) (stand_for : RepresentObjects number before objects) (gains : GainsBlocks before group contents after) where
   abbrev later : ℕ → ℕ
   later = numbered group (length objects) number
 
@@ -85,7 +85,7 @@ module _ (number : ℕ → ℕ) (before after : Blocks) (objects contents : List
 
   stands : (block : ℕ) → IsLive after block → Stood block ⊎ ((k : ℕ) × New block k)
   stands block live =
-      elim (cases_lt 0 (count_of before block)) [
+      elim (cases_lt 0 (reference_count before block)) [
         | inl old ↦ inl (old, numbered-other group (length objects) number block (Gains-old gains block old))
         | inr free ↦
             let place = times_in-where group block no_block (omega (arith, gains.counts block)) in
@@ -103,7 +103,7 @@ module _ (number : ℕ → ℕ) (before after : Blocks) (objects contents : List
   in_objects : (block : ℕ) → IsLive before block → number block < length objects
   in_objects block live = slice_get_within objects (number block) (block_bytes before block) (stand_for.same_bytes block live)
 
-  pub StandFor-gains : StandFor later after (objects ++ contents)
+  pub StandFor-gains : RepresentObjects later after (objects ++ contents)
   StandFor-gains = record {
     same_bytes = λ block live.
         elim (stands block live) [
@@ -130,14 +130,14 @@ module _ (number : ℕ → ℕ) (before after : Blocks) (objects contents : List
   }
 
 -- a block that is taken gives a new object
-pub a_block_that_is_taken_gives_a_new_object : (number : ℕ → ℕ) (pool : Blocks) (objects : List (List ℕ)) (id : BlockId) → IsPool pool → StandFor number pool objects → IsFree pool id.0
-    → StandFor (renumbered number id.0 (length objects)) (taken pool id.0) (objects ++ zero_object ∷ [])
+pub a_block_that_is_taken_gives_a_new_object : (number : ℕ → ℕ) (pool : Blocks) (objects : List (List ℕ)) (id : BlockId) → IsPool pool → RepresentObjects number pool objects → IsFreeBlock pool id.0
+    → RepresentObjects (renumbered number id.0 (length objects)) (pool_after_take pool id.0) (objects ++ zero_object ∷ [])
 a_block_that_is_taken_gives_a_new_object number pool objects id shape stand_for free =
-    StandFor-gains number pool (taken pool id.0) objects (zero_object ∷ []) (id ∷ []) stand_for (Takes-Gains pool (taken pool id.0) (id ∷ []) shape (free, refl))
+    StandFor-gains number pool (pool_after_take pool id.0) objects (zero_object ∷ []) (id ∷ []) stand_for (Takes-Gains pool (pool_after_take pool id.0) (id ∷ []) shape (free, refl))
 
 -- bytes that are written into a live block are the bytes of its object
-pub StandFor-with_bytes : (number : ℕ → ℕ) (pool : Blocks) (objects : List (List ℕ)) (block : ℕ) (bytes : List ℕ) → IsPool pool → StandFor number pool objects → IsLive pool block
-    → StandFor number (with_bytes pool block bytes) (slice_set objects (number block) bytes)
+pub StandFor-with_bytes : (number : ℕ → ℕ) (pool : Blocks) (objects : List (List ℕ)) (block : ℕ) (bytes : List ℕ) → IsPool pool → RepresentObjects number pool objects → IsLive pool block
+    → RepresentObjects number (with_block_bytes pool block bytes) (slice_set objects (number block) bytes)
 StandFor-with_bytes number pool objects block bytes shape stand_for here = record {
   same_bytes = λ other live.
       elim (cases_eq other block) [
@@ -146,7 +146,7 @@ StandFor-with_bytes number pool objects block bytes shape stand_for here = recor
             let within : block < length pool.bytes = omega (arith, live-within pool block here, shape.whole) in
             ap (λ (b : ℕ). slice_get (slice_set objects (number block) bytes) (number b)) same
             ∙ slice_get-set_same objects (number block) bytes place
-            ∙ ap Some (sym (ap (block_bytes (with_bytes pool block bytes)) same ∙ get_or-set_same pool.bytes block bytes [] within))
+            ∙ ap Some (sym (ap (block_bytes (with_block_bytes pool block bytes)) same ∙ get_or-set_same pool.bytes block bytes [] within))
         | inr differ ↦
             slice_get-set_other objects (number block) (number other) bytes (λ same. differ (stand_for.apart other block live here same))
             ∙ stand_for.same_bytes other live
@@ -156,22 +156,22 @@ StandFor-with_bytes number pool objects block bytes shape stand_for here = recor
 }
 
 -- a block that is shared stands for the object that it stood for
-shared_live : (pool : Blocks) (block other : ℕ) → IsLive pool block → IsLive (shared pool block) other → IsLive pool other
+shared_live : (pool : Blocks) (block other : ℕ) → IsLive pool block → IsLive (pool_after_share pool block) other → IsLive pool other
 shared_live pool block other here live =
     elim (cases_eq other block) [
-      | inl same ↦ omega (arith, ap (count_of pool) same)
-      | inr differ ↦ omega (arith, get_or-set_other pool.counts block other (count_of pool block + 1) 0 differ)
+      | inl same ↦ omega (arith, ap (reference_count pool) same)
+      | inr differ ↦ omega (arith, get_or-set_other pool.counts block other (reference_count pool block + 1) 0 differ)
     ]
 
-pub StandFor-shared : (number : ℕ → ℕ) (pool : Blocks) (objects : List (List ℕ)) (block : ℕ) → StandFor number pool objects → IsLive pool block → StandFor number (shared pool block) objects
+pub StandFor-shared : (number : ℕ → ℕ) (pool : Blocks) (objects : List (List ℕ)) (block : ℕ) → RepresentObjects number pool objects → IsLive pool block → RepresentObjects number (pool_after_share pool block) objects
 StandFor-shared number pool objects block stand_for here = record {
   same_bytes = λ other live. stand_for.same_bytes other (shared_live pool block other here live);
   apart = λ one other live live_too. stand_for.apart one other (shared_live pool block one here live) (shared_live pool block other here live_too);
 }
 
-pub StandFor-shared_all : (number : ℕ → ℕ) (pool : Blocks) (objects : List (List ℕ)) (ids : List BlockId) → StandFor number pool objects → All (λ id. IsLive pool id.0) ids → StandFor number (shared_all pool ids) objects
+pub StandFor-shared_all : (number : ℕ → ℕ) (pool : Blocks) (objects : List (List ℕ)) (ids : List BlockId) → RepresentObjects number pool objects → All (λ id. IsLive pool id.0) ids → RepresentObjects number (pool_after_sharing pool ids) objects
 StandFor-shared_all number pool objects [] stand_for live = stand_for
 StandFor-shared_all number pool objects (id ∷ ids) stand_for live =
     let here = All-head (λ (id : BlockId). IsLive pool id.0) id ids live in
-    let rest = All-weaker (λ (other : BlockId). IsLive pool other.0) (λ (other : BlockId). IsLive (shared pool id.0) other.0) (λ other old. omega (arith, (count_of-shared pool id.0 other.0).0)) ids (All-tail (λ (id : BlockId). IsLive pool id.0) id ids live) in
-    StandFor-shared_all number (shared pool id.0) objects ids (StandFor-shared number pool objects id.0 stand_for here) rest
+    let rest = All-weaker (λ (other : BlockId). IsLive pool other.0) (λ (other : BlockId). IsLive (pool_after_share pool id.0) other.0) (λ other old. omega (arith, (count_of-shared pool id.0 other.0).0)) ids (All-tail (λ (id : BlockId). IsLive pool id.0) id ids live) in
+    StandFor-shared_all number (pool_after_share pool id.0) objects ids (StandFor-shared number pool objects id.0 stand_for here) rest

@@ -6,27 +6,27 @@ use Rattle.std.proofs.lemmas.List.Elements.{All-weaker}
 use Rattle.std.proofs.lemmas.List.FromFn.{length-map-range_with_len}
 use Rattle.std.proofs.lemmas.List.Sums.{sum_by-cons, count_by-le-length}
 use Rattle.std.proofs.lemmas.Bool.{cases_lt}
-use Rattle.block_pool.specs.Blocks.{Blocks, IsPool, IsLive, count_of, block_bytes, free_count}
-use Rattle.block_map.specs.Takes.{group_blocks}
+use Rattle.block_pool.specs.Blocks.{Blocks, IsPool, IsLive, reference_count, block_bytes, free_block_count}
+use Rattle.block_map.specs.TakenBlocks.{group_blocks}
 use Rattle.block_map.proofs.Counts.{live-within}
-use Rattle.device_table.specs.Screens.{Screen}
+use Rattle.os9_outer.specs.TerminalState.{TerminalState}
 use Rattle.module_dir.specs.declared.dir.ModId.{ModId}
-use Rattle.proc_model.specs.Group.{blocks_of}
-use Rattle.proc_model.specs.Loading.{Enters, no_entries}
-use Rattle.proc_model.specs.ModuleList.{ModuleEntry, entry_at, entered_groups, linked, with_entry}
+use Rattle.proc_model.specs.Group.{group_block_numbers}
+use Rattle.proc_model.specs.Loading.{EntersModules, no_entries}
+use Rattle.proc_model.specs.ModuleList.{ModuleEntry, module_entry_at, entered_groups, entry_linked, with_module_entry}
 use Rattle.proc_model.proofs.ModuleListLaws.{entry_at-with_entry_same}
-use Rattle.proc_model.specs.Slots.{Slots, no_slots, naming, named_in, with_low, with_group}
+use Rattle.proc_model.specs.Slots.{Slots, no_slots, filled_places, blocks_in, with_low, with_group}
 use Rattle.proc_model.specs.declared.group.BlockId.{BlockId}
 use Rattle.proc_model.specs.declared.group.Group.{Group}
 use Rattle.machine_model.specs.State.{State}
 use Rattle.machine_model.specs.declared.activity.Activity.TheVariants.{Running}
 use Rattle.machine_model.specs.declared.ends.BootFault.TheVariants.{BadModule, NoFirst, TooLarge}
-use Rattle.machine_model.specs.Start.{data_size, data_blocks, file_blocks, boot_group, EntersBoot, first_program, HasFirst, Refuses, Starts, zero_object, block_of, objects_of, first_objects, first_map, first_regs, only_process, start_of}
+use Rattle.machine_model.specs.Start.{data_size, data_blocks, file_blocks, boot_group, EntersBoot, first_program, HasFirst, Refuses, Starts, zero_object, file_block, file_objects, first_objects, first_map, first_regs, only_process, start_of}
 use Rattle.os9_kernel.specs.declared.kernel.Kernel.{Kernel}
-use Rattle.os9_kernel.specs.Load.{Gains, IsLoaded}
+use Rattle.os9_kernel.specs.Load.{GainsBlocks, IsLoaded}
 use Rattle.os9_kernel.specs.Start.{IsFirstMap}
-use Rattle.os9_kernel.specs.Namings.{AreCounted, AreBoot}
-use Rattle.os9_kernel.specs.Tie.{StandFor, Stands, renamed_map, renamed_entry, renamed_modules, state_of}
+use Rattle.os9_kernel.specs.References.{AreReferenceCounts, AreBoot}
+use Rattle.os9_kernel.specs.Tie.{RepresentObjects, Represents, renamed_map, renamed_entry, renamed_modules, state_of}
 use Rattle.os9_kernel.proofs.EndLemmas.{entry_at-renamed, entry_within}
 use Rattle.os9_kernel.proofs.GainLemmas.{Gains-old, Gains-new, Gains-live, Takes-Gains}
 use Rattle.os9_kernel.proofs.ListLemmas.{map_same, map-map}
@@ -37,7 +37,7 @@ use Rattle.os9_kernel.proofs.StandLemmas.{numbered, numbered-other, map-numbered
 
 -- ---- a pool that nothing names
 
-count_of-unnamed : (pool : Blocks) (blocks block : ℕ) → pool.counts ≡ replicate blocks 0 → count_of pool block ≡ 0
+count_of-unnamed : (pool : Blocks) (blocks block : ℕ) → pool.counts ≡ replicate blocks 0 → reference_count pool block ≡ 0
 count_of-unnamed pool blocks block unnamed =
     ap (λ (counts : List ℕ). get_or counts block 0) unnamed
     ∙ elim (cases_lt block blocks) [
@@ -50,13 +50,13 @@ free_zeros zero = refl
 free_zeros (suc n) = sum_by-cons (λ (count : ℕ). cond (count == 0) 1 0) 0 (replicate n 0) ∙ omega (arith, free_zeros n)
 
 -- all of its blocks are free
-pub free_count-unnamed : (pool : Blocks) (blocks : ℕ) → pool.counts ≡ replicate blocks 0 → free_count pool ≡ blocks
+pub free_count-unnamed : (pool : Blocks) (blocks : ℕ) → pool.counts ≡ replicate blocks 0 → free_block_count pool ≡ blocks
 free_count-unnamed pool blocks unnamed = ap (λ (counts : List ℕ). count_by (λ (count : ℕ). count == 0) counts) unnamed ∙ free_zeros blocks
 
 -- ---- a map of objects
 
 -- the objects that these blocks stand for, in their places
-renamed-naming : (number : ℕ → ℕ) (ids : List BlockId) (numbers : List ℕ) → map_of (λ (id : BlockId). number id.0) ids ≡ numbers → map_of (option_map (λ (id : BlockId). number id.0)) (naming ids) ≡ map_of Some numbers
+renamed-naming : (number : ℕ → ℕ) (ids : List BlockId) (numbers : List ℕ) → map_of (λ (id : BlockId). number id.0) ids ≡ numbers → map_of (option_map (λ (id : BlockId). number id.0)) (filled_places ids) ≡ map_of Some numbers
 renamed-naming number ids numbers is =
     map-map (option_map (λ (id : BlockId). number id.0)) (λ (id : BlockId). Some id) ids
     ∙ sym (map-map (λ (n : ℕ). Some n) (λ (id : BlockId). number id.0) ids)
@@ -92,7 +92,7 @@ module _ {file : List ℕ} {blocks : ℕ} {before : Blocks} {group : Group} {loa
 
   length-ids : length ids ≡ file_blocks file
   length-ids =
-      sym (length-map ids (λ (id : BlockId). block_bytes loaded id.0)) ∙ ap length placed.file_loaded.holds ∙ length-map-range_with_len (block_of file) 0 (file_blocks file)
+      sym (length-map ids (λ (id : BlockId). block_bytes loaded id.0)) ∙ ap length placed.file_loaded.holds ∙ length-map-range_with_len (file_block file) 0 (file_blocks file)
 
   -- the numbers that its blocks have first
   abbrev first_number : ℕ → ℕ
@@ -100,23 +100,23 @@ module _ {file : List ℕ} {blocks : ℕ} {before : Blocks} {group : Group} {loa
 
   -- whatever numbers name the group's blocks as the boot file's objects, ..
   abbrev Numbers : (ℕ → ℕ) → Type 0
-  Numbers number = map_of number (blocks_of group) ≡ boot_group file
+  Numbers number = map_of number (group_block_numbers group) ≡ boot_group file
 
   first_numbers : Numbers first_number
   first_numbers =
       map-map first_number (λ (id : BlockId). id.0) ids ∙ map-numbered ids 0 (λ block. 0) placed.file_loaded.different ∙ ap (range_with_len 0) length-ids
 
   -- .. with these its modules are entered as the machine enters them
-  enters_boot : (number : ℕ → ℕ) → Numbers number → (dir : List (Option ModuleEntry)) → Enters file (blocks_of group) true 0 no_entries (Ok dir) → EntersBoot file (Ok (renamed_modules number dir))
-  enters_boot number named dir modules = subst (λ (g : List ℕ). Enters file g true 0 no_entries (Ok (renamed_modules number dir))) named (Enters-renamed number modules)
+  enters_boot : (number : ℕ → ℕ) → Numbers number → (dir : List (Option ModuleEntry)) → EntersModules file (group_block_numbers group) true 0 no_entries (Ok dir) → EntersBoot file (Ok (renamed_modules number dir))
+  enters_boot number named dir modules = subst (λ (g : List ℕ). EntersModules file g true 0 no_entries (Ok (renamed_modules number dir))) named (Enters-renamed number modules)
 
   -- a module that is refused
-  pub refuses_module : (at error : ℕ) → Enters file (blocks_of group) true 0 no_entries (Err (at, error)) → Refuses file blocks (BadModule at error)
+  pub refuses_module : (at error : ℕ) → EntersModules file (group_block_numbers group) true 0 no_entries (Err (at, error)) → Refuses file blocks (BadModule at error)
   refuses_module at error modules =
-      (placed.short, subst (λ (g : List ℕ). Enters file g true 0 no_entries (Err (at, error))) first_numbers (Enters-renamed first_number modules))
+      (placed.short, subst (λ (g : List ℕ). EntersModules file g true 0 no_entries (Err (at, error))) first_numbers (Enters-renamed first_number modules))
 
   -- no first program
-  pub refuses_without : (dir : List (Option ModuleEntry)) → Enters file (blocks_of group) true 0 no_entries (Ok dir) → first_program dir ≡ None → Refuses file blocks NoFirst
+  pub refuses_without : (dir : List (Option ModuleEntry)) → EntersModules file (group_block_numbers group) true 0 no_entries (Ok dir) → first_program dir ≡ None → Refuses file blocks NoFirst
   refuses_without dir modules none =
       (placed.short, (renamed_modules first_number dir, enters_boot first_number first_numbers dir modules, found-renamed first_number dir (codes "SysGo") 0x11 ∙ none))
 
@@ -125,40 +125,40 @@ module _ {file : List ℕ} {blocks : ℕ} {before : Blocks} {group : Group} {loa
   group_live = Gains-new placed.file_loaded
 
   -- and hardly named
-  pub group_countable : All (λ id. count_of loaded id.0 < 65000) ids
+  pub group_countable : All (λ id. reference_count loaded id.0 < 65000) ids
   group_countable = λ k d within.
       let block = (get_or ids k d).0 in
       omega (arith, placed.file_loaded.counts block, count_of-unnamed before blocks block placed.unnamed, count_by-le-length (λ (id : BlockId). id.0 == block) ids, length-ids, placed.short)
 
   -- blocks enough are left
-  pub enough_left : free_count loaded + file_blocks file ≡ free_count before → 8 ≤ free_count loaded + group.len
+  pub enough_left : free_block_count loaded + file_blocks file ≡ free_block_count before → 8 ≤ free_block_count loaded + group.len
   enough_left room = omega (arith, placed.enough, placed.len, free_count-unnamed before blocks placed.unnamed)
 
 -- ---- its first program
 
 -- the modules are entered, and one of them is the first program
 pub record IsFound (file : List ℕ) (group : Group) (dir : List (Option ModuleEntry)) (number : ℕ) (entry : ModuleEntry) : Type 0 where
-  pub modules : Enters file (blocks_of group) true 0 no_entries (Ok dir)
+  pub modules : EntersModules file (group_block_numbers group) true 0 no_entries (Ok dir)
   pub found_it : first_program dir ≡ Some number
-  pub is : entry_at dir number ≡ Some entry
+  pub is : module_entry_at dir number ≡ Some entry
 
 module _ {file : List ℕ} {group : Group} {dir : List (Option ModuleEntry)} {number : ℕ} {entry : ModuleEntry} (first : IsFound file group dir number entry) where
-  pub all_of_file : AreOfFile file (blocks_of group) dir
-  all_of_file = Enters-of_file first.modules (AreOfFile-none file (blocks_of group))
+  pub all_of_file : AreOfFile file (group_block_numbers group) dir
+  all_of_file = Enters-of_file first.modules (AreOfFile-none file (group_block_numbers group))
 
   -- it lies in the file
-  pub first_of_file : IsOfFile file (blocks_of group) entry
+  pub first_of_file : IsOfFile file (group_block_numbers group) entry
   first_of_file = all_of_file number entry first.is
 
   -- its entry has one link more
   abbrev pub started_dir : List (Option ModuleEntry)
-  started_dir = with_entry dir number (linked entry)
+  started_dir = with_module_entry dir number (entry_linked entry)
 
   -- which leaves every entry's group, and that it is the boot file's
-  started_entry : (other : ℕ) (found : ModuleEntry) → entry_at started_dir other ≡ Some found → (found.group ≡ blocks_of group) × (found.is_boot ≡ true)
+  started_entry : (other : ℕ) (found : ModuleEntry) → module_entry_at started_dir other ≡ Some found → (found.group ≡ group_block_numbers group) × (found.is_boot ≡ true)
   started_entry other found is =
-      elim (entry_at-with_entry dir number (linked entry) other found is) [
-        | inl same ↦ (ap (λ (e : ModuleEntry). e.group) (same ∙ ap linked first_of_file.is_new), ap (λ (e : ModuleEntry). e.is_boot) (same ∙ ap linked first_of_file.is_new))
+      elim (entry_at-with_entry dir number (entry_linked entry) other found is) [
+        | inl same ↦ (ap (λ (e : ModuleEntry). e.group) (same ∙ ap entry_linked first_of_file.is_new), ap (λ (e : ModuleEntry). e.is_boot) (same ∙ ap entry_linked first_of_file.is_new))
         | inr old ↦
             let new = (all_of_file other found old).is_new in
             (ap (λ (e : ModuleEntry). e.group) new, ap (λ (e : ModuleEntry). e.is_boot) new)
@@ -167,11 +167,11 @@ module _ {file : List ℕ} {group : Group} {dir : List (Option ModuleEntry)} {nu
   pub all_boot : AreBoot started_dir
   all_boot other found is = (started_entry other found is).1
 
-  pub first_stays : entry_at started_dir number ≡ Some (linked entry)
-  first_stays = entry_at-with_entry_same dir number (linked entry) (entry_within dir number entry first.is)
+  pub first_stays : module_entry_at started_dir number ≡ Some (entry_linked entry)
+  first_stays = entry_at-with_entry_same dir number (entry_linked entry) (entry_within dir number entry first.is)
 
-  one_group : entered_groups started_dir ≡ blocks_of group ∷ []
-  one_group = entered_groups-one (blocks_of group) started_dir number (linked entry) (λ other found is. (started_entry other found is).0) first_stays
+  one_group : entered_groups started_dir ≡ group_block_numbers group ∷ []
+  one_group = entered_groups-one (group_block_numbers group) started_dir number (entry_linked entry) (λ other found is. (started_entry other found is).0) first_stays
 
   module _ {blocks : ℕ} {before loaded : Blocks} (placed : IsPlaced file blocks before group loaded) where
     -- the machine finds it too
@@ -205,7 +205,7 @@ module _ {file : List ℕ} {group : Group} {dir : List (Option ModuleEntry)} {nu
       abbrev area : List BlockId
       area = mapped.area
 
-      zeros : Gains loaded area (replicate (length area) zero_object) mapped.middle
+      zeros : GainsBlocks loaded area (replicate (length area) zero_object) mapped.middle
       zeros = Takes-Gains loaded mapped.middle area placed.shape mapped.taken
 
       live_later : All (λ id. IsLive mapped.middle id.0) (ids placed)
@@ -220,15 +220,15 @@ module _ {file : List ℕ} {group : Group} {dir : List (Option ModuleEntry)} {nu
       map_is : map ≡ with_group (with_low no_slots area) (8 - length (ids placed)) (ids placed)
       map_is = mapped.is ∙ ap (λ (len : ℕ). with_group (with_low no_slots area) (8 - len) (ids placed)) (sym as_many)
 
-      places_are : map.places ≡ (naming area ++ between 8 area (ids placed) short_enough) ++ naming (ids placed)
+      places_are : map.places ≡ (filled_places area ++ between 8 area (ids placed) short_enough) ++ filled_places (ids placed)
       places_are = ap (λ (slots : Slots BlockId). slots.places) map_is ∙ first_places 8 area (ids placed) short_enough
 
       -- each block is counted as often as it is named
-      pub counted : AreCounted pool (map ∷ []) started_dir
+      pub counted : AreReferenceCounts pool (map ∷ []) started_dir
       counted block =
-          let shared_count = ap (λ (blocks : Blocks). count_of blocks block) mapped.shared
+          let shared_count = ap (λ (blocks : Blocks). reference_count blocks block) mapped.shared
           ∙ count_of-shared_all-times mapped.middle (ids placed) block (All-weaker (λ (id : BlockId). IsLive mapped.middle id.0) (λ (id : BlockId). id.0 < length mapped.middle.counts) (λ id live. live-within mapped.middle id.0 live) (ids placed) live_later) in
-          let named = ap named_in places_are ∙ named_in-first_places 8 area (ids placed) short_enough in
+          let named = ap blocks_in places_are ∙ named_in-first_places 8 area (ids placed) short_enough in
           omega (
             arith,
             shared_count,
@@ -242,37 +242,37 @@ module _ {file : List ℕ} {group : Group} {dir : List (Option ModuleEntry)} {nu
 
       -- the number of the object that a block stands for: its place among the group's blocks, or behind them among the area's
       abbrev last_number : ℕ → ℕ
-      last_number = numbered area (length (objects_of file)) (first_number placed)
+      last_number = numbered area (length (file_objects file)) (first_number placed)
 
       group_numbers : Numbers placed last_number
       group_numbers =
           map-map last_number (λ (id : BlockId). id.0) (ids placed)
           ∙ map_same (λ (id : BlockId). last_number id.0) (λ (id : BlockId). first_number placed id.0) (ids placed)
-          (λ k d within. numbered-other area (length (objects_of file)) (first_number placed) (get_or (ids placed) k d).0 (Gains-old zeros (get_or (ids placed) k d).0 (group_live placed k d within)))
+          (λ k d within. numbered-other area (length (file_objects file)) (first_number placed) (get_or (ids placed) k d).0 (Gains-old zeros (get_or (ids placed) k d).0 (group_live placed k d within)))
           ∙ sym (map-map (first_number placed) (λ (id : BlockId). id.0) (ids placed))
           ∙ first_numbers placed
 
       area_numbers : map_of (λ (id : BlockId). last_number id.0) area ≡ range_with_len (file_blocks file) (data_blocks entry)
       area_numbers =
-          map-numbered area (length (objects_of file)) (first_number placed) zeros.different
-          ∙ ap (λ (first : ℕ). range_with_len first (length area)) (length-map-range_with_len (block_of file) 0 (file_blocks file))
+          map-numbered area (length (file_objects file)) (first_number placed) zeros.different
+          ∙ ap (λ (first : ℕ). range_with_len first (length area)) (length-map-range_with_len (file_block file) 0 (file_blocks file))
           ∙ ap (range_with_len (file_blocks file)) mapped.many
 
-      stand_for : StandFor last_number pool (first_objects file entry)
+      stand_for : RepresentObjects last_number pool (first_objects file entry)
       stand_for =
           let none = StandFor-none (λ block. 0) before (λ block live. absurd (omega (arith, count_of-unnamed before blocks block placed.unnamed))) in
-          let loaded_for : StandFor (first_number placed) loaded (objects_of file) = StandFor-gains (λ block. 0) before loaded [] (objects_of file) (ids placed) none placed.file_loaded in
-          let middle_for = StandFor-gains (first_number placed) loaded mapped.middle (objects_of file) (replicate (length area) zero_object) area loaded_for zeros in
-          let shared_for = StandFor-shared_all last_number mapped.middle (objects_of file ++ replicate (length area) zero_object) (ids placed) middle_for live_later in
-          subst (λ (n : ℕ). StandFor last_number pool (objects_of file ++ replicate n zero_object)) mapped.many
-          (subst (λ (blocks : Blocks). StandFor last_number blocks (objects_of file ++ replicate (length area) zero_object)) (sym mapped.shared) shared_for)
+          let loaded_for : RepresentObjects (first_number placed) loaded (file_objects file) = StandFor-gains (λ block. 0) before loaded [] (file_objects file) (ids placed) none placed.file_loaded in
+          let middle_for = StandFor-gains (first_number placed) loaded mapped.middle (file_objects file) (replicate (length area) zero_object) area loaded_for zeros in
+          let shared_for = StandFor-shared_all last_number mapped.middle (file_objects file ++ replicate (length area) zero_object) (ids placed) middle_for live_later in
+          subst (λ (n : ℕ). RepresentObjects last_number pool (file_objects file ++ replicate n zero_object)) mapped.many
+          (subst (λ (blocks : Blocks). RepresentObjects last_number blocks (file_objects file ++ replicate (length area) zero_object)) (sym mapped.shared) shared_for)
 
       places_stand : map_of (option_map (λ (id : BlockId). last_number id.0)) map.places ≡ (first_map file entry).places
       places_stand =
           let f : Option BlockId → Option ℕ = option_map (λ (id : BlockId). last_number id.0) in
-          let low = naming area in
+          let low = filled_places area in
           let middle = between 8 area (ids placed) short_enough in
-          let high = naming (ids placed) in
+          let high = filled_places (ids placed) in
           let low_is : map_of f low ≡ map_of Some (range_with_len (file_blocks file) (data_blocks entry)) = renamed-naming last_number area (range_with_len (file_blocks file) (data_blocks entry)) area_numbers in
           let high_is : map_of f high ≡ map_of Some (boot_group file) = renamed-naming last_number (ids placed) (boot_group file) (sym (map-map last_number (λ (id : BlockId). id.0) (ids placed)) ∙ group_numbers) in
           let free : 8 - (length area + length (ids placed)) ≡ 8 - (data_blocks entry + file_blocks file) = omega (arith, mapped.many, length-ids placed) in
@@ -303,12 +303,12 @@ module _ {file : List ℕ} {group : Group} {dir : List (Option ModuleEntry)} {nu
         pub is_chosen : kernel.chosen ≡ false
 
       -- .. stands for the start of its file
-      pub stands : (kernel : Kernel) → Begins kernel → (terms : List Screen) → (s : State) × Starts file blocks terms s × Stands kernel terms s
+      pub stands : (kernel : Kernel) → Begins kernel → (terms : List TerminalState) → (s : State) × Starts file blocks terms s × Represents kernel terms s
       stands kernel begins terms =
           let entries = renamed_modules last_number dir in
           let program = renamed_entry last_number entry in
-          let modules_stand : with_entry entries number (linked program) ≡ renamed_modules last_number kernel.dir =
-          with_entry-renamed last_number dir number (linked entry) ∙ ap (renamed_modules last_number) (sym begins.is_dir) in
+          let modules_stand : with_module_entry entries number (entry_linked program) ≡ renamed_modules last_number kernel.dir =
+          with_entry-renamed last_number dir number (entry_linked entry) ∙ ap (renamed_modules last_number) (sym begins.is_dir) in
           let map_stands : renamed_map last_number map ≡ renamed_map last_number kernel.map = ap (renamed_map last_number) (sym begins.is_map) in
           let map_is_first : renamed_map last_number map ≡ first_map file entry = λ i. record { places = places_stand i; low = low_stands i; groups = groups_stand i } in
           let chosen_of : Bool → Option ℕ = λ chosen. if chosen then Some 2 else None in
@@ -342,7 +342,7 @@ module _ {file : List ℕ} {group : Group} {dir : List (Option ModuleEntry)} {nu
             record {
               number = last_number;
               objects = first_objects file entry;
-              stand_for = subst (λ (blocks : Blocks). StandFor last_number blocks (first_objects file entry)) (sym begins.is_pool) stand_for;
+              stand_for = subst (λ (blocks : Blocks). RepresentObjects last_number blocks (first_objects file entry)) (sym begins.is_pool) stand_for;
               is = is;
             },
           )

@@ -7,18 +7,18 @@ use Rattle.std.proofs.lemmas.List.{length-set}
 use Rattle.std.proofs.lemmas.Option.{same_Some, none-some, slice_get-get_or, slice_get_within}
 use Rattle.std.proofs.lemmas.Bool.{cases_eq, lt-ltb}
 use Rattle.cpu_model.specs.Step.{all_named, write_cells}
-use Rattle.block_pool.specs.Blocks.{Blocks, IsPool, IsLive, is_live, count_of, block_bytes}
+use Rattle.block_pool.specs.Blocks.{Blocks, IsPool, IsLive, is_live, reference_count, block_bytes}
 use Rattle.proc_model.specs.declared.group.BlockId.{BlockId}
-use Rattle.proc_model.specs.Slots.{Slots, place_of}
+use Rattle.proc_model.specs.Slots.{Slots, block_at}
 use Rattle.proc_model.specs.Slots.{IsMap as IsSlotMap}
-use Rattle.block_map.specs.Takes.{NamesLive}
+use Rattle.block_map.specs.TakenBlocks.{NamesLiveBlocks}
 use Rattle.block_map.specs.Window.{SameBeyond}
-use Rattle.block_map.specs.Window.{cells_of as block_cells}
+use Rattle.block_map.specs.Window.{map_cells as block_cells}
 use Rattle.block_map.proofs.Places.{at, same_id}
 use Rattle.block_map.proofs.Windows.{length-block_bytes}
-use Rattle.machine_model.specs.Objects.{slot_of, cells_of, with_object_byte, with_cell, with_writes, IsMap}
+use Rattle.machine_model.specs.Objects.{slot_of, object_cells, with_object_byte, with_cell, with_writes, NamesObjects}
 use Rattle.machine_model.proofs.ObjectLemmas.{slice_get-set_same, slice_get-set_other, with_writes-tied}
-use Rattle.os9_kernel.specs.Tie.{StandFor}
+use Rattle.os9_kernel.specs.Tie.{RepresentObjects}
 
 -- ---- what writes do to one object
 
@@ -69,7 +69,7 @@ IsObject-with_writes objects places (write ∷ writes) this size is =
     IsObject-with_writes (with_cell objects places write.0 write.1) places writes this size (IsObject-with_cell objects places write.0 write.1 this size is)
 
 -- the byte of a slot's object at an offset
-cell_of_slot : (objects : List (List ℕ)) (places : List (Option ℕ)) (slot offset number : ℕ) (object : List ℕ) → offset < 8192 → slot_of places slot ≡ Some number → slice_get objects number ≡ Some object → cells_of objects places (8192 * slot + offset) ≡ slice_get object offset
+cell_of_slot : (objects : List (List ℕ)) (places : List (Option ℕ)) (slot offset number : ℕ) (object : List ℕ) → offset < 8192 → slot_of places slot ≡ Some number → slice_get objects number ≡ Some object → object_cells objects places (8192 * slot + offset) ≡ slice_get object offset
 cell_of_slot objects places slot offset number object within is_slot is_object =
     let in_slot : (8192 * slot + offset) / 8192 ≡ slot = omega arith in
     let at_offset : (8192 * slot + offset) % 8192 ≡ offset = omega arith in
@@ -113,20 +113,20 @@ names_or_not (Some first ∷ places) block = by_first (cases_eq first.0 block) (
     by_first (inr apart) (inl (slot, id, is, same)) = inl (suc slot, id, is, same)
     by_first (inr apart) (inr none) = inr (λ named. none_here apart none named.0 named.1 named.2 named.3)
 
-module _ (number : ℕ → ℕ) (slots : Slots BlockId) (pool : Blocks) (objects : List (List ℕ)) (stand_for : StandFor number pool objects) (names_live : NamesLive slots pool) where
+module _ (number : ℕ → ℕ) (slots : Slots BlockId) (pool : Blocks) (objects : List (List ℕ)) (stand_for : RepresentObjects number pool objects) (names_live : NamesLiveBlocks slots pool) where
   abbrev places : List (Option ℕ)
   places = renamed number slots.places
 
   -- the block that a slot's object is stood for by
   record Names (slot object : ℕ) : Type 0 where
     pub id : BlockId
-    pub place : place_of slots slot ≡ Some id
+    pub place : block_at slots slot ≡ Some id
     pub is : number id.0 ≡ object
 
   names : (slot object : ℕ) → slot_of places slot ≡ Some object → Names slot object
-  names slot object named = by_place (place_of slots slot) refl
+  names slot object named = by_place (block_at slots slot) refl
     where
-      by_place : (place : Option BlockId) → place_of slots slot ≡ place → Names slot object
+      by_place : (place : Option BlockId) → block_at slots slot ≡ place → Names slot object
       by_place None is = absurd (none-some object (sym (slot_of-renamed number slots.places slot ∙ ap (option_map (λ (id : BlockId). number id.0)) is) ∙ named))
       by_place (Some id) is = record {
         id = id;
@@ -134,22 +134,22 @@ module _ (number : ℕ → ℕ) (slots : Slots BlockId) (pool : Blocks) (objects
         is = same_Some (number id.0) object (sym (slot_of-renamed number slots.places slot ∙ ap (option_map (λ (id : BlockId). number id.0)) is) ∙ named);
       }
 
-  slot_of-place : (slot : ℕ) (id : BlockId) → place_of slots slot ≡ Some id → slot_of places slot ≡ Some (number id.0)
+  slot_of-place : (slot : ℕ) (id : BlockId) → block_at slots slot ≡ Some id → slot_of places slot ≡ Some (number id.0)
   slot_of-place slot id is = slot_of-renamed number slots.places slot ∙ ap (option_map (λ (id : BlockId). number id.0)) is
 
   -- the process sees the same bytes
-  pub cells_of-renamed : cells_of objects places ≡ block_cells slots pool
-  cells_of-renamed = fun_ext (λ address. by_place address (place_of slots (address / 8192)) refl)
+  pub cells_of-renamed : object_cells objects places ≡ block_cells slots pool
+  cells_of-renamed = fun_ext (λ address. by_place address (block_at slots (address / 8192)) refl)
     where
-      by_place : (address : ℕ) (place : Option BlockId) → place_of slots (address / 8192) ≡ place → cells_of objects places address ≡ block_cells slots pool address
+      by_place : (address : ℕ) (place : Option BlockId) → block_at slots (address / 8192) ≡ place → object_cells objects places address ≡ block_cells slots pool address
       by_place address None is = rw (slot_of-renamed number slots.places (address / 8192), is) refl
       by_place address (Some id) is =
           let alive = names_live (address / 8192) id is in
-          let live : is_live pool id.0 ≡ true = lt-ltb 0 (count_of pool id.0) alive in
+          let live : is_live pool id.0 ≡ true = lt-ltb 0 (reference_count pool id.0) alive in
           rw (slot_of-renamed number slots.places (address / 8192), is, stand_for.same_bytes id.0 alive, live) refl
 
   -- the objects make a map where the blocks do
-  IsMap-renamed : IsSlotMap slots → IsMap objects places
+  IsMap-renamed : IsSlotMap slots → NamesObjects objects places
   IsMap-renamed map = record {
     there = λ slot object named.
         let here = names slot object named in
@@ -162,7 +162,7 @@ module _ (number : ℕ → ℕ) (slots : Slots BlockId) (pool : Blocks) (objects
   }
 
   -- after the process has stored, blocks stand for the objects with the same writes
-  module _ (map : IsSlotMap slots) (shape : IsPool pool) (after : Blocks) (beyond : SameBeyond slots pool after) (writes : List (ℕ × ℕ)) (named : all_named (cells_of objects places) writes ≡ true) (stored : block_cells slots after ≡ write_cells (block_cells slots pool) writes) where
+  module _ (map : IsSlotMap slots) (shape : IsPool pool) (after : Blocks) (beyond : SameBeyond slots pool after) (writes : List (ℕ × ℕ)) (named : all_named (object_cells objects places) writes ≡ true) (stored : block_cells slots after ≡ write_cells (block_cells slots pool) writes) where
     abbrev objects_after : List (List ℕ)
     objects_after = with_writes objects places writes
 
@@ -172,18 +172,18 @@ module _ (number : ℕ → ℕ) (slots : Slots BlockId) (pool : Blocks) (objects
     live_after : (block : ℕ) → IsLive pool block → IsLive after block
     live_after block live = subst (λ counts. 0 < get_or counts block 0) (sym beyond.counts) live
 
-    same_cells : cells_of objects_after places ≡ block_cells slots after
+    same_cells : object_cells objects_after places ≡ block_cells slots after
     same_cells = (with_writes-tied objects places writes (IsMap-renamed map) named).1 ∙ ap (λ cells. write_cells cells writes) cells_of-renamed ∙ sym stored
 
-    block_cell : (slot offset : ℕ) (id : BlockId) → offset < 8192 → place_of slots slot ≡ Some id → IsLive after id.0 → block_cells slots after (8192 * slot + offset) ≡ slice_get (block_bytes after id.0) offset
+    block_cell : (slot offset : ℕ) (id : BlockId) → offset < 8192 → block_at slots slot ≡ Some id → IsLive after id.0 → block_cells slots after (8192 * slot + offset) ≡ slice_get (block_bytes after id.0) offset
     block_cell slot offset id within is alive =
         let in_slot : (8192 * slot + offset) / 8192 ≡ slot = omega arith in
         let at_offset : (8192 * slot + offset) % 8192 ≡ offset = omega arith in
-        let live : is_live after id.0 ≡ true = lt-ltb 0 (count_of after id.0) alive in
+        let live : is_live after id.0 ≡ true = lt-ltb 0 (reference_count after id.0) alive in
         rw (in_slot, at_offset, is, live) refl
 
     -- a block that the map names is told by the cells
-    same_named : (slot : ℕ) (id : BlockId) → place_of slots slot ≡ Some id → slice_get objects_after (number id.0) ≡ Some (block_bytes after id.0)
+    same_named : (slot : ℕ) (id : BlockId) → block_at slots slot ≡ Some id → slice_get objects_after (number id.0) ≡ Some (block_bytes after id.0)
     unfolding IsObject
     same_named slot id is =
         let was = names_live slot id is in
@@ -205,7 +205,7 @@ module _ (number : ℕ → ℕ) (slots : Slots BlockId) (pool : Blocks) (objects
         unnamed (slot, here.id, here.place, stand_for.apart here.id.0 block (names_live slot here.id here.place) live here.is) in
         with_writes-other objects places writes (number block) alone ∙ stand_for.same_bytes block live ∙ ap Some (sym (beyond.bytes id (λ at_slot. unnamed (at_slot.0, id, at_slot.1, refl))))
 
-    pub StandFor-stored : StandFor number after objects_after
+    pub StandFor-stored : RepresentObjects number after objects_after
     StandFor-stored = record {
       same_bytes = λ block live. by_name block (live_before block live) (names_or_not slots.places block);
       apart = λ one other live live_too. stand_for.apart one other (live_before one live) (live_before other live_too);

@@ -7,16 +7,16 @@ use Rattle.cpu_model.specs.declared.stop.Stop.{Stop}
 use Rattle.cpu_model.specs.declared.stop.Stop.TheVariants.{Next, Call, Abort}
 use Rattle.cpu_model.specs.Step.{Outcome, Done, Calls, Aborts, step_of, Leaves, all_named}
 use Rattle.block_map.specs.Window.{SameBeyond}
-use Rattle.block_map.specs.Window.{cells_of as block_cells}
+use Rattle.block_map.specs.Window.{map_cells as block_cells}
 use Rattle.block_map.specs.Beside.{SameBeside}
-use Rattle.block_map.specs.Takes.{NamesLive}
+use Rattle.block_map.specs.TakenBlocks.{NamesLiveBlocks}
 use Rattle.block_map.specs.declared.view.View.{View}
-use Rattle.device_table.specs.Screens.{Screen}
+use Rattle.os9_outer.specs.TerminalState.{TerminalState}
 use Rattle.machine_model.specs.declared.activity.Activity.{Activity}
 use Rattle.machine_model.specs.declared.activity.Activity.TheVariants.{Running, Calling, Finished}
 use Rattle.machine_model.specs.declared.ends.EventEnd.{EventEnd}
 use Rattle.machine_model.specs.declared.ends.EventEnd.TheVariants.{Ran, Ended}
-use Rattle.machine_model.specs.Objects.{cells_of, with_writes}
+use Rattle.machine_model.specs.Objects.{object_cells, with_writes}
 use Rattle.machine_model.specs.State.{State}
 use Rattle.machine_model.specs.Call.{answered, ended, refused, done, line_at, is_standard_path, with_term, PutsLine}
 use Rattle.machine_model.specs.Event.{Event, Acts, Executes}
@@ -24,7 +24,7 @@ use Rattle.machine_model.proofs.StepLemmas.{all_named-step}
 use Rattle.os9_kernel.specs.declared.kernel.Kernel.{Kernel}
 use Rattle.os9_kernel.specs.declared.line.LineEnd.TheVariants.{Written, Refused}
 use Rattle.os9_kernel.specs.Line.{IsLineAnswer, IsPut}
-use Rattle.os9_kernel.specs.Tie.{StandFor, Stands, IsUnknownCall, process_of, state_of}
+use Rattle.os9_kernel.specs.Tie.{RepresentObjects, Represents, IsUnknownCall, process_of, state_of}
 use Rattle.os9_kernel.proofs.EndLemmas.{NamesLive-counted}
 use Rattle.os9_kernel.proofs.StoreLemmas.{renamed, cells_of-renamed, StandFor-stored}
 
@@ -66,7 +66,7 @@ pub record IsAnswered (old new : Kernel) (regs : Regs) : Type 0 where
   pub tick : new.tick ≡ old.tick
   pub chosen : new.chosen ≡ old.chosen
 
-module _ (old : Kernel) (terms : List Screen) (s : State) (stood : Stands old terms s) (chosen : old.chosen ≡ true) where
+module _ (old : Kernel) (terms : List TerminalState) (s : State) (stood : Represents old terms s) (chosen : old.chosen ≡ true) where
   abbrev number : ℕ → ℕ
   number = stood.number
 
@@ -79,14 +79,14 @@ module _ (old : Kernel) (terms : List Screen) (s : State) (stood : Stands old te
   abbrev places : List (Option ℕ)
   places = renamed number old.map.places
 
-  names_live : NamesLive old.map old.pool
+  names_live : NamesLiveBlocks old.map old.pool
   names_live = NamesLive-counted old.pool old.map old.dir old.counted
 
-  same : cells_of objects places ≡ cells old
+  same : object_cells objects places ≡ cells old
   same = cells_of-renamed number old.map old.pool objects stood.stand_for names_live
 
   abbrev Goes_on : EventEnd → Kernel → Type 0
-  Goes_on end new = (t : State) × Event s end t × Stands new terms t
+  Goes_on end new = (t : State) × Event s end t × Represents new terms t
 
   -- an event of the process is one of the machine
   acts : (activity : Activity) → old.activity ≡ activity → (end : EventEnd) (t : State) → Acts activity here 2 (process_of old number) end t → Event s end t
@@ -94,7 +94,7 @@ module _ (old : Kernel) (terms : List Screen) (s : State) (stood : Stands old te
       rw stood.is (2, process_of old number, rw chosen refl, refl, subst (λ activity. Acts activity here 2 (process_of old number) end t) (sym is) does)
 
   -- the process goes on after a call, which may have changed the terminals
-  goes_on_tied : (new : Kernel) (regs : Regs) → IsAnswered old new regs → (now screens : List Screen) → now ≡ screens → Stands new now (record (answered here 2 (process_of old number) regs) { terms = screens })
+  goes_on_tied : (new : Kernel) (regs : Regs) → IsAnswered old new regs → (now screens : List TerminalState) → now ≡ screens → Represents new now (record (answered here 2 (process_of old number) regs) { terms = screens })
   goes_on_tied new regs has now screens is = record {
     number = number;
     objects = objects;
@@ -113,7 +113,7 @@ module _ (old : Kernel) (terms : List Screen) (s : State) (stood : Stands old te
     executes end t does = acts Running running end t (rw same does)
 
     -- the state that the new kernel stands for, with these registers and objects
-    tied : (regs : Regs) (activity : Activity) (now : List (List ℕ)) → new.regs ≡ regs → new.activity ≡ activity → StandFor number new.pool now → Stands new terms (state_of (record old { regs = regs; activity = activity }) number now terms)
+    tied : (regs : Regs) (activity : Activity) (now : List (List ℕ)) → new.regs ≡ regs → new.activity ≡ activity → RepresentObjects number new.pool now → Represents new terms (state_of (record old { regs = regs; activity = activity }) number now terms)
     tied regs activity now regs_is doing stand_after = record {
       number = number;
       objects = now;
@@ -122,7 +122,7 @@ module _ (old : Kernel) (terms : List Screen) (s : State) (stood : Stands old te
     }
 
     -- nothing was written
-    StandFor-kept : cells new ≡ cells old → StandFor number new.pool objects
+    StandFor-kept : cells new ≡ cells old → RepresentObjects number new.pool objects
     StandFor-kept is =
         StandFor-stored number old.map old.pool objects stood.stand_for names_live old.whole old.shape new.pool beyond [] refl (ap (λ slots. block_cells slots new.pool) (sym kept.map) ∙ is)
 
@@ -142,7 +142,7 @@ module _ (old : Kernel) (terms : List Screen) (s : State) (stood : Stands old te
         by_outcome (Calls code past) is left doing = cc (left.0)
         by_outcome (Aborts status) is left doing = cc (left.0)
         by_outcome (Done effect) is left doing =
-            let named : all_named (cells_of objects places) effect.writes ≡ true = rw same (all_named-step (cells old) old.regs effect is) in
+            let named : all_named (object_cells objects places) effect.writes ≡ true = rw same (all_named-step (cells old) old.regs effect is) in
             let written = with_writes objects places effect.writes in
             let stored = ap (λ slots. block_cells slots new.pool) (sym kept.map) ∙ left.2 in
             let stand_after = StandFor-stored number old.map old.pool objects stood.stand_for names_live old.whole old.shape new.pool beyond effect.writes named stored in (
@@ -164,10 +164,10 @@ module _ (old : Kernel) (terms : List Screen) (s : State) (stood : Stands old te
               tied past (Calling other) objects left.1 (doing ∙ ap Calling (sym same_code)) (StandFor-kept left.2),
             )
 
-    pub aborts : (status : ℕ) → Seen (Abort status) → new.activity ≡ old.activity → (last : Kernel) → ((s : State) (stood : Stands new terms s) → Stands last terms (ended s 2 (process_of new stood.number) status)) → Goes_on Ended last
+    pub aborts : (status : ℕ) → Seen (Abort status) → new.activity ≡ old.activity → (last : Kernel) → ((s : State) (stood : Represents new terms s) → Represents last terms (ended s 2 (process_of new stood.number) status)) → Goes_on Ended last
     aborts status seen = by_outcome (step_of (cells old) old.regs) refl (left_by (Abort status) seen)
       where
-        by_outcome : (outcome : Outcome) → step_of (cells old) old.regs ≡ outcome → Left outcome (Abort status) → new.activity ≡ old.activity → (last : Kernel) → ((s : State) (stood : Stands new terms s) → Stands last terms (ended s 2 (process_of new stood.number) status)) → Goes_on Ended last
+        by_outcome : (outcome : Outcome) → step_of (cells old) old.regs ≡ outcome → Left outcome (Abort status) → new.activity ≡ old.activity → (last : Kernel) → ((s : State) (stood : Represents new terms s) → Represents last terms (ended s 2 (process_of new stood.number) status)) → Goes_on Ended last
         by_outcome (Done effect) is left doing last ends = cc (left.0)
         by_outcome (Calls code past) is left doing last ends = cc (left.0)
         by_outcome (Aborts other) is left doing last ends =
@@ -176,12 +176,12 @@ module _ (old : Kernel) (terms : List Screen) (s : State) (stood : Stands old te
             let same_process : process_of new number ≡ process_of old number = rw (left.1, kept.map, kept.primary, doing) refl in (
               ended here 2 (process_of old number) other,
               executes Ended _ (rw is (refl, refl)),
-              rw same_status (subst (λ process. Stands last terms (ended here 2 process status)) same_process (ends here still)),
+              rw same_status (subst (λ process. Represents last terms (ended here 2 process status)) same_process (ends here still)),
             )
 
   -- F$Exit
-  pub exits : old.activity ≡ Calling 0x06 → (last : Kernel) → Stands last terms (ended s 2 (process_of old number) old.regs.b) → Goes_on Ended last
-  exits calling last stands = (ended here 2 (process_of old number) old.regs.b, acts (Calling 0x06) calling Ended _ (refl, refl), subst (λ from. Stands last terms (ended from 2 (process_of old number) old.regs.b)) stood.is stands)
+  pub exits : old.activity ≡ Calling 0x06 → (last : Kernel) → Represents last terms (ended s 2 (process_of old number) old.regs.b) → Goes_on Ended last
+  exits calling last stands = (ended here 2 (process_of old number) old.regs.b, acts (Calling 0x06) calling Ended _ (refl, refl), subst (λ from. Represents last terms (ended from 2 (process_of old number) old.regs.b)) stood.is stands)
 
   -- a code that is no call's
   pub refuses : IsUnknownCall old.activity → (new : Kernel) → IsAnswered old new (refused old.regs 208) → Goes_on Ran new
@@ -196,9 +196,9 @@ module _ (old : Kernel) (terms : List Screen) (s : State) (stood : Stands old te
           (answered here 2 (process_of old number) (refused old.regs 208), acts (Calling code) is Ran _ (rw (no_exit, no_line) (refl, refl)), goes_on_tied new (refused old.regs 208) has terms terms refl)
 
   -- I$WritLn
-  module _ (calling : old.activity ≡ Calling 0x8C) (now : List Screen) (new : Kernel) where
+  module _ (calling : old.activity ≡ Calling 0x8C) (now : List TerminalState) (new : Kernel) where
     abbrev Goes_on_now : Type 0
-    Goes_on_now = (t : State) × Event s Ran t × Stands new now t
+    Goes_on_now = (t : State) × Event s Ran t × Represents new now t
 
     abbrev the_line : Option (List ℕ)
     the_line = line_at (cells old) old.regs.x old.regs.y
@@ -217,7 +217,7 @@ module _ (old : Kernel) (terms : List Screen) (s : State) (stood : Stands old te
     pub written : (count : ℕ) → IsLineAnswer the_line old.regs.a (Written count) terms now → IsAnswered old new (done (record old.regs { y = count })) → Goes_on_now
     written count answer has = by_line the_line refl answer
       where
-        by_screen : (line : List ℕ) → the_line ≡ Some line → is_standard_path old.regs.a ≡ true → (screen : Option Screen) → slice_get terms 0 ≡ screen → MatchOption screen ⊥ (IsPut line (Written count) terms now) → Goes_on_now
+        by_screen : (line : List ℕ) → the_line ≡ Some line → is_standard_path old.regs.a ≡ true → (screen : Option TerminalState) → slice_get terms 0 ≡ screen → MatchOption screen ⊥ (IsPut line (Written count) terms now) → Goes_on_now
         by_screen line is standard None first answer = absurd answer
         by_screen line is standard (Some before) first (screen, keys, set, inr (end, some, gained, rose)) = cc end
         by_screen line is standard (Some before) first (screen, keys, set, inl (end, put, faults)) =
@@ -237,10 +237,10 @@ module _ (old : Kernel) (terms : List Screen) (s : State) (stood : Stands old te
     pub refused_line : (error : ℕ) → IsLineAnswer the_line old.regs.a (Refused error) terms now → IsAnswered old new (refused old.regs error) → Goes_on_now
     refused_line error answer has = by_line the_line refl answer
       where
-        refused_with : (which : ℕ) → error ≡ which → (screens : List Screen) → now ≡ screens → Stands new now (record (answered here 2 (process_of old number) (refused old.regs which)) { terms = screens })
+        refused_with : (which : ℕ) → error ≡ which → (screens : List TerminalState) → now ≡ screens → Represents new now (record (answered here 2 (process_of old number) (refused old.regs which)) { terms = screens })
         refused_with which is screens set = goes_on_tied new (refused old.regs which) (subst (λ n. IsAnswered old new (refused old.regs n)) is has) now screens set
 
-        by_screen : (line : List ℕ) → the_line ≡ Some line → is_standard_path old.regs.a ≡ true → (screen : Option Screen) → slice_get terms 0 ≡ screen → MatchOption screen ⊥ (IsPut line (Refused error) terms now) → Goes_on_now
+        by_screen : (line : List ℕ) → the_line ≡ Some line → is_standard_path old.regs.a ≡ true → (screen : Option TerminalState) → slice_get terms 0 ≡ screen → MatchOption screen ⊥ (IsPut line (Refused error) terms now) → Goes_on_now
         by_screen line is standard None first answer = absurd answer
         by_screen line is standard (Some before) first (screen, keys, set, inl (end, put, faults)) = cc end
         by_screen line is standard (Some before) first (screen, keys, set, inr (end, some, gained, rose)) =

@@ -1,6 +1,6 @@
 pub mod Line
 pub mod Load
-pub mod Namings
+pub mod References
 pub mod Slice
 pub mod Start
 pub mod Tie

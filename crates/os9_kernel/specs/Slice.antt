@@ -1,9 +1,9 @@
 -- Slices in pieces.
 use Rattle.std.specs.Prelude.{ℕ, List}
 use Rattle.machine_model.specs.State.{State}
-use Rattle.machine_model.specs.Run.{Goes}
+use Rattle.machine_model.specs.Run.{Steps}
 
 -- whatever goes on from m, with so many instructions left, goes on from s with n left
-abbrev pub GoesOnFrom : ℕ → State → ℕ → State → Type 0
-GoesOnFrom n s left m =
-    (states : List State) (t : State) → Goes left m states t → (all : List State) × Goes n s all t
+abbrev pub ContinuesFrom : ℕ → State → ℕ → State → Type 0
+ContinuesFrom n s left m =
+    (states : List State) (t : State) → Steps left m states t → (all : List State) × Steps n s all t

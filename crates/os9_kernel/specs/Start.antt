@@ -1,7 +1,7 @@
 -- The map with which the first process starts.
 use Rattle.std.specs.Prelude.{◌≡◌, ℕ, ◌-◌, List, length}
 use Rattle.block_pool.specs.Blocks.{Blocks}
-use Rattle.block_map.specs.Takes.{Takes, shared_all, group_blocks}
+use Rattle.block_map.specs.TakenBlocks.{TakesBlocks, pool_after_sharing, group_blocks}
 use Rattle.proc_model.specs.declared.group.BlockId.{BlockId}
 use Rattle.proc_model.specs.declared.group.Group.{Group}
 use Rattle.proc_model.specs.Slots.{Slots, no_slots, with_low, with_group}
@@ -11,6 +11,6 @@ pub record IsFirstMap (low : ℕ) (group : Group) (before : Blocks) (map : Slots
   pub area : List BlockId
   pub middle : Blocks
   pub many : length area ≡ low
-  pub taken : Takes before area middle
-  pub shared : after ≡ shared_all middle (group_blocks group)
+  pub taken : TakesBlocks before area middle
+  pub shared : after ≡ pool_after_sharing middle (group_blocks group)
   pub is : map ≡ with_group (with_low no_slots area) (8 - group.len) (group_blocks group)

@@ -1,8 +1,8 @@
 -- How the running kernel is tied to the abstract machine.
 use Rattle.std.specs.Prelude.{◌≡◌, ◌≢◌, ℕ, true, false, Option, Some, None, option_map, List, map, slice_get, if◌then◌else◌}
-use Rattle.block_map.specs.Window.{cells_of}
+use Rattle.block_map.specs.Window.{map_cells}
 use Rattle.block_pool.specs.Blocks.{Blocks, IsLive, block_bytes}
-use Rattle.device_table.specs.Screens.{Screen}
+use Rattle.os9_outer.specs.TerminalState.{TerminalState}
 use Rattle.machine_model.specs.declared.activity.Activity.{Activity}
 use Rattle.machine_model.specs.declared.activity.Activity.TheVariants.{Running, Calling, Finished}
 use Rattle.machine_model.specs.Call.{line_at}
@@ -14,9 +14,10 @@ use Rattle.proc_model.specs.ModuleList.{ModuleEntry}
 use Rattle.proc_model.specs.Slots.{Slots}
 use Rattle.os9_kernel.specs.Line.{HasByteToPut}
 use Rattle.os9_kernel.specs.declared.kernel.Kernel.{Kernel}
+use Rattle.os9_base.specs.declared.calls.TheConstants.{F_EXIT, I_WRITLN}
 
 -- Live blocks stand for objects by their numbers: each has the object's bytes, and different blocks stand for different objects.
-pub record StandFor (number : ℕ → ℕ) (pool : Blocks) (objects : List (List ℕ)) : Type 0 where
+pub record RepresentObjects (number : ℕ → ℕ) (pool : Blocks) (objects : List (List ℕ)) : Type 0 where
   pub same_bytes : (block : ℕ) → IsLive pool block → slice_get objects (number block) ≡ Some (block_bytes pool block)
   pub apart : (one other : ℕ) → IsLive pool one → IsLive pool other → number one ≡ number other → one ≡ other
 
@@ -43,7 +44,7 @@ process_of kernel number = record {
 }
 
 -- the state of a kernel, where these are the objects, and these the numbers of those that blocks stand for
-abbrev pub state_of : Kernel → (ℕ → ℕ) → List (List ℕ) → List Screen → State
+abbrev pub state_of : Kernel → (ℕ → ℕ) → List (List ℕ) → List TerminalState → State
 state_of kernel number objects terms = record {
   inner = record {
     objects = objects;
@@ -56,10 +57,10 @@ state_of kernel number objects terms = record {
 }
 
 -- A kernel and its terminals stand for a state: its live blocks stand for objects, and all else is equal but for the numbers of these.
-pub record Stands (kernel : Kernel) (terms : List Screen) (s : State) : Type 0 where
+pub record Represents (kernel : Kernel) (terms : List TerminalState) (s : State) : Type 0 where
   pub number : ℕ → ℕ
   pub objects : List (List ℕ)
-  pub stand_for : StandFor number kernel.pool objects
+  pub stand_for : RepresentObjects number kernel.pool objects
   pub is : s ≡ state_of kernel number objects terms
 
 -- the process was chosen, and lives
@@ -77,7 +78,7 @@ ticks kernel = kernel.tick
 -- the process is in a call that is none of those that there are
 abbrev pub IsUnknownCall : Activity → Type 0
 IsUnknownCall Running = ⊥
-IsUnknownCall (Calling code) = (code ≢ 0x06) × (code ≢ 0x8C)
+IsUnknownCall (Calling code) = (code ≢ F_EXIT) × (code ≢ I_WRITLN)
 IsUnknownCall (Finished status) = ⊥
 
 -- a call of the process that is not done: one or none
@@ -91,5 +92,5 @@ pending kernel = pending_in kernel.activity
 
 -- the process is in I$WritLn, and has a byte to put on TERM
 pub record PutsByte (kernel : Kernel) : Type 0 where
-  pub calling : kernel.activity ≡ Calling 0x8C
-  pub has : HasByteToPut (line_at (cells_of kernel.map kernel.pool) kernel.regs.x kernel.regs.y) kernel.regs.a
+  pub calling : kernel.activity ≡ Calling I_WRITLN
+  pub has : HasByteToPut (line_at (map_cells kernel.map kernel.pool) kernel.regs.x kernel.regs.y) kernel.regs.a

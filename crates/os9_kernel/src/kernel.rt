@@ -1,15 +1,18 @@
 ghost use Rattle.std.specs.Prelude.{◌≡◌, ◌≢◌, ◌+◌, ◌<◌, ◌≤◌, ◌↔◌, ◌∷◌, [], IsTrue, true, count_by, option_map, vec_len, List, Some, IsSome};
 ghost use Rattle.std.specs.Option.{ForSome};
 ghost use Rattle.block_pool.specs.Blocks.{IsPool};
-ghost use Rattle.proc_model.specs.ModuleList.{entry_at, without_link};
+ghost use Rattle.proc_model.specs.ModuleList.{module_entry_at, without_link};
 ghost use Rattle.proc_model.specs.Slots.{IsMap};
-ghost use Rattle.os9_kernel.specs.Namings.{AreCounted, AreBoot};
-ghost use Rattle.device_table.specs.Screens.{Screen, screens};
+ghost use Rattle.os9_kernel.specs.References.{AreReferenceCounts, AreBoot};
+ghost use Rattle.os9_outer.specs.TerminalState.{TerminalState, terminal_states};
 ghost use Rattle.machine_model.specs.State.{State, is_living, lives};
 ghost use Rattle.machine_model.specs.Call.{done, ended, refused, carry_clear as carry_clear_lem};
 ghost use Rattle.machine_model.specs.Event.{Event};
-ghost use Rattle.machine_model.specs.Run.{Tick, Choose, Slice, Goes, cost as cost_lem};
+ghost use Rattle.machine_model.specs.Run.{Tick, Choose, Slice, Steps, cost as cost_lem};
 
+use os9_base::calls::{F_EXIT, I_WRITLN};
+use os9_base::errors::E_UNKSVC;
+use os9_base::limits::LAST_TICK;
 use crate::line::{LineEnd, write_line};
 use block_map::map::Map;
 use block_pool::pool::Pool;
@@ -41,27 +44,27 @@ pub struct Kernel {
     pub(crate) buffer: Vec<u8>,
     ghost shape: { IsPool pool },
     ghost whole: { IsMap map },
-    ghost counted: { AreCounted pool (map ∷ []) dir },
+    ghost counted: { AreReferenceCounts pool (map ∷ []) dir },
     ghost all_boot: { AreBoot dir },
-    ghost linked: { ForSome primary (λ id. IsSome (entry_at dir id.0)) },
+    ghost linked: { ForSome primary (λ id. IsSome (module_entry_at dir id.0)) },
     ghost room: { vec_len buffer ≡ 65536 },
 }
 
 impl Kernel {
-    ghost use Rattle.os9_kernel.specs.Tie.{Stands, IsGoing, HasFinished, IsUnknownCall, PutsByte, ticks, pending, process_of};
+    ghost use Rattle.os9_kernel.specs.Tie.{Represents, IsGoing, HasFinished, IsUnknownCall, PutsByte, ticks, pending, process_of};
 
     /// How many processes live.
     pub fn living(&self) -> u8
-        ensures { (terms : List Screen) (s : State) → Stands self.now terms s → result ≡ count_by is_living s.inner.processes }
+        ensures { (terms : List TerminalState) (s : State) → Represents self.now terms s → result ≡ count_by is_living s.inner.processes }
     {
         if self.is_living() { 1 } else { 0 }
     }
 
     /// Begins a slice: the tick rises by 1. It is below 4,294,000,000 before.
     pub fn tick(&mut self)
-        requires { ticks self.old < 4294000000 }
-        ensures step { (terms : List Screen) (s : State) → Stands self.old terms s
-            → (t : State) × Tick s t × Stands self.new terms t }
+        requires { ticks self.old < LAST_TICK }
+        ensures step { (terms : List TerminalState) (s : State) → Represents self.old terms s
+            → (t : State) × Tick s t × Represents self.new terms t }
         ensures count { ticks self.new ≡ ticks self.old + 1 }
     {
         self.tick += 1;
@@ -69,8 +72,8 @@ impl Kernel {
 
     /// Chooses the process that lives; None exactly where none does.
     pub fn choose(&mut self) -> Option<Pid>
-        ensures step { (terms : List Screen) (s : State) → Stands self.old terms s
-            → (t : State) × Choose s t × Stands self.new terms t × (option_map (λ p. p.0) result ≡ t.inner.chosen) }
+        ensures step { (terms : List TerminalState) (s : State) → Represents self.old terms s
+            → (t : State) × Choose s t × Represents self.new terms t × (option_map (λ p. p.0) result ≡ t.inner.chosen) }
         ensures count { ticks self.new ≡ ticks self.old }
         ensures going { IsSome result → IsGoing self.new }
     {
@@ -86,9 +89,9 @@ impl Kernel {
         requires going { IsGoing self.old }
         requires terminal { 0 < vec_len devices.old.terms }
         ensures step { result ≢ EventEnd.NoMemory → (s : State)
-            → Stands self.old (screens ⟦<dyn CharDriver as CharDriver>⟧ devices.old.terms.items) s
+            → Represents self.old (terminal_states ⟦<dyn CharDriver as CharDriver>⟧ devices.old.terms.items) s
             → (t : State) × Event s result t
-            × Stands self.new (screens ⟦<dyn CharDriver as CharDriver>⟧ devices.new.terms.items) t }
+            × Represents self.new (terminal_states ⟦<dyn CharDriver as CharDriver>⟧ devices.new.terms.items) t }
         ensures ran { result ≡ EventEnd.Ran → IsGoing self.new }
         ensures attempted { result ≡ EventEnd.Ran → pending self.old + pending self.new ≤ 1 }
         ensures ended { result ≡ EventEnd.Ended → HasFinished self.new }
@@ -101,8 +104,8 @@ impl Kernel {
     {
         match self.activity {
             Activity::Running => self.instruction(),
-            Activity::Calling(0x06) => self.exit(),
-            Activity::Calling(0x8C) => self.put_line(devices),
+            Activity::Calling(F_EXIT) => self.exit(),
+            Activity::Calling(I_WRITLN) => self.put_line(devices),
             Activity::Calling(_) => self.refuse_unknown(),
             Activity::Finished(_) => unreachable!(),
         }
@@ -113,12 +116,12 @@ impl Kernel {
     /// no process lives. `NoMemory` comes only where the process has a byte to put on a terminal; the
     /// kernel is then used no more.
     pub fn slice(&mut self, n: u32, devices: &mut Devices) -> SliceEnd
-        requires tick { ticks self.old < 4294000000 }
+        requires tick { ticks self.old < LAST_TICK }
         requires terminal { 0 < vec_len devices.old.terms }
         ensures step { result ≢ SliceEnd.NoMemory → (s : State)
-            → Stands self.old (screens ⟦<dyn CharDriver as CharDriver>⟧ devices.old.terms.items) s
+            → Represents self.old (terminal_states ⟦<dyn CharDriver as CharDriver>⟧ devices.old.terms.items) s
             → (t : State) × Slice n s result t
-            × Stands self.new (screens ⟦<dyn CharDriver as CharDriver>⟧ devices.new.terms.items) t }
+            × Represents self.new (terminal_states ⟦<dyn CharDriver as CharDriver>⟧ devices.new.terms.items) t }
         ensures memory { result ≡ SliceEnd.NoMemory → PutsByte self.new }
         ensures count { ticks self.new ≡ ticks self.old + 1 }
         ensures terminals { vec_len devices.new.terms ≡ vec_len devices.old.terms }
@@ -136,9 +139,9 @@ impl Kernel {
         requires going { IsGoing self.old }
         requires terminal { 0 < vec_len devices.old.terms }
         ensures step { result ≢ SliceEnd.NoMemory → (s : State)
-            → Stands self.old (screens ⟦<dyn CharDriver as CharDriver>⟧ devices.old.terms.items) s
-            → (states : List State) × (t : State) × Goes n s states t
-            × Stands self.new (screens ⟦<dyn CharDriver as CharDriver>⟧ devices.new.terms.items) t }
+            → Represents self.old (terminal_states ⟦<dyn CharDriver as CharDriver>⟧ devices.old.terms.items) s
+            → (states : List State) × (t : State) × Steps n s states t
+            × Represents self.new (terminal_states ⟦<dyn CharDriver as CharDriver>⟧ devices.new.terms.items) t }
         ensures memory { result ≡ SliceEnd.NoMemory → PutsByte self.new }
         ensures ran { result ≢ SliceEnd.NoMemory → result ≡ SliceEnd.Ran }
         ensures count { ticks self.new ≡ ticks self.old }
@@ -160,7 +163,7 @@ impl Kernel {
     /// How many instructions the next event executes: an attempt of a call costs none.
     fn cost(&self) -> u32
         requires { IsGoing self.now }
-        ensures tied { (terms : List Screen) (s : State) → Stands self.now terms s → result ≡ cost_lem s }
+        ensures tied { (terms : List TerminalState) (s : State) → Represents self.now terms s → result ≡ cost_lem s }
         ensures attempt { result + pending self.now ≡ 1 }
     {
         match self.activity {
@@ -173,8 +176,8 @@ impl Kernel {
     fn instruction(&mut self) -> EventEnd
         requires chosen { self.old.chosen ≡ true }
         requires running { self.old.activity ≡ Activity.Running }
-        ensures step { (terms : List Screen) (s : State) → Stands self.old terms s
-            → (t : State) × Event s result t × Stands self.new terms t }
+        ensures step { (terms : List TerminalState) (s : State) → Represents self.old terms s
+            → (t : State) × Event s result t × Represents self.new terms t }
         ensures ran { result ≡ EventEnd.Ran → IsGoing self.new }
         ensures ended { result ≢ EventEnd.Ran → (result ≡ EventEnd.Ended) × HasFinished self.new }
         ensures count { ticks self.new ≡ ticks self.old }
@@ -195,9 +198,9 @@ impl Kernel {
     /// F$Exit: the process ends with the status in B.
     fn exit(&mut self) -> EventEnd
         requires chosen { self.old.chosen ≡ true }
-        requires calling { self.old.activity ≡ Activity.Calling 0x06 }
-        ensures step { (terms : List Screen) (s : State) → Stands self.old terms s
-            → (t : State) × Event s result t × Stands self.new terms t }
+        requires calling { self.old.activity ≡ Activity.Calling F_EXIT }
+        ensures step { (terms : List TerminalState) (s : State) → Represents self.old terms s
+            → (t : State) × Event s result t × Represents self.new terms t }
         ensures ended { result ≡ EventEnd.Ended }
         ensures finished { HasFinished self.new }
         ensures count { ticks self.new ≡ ticks self.old }
@@ -206,30 +209,30 @@ impl Kernel {
         EventEnd::Ended
     }
 
-    /// The call is none that there is: it is refused with 208.
+    /// The call is none that there is: it is refused with E$UnkSvc.
     fn refuse_unknown(&mut self) -> EventEnd
         requires chosen { self.old.chosen ≡ true }
         requires calling { IsUnknownCall self.old.activity }
-        ensures step { (terms : List Screen) (s : State) → Stands self.old terms s
-            → (t : State) × Event s result t × Stands self.new terms t }
+        ensures step { (terms : List TerminalState) (s : State) → Represents self.old terms s
+            → (t : State) × Event s result t × Represents self.new terms t }
         ensures ran { result ≡ EventEnd.Ran }
         ensures going { IsGoing self.new }
         ensures running { pending self.new ≡ 0 }
         ensures count { ticks self.new ≡ ticks self.old }
     {
-        self.refuse(208);
+        self.refuse(E_UNKSVC);
         EventEnd::Ran
     }
 
     /// I$WritLn, as [`write_line`] answers it.
     fn put_line(&mut self, devices: &mut Devices) -> EventEnd
         requires chosen { self.old.chosen ≡ true }
-        requires calling { self.old.activity ≡ Activity.Calling 0x8C }
+        requires calling { self.old.activity ≡ Activity.Calling I_WRITLN }
         requires terminal { 0 < vec_len devices.old.terms }
         ensures step { result ≢ EventEnd.NoMemory → (s : State)
-            → Stands self.old (screens ⟦<dyn CharDriver as CharDriver>⟧ devices.old.terms.items) s
+            → Represents self.old (terminal_states ⟦<dyn CharDriver as CharDriver>⟧ devices.old.terms.items) s
             → (t : State) × Event s result t
-            × Stands self.new (screens ⟦<dyn CharDriver as CharDriver>⟧ devices.new.terms.items) t }
+            × Represents self.new (terminal_states ⟦<dyn CharDriver as CharDriver>⟧ devices.new.terms.items) t }
         ensures memory { result ≡ EventEnd.NoMemory → PutsByte self.old }
         ensures stopped { result ≡ EventEnd.NoMemory → PutsByte self.new }
         ensures ran { result ≢ EventEnd.NoMemory → result ≡ EventEnd.Ran }
@@ -254,8 +257,8 @@ impl Kernel {
     /// The process ends with this status. It gives up its whole map, and one link to its primary
     /// module.
     fn end(&mut self, status: u8)
-        ensures ended { (terms : List Screen) (s : State) (stood : Stands self.old terms s)
-            → Stands self.new terms (ended s 2 (process_of self.old stood.number) status) }
+        ensures ended { (terms : List TerminalState) (s : State) (stood : Represents self.old terms s)
+            → Represents self.new terms (ended s 2 (process_of self.old stood.number) status) }
         ensures finished { HasFinished self.new }
         ensures chosen { self.new.chosen ≡ self.old.chosen }
         ensures count { ticks self.new ≡ ticks self.old }
@@ -292,7 +295,7 @@ impl Kernel {
 
 /// Gives up one link to a primary module, if there is one.
 fn give_up_link(dir: &mut Dir, primary: Option<ModId>)
-    requires { ForSome primary (λ id. IsSome (entry_at dir.old id.0)) }
+    requires { ForSome primary (λ id. IsSome (module_entry_at dir.old id.0)) }
     ensures { dir.new ≡ without_link dir.old (option_map (λ id. id.0) primary) }
 {
     if let Some(id) = primary {

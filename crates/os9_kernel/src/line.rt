@@ -1,10 +1,11 @@
 ghost use Rattle.std.specs.Prelude.{◌≡◌, ◌≢◌, ◌<◌, ◌≤◌, None, Some, IfNone, IfSome, OnOk, OnErr, length, take, vec_len};
 ghost use Rattle.os9_base.specs.declared.registers.Regs.{Regs};
-ghost use Rattle.device_table.specs.Screens.{screens, ChangesOne, Puts};
+ghost use Rattle.os9_outer.specs.TerminalState.{terminal_states, ChangesOneTerminal, Puts};
 ghost use Rattle.machine_model.specs.Call.{line_at, shown, ends_in_return as ends_in_return_lem};
 ghost use Rattle.std.specs.Bool.{OnTrue};
 ghost use Rattle.os9_kernel.specs.Line.{IsLineAnswer, HasByteToPut};
 
+use os9_base::errors::{E_BPADDR, E_BPNUM, E_WRITE};
 use device_table::devices::Devices;
 use device_table::put::put_on;
 use os9_base::memory::Bus;
@@ -51,9 +52,9 @@ fn read_line<B: Bus>(memory: &B, at: u16, most: u16, into: &mut [u8]) -> Option<
 /// Puts the line on TERM, and a line feed behind the carriage return at its end.
 fn put_line(devices: &mut Devices, line: &[u8]) -> Result<(), PutFault>
     requires { 0 < vec_len devices.old.terms }
-    ensures terminal { ChangesOne (Puts result (shown line.now)) 0
-        (screens ⟦<dyn CharDriver as CharDriver>⟧ devices.old.terms.items)
-        (screens ⟦<dyn CharDriver as CharDriver>⟧ devices.new.terms.items) }
+    ensures terminal { ChangesOneTerminal (Puts result (shown line.now)) 0
+        (terminal_states ⟦<dyn CharDriver as CharDriver>⟧ devices.old.terms.items)
+        (terminal_states ⟦<dyn CharDriver as CharDriver>⟧ devices.new.terms.items) }
     ensures terminals { vec_len devices.new.terms ≡ vec_len devices.old.terms }
     ensures drives_kept { devices.new.drives ≡ devices.old.drives }
     ensures some { OnErr result (0 < length line.now) }
@@ -94,22 +95,22 @@ pub fn write_line<B: Bus>(
     ensures answer { result ≢ LineEnd.NoMemory → IsLineAnswer
         (line_at (B.cells memory.now) regs.now.x regs.now.y)
         regs.now.a result
-        (screens ⟦<dyn CharDriver as CharDriver>⟧ devices.old.terms.items)
-        (screens ⟦<dyn CharDriver as CharDriver>⟧ devices.new.terms.items) }
+        (terminal_states ⟦<dyn CharDriver as CharDriver>⟧ devices.old.terms.items)
+        (terminal_states ⟦<dyn CharDriver as CharDriver>⟧ devices.new.terms.items) }
     ensures memory { result ≡ LineEnd.NoMemory → HasByteToPut
         (line_at (B.cells memory.now) regs.now.x regs.now.y) regs.now.a }
     ensures terminals { vec_len devices.new.terms ≡ vec_len devices.old.terms }
     ensures drives_kept { devices.new.drives ≡ devices.old.drives }
 {
     let Some(count) = read_line(memory, regs.x, regs.y, buffer) else {
-        return LineEnd::Refused(210);
+        return LineEnd::Refused(E_BPADDR);
     };
     if regs.a > 2 {
-        return LineEnd::Refused(201);
+        return LineEnd::Refused(E_BPNUM);
     }
     match put_line(devices, &buffer[..count]) {
         Ok(()) => LineEnd::Written(count as u16),
-        Err(PutFault::Fault) => LineEnd::Refused(245),
+        Err(PutFault::Fault) => LineEnd::Refused(E_WRITE),
         Err(PutFault::OutOfMemory) => LineEnd::NoMemory,
     }
 }

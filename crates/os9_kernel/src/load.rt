@@ -1,15 +1,17 @@
 //! The modules of a file: into memory, and into the module directory.
 
 ghost use Rattle.std.specs.Prelude.{◌≡◌, ◌+◌, ◌<◌, ◌≤◌, ◌∷◌, [], None, Some, OnOk, IfOk, IfErr, IfSome, IfNone, true, length};
-ghost use Rattle.block_map.specs.Takes.{group_blocks};
-ghost use Rattle.block_pool.specs.Blocks.{IsPool, free_count};
-ghost use Rattle.machine_model.specs.Start.{block_of, file_blocks};
-ghost use Rattle.proc_model.specs.Group.{blocks_of};
-ghost use Rattle.proc_model.specs.Loading.{Enters, fault_number as fault_number_lem, refusal_of, with_module};
+ghost use Rattle.block_map.specs.TakenBlocks.{group_blocks};
+ghost use Rattle.block_pool.specs.Blocks.{IsPool, free_block_count};
+ghost use Rattle.machine_model.specs.Start.{file_block, file_blocks};
+ghost use Rattle.proc_model.specs.Group.{group_block_numbers};
+ghost use Rattle.proc_model.specs.Loading.{EntersModules, module_error as fault_number_lem, entry_refusal, with_module};
 ghost use Rattle.proc_model.specs.Module.{step_from};
 ghost use Rattle.proc_model.specs.declared.module.ModuleFault.{ModuleFault};
-ghost use Rattle.os9_kernel.specs.Load.{Gains, IsLoaded};
+ghost use Rattle.os9_kernel.specs.Load.{GainsBlocks, IsLoaded};
 
+use os9_base::errors::{E_BMCRC, E_BMHP, E_BMID, E_DIRFUL, E_KWNMOD};
+use os9_base::limits::MOST_GROUP_BYTES;
 use block_pool::pool::{BLOCK_LEN, Pool};
 use machine_model::ends::BootFault;
 use module_dir::{Dir, DirFault};
@@ -38,11 +40,11 @@ impl From<Refusal> for BootFault {
 
 /// Takes blocks for a file and copies it there, zeros behind it: a group.
 pub fn load_group(pool: &mut Pool, file: &[u8]) -> Group
-    requires short { length file.now ≤ 57344 }
-    requires room { file_blocks file.now ≤ free_count pool.old }
+    requires short { length file.now ≤ MOST_GROUP_BYTES }
+    requires room { file_blocks file.now ≤ free_block_count pool.old }
     requires shape { IsPool pool.old }
     ensures loaded { IsLoaded file.now pool.old (group_blocks result) pool.new }
-    ensures room { free_count pool.new + file_blocks file.now ≡ free_count pool.old }
+    ensures room { free_block_count pool.new + file_blocks file.now ≡ free_block_count pool.old }
     ensures blocks { result.len ≡ file_blocks file.now }
     ensures shape { IsPool pool.new }
 {
@@ -61,9 +63,9 @@ pub fn load_group(pool: &mut Pool, file: &[u8]) -> Group
 /// Takes a block for these bytes and copies them there, zeros behind them.
 fn load_block(pool: &mut Pool, bytes: &[u8]) -> BlockId
     requires short { length bytes.now ≤ 8192 }
-    requires room { 0 < free_count pool.old }
-    ensures loaded { Gains pool.old (result ∷ []) (block_of bytes.now 0 ∷ []) pool.new }
-    ensures room { free_count pool.new + 1 ≡ free_count pool.old }
+    requires room { 0 < free_block_count pool.old }
+    ensures loaded { GainsBlocks pool.old (result ∷ []) (file_block bytes.now 0 ∷ []) pool.new }
+    ensures room { free_block_count pool.new + 1 ≡ free_block_count pool.old }
     ensures shape { IsPool pool.new }
 {
     let id = pool.take().unwrap();
@@ -77,9 +79,9 @@ fn load_block(pool: &mut Pool, bytes: &[u8]) -> BlockId
 ///
 /// The first module that is refused; those before it are entered.
 pub fn enter_modules(dir: &mut Dir, file: &[u8], group: Group) -> Result<(), Refusal>
-    requires short { length file.now ≤ 57344 }
-    ensures entered { OnOk result (Enters file.now (blocks_of group) true 0 dir.old (Ok dir.new)) }
-    ensures refused { IfErr result (λ refusal. Enters file.now (blocks_of group) true 0 dir.old (Err (refusal.at, refusal.error))) }
+    requires short { length file.now ≤ MOST_GROUP_BYTES }
+    ensures entered { OnOk result (EntersModules file.now (group_block_numbers group) true 0 dir.old (Ok dir.new)) }
+    ensures refused { IfErr result (λ refusal. EntersModules file.now (group_block_numbers group) true 0 dir.old (Err (refusal.at, refusal.error))) }
 {
     let mut from = 0;
     while let Some(info) = module_from(file, from)? {
@@ -91,7 +93,7 @@ pub fn enter_modules(dir: &mut Dir, file: &[u8], group: Group) -> Result<(), Ref
 
 /// The module that stands next in a file from a place on, if there is one.
 fn module_from(file: &[u8], from: u32) -> Result<Option<ModuleInfo>, Refusal>
-    requires short { length file.now ≤ 57344 }
+    requires short { length file.now ≤ MOST_GROUP_BYTES }
     requires within { from ≤ length file.now }
     ensures module { IfOk result (λ step. IfSome step (λ info. step_from file.now from ≡ ModuleStep.Module info)) }
     ensures end { IfOk result (λ step. IfNone step (step_from file.now from ≡ ModuleStep.End)) }
@@ -104,32 +106,32 @@ fn module_from(file: &[u8], from: u32) -> Result<Option<ModuleInfo>, Refusal>
         ModuleStep::End => Ok(None),
         ModuleStep::Fault(at, fault) => Err(Refusal {
             at,
-            error: fault_number(fault),
+            error: module_error(fault),
         }),
     }
 }
 
 /// Enters one module, of the boot file.
 fn enter_module(dir: &mut Dir, info: ModuleInfo, group: Group) -> Result<(), Refusal>
-    ensures entered { OnOk result (refusal_of dir.old info ≡ None) }
-    ensures list { OnOk result (dir.new ≡ with_module dir.old info (blocks_of group) true) }
-    ensures refused { IfErr result (λ refusal. (refusal.at ≡ info.at) × (refusal_of dir.old info ≡ Some refusal.error)) }
+    ensures entered { OnOk result (entry_refusal dir.old info ≡ None) }
+    ensures list { OnOk result (dir.new ≡ with_module dir.old info (group_block_numbers group) true) }
+    ensures refused { IfErr result (λ refusal. (refusal.at ≡ info.at) × (entry_refusal dir.old info ≡ Some refusal.error)) }
 {
     let at = info.at;
     match dir.enter(info, group, true) {
         Ok(_) => Ok(()),
-        Err(DirFault::Known) => Err(Refusal { at, error: 231 }),
-        Err(DirFault::DirFull) => Err(Refusal { at, error: 206 }),
+        Err(DirFault::Known) => Err(Refusal { at, error: E_KWNMOD }),
+        Err(DirFault::DirFull) => Err(Refusal { at, error: E_DIRFUL }),
     }
 }
 
 /// The error of a module that breaks a rule of its own.
-fn fault_number(fault: ModuleFault) -> u8
+fn module_error(fault: ModuleFault) -> u8
     ensures { result ≡ fault_number_lem fault }
 {
     match fault {
-        ModuleFault::BadSync => 205,
-        ModuleFault::BadParity => 236,
-        ModuleFault::BadCrc => 232,
+        ModuleFault::BadSync => E_BMID,
+        ModuleFault::BadParity => E_BMHP,
+        ModuleFault::BadCrc => E_BMCRC,
     }
 }

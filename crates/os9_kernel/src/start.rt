@@ -1,11 +1,11 @@
 //! The start of a kernel from a boot file.
 
 ghost use Rattle.std.specs.Prelude.{◌≡◌, ◌≢◌, ℕ, ◌+◌, ◌-◌, ◌*◌, ◌<◌, ◌≤◌, List, IfOk, OnOk, IfErr, IfSome, IfNone, All, AllPairs, max, option_map, vec_len};
-ghost use Rattle.block_map.specs.Takes.{group_blocks};
-ghost use Rattle.block_pool.specs.Blocks.{IsPool, IsLive, count_of, free_count};
-ghost use Rattle.device_table.specs.Screens.{Screen};
+ghost use Rattle.block_map.specs.TakenBlocks.{group_blocks};
+ghost use Rattle.block_pool.specs.Blocks.{IsPool, IsLive, reference_count, free_block_count};
+ghost use Rattle.os9_outer.specs.TerminalState.{TerminalState};
 ghost use Rattle.machine_model.specs.State.{State};
-ghost use Rattle.machine_model.specs.Start.{Starts, Refuses, pages_of, file_blocks, blocks_of as blocks_of_lem, first_program as first_program_lem, first_regs as first_regs_lem};
+ghost use Rattle.machine_model.specs.Start.{Starts, Refuses, page_count, file_blocks, block_count as blocks_of_lem, first_program as first_program_lem, first_regs as first_regs_lem};
 ghost use Rattle.machine_model.specs.declared.ends.BootFault.{BootFault};
 ghost use Rattle.proc_model.specs.ModuleList.{ModuleEntry};
 ghost use Rattle.proc_model.specs.Slots.{IsMap};
@@ -41,7 +41,7 @@ pub struct Config {
 }
 
 impl Kernel {
-    ghost use Rattle.os9_kernel.specs.Tie.{Stands, ticks};
+    ghost use Rattle.os9_kernel.specs.Tie.{Represents, ticks};
 
     /// A kernel that starts the first program of a boot file, `SysGo` (Level Two manual,
     /// "Booting"). Only this call takes memory for the kernel; a terminal may want some for the
@@ -55,8 +55,8 @@ impl Kernel {
     pub fn new(alloc: Global, config: Config, boot: &[u8]) -> Result<Kernel, BootFault>
         requires least { 8 ≤ config.blocks }
         requires most { config.blocks ≤ 256 }
-        ensures start { IfOk result (λ kernel. (terms : List Screen)
-            → (s : State) × Starts boot.now config.blocks terms s × Stands kernel terms s) }
+        ensures start { IfOk result (λ kernel. (terms : List TerminalState)
+            → (s : State) × Starts boot.now config.blocks terms s × Represents kernel terms s) }
         ensures accepted { OnOk result ((fault : BootFault) → ¬ Refuses boot.now config.blocks fault) }
         ensures refused { IfErr result (λ fault. fault ≢ BootFault.OutOfMemory → Refuses boot.now config.blocks fault) }
         ensures count { IfOk result (λ kernel. ticks kernel ≡ 0) }
@@ -71,7 +71,7 @@ impl Kernel {
         enter_modules(&mut dir, boot, group)?;
         let first = first_program(&dir).ok_or(BootFault::NoFirst)?;
         let info = dir.info(first);
-        let low = blocks_of(data_size(info.storage));
+        let low = block_count(data_size(info.storage));
         let map = first_map(&mut pool, low, &group).ok_or(BootFault::TooLarge)?;
         dir.link(first);
         Ok(Kernel {
@@ -111,8 +111,8 @@ fn first_map(pool: &mut Pool, low: u8, group: &Group) -> Option<Map>
     requires some { 1 ≤ group.now.len }
     requires different { AllPairs (λ a b. a ≢ b) (group_blocks group.now) }
     requires live { All (λ id. IsLive pool.old id.0) (group_blocks group.now) }
-    requires countable { All (λ id. count_of pool.old id.0 < 65000) (group_blocks group.now) }
-    requires enough { 8 ≤ free_count pool.old + group.now.len }
+    requires countable { All (λ id. reference_count pool.old id.0 < 65000) (group_blocks group.now) }
+    requires enough { 8 ≤ free_block_count pool.old + group.now.len }
     ensures none { IfNone result (8 < low + group.now.len) }
     ensures fits { IfSome result (λ _. low + group.now.len ≤ 8) }
     ensures mapped { IfSome result (λ map. IsFirstMap low group.now pool.old map pool.new) }
@@ -127,7 +127,7 @@ fn first_map(pool: &mut Pool, low: u8, group: &Group) -> Option<Map>
 
 /// The registers of the first process, whose program lies in the highest slots with its group.
 fn first_regs(group: &Group, info: &ModuleInfo) -> Regs
-    requires size { 256 * max 1 (pages_of info.now.storage) < 65536 }
+    requires size { 256 * max 1 (page_count info.now.storage) < 65536 }
     requires start { 8192 * (8 - group.now.len) + info.now.at + info.now.entry < 65536 }
     ensures { (file : List ℕ) (program : ModuleEntry) → group.now.len ≡ file_blocks file
         → info.now ≡ program.info → result ≡ first_regs_lem file program }
@@ -157,13 +157,13 @@ fn start_address(group: &Group, info: &ModuleInfo) -> u16
 
 /// The size of a data area in bytes: the storage in whole pages, and at least one page.
 fn data_size(storage: u16) -> u32
-    ensures { result ≡ 256 * max 1 (pages_of storage) }
+    ensures { result ≡ 256 * max 1 (page_count storage) }
 {
     256 * u32::from(storage).div_ceil(256).max(1)
 }
 
 /// How many blocks so many bytes are.
-fn blocks_of(bytes: u32) -> u8
+fn block_count(bytes: u32) -> u8
     requires { bytes ≤ 65536 }
     ensures { result ≡ blocks_of_lem bytes }
 {

@@ -2,19 +2,20 @@
 use Rattle.std.specs.Prelude.{ℕ, ◌+◌, ◌*◌, ◌/◌, min, Option, Some, None, List, [], ◌++◌, length, take, drop}
 use Rattle.os9_outer.specs.declared.drive.DriveFault.{DriveFault}
 use Rattle.os9_outer.specs.declared.drive.DriveFault.TheVariants.{WriteProtect, ReadFault, WriteFault, NotReady, SeekFault}
+use Rattle.os9_base.specs.declared.errors.TheConstants.{E_WP, E_READ, E_WRITE, E_NOTRDY, E_SEEK}
 
 -- the error number of a drive's fault (System Programmer's Manual, error codes: E$WP, E$Read, E$Write, E$NotRdy, E$Seek)
-abbrev pub fault_number : DriveFault → ℕ
-fault_number WriteProtect = 242
-fault_number ReadFault = 244
-fault_number WriteFault = 245
-fault_number NotReady = 246
-fault_number SeekFault = 247
+abbrev pub drive_error : DriveFault → ℕ
+drive_error WriteProtect = E_WP
+drive_error ReadFault = E_READ
+drive_error WriteFault = E_WRITE
+drive_error NotReady = E_NOTRDY
+drive_error SeekFault = E_SEEK
 
 -- how many whole sectors the media has, as far as 32 bits count; none without media
-abbrev pub sectors_of : Option (List ℕ) → ℕ
-sectors_of None = 0
-sectors_of (Some bytes) = min (length bytes / 256) 4294967295
+abbrev pub sector_count : Option (List ℕ) → ℕ
+sector_count None = 0
+sector_count (Some bytes) = min (length bytes / 256) 4294967295
 
 -- the 256 bytes of the sector of this number
 abbrev pub sector_at : Option (List ℕ) → ℕ → List ℕ

@@ -8,8 +8,8 @@ abbrev pub Files : Type 0
 Files = List ℕ → Option (List ℕ)
 
 -- what is read under a name: its bytes, or none where there is no such file
-abbrev pub contents_of : (List ℕ → Option (List ℕ)) → List ℕ → List ℕ
-contents_of files name = unwrap_or (files name) []
+abbrev pub file_contents : (List ℕ → Option (List ℕ)) → List ℕ → List ℕ
+file_contents files name = unwrap_or (files name) []
 
 -- the fact holds where the call answered `Failed`
 abbrev pub OnFailed : {T : Type 0} → Result T HostFault → Type 0 → Type 0
@@ -24,10 +24,10 @@ UnlessFailed (Err Failed) fact = ⊤
 UnlessFailed (Err OutOfMemory) fact = fact
 
 -- the fact holds of the files before and after, where they are told; what is not told stays untold
-abbrev pub WhereTold : ((List ℕ → Option (List ℕ)) → (List ℕ → Option (List ℕ)) → Type 0) → Option (List ℕ → Option (List ℕ)) → Option (List ℕ → Option (List ℕ)) → Type 0
-WhereTold fact None now = now ≡ None
-WhereTold fact (Some before) None = ⊥
-WhereTold fact (Some before) (Some now) = fact before now
+abbrev pub IfObserved : ((List ℕ → Option (List ℕ)) → (List ℕ → Option (List ℕ)) → Type 0) → Option (List ℕ → Option (List ℕ)) → Option (List ℕ → Option (List ℕ)) → Type 0
+IfObserved fact None now = now ≡ None
+IfObserved fact (Some before) None = ⊥
+IfObserved fact (Some before) (Some now) = fact before now
 
 -- the file is as it was, or holds the first of these bytes, all, some or none of them
 abbrev pub KeepsOrHoldsPrefix : Option (List ℕ) → List ℕ → Option (List ℕ) → Type 0

@@ -4,3 +4,4 @@ pub mod HostFile
 pub mod Plans
 pub mod Stream
 pub mod Terminal
+pub mod TerminalState

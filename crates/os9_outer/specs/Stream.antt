@@ -2,8 +2,8 @@
 use Rattle.std.specs.Prelude.{◌≡◌, ℕ, Option, option_map, List, [], ◌++◌, take}
 
 -- the stream with these bytes at its end; what is not told stays untold
-abbrev pub appended : Option (List ℕ) → List ℕ → Option (List ℕ)
-appended stream bytes = option_map (λ before. before ++ bytes) stream
+abbrev pub stream_with : Option (List ℕ) → List ℕ → Option (List ℕ)
+stream_with stream bytes = option_map (λ before. before ++ bytes) stream
 
 -- the stream without any bytes; what is not told stays untold
 abbrev pub emptied : Option (List ℕ) → Option (List ℕ)
@@ -11,4 +11,4 @@ emptied stream = option_map (λ before. []) stream
 
 -- the stream gained the first of these bytes: all, some or none of them
 abbrev pub GainsPrefix : Option (List ℕ) → List ℕ → Option (List ℕ) → Type 0
-GainsPrefix before bytes now = (count : ℕ) × (now ≡ appended before (take count bytes))
+GainsPrefix before bytes now = (count : ℕ) × (now ≡ stream_with before (take count bytes))

@@ -1,8 +1,9 @@
 ghost use Rattle.std.specs.Prelude.{◌≡◌, ℕ, ◌+◌, ◌-◌, ◌^◌, ◌<◌, ◌≤◌, min, Option, Some, None, IsSome, option_map, IfErr, OnOk, OnErr, List};
 ghost use Rattle.os9_base.specs.Count.{Rose};
-ghost use Rattle.os9_outer.specs.Drive.{fault_number, sectors_of, sector_at, with_sector};
+ghost use Rattle.os9_outer.specs.Drive.{drive_error, sector_count, sector_at, with_sector};
 ghost use Rattle.os9_outer.specs.declared.drive.DriveFault.{DriveFault};
 
+use os9_base::errors::{E_NOTRDY, E_READ, E_SEEK, E_WP, E_WRITE};
 use thiserror::Error;
 
 /// A drive's fault (System Programmer's Manual, error codes).
@@ -23,14 +24,14 @@ pub enum DriveFault {
 impl DriveFault {
     /// The error number that a call which met this fault answers: 242 or 244 to 247.
     pub fn number(&self) -> u8
-        ensures { result ≡ fault_number self.now }
+        ensures { result ≡ drive_error self.now }
     {
         match self {
-            DriveFault::WriteProtect => 242,
-            DriveFault::ReadFault => 244,
-            DriveFault::WriteFault => 245,
-            DriveFault::NotReady => 246,
-            DriveFault::SeekFault => 247,
+            DriveFault::WriteProtect => E_WP,
+            DriveFault::ReadFault => E_READ,
+            DriveFault::WriteFault => E_WRITE,
+            DriveFault::NotReady => E_NOTRDY,
+            DriveFault::SeekFault => E_SEEK,
         }
     }
 }
@@ -70,11 +71,11 @@ pub trait BlockDriver: Drop {
 
     /// The number of whole sectors, at most 4,294,967,295; 0 where no image is in.
     fn sectors(&self) -> u32
-        ensures { result ≡ sectors_of (media self.now) };
+        ensures { result ≡ sector_count (media self.now) };
 
     /// Fills `into` with the sector `lsn`. A fault leaves the buffer as it was.
     fn read(&mut self, lsn: u32, into: &mut [u8; 256]) -> Result<(), DriveFault>
-        requires { lsn < sectors_of (media self.old) }
+        requires { lsn < sector_count (media self.old) }
         ensures filled { OnOk result (into.new ≡ sector_at (media self.old) lsn) }
         ensures buffer_kept { OnErr result (into.new ≡ into.old) }
         ensures media_kept { media self.new ≡ media self.old }
@@ -87,7 +88,7 @@ pub trait BlockDriver: Drop {
 
     /// Makes these the bytes of the sector `lsn`. A fault leaves the media as it was.
     fn write(&mut self, lsn: u32, from: &[u8; 256]) -> Result<(), DriveFault>
-        requires { lsn < sectors_of (media self.old) }
+        requires { lsn < sector_count (media self.old) }
         ensures written { OnOk result (media self.new ≡ with_sector (media self.old) lsn from.now) }
         ensures media_kept { OnErr result (media self.new ≡ media self.old) }
         ensures fault_counted { OnErr result (Rose (drive_faults self.old) (drive_faults self.new)) }

@@ -1,7 +1,7 @@
 ghost use Rattle.std.specs.Prelude.{◌≡◌, ◌≢◌, ℕ, ◌≤◌, Bool, true, false, Option, Some, None, IfSome, IfOk, OnOk, List};
 ghost use Rattle.os9_base.specs.Count.{Rose};
-ghost use Rattle.os9_outer.specs.Host.{contents_of, OnFailed, UnlessFailed, WhereTold, KeepsOrHoldsPrefix};
-ghost use Rattle.os9_outer.specs.Stream.{appended, GainsPrefix};
+ghost use Rattle.os9_outer.specs.Host.{file_contents, OnFailed, UnlessFailed, IfObserved, KeepsOrHoldsPrefix};
+ghost use Rattle.os9_outer.specs.Stream.{stream_with, GainsPrefix};
 
 use thiserror::Error;
 
@@ -43,7 +43,7 @@ pub trait Host {
     /// for a name that it does not hold.
     fn read_file(&mut self, name: &str) -> Result<Vec<u8>, HostFault>
         ensures contents { IfOk result (λ bytes.
-            IfSome (file_map self.old) (λ files. bytes.items ≡ contents_of files name.now)) }
+            IfSome (file_map self.old) (λ files. bytes.items ≡ file_contents files name.now)) }
 
         ensures fault_counted { OnFailed result (Rose (host_faults self.old) (host_faults self.new)) }
         ensures fault_named { OnFailed result (failed_name self.new ≡ Some name.now) }
@@ -63,12 +63,12 @@ pub trait Host {
     /// `Failed` comes only with a count. After a refusal the file may hold a part of the bytes.
     fn write_file(&mut self, name: &str, bytes: &[u8]) -> Result<(), HostFault>
         ensures written { OnOk result
-            (WhereTold (λ before now. now name.now ≡ Some bytes.now)
+            (IfObserved (λ before now. now name.now ≡ Some bytes.now)
             (file_map self.old) (file_map self.new)) }
-        ensures prefix_written { WhereTold (λ before now.
+        ensures prefix_written { IfObserved (λ before now.
             KeepsOrHoldsPrefix (before name.now) bytes.now (now name.now))
             (file_map self.old) (file_map self.new) }
-        ensures others_kept { WhereTold (λ before now.
+        ensures others_kept { IfObserved (λ before now.
             (other : List ℕ) → other ≢ name.now → now other ≡ before other)
             (file_map self.old) (file_map self.new) }
 
@@ -89,7 +89,7 @@ pub trait Host {
     /// `Failed` comes only with a count. After a refusal a part of the bytes may be out.
     fn out(&mut self, bytes: &[u8]) -> Result<(), HostFault>
         ensures gained { OnOk result
-            (bytes_out self.new ≡ appended (bytes_out self.old) bytes.now) }
+            (bytes_out self.new ≡ stream_with (bytes_out self.old) bytes.now) }
         ensures prefix_gained { GainsPrefix (bytes_out self.old) bytes.now (bytes_out self.new) }
 
         ensures fault_counted { OnFailed result (Rose (host_faults self.old) (host_faults self.new)) }
@@ -110,7 +110,7 @@ pub trait Host {
     /// last failed call. After a refusal a part of the bytes may be out.
     fn err(&mut self, bytes: &[u8]) -> Result<(), HostFault>
         ensures gained { OnOk result
-            (bytes_err self.new ≡ appended (bytes_err self.old) bytes.now) }
+            (bytes_err self.new ≡ stream_with (bytes_err self.old) bytes.now) }
         ensures prefix_gained { GainsPrefix (bytes_err self.old) bytes.now (bytes_err self.new) }
 
         ensures fault_counted { OnFailed result

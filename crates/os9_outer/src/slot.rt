@@ -1,5 +1,5 @@
 ghost use Rattle.std.specs.Prelude.{◌≡◌, ℕ, ◌<◌, Option, Some, None, IsSome, option_map, IfErr, OnOk, OnErr, List};
-ghost use Rattle.os9_outer.specs.Drive.{sectors_of, sector_at, with_sector};
+ghost use Rattle.os9_outer.specs.Drive.{sector_count, sector_at, with_sector};
 
 use std::marker::Model;
 
@@ -44,7 +44,7 @@ impl Slot {
     }
 
     pub fn sectors(&self) -> u32
-        ensures { result ≡ sectors_of self.now }
+        ensures { result ≡ sector_count self.now }
     {
         match &self.image {
             None => 0,
@@ -53,7 +53,7 @@ impl Slot {
     }
 
     pub fn read(&self, lsn: u32, into: &mut [u8; 256])
-        requires { lsn < sectors_of self.now }
+        requires { lsn < sector_count self.now }
         ensures { into.new ≡ sector_at self.now lsn }
     {
         if let Some(image) = &self.image {
@@ -63,7 +63,7 @@ impl Slot {
     }
 
     pub fn write(&mut self, lsn: u32, from: &[u8; 256])
-        requires { lsn < sectors_of self.old }
+        requires { lsn < sector_count self.old }
         ensures { self.new ≡ with_sector self.old lsn from.now }
     {
         if let Some(image) = &mut self.image {

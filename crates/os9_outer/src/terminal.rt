@@ -1,6 +1,6 @@
 ghost use Rattle.std.specs.Prelude.{◌≡◌, ℕ, ◌<◌, ◌≤◌, Option, IfSome, option_map, IfOk, IfErr, OnOk, OnErr, List, [], ◌∷◌, ◌++◌, length};
 ghost use Rattle.os9_base.specs.Count.{Rose};
-ghost use Rattle.os9_outer.specs.Stream.{appended, emptied};
+ghost use Rattle.os9_outer.specs.Stream.{stream_with, emptied};
 ghost use Rattle.os9_outer.specs.Terminal.{due_byte, keys_after, OnFault, UnlessFault};
 ghost use Rattle.os9_outer.specs.declared.terminal.Key.{Key};
 
@@ -64,7 +64,7 @@ pub trait CharDriver: Drop {
     /// Puts a byte. After a refusal nothing was put.
     fn put(&mut self, byte: u8) -> Result<(), PutFault>
         ensures put_last { OnOk result
-            (bytes_put self.new ≡ appended (bytes_put self.old) (byte ∷ [])) }
+            (bytes_put self.new ≡ stream_with (bytes_put self.old) (byte ∷ [])) }
         ensures put_kept { OnErr result (bytes_put self.new ≡ bytes_put self.old) }
         ensures fault_counted { OnFault result (Rose (term_faults self.old) (term_faults self.new)) }
         ensures faults_kept { UnlessFault result (term_faults self.new ≡ term_faults self.old) }

@@ -3,7 +3,7 @@ use Rattle.std.proofs.Common.{◌≡◌, ℕ, ◌<◌, suc, Option, List, ◌++�
 use Rattle.std.proofs.Math.Seq.{take-length}
 use Rattle.std.proofs.lemmas.Grind.{flat_map-append}
 use Rattle.std.specs.List.{flat_map}
-use Rattle.os9_outer.specs.Stream.{appended, GainsPrefix}
+use Rattle.os9_outer.specs.Stream.{stream_with, GainsPrefix}
 use Rattle.os9_outer.specs.declared.host.Host.{Ghosts}
 use Rattle.os9_words.specs.Lines.{ChangesErrOnly}
 use Rattle.os9_words.proofs.Prefixes.{GainsPrefix-front, GainsPrefix-then}
@@ -14,13 +14,13 @@ text_of pieces = flat_map (λ piece. piece.now) pieces
 
 -- the error stream gained these pieces, its faults stand still, and nothing else changed
 pub record Told {Host : Type 0} (members : Ghosts Host) (pieces : List (Bor (List ℕ))) (before now : Host) : Type 0 where
-  pub gained : members.bytes_err now ≡ appended (members.bytes_err before) (text_of pieces)
+  pub gained : members.bytes_err now ≡ stream_with (members.bytes_err before) (text_of pieces)
   pub count_kept : members.err_stream_faults now ≡ members.err_stream_faults before
   pub others : ChangesErrOnly members before now
 
 -- the output stream gained these pieces, and nothing else changed
 pub record Put {Host : Type 0} (members : Ghosts Host) (pieces : List (Bor (List ℕ))) (before now : Host) : Type 0 where
-  pub gained : members.bytes_out now ≡ appended (members.bytes_out before) (text_of pieces)
+  pub gained : members.bytes_out now ≡ stream_with (members.bytes_out before) (text_of pieces)
   pub count_kept : members.host_faults now ≡ members.host_faults before
   pub name_kept : members.failed_name now ≡ members.failed_name before
   pub read_kept : members.failed_in_read now ≡ members.failed_in_read before
@@ -39,7 +39,7 @@ text_of-at pieces i other below =
     ∙ sym (append_assoc (text_of before) (get_or pieces i other).now (text_of behind))
 
 -- after the pieces before one, a prefix of the piece is a prefix of the text
-pub GainsPrefix-piece : (stream : Option (List ℕ)) (pieces : List (Bor (List ℕ))) (i : ℕ) (other : Bor (List ℕ)) (between now : Option (List ℕ)) → i < length pieces → between ≡ appended stream (text_of (take i pieces)) → GainsPrefix between (get_or pieces i other).now now → GainsPrefix stream (text_of pieces) now
+pub GainsPrefix-piece : (stream : Option (List ℕ)) (pieces : List (Bor (List ℕ))) (i : ℕ) (other : Bor (List ℕ)) (between now : Option (List ℕ)) → i < length pieces → between ≡ stream_with stream (text_of (take i pieces)) → GainsPrefix between (get_or pieces i other).now now → GainsPrefix stream (text_of pieces) now
 GainsPrefix-piece stream pieces i other between now below first gained =
     let before = text_of (take i pieces) in
     let piece = (get_or pieces i other).now in
@@ -48,6 +48,6 @@ GainsPrefix-piece stream pieces i other between now below first gained =
     (GainsPrefix-front stream (before ++ piece) behind now (GainsPrefix-then stream before piece between now first gained))
 
 -- the whole text is a prefix of it
-pub GainsPrefix-whole : (stream : Option (List ℕ)) (bytes : List ℕ) (now : Option (List ℕ)) → now ≡ appended stream bytes → GainsPrefix stream bytes now
+pub GainsPrefix-whole : (stream : Option (List ℕ)) (bytes : List ℕ) (now : Option (List ℕ)) → now ≡ stream_with stream bytes → GainsPrefix stream bytes now
 GainsPrefix-whole stream bytes now gained =
-    (length bytes, gained ∙ ap (appended stream) (sym (take-length bytes)))
+    (length bytes, gained ∙ ap (stream_with stream) (sym (take-length bytes)))

@@ -2,9 +2,9 @@
 use Rattle.std.proofs.Common.{◌≡◌, ℕ, zero, suc, ◌+◌, Option, Some, None, List, [], ◌∷◌, ◌++◌, take, length, refl, sym, ap, ◌∙◌, append_assoc, arith}
 use Rattle.std.proofs.Math.Seq.{take-append-add}
 use Rattle.std.proofs.lemmas.Grind.{common_steps}
-use Rattle.os9_outer.specs.Stream.{appended, GainsPrefix}
+use Rattle.os9_outer.specs.Stream.{stream_with, GainsPrefix}
 
-pub appended-appended : (stream : Option (List ℕ)) (a b : List ℕ) → appended (appended stream a) b ≡ appended stream (a ++ b)
+pub appended-appended : (stream : Option (List ℕ)) (a b : List ℕ) → stream_with (stream_with stream a) b ≡ stream_with stream (a ++ b)
 appended-appended None a b = refl
 appended-appended (Some before) a b = ap Some (append_assoc before a b)
 
@@ -16,13 +16,13 @@ take-front (suc k) (x ∷ a) b = let rest = take-front k a b in (suc rest.0, ap 
 
 pub GainsPrefix-front : (stream : Option (List ℕ)) (a b : List ℕ) (now : Option (List ℕ)) → GainsPrefix stream a now → GainsPrefix stream (a ++ b) now
 GainsPrefix-front stream a b now gained =
-    let front = take-front gained.0 a b in (front.0, gained.1 ∙ ap (appended stream) front.1)
+    let front = take-front gained.0 a b in (front.0, gained.1 ∙ ap (stream_with stream) front.1)
 
-pub GainsPrefix-then : (stream : Option (List ℕ)) (a b : List ℕ) (between now : Option (List ℕ)) → between ≡ appended stream a → GainsPrefix between b now → GainsPrefix stream (a ++ b) now
+pub GainsPrefix-then : (stream : Option (List ℕ)) (a b : List ℕ) (between now : Option (List ℕ)) → between ≡ stream_with stream a → GainsPrefix between b now → GainsPrefix stream (a ++ b) now
 GainsPrefix-then stream a b between now first gained = (
   length a + gained.0,
   gained.1
-      ∙ ap (λ before. appended before (take gained.0 b)) first
+      ∙ ap (λ before. stream_with before (take gained.0 b)) first
       ∙ appended-appended stream a (take gained.0 b)
-      ∙ ap (appended stream) (sym (take-append-add a b gained.0)),
+      ∙ ap (stream_with stream) (sym (take-append-add a b gained.0)),
 )

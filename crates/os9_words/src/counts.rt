@@ -1,7 +1,7 @@
 ghost use Rattle.std.specs.Prelude.{◌≡◌, None, false, OnOk};
 ghost use Rattle.os9_base.specs.Count.{Rose};
 ghost use Rattle.os9_outer.specs.Host.{OnFailed, UnlessFailed};
-ghost use Rattle.os9_outer.specs.Stream.{appended, GainsPrefix};
+ghost use Rattle.os9_outer.specs.Stream.{stream_with, GainsPrefix};
 ghost use Rattle.os9_words.specs.Lines.{counts_line};
 
 use crate::pieces::put_pieces;
@@ -26,7 +26,7 @@ pub struct Counts {
 ///
 /// `Failed` comes only with a count. After a refusal a part of the line may be out.
 pub fn put_counts<H: Host>(host: &mut H, counts: &Counts) -> Result<(), HostFault>
-    ensures written { OnOk result (H.bytes_out host.new ≡ appended (H.bytes_out host.old)
+    ensures written { OnOk result (H.bytes_out host.new ≡ stream_with (H.bytes_out host.old)
         (counts_line counts.now.files counts.now.directories counts.now.free counts.now.lost)) }
     ensures prefix { GainsPrefix (H.bytes_out host.old)
         (counts_line counts.now.files counts.now.directories counts.now.free counts.now.lost)

@@ -1,7 +1,7 @@
 ghost use Rattle.std.specs.Prelude.{◌≡◌, OnOk};
 ghost use Rattle.os9_base.specs.Count.{Rose};
 ghost use Rattle.os9_outer.specs.Host.{OnFailed, UnlessFailed};
-ghost use Rattle.os9_outer.specs.Stream.{appended, GainsPrefix};
+ghost use Rattle.os9_outer.specs.Stream.{stream_with, GainsPrefix};
 ghost use Rattle.os9_words.specs.Lines.{words_line, cannot_read_line, cannot_write_output_line, no_memory_line, image_fault_line, boot_module_line, boot_too_large_line, no_first_line, ChangesErrOnly};
 
 use crate::pieces::tell_pieces;
@@ -14,7 +14,7 @@ use os9_outer::host::{Host, HostFault};
 ///
 /// Those of [`Host::err`]. A part of the line may be out then.
 pub fn tell_words<H: Host>(host: &mut H) -> Result<(), HostFault>
-    ensures told { OnOk result (H.bytes_err host.new ≡ appended (H.bytes_err host.old) words_line) }
+    ensures told { OnOk result (H.bytes_err host.new ≡ stream_with (H.bytes_err host.old) words_line) }
     ensures prefix { GainsPrefix (H.bytes_err host.old) words_line (H.bytes_err host.new) }
     ensures fault_counted { OnFailed result
         (Rose (H.err_stream_faults host.old) (H.err_stream_faults host.new)) }
@@ -32,7 +32,7 @@ pub fn tell_words<H: Host>(host: &mut H) -> Result<(), HostFault>
 /// Those of [`Host::err`]. A part of the line may be out then.
 pub fn tell_cannot_read<H: Host>(host: &mut H, name: &str) -> Result<(), HostFault>
     ensures told { OnOk result (H.bytes_err host.new
-        ≡ appended (H.bytes_err host.old) (cannot_read_line name.now)) }
+        ≡ stream_with (H.bytes_err host.old) (cannot_read_line name.now)) }
     ensures prefix { GainsPrefix (H.bytes_err host.old) (cannot_read_line name.now)
         (H.bytes_err host.new) }
     ensures fault_counted { OnFailed result
@@ -52,7 +52,7 @@ pub fn tell_cannot_read<H: Host>(host: &mut H, name: &str) -> Result<(), HostFau
 /// Those of [`Host::err`]. A part of the line may be out then.
 pub fn tell_cannot_write_output<H: Host>(host: &mut H) -> Result<(), HostFault>
     ensures told { OnOk result (H.bytes_err host.new
-        ≡ appended (H.bytes_err host.old) cannot_write_output_line) }
+        ≡ stream_with (H.bytes_err host.old) cannot_write_output_line) }
     ensures prefix { GainsPrefix (H.bytes_err host.old) cannot_write_output_line
         (H.bytes_err host.new) }
     ensures fault_counted { OnFailed result
@@ -71,7 +71,7 @@ pub fn tell_cannot_write_output<H: Host>(host: &mut H) -> Result<(), HostFault>
 /// Those of [`Host::err`]. A part of the line may be out then.
 pub fn tell_no_memory<H: Host>(host: &mut H) -> Result<(), HostFault>
     ensures told { OnOk result (H.bytes_err host.new
-        ≡ appended (H.bytes_err host.old) no_memory_line) }
+        ≡ stream_with (H.bytes_err host.old) no_memory_line) }
     ensures prefix { GainsPrefix (H.bytes_err host.old) no_memory_line (H.bytes_err host.new) }
     ensures fault_counted { OnFailed result
         (Rose (H.err_stream_faults host.old) (H.err_stream_faults host.new)) }
@@ -95,7 +95,7 @@ pub fn tell_image_fault<H: Host>(
     lsn: u32,
 ) -> Result<(), HostFault>
     ensures told { OnOk result (H.bytes_err host.new
-        ≡ appended (H.bytes_err host.old) (image_fault_line name.now rule lsn)) }
+        ≡ stream_with (H.bytes_err host.old) (image_fault_line name.now rule lsn)) }
     ensures prefix { GainsPrefix (H.bytes_err host.old) (image_fault_line name.now rule lsn)
         (H.bytes_err host.new) }
     ensures fault_counted { OnFailed result
@@ -129,7 +129,7 @@ pub fn tell_image_fault<H: Host>(
 /// Those of [`Host::err`]. A part of the line may be out then.
 pub fn tell_boot_module<H: Host>(host: &mut H, number: u8, at: u32) -> Result<(), HostFault>
     ensures told { OnOk result (H.bytes_err host.new
-        ≡ appended (H.bytes_err host.old) (boot_module_line number at)) }
+        ≡ stream_with (H.bytes_err host.old) (boot_module_line number at)) }
     ensures prefix { GainsPrefix (H.bytes_err host.old) (boot_module_line number at)
         (H.bytes_err host.new) }
     ensures fault_counted { OnFailed result
@@ -160,7 +160,7 @@ pub fn tell_boot_module<H: Host>(host: &mut H, number: u8, at: u32) -> Result<()
 /// Those of [`Host::err`]. A part of the line may be out then.
 pub fn tell_boot_too_large<H: Host>(host: &mut H) -> Result<(), HostFault>
     ensures told { OnOk result (H.bytes_err host.new
-        ≡ appended (H.bytes_err host.old) boot_too_large_line) }
+        ≡ stream_with (H.bytes_err host.old) boot_too_large_line) }
     ensures prefix { GainsPrefix (H.bytes_err host.old) boot_too_large_line
         (H.bytes_err host.new) }
     ensures fault_counted { OnFailed result
@@ -179,7 +179,7 @@ pub fn tell_boot_too_large<H: Host>(host: &mut H) -> Result<(), HostFault>
 /// Those of [`Host::err`]. A part of the line may be out then.
 pub fn tell_no_first<H: Host>(host: &mut H) -> Result<(), HostFault>
     ensures told { OnOk result (H.bytes_err host.new
-        ≡ appended (H.bytes_err host.old) no_first_line) }
+        ≡ stream_with (H.bytes_err host.old) no_first_line) }
     ensures prefix { GainsPrefix (H.bytes_err host.old) no_first_line (H.bytes_err host.new) }
     ensures fault_counted { OnFailed result
         (Rose (H.err_stream_faults host.old) (H.err_stream_faults host.new)) }

@@ -2,7 +2,7 @@ ghost use Rattle.std.specs.Prelude.{◌≡◌, None, false, OnOk};
 ghost use Rattle.std.specs.List.{flat_map};
 ghost use Rattle.os9_base.specs.Count.{Rose};
 ghost use Rattle.os9_outer.specs.Host.{OnFailed, UnlessFailed};
-ghost use Rattle.os9_outer.specs.Stream.{appended, GainsPrefix};
+ghost use Rattle.os9_outer.specs.Stream.{stream_with, GainsPrefix};
 ghost use Rattle.os9_words.specs.Lines.{ChangesErrOnly};
 
 use os9_outer::host::{Host, HostFault};
@@ -10,7 +10,7 @@ use os9_outer::host::{Host, HostFault};
 // Writes one text in pieces to the error stream, and stops at the first that is not written.
 pub(crate) fn tell_pieces<H: Host>(host: &mut H, pieces: &[&[u8]]) -> Result<(), HostFault>
     ensures told { OnOk result (H.bytes_err host.new
-        ≡ appended (H.bytes_err host.old) (flat_map (λ piece. piece.now) pieces.now)) }
+        ≡ stream_with (H.bytes_err host.old) (flat_map (λ piece. piece.now) pieces.now)) }
     ensures prefix { GainsPrefix (H.bytes_err host.old) (flat_map (λ piece. piece.now) pieces.now)
         (H.bytes_err host.new) }
     ensures fault_counted { OnFailed result
@@ -28,7 +28,7 @@ pub(crate) fn tell_pieces<H: Host>(host: &mut H, pieces: &[&[u8]]) -> Result<(),
 // Writes one text in pieces to the output stream, and stops at the first that is not written.
 pub(crate) fn put_pieces<H: Host>(host: &mut H, pieces: &[&[u8]]) -> Result<(), HostFault>
     ensures written { OnOk result (H.bytes_out host.new
-        ≡ appended (H.bytes_out host.old) (flat_map (λ piece. piece.now) pieces.now)) }
+        ≡ stream_with (H.bytes_out host.old) (flat_map (λ piece. piece.now) pieces.now)) }
     ensures prefix { GainsPrefix (H.bytes_out host.old) (flat_map (λ piece. piece.now) pieces.now)
         (H.bytes_out host.new) }
 

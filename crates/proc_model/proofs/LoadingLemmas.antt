@@ -8,12 +8,12 @@ use Rattle.proc_model.specs.declared.module.ModuleFault.TheVariants.{BadSync}
 use Rattle.proc_model.specs.declared.module.ModuleInfo.{ModuleInfo}
 use Rattle.proc_model.specs.declared.module.ModuleStep.{ModuleStep}
 use Rattle.proc_model.specs.declared.module.ModuleStep.TheVariants.{Module, End, Fault}
-use Rattle.proc_model.specs.Module.{step_from, next_place, module_fault, module_size, module_entry, crc_offset, info_at, keeps_header_rule, has_sync, has_size, has_name, has_entry}
+use Rattle.proc_model.specs.Module.{step_from, next_place, module_fault, module_size, module_entry, crc_offset, info_at, keeps_header_rule, has_sync, has_size, has_module_name, has_entry}
 use Rattle.proc_model.specs.ModuleList.{ModuleEntry}
-use Rattle.proc_model.specs.Loading.{Enters, at_end, broken, refused, entered, with_module, refusal_of, fault_number}
+use Rattle.proc_model.specs.Loading.{EntersModules, at_end, broken, refused, entered, with_module, entry_refusal, module_error}
 use Rattle.proc_model.proofs.ModuleLaws.{Fits, fits_from}
 
-pub Enters-one : {file group : List ℕ} {is_boot : Bool} {from : ℕ} {entries : List (Option ModuleEntry)} {one other : Result (List (Option ModuleEntry)) (ℕ × ℕ)} → Enters file group is_boot from entries one → Enters file group is_boot from entries other → one ≡ other
+pub Enters-one : {file group : List ℕ} {is_boot : Bool} {from : ℕ} {entries : List (Option ModuleEntry)} {one other : Result (List (Option ModuleEntry)) (ℕ × ℕ)} → EntersModules file group is_boot from entries one → EntersModules file group is_boot from entries other → one ≡ other
 Enters-one (at_end a) (at_end b) = refl
 Enters-one (at_end a) (broken b) = cc
 Enters-one (at_end a) (refused b c) = cc
@@ -31,7 +31,7 @@ Enters-one (entered a d rest) (broken b) = cc
 Enters-one (entered a d rest) (refused b c) = cc
 Enters-one {file} {group} {is_boot} {entries = entries} {other = other} (entered {info = info} a d rest) (entered {info = same} b c more) =
     let is : same ≡ info = cc in
-    Enters-one rest (subst (λ info. Enters file group is_boot (info.at + info.size) (with_module entries info group is_boot) other) is more)
+    Enters-one rest (subst (λ info. EntersModules file group is_boot (info.at + info.size) (with_module entries info group is_boot) other) is more)
 
 -- a module lies in a file, from a place on
 pub record LiesIn (file : List ℕ) (from : ℕ) (info : ModuleInfo) : Type 0 where
@@ -48,8 +48,8 @@ LiesIn-accepted : (file : List ℕ) (from at : ℕ) → from ≤ at → module_f
 LiesIn-accepted file from at after kept =
     let bytes = drop at file in
     let rule : keeps_header_rule bytes ≡ true = header_kept (keeps_header_rule bytes) _ kept in
-    let entered = and_parts (has_sync bytes && has_size bytes && has_name bytes) (has_entry bytes) rule in
-    let named = and_parts (has_sync bytes && has_size bytes) (has_name bytes) entered.0 in
+    let entered = and_parts (has_sync bytes && has_size bytes && has_module_name bytes) (has_entry bytes) rule in
+    let named = and_parts (has_sync bytes && has_size bytes) (has_module_name bytes) entered.0 in
     let sized = and_parts (has_sync bytes) (has_size bytes) named.0 in
     let fits : Fits (module_size bytes) bytes = fits_from bytes sized.1 in
     let entry : module_entry bytes < crc_offset bytes = ltb-true (module_entry bytes) (crc_offset bytes) entered.1 in
@@ -84,24 +84,24 @@ left_behind file from info is =
 
 -- an outcome is there where one is there behind each module that may come next
 by_step : (file group : List ℕ) (is_boot : Bool) (from : ℕ) (entries : List (Option ModuleEntry)) (step : ModuleStep)
-    → ((info : ModuleInfo) → step_from file from ≡ Module info → (others : List (Option ModuleEntry)) → (outcome : Result (List (Option ModuleEntry)) (ℕ × ℕ)) × Enters file group is_boot (info.at + info.size) others outcome)
-    → step_from file from ≡ step → (outcome : Result (List (Option ModuleEntry)) (ℕ × ℕ)) × Enters file group is_boot from entries outcome
+    → ((info : ModuleInfo) → step_from file from ≡ Module info → (others : List (Option ModuleEntry)) → (outcome : Result (List (Option ModuleEntry)) (ℕ × ℕ)) × EntersModules file group is_boot (info.at + info.size) others outcome)
+    → step_from file from ≡ step → (outcome : Result (List (Option ModuleEntry)) (ℕ × ℕ)) × EntersModules file group is_boot from entries outcome
 by_step file group is_boot from entries End behind is = (Ok entries, at_end is)
-by_step file group is_boot from entries (Fault at fault) behind is = (Err (at, fault_number fault), broken is)
-by_step file group is_boot from entries (Module info) behind is = by_refusal (refusal_of entries info) refl
+by_step file group is_boot from entries (Fault at fault) behind is = (Err (at, module_error fault), broken is)
+by_step file group is_boot from entries (Module info) behind is = by_refusal (entry_refusal entries info) refl
   where
-    by_refusal : (refusal : Option ℕ) → refusal_of entries info ≡ refusal → (outcome : Result (List (Option ModuleEntry)) (ℕ × ℕ)) × Enters file group is_boot from entries outcome
+    by_refusal : (refusal : Option ℕ) → entry_refusal entries info ≡ refusal → (outcome : Result (List (Option ModuleEntry)) (ℕ × ℕ)) × EntersModules file group is_boot from entries outcome
     by_refusal (Some number) known = (Err (info.at, number), refused is known)
     by_refusal None taken = let more = behind info is (with_module entries info group is_boot) in (more.0, entered is taken more.1)
 
 -- no more modules follow than there are bytes left
 by_fuel : (file group : List ℕ) (is_boot : Bool) (fuel from : ℕ) (entries : List (Option ModuleEntry)) → length file - from ≤ fuel
-    → (outcome : Result (List (Option ModuleEntry)) (ℕ × ℕ)) × Enters file group is_boot from entries outcome
+    → (outcome : Result (List (Option ModuleEntry)) (ℕ × ℕ)) × EntersModules file group is_boot from entries outcome
 by_fuel file group is_boot zero from entries enough =
     by_step file group is_boot from entries (step_from file from) (λ info is others. absurd (omega (arith, left_behind file from info is))) refl
 by_fuel file group is_boot (suc fuel) from entries enough =
     by_step file group is_boot from entries (step_from file from)
     (λ info is others. by_fuel file group is_boot fuel (info.at + info.size) others (omega (arith, left_behind file from info is))) refl
 
-pub Enters-some : (file group : List ℕ) (is_boot : Bool) (from : ℕ) (entries : List (Option ModuleEntry)) → (outcome : Result (List (Option ModuleEntry)) (ℕ × ℕ)) × Enters file group is_boot from entries outcome
+pub Enters-some : (file group : List ℕ) (is_boot : Bool) (from : ℕ) (entries : List (Option ModuleEntry)) → (outcome : Result (List (Option ModuleEntry)) (ℕ × ℕ)) × EntersModules file group is_boot from entries outcome
 Enters-some file group is_boot from entries = by_fuel file group is_boot (length file - from) from entries (omega arith)

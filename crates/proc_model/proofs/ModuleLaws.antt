@@ -7,7 +7,7 @@ use Rattle.byteorder.specs.Endian.{big_number}
 use Rattle.os9_base.specs.Name.{stored_name}
 use Rattle.proc_model.specs.Crc.{crc_of, crc_register}
 use Rattle.proc_model.proofs.CrcLaws.{residue, crc_register-append, crc_register_lt}
-use Rattle.proc_model.specs.Module.{word_at, module_size, name_offset, module_kind, is_program, header_length, program_word, module_entry, crc_offset, module_name, has_sync, has_size, has_name, has_entry, keeps_header_rule, keeps_parity_rule, crc_field, keeps_crc_rule, module_fault, IsModule}
+use Rattle.proc_model.specs.Module.{header_word, module_size, name_offset, module_kind, is_program, header_length, program_word, module_entry, crc_offset, module_name, has_sync, has_size, has_module_name, has_entry, keeps_header_rule, keeps_parity_rule, crc_field, keeps_crc_rule, module_fault, IsModule}
 use Rattle.proc_model.specs.declared.module.ModuleFault.TheVariants.{BadSync, BadParity, BadCrc}
 
 drop_of_take : (at n : ℕ) (xs : List ℕ) → at ≤ n → drop at (take n xs) ≡ take (n - at) (drop at xs)
@@ -28,7 +28,7 @@ three_of_take n xs h =
     let third : get_or (take n xs) 2 0 ≡ get_or xs 2 0 = get_or-take n xs 2 0 (omega arith) in
     cc
 
-word_at-take : (n at : ℕ) (xs : List ℕ) → at + 2 ≤ n → word_at (take n xs) at ≡ word_at xs at
+word_at-take : (n at : ℕ) (xs : List ℕ) → at + 2 ≤ n → header_word (take n xs) at ≡ header_word xs at
 word_at-take n at xs h = ap (big_number 2) (drop_of_take at n xs (omega arith)) ∙ two_of_take (n - at) (drop at xs) (omega arith)
 
 range_of_take : (n from to : ℕ) (xs : List ℕ) → to ≤ n → slice_range (take n xs) from to ≡ slice_range xs from to
@@ -49,7 +49,7 @@ header_length-take n xs h = ap (λ (program : Bool). if program then 13 else 9) 
 
 program_word-take : (n at : ℕ) (xs : List ℕ) → 7 ≤ n → at + 2 ≤ n → program_word (take n xs) at ≡ program_word xs at
 program_word-take n at xs h within =
-    ap (λ (program : Bool). if program then word_at (take n xs) at else 0) (is_program-take n xs h)
+    ap (λ (program : Bool). if program then header_word (take n xs) at else 0) (is_program-take n xs h)
     ∙ ap (λ (word : ℕ). if is_program xs then word else 0) (word_at-take n at xs within)
 
 -- a module of any number of bytes behind it is the module alone
@@ -95,7 +95,7 @@ size_test-take n bytes fits h =
     (le-leb (module_size (take n bytes)) (length (take n bytes))
     (omega (arith, size-take n bytes fits, length-take-le n bytes fits.within)))
 
-has_name-take : (n : ℕ) (bytes : List ℕ) → Fits n bytes → has_name (take n bytes) ≡ has_name bytes
+has_name-take : (n : ℕ) (bytes : List ℕ) → Fits n bytes → has_module_name (take n bytes) ≡ has_module_name bytes
 has_name-take n bytes fits =
     ap (λ (len : ℕ). nat_le len (name_offset (take n bytes)) && is_some (module_name (take n bytes))) (header_length-take n bytes (omega (arith, fits.least)))
     ∙ ap (λ (at : ℕ). nat_le (header_length bytes) at && is_some (module_name (take n bytes))) (word_at-take n 4 bytes (omega (arith, fits.least)))
@@ -132,15 +132,15 @@ keeps_all false parity crc h = absurd cc
 pub IsModule-take : (bytes : List ℕ) → module_fault bytes ≡ None → IsModule (take (module_size bytes) bytes)
 IsModule-take bytes h =
     let kept = keeps_all (keeps_header_rule bytes) (keeps_parity_rule bytes) (keeps_crc_rule bytes) h in
-    let entered = and_parts (has_sync bytes && has_size bytes && has_name bytes) (has_entry bytes) kept.0 in
-    let named = and_parts (has_sync bytes && has_size bytes) (has_name bytes) entered.0 in
+    let entered = and_parts (has_sync bytes && has_size bytes && has_module_name bytes) (has_entry bytes) kept.0 in
+    let named = and_parts (has_sync bytes && has_size bytes) (has_module_name bytes) entered.0 in
     let sized = and_parts (has_sync bytes) (has_size bytes) named.0 in
     let n = module_size bytes in
     let m = take n bytes in
     let fits : Fits n bytes = fits_from bytes sized.1 in
     let header : keeps_header_rule m ≡ true =
-    and_from (has_sync m && has_size m && has_name m) (has_entry m)
-    (and_from (has_sync m && has_size m) (has_name m)
+    and_from (has_sync m && has_size m && has_module_name m) (has_entry m)
+    (and_from (has_sync m && has_size m) (has_module_name m)
     (and_from (has_sync m) (has_size m) (sync-take n bytes fits ∙ sized.0) (size_test-take n bytes fits sized.1))
     (has_name-take n bytes fits ∙ named.1))
     (has_entry-take n bytes fits ∙ entered.1)
@@ -165,8 +165,8 @@ three_first (x ∷ y ∷ z ∷ xs) h = refl
 pub residue_of_module : (bytes : List ℕ) → ((i : ℕ) → get_or bytes i 0 < 256) → module_fault bytes ≡ None → crc_register 0xFFFFFF (take (module_size bytes) bytes) ≡ 0x800FE3
 residue_of_module bytes are_bytes h =
     let kept = keeps_all (keeps_header_rule bytes) (keeps_parity_rule bytes) (keeps_crc_rule bytes) h in
-    let entered = and_parts (has_sync bytes && has_size bytes && has_name bytes) (has_entry bytes) kept.0 in
-    let named = and_parts (has_sync bytes && has_size bytes) (has_name bytes) entered.0 in
+    let entered = and_parts (has_sync bytes && has_size bytes && has_module_name bytes) (has_entry bytes) kept.0 in
+    let named = and_parts (has_sync bytes && has_size bytes) (has_module_name bytes) entered.0 in
     let sized = and_parts (has_sync bytes) (has_size bytes) named.0 in
     let n = module_size bytes in
     let k = crc_offset bytes in

@@ -5,7 +5,7 @@ use Rattle.std.proofs.lemmas.List.Recursion.{is_count_by}
 use Rattle.std.proofs.lemmas.List.Quantifiers.{position-Some}
 use Rattle.std.proofs.lemmas.Option.{slice_get-get_or}
 use Rattle.std.proofs.lemmas.Bool.{ltb-true, ltb-false, false≢true}
-use Rattle.proc_model.specs.ModuleList.{ModuleEntry, passes, room_of, free_number, entry_at, with_entry}
+use Rattle.proc_model.specs.ModuleList.{ModuleEntry, passes, module_room, free_number, module_entry_at, with_module_entry}
 
 -- the places that no entry has, counted
 nones : List (Option ModuleEntry) → ℕ
@@ -18,7 +18,7 @@ unfolding nones
 nones_cons None entries = refl
 nones_cons (Some entry) entries = refl
 
-nones_are_room : (entries : List (Option ModuleEntry)) → nones entries ≡ room_of entries
+nones_are_room : (entries : List (Option ModuleEntry)) → nones entries ≡ module_room entries
 unfolding nones
 nones_are_room = is_count_by nones is_none refl nones_cons
 
@@ -44,7 +44,7 @@ nones_of_room [] h = absurd (omega arith)
 nones_of_room (None ∷ entries) h = omega arith
 nones_of_room (Some entry ∷ entries) h = nones_of_room entries (omega arith)
 
-nones_filled : (entries : List (Option ModuleEntry)) (number : ℕ) (entry : ModuleEntry) → number ≡ front entries → number < length entries → nones (with_entry entries number entry) + 1 ≡ nones entries
+nones_filled : (entries : List (Option ModuleEntry)) (number : ℕ) (entry : ModuleEntry) → number ≡ front entries → number < length entries → nones (with_module_entry entries number entry) + 1 ≡ nones entries
 unfolding front nones
 nones_filled [] number entry h within = absurd (omega arith)
 nones_filled (None ∷ entries) zero entry h within = omega arith
@@ -53,11 +53,11 @@ nones_filled (Some other ∷ entries) zero entry h within = absurd (omega arith)
 nones_filled (Some other ∷ entries) (suc number) entry h within = nones_filled entries number entry (omega arith) (omega arith)
 
 -- a number is free exactly where there is room
-pub room_by_number : (entries : List (Option ModuleEntry)) → MatchOption (free_number entries) (room_of entries ≡ 0) (λ number. 0 < room_of entries)
+pub room_by_number : (entries : List (Option ModuleEntry)) → MatchOption (free_number entries) (module_room entries ≡ 0) (λ number. 0 < module_room entries)
 unfolding front
 room_by_number entries =
     let k : ℕ = front entries in
-    let C : Bool → Type 0 = λ b. nat_lt k (length entries) ≡ b → MatchOption (cond b (Some k) None) (room_of entries ≡ 0) (λ number. 0 < room_of entries) in
+    let C : Bool → Type 0 = λ b. nat_lt k (length entries) ≡ b → MatchOption (cond b (Some k) None) (module_room entries ≡ 0) (λ number. 0 < module_room entries) in
     let cases : (b : Bool) → C b = λ b. elim b as C [
       | true ↦ λ e. omega (arith, nones_are_room entries, nones_of_room entries (ltb-true k (length entries) e))
       | false ↦ λ e. sym (nones_are_room entries) ∙ nones_of_full entries (omega (arith, front_le entries, ltb-false k (length entries) e))
@@ -65,7 +65,7 @@ room_by_number entries =
     cases (nat_lt k (length entries)) refl
 
 -- a new entry takes one place
-pub room-with_entry : (entries : List (Option ModuleEntry)) (number : ℕ) (entry : ModuleEntry) → free_number entries ≡ Some number → room_of (with_entry entries number entry) + 1 ≡ room_of entries
+pub room-with_entry : (entries : List (Option ModuleEntry)) (number : ℕ) (entry : ModuleEntry) → free_number entries ≡ Some number → module_room (with_module_entry entries number entry) + 1 ≡ module_room entries
 unfolding front
 room-with_entry entries number entry h =
     let k : ℕ = front entries in
@@ -75,15 +75,15 @@ room-with_entry entries number entry h =
       | false ↦ λ e s. absurd cc
     ] in
     let placed = cases (nat_lt k (length entries)) refl h in
-    omega (arith, nones_are_room entries, nones_are_room (with_entry entries number entry), nones_filled entries number entry placed.0 placed.1)
+    omega (arith, nones_are_room entries, nones_are_room (with_module_entry entries number entry), nones_filled entries number entry placed.0 placed.1)
 
 -- what stands at a number after an entry was put there, and at any other
-pub entry_at-with_entry_same : (entries : List (Option ModuleEntry)) (number : ℕ) (entry : ModuleEntry) → number < length entries → entry_at (with_entry entries number entry) number ≡ Some entry
+pub entry_at-with_entry_same : (entries : List (Option ModuleEntry)) (number : ℕ) (entry : ModuleEntry) → number < length entries → module_entry_at (with_module_entry entries number entry) number ≡ Some entry
 entry_at-with_entry_same [] number entry within = absurd (omega arith)
 entry_at-with_entry_same (place ∷ entries) zero entry within = refl
 entry_at-with_entry_same (place ∷ entries) (suc number) entry within = entry_at-with_entry_same entries number entry (omega arith)
 
-pub entry_at-with_entry_other : (entries : List (Option ModuleEntry)) (number other : ℕ) (entry : ModuleEntry) → (other ≡ number → ⊥) → entry_at (with_entry entries number entry) other ≡ entry_at entries other
+pub entry_at-with_entry_other : (entries : List (Option ModuleEntry)) (number other : ℕ) (entry : ModuleEntry) → (other ≡ number → ⊥) → module_entry_at (with_module_entry entries number entry) other ≡ module_entry_at entries other
 entry_at-with_entry_other [] number other entry apart = refl
 entry_at-with_entry_other (place ∷ entries) zero zero entry apart = absurd (apart refl)
 entry_at-with_entry_other (place ∷ entries) zero (suc other) entry apart = refl
@@ -91,11 +91,11 @@ entry_at-with_entry_other (place ∷ entries) (suc number) zero entry apart = re
 entry_at-with_entry_other (place ∷ entries) (suc number) (suc other) entry apart = entry_at-with_entry_other entries number other entry (λ e. apart (ap suc e))
 
 -- a number that is found is that of an entry
-pub found_entry : (test : ModuleEntry → Bool) (entries : List (Option ModuleEntry)) (number : ℕ) → position (passes test) entries ≡ Some number → (entry : ModuleEntry) × (entry_at entries number ≡ Some entry)
+pub found_entry : (test : ModuleEntry → Bool) (entries : List (Option ModuleEntry)) (number : ℕ) → position (passes test) entries ≡ Some number → (entry : ModuleEntry) × (module_entry_at entries number ≡ Some entry)
 found_entry test entries number is =
     let here = position-Some (passes test) entries number None is in by_place here.0 here.1 (get_or entries number None) refl
   where
-    by_place : number < length entries → passes test (get_or entries number None) ≡ true → (place : Option ModuleEntry) → get_or entries number None ≡ place → (entry : ModuleEntry) × (entry_at entries number ≡ Some entry)
+    by_place : number < length entries → passes test (get_or entries number None) ≡ true → (place : Option ModuleEntry) → get_or entries number None ≡ place → (entry : ModuleEntry) × (module_entry_at entries number ≡ Some entry)
     by_place within passed None same = absurd (false≢true (ap (passes test) (sym same) ∙ passed))
     by_place within passed (Some entry) same =
         (entry, ap (option_and_then (λ place. place)) (slice_get-get_or entries number None within ∙ ap (λ (place : Option ModuleEntry). Some place) same))

@@ -12,16 +12,16 @@ use Rattle.proc_model.specs.declared.module.ModuleStep.{ModuleStep}
 use Rattle.proc_model.specs.declared.module.ModuleStep.TheVariants.{Module, End, Fault}
 
 -- the word at a place, high byte first
-abbrev pub word_at : List ℕ → ℕ → ℕ
-word_at bytes at = big_number 2 (drop at bytes)
+abbrev pub header_word : List ℕ → ℕ → ℕ
+header_word bytes at = big_number 2 (drop at bytes)
 
 -- the whole size, CRC included
 abbrev pub module_size : List ℕ → ℕ
-module_size bytes = word_at bytes 2
+module_size bytes = header_word bytes 2
 
 -- where the name begins
 abbrev pub name_offset : List ℕ → ℕ
-name_offset bytes = word_at bytes 4
+name_offset bytes = header_word bytes 4
 
 -- the type (high half) and the language (low half)
 abbrev pub module_kind : List ℕ → ℕ
@@ -41,7 +41,7 @@ header_length bytes = if is_program bytes then 13 else 9
 
 -- the word at a place of a program's header; 0 for another type
 abbrev pub program_word : List ℕ → ℕ → ℕ
-program_word bytes at = if is_program bytes then word_at bytes at else 0
+program_word bytes at = if is_program bytes then header_word bytes at else 0
 
 -- where the program begins; 0 for another type
 abbrev pub module_entry : List ℕ → ℕ
@@ -61,15 +61,15 @@ module_name bytes = stored_name (slice_range bytes (name_offset bytes) (crc_offs
 
 -- the sync bytes
 abbrev pub has_sync : List ℕ → Bool
-has_sync bytes = word_at bytes 0 == 0x87CD
+has_sync bytes = header_word bytes 0 == 0x87CD
 
 -- the module has room for its header, a name of one character and the CRC, and lies within the bytes
 abbrev pub has_size : List ℕ → Bool
 has_size bytes = nat_le (header_length bytes + 4) (module_size bytes) && nat_le (module_size bytes) (length bytes)
 
 -- a name stands behind the header and before the CRC
-abbrev pub has_name : List ℕ → Bool
-has_name bytes = nat_le (header_length bytes) (name_offset bytes) && is_some (module_name bytes)
+abbrev pub has_module_name : List ℕ → Bool
+has_module_name bytes = nat_le (header_length bytes) (name_offset bytes) && is_some (module_name bytes)
 
 -- the program begins before the CRC
 abbrev pub has_entry : List ℕ → Bool
@@ -77,7 +77,7 @@ has_entry bytes = nat_lt (module_entry bytes) (crc_offset bytes)
 
 -- the header rule
 abbrev pub keeps_header_rule : List ℕ → Bool
-keeps_header_rule bytes = has_sync bytes && has_size bytes && has_name bytes && has_entry bytes
+keeps_header_rule bytes = has_sync bytes && has_size bytes && has_module_name bytes && has_entry bytes
 
 -- the parity rule: the exclusive or of the header's first nine bytes is FF
 abbrev pub keeps_parity_rule : List ℕ → Bool

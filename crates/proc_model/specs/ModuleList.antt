@@ -16,8 +16,8 @@ pub record ModuleEntry : Type 0 where
   pub is_boot : Bool
 
 -- the entry of a number, if there is one
-abbrev pub entry_at : List (Option ModuleEntry) → ℕ → Option ModuleEntry
-entry_at entries number = option_and_then (λ entry. entry) (slice_get entries number)
+abbrev pub module_entry_at : List (Option ModuleEntry) → ℕ → Option ModuleEntry
+module_entry_at entries number = option_and_then (λ entry. entry) (slice_get entries number)
 
 -- there is an entry, and it passes the test
 abbrev pub passes : (ModuleEntry → Bool) → Option ModuleEntry → Bool
@@ -64,12 +64,12 @@ answers_to entries name kind entry =
     names_agree name entry.info.name && kind_matches kind entry.info.kind && not (is_shadowed entries entry.info)
 
 -- what is found by a name and a type and language: the least number of such an entry
-abbrev pub found : List (Option ModuleEntry) → List ℕ → ℕ → Option ℕ
-found entries name kind = position (passes (answers_to entries name kind)) entries
+abbrev pub found_module : List (Option ModuleEntry) → List ℕ → ℕ → Option ℕ
+found_module entries name kind = position (passes (answers_to entries name kind)) entries
 
 -- how many more entries there may be
-abbrev pub room_of : List (Option ModuleEntry) → ℕ
-room_of entries = count_by is_none entries
+abbrev pub module_room : List (Option ModuleEntry) → ℕ
+module_room entries = count_by is_none entries
 
 -- the least number that no entry has
 abbrev pub free_number : List (Option ModuleEntry) → Option ℕ
@@ -80,15 +80,15 @@ abbrev pub new_entry : ModuleInfo → List ℕ → Bool → ModuleEntry
 new_entry info group is_boot = record { info = info; group = group; links = if is_boot then 1 else 0; is_boot = is_boot }
 
 -- the list with this entry at a number
-abbrev pub with_entry : List (Option ModuleEntry) → ℕ → ModuleEntry → List (Option ModuleEntry)
-with_entry entries number entry = slice_set entries number (Some entry)
+abbrev pub with_module_entry : List (Option ModuleEntry) → ℕ → ModuleEntry → List (Option ModuleEntry)
+with_module_entry entries number entry = slice_set entries number (Some entry)
 
 -- an entry with one link more, and with one link less, or none
-abbrev pub linked : ModuleEntry → ModuleEntry
-linked entry = record entry { links = entry.links + 1 }
+abbrev pub entry_linked : ModuleEntry → ModuleEntry
+entry_linked entry = record entry { links = entry.links + 1 }
 
-abbrev pub unlinked : ModuleEntry → ModuleEntry
-unlinked entry = record entry { links = entry.links - 1 }
+abbrev pub entry_unlinked : ModuleEntry → ModuleEntry
+entry_unlinked entry = record entry { links = entry.links - 1 }
 
 -- an entry is of the group of these blocks
 abbrev pub is_of_group : List ℕ → ModuleEntry → Bool
@@ -99,16 +99,16 @@ abbrev pub is_in_use : List (Option ModuleEntry) → List ℕ → Bool
 is_in_use entries group = some_entry (λ entry. is_of_group group entry && nat_lt 0 entry.links) entries
 
 -- a place without an entry of a group
-abbrev pub outside : List ℕ → Option ModuleEntry → Option ModuleEntry
-outside group place = if passes (is_of_group group) place then None else place
+abbrev pub place_without_group : List ℕ → Option ModuleEntry → Option ModuleEntry
+place_without_group group place = if passes (is_of_group group) place then None else place
 
 -- the list without the entries of a group
-abbrev pub without_group : List (Option ModuleEntry) → List ℕ → List (Option ModuleEntry)
-without_group entries group = map (outside group) entries
+abbrev pub modules_without_group : List (Option ModuleEntry) → List ℕ → List (Option ModuleEntry)
+modules_without_group entries group = map (place_without_group group) entries
 
 -- the list with one link less of the entry of this number
 abbrev pub with_unlinked : List (Option ModuleEntry) → ℕ → ModuleEntry → List (Option ModuleEntry)
-with_unlinked entries number entry = with_entry entries number (unlinked entry)
+with_unlinked entries number entry = with_module_entry entries number (entry_unlinked entry)
 
 -- the group of the entry of this number leaves memory with this link: it is not the boot file's, and none of its entries has a link then
 abbrev pub is_leaving : List (Option ModuleEntry) → ℕ → ModuleEntry → Bool
@@ -118,7 +118,7 @@ is_leaving entries number entry = not entry.is_boot && not (is_in_use (with_unli
 abbrev pub after_unlink : List (Option ModuleEntry) → ℕ → ModuleEntry → List (Option ModuleEntry)
 after_unlink entries number entry =
     if is_leaving entries number entry
-    then without_group (with_unlinked entries number entry) entry.group
+    then modules_without_group (with_unlinked entries number entry) entry.group
     else with_unlinked entries number entry
 
 -- the group that leaves memory with this link, if it does
@@ -128,7 +128,7 @@ leaving_group entries number entry = if is_leaving entries number entry then Som
 -- the list after a link of the entry of this number, if there is one, is given up
 abbrev pub without_link : List (Option ModuleEntry) → Option ℕ → List (Option ModuleEntry)
 without_link entries None = entries
-without_link entries (Some number) = option_map_or (after_unlink entries number) (entry_at entries number) entries
+without_link entries (Some number) = option_map_or (after_unlink entries number) (module_entry_at entries number) entries
 
 -- the groups of the entries, each once
 abbrev pub entered_groups : List (Option ModuleEntry) → List (List ℕ)

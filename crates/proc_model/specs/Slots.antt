@@ -15,16 +15,16 @@ abbrev pub no_slots : {Block : Type 0} → Slots Block
 no_slots = record { places = replicate 8 None; low = 0; groups = replicate 8 None }
 
 -- what stands in a slot
-abbrev pub place_of : {Block : Type 0} → Slots Block → ℕ → Option Block
-place_of slots slot = slice_index_or slots.places slot None
+abbrev pub block_at : {Block : Type 0} → Slots Block → ℕ → Option Block
+block_at slots slot = slice_index_or slots.places slot None
 
 -- the length of the group that begins at a slot
 abbrev pub group_of : {Block : Type 0} → Slots Block → ℕ → Option ℕ
 group_of slots slot = slice_index_or slots.groups slot None
 
 -- the map names a block
-abbrev pub Names : {Block : Type 0} → Slots Block → Block → Type 0
-Names slots block = (slot : ℕ) × (place_of slots slot ≡ Some block)
+abbrev pub NamesBlock : {Block : Type 0} → Slots Block → Block → Type 0
+NamesBlock slots block = (slot : ℕ) × (block_at slots slot ≡ Some block)
 
 -- what every map is: eight slots, none of which names what another one names
 pub record IsMap {Block : Type 0} (slots : Slots Block) : Type 0 where
@@ -32,11 +32,11 @@ pub record IsMap {Block : Type 0} (slots : Slots Block) : Type 0 where
   pub eight_groups : length slots.groups ≡ 8
   pub low_fits : slots.low ≤ 8
   pub group_fits : (slot len : ℕ) → group_of slots slot ≡ Some len → slot + len ≤ 8
-  pub once : (slot other : ℕ) (block : Block) → place_of slots slot ≡ Some block → place_of slots other ≡ Some block → slot ≡ other
+  pub once : (slot other : ℕ) (block : Block) → block_at slots slot ≡ Some block → block_at slots other ≡ Some block → slot ≡ other
 
 -- a run of slots that name nothing
 abbrev pub IsFreeRun : {Block : Type 0} → Slots Block → ℕ → ℕ → Type 0
-IsFreeRun slots first len = (first + len ≤ 8) × ((slot : ℕ) → first ≤ slot → slot < first + len → place_of slots slot ≡ None)
+IsFreeRun slots first len = (first + len ≤ 8) × ((slot : ℕ) → first ≤ slot → slot < first + len → block_at slots slot ≡ None)
 
 -- the highest run of slots of this length that name nothing
 abbrev pub IsHighestFreeRun : {Block : Type 0} → Slots Block → ℕ → ℕ → Type 0
@@ -47,20 +47,20 @@ abbrev pub put_places : {Block : Type 0} → List (Option Block) → ℕ → Lis
 put_places places first new = take first places ++ (new ++ drop (first + length new) places)
 
 -- the blocks that places name, in order
-abbrev pub named_in : {Block : Type 0} → List (Option Block) → List Block
-named_in places = filter_map (λ place. place) places
+abbrev pub blocks_in : {Block : Type 0} → List (Option Block) → List Block
+blocks_in places = filter_map (λ place. place) places
 
 -- the blocks that the slots from one up to another name
-abbrev pub named_from : {Block : Type 0} → Slots Block → ℕ → ℕ → List Block
-named_from slots first end = named_in (slice_range slots.places first end)
+abbrev pub blocks_between : {Block : Type 0} → Slots Block → ℕ → ℕ → List Block
+blocks_between slots first end = blocks_in (slice_range slots.places first end)
 
 -- places that name these blocks
-abbrev pub naming : {Block : Type 0} → List Block → List (Option Block)
-naming blocks = map (λ block. Some block) blocks
+abbrev pub filled_places : {Block : Type 0} → List Block → List (Option Block)
+filled_places blocks = map (λ block. Some block) blocks
 
 -- the map with these blocks in the slots that follow the low area, which has them too then
 abbrev pub with_low : {Block : Type 0} → Slots Block → List Block → Slots Block
-with_low slots blocks = record slots { places = put_places slots.places slots.low (naming blocks); low = slots.low + length blocks }
+with_low slots blocks = record slots { places = put_places slots.places slots.low (filled_places blocks); low = slots.low + length blocks }
 
 -- the map of whose low area the first so many slots are kept
 abbrev pub cut_low_to : {Block : Type 0} → Slots Block → ℕ → Slots Block
@@ -68,8 +68,8 @@ cut_low_to slots len = record slots { places = put_places slots.places len (repl
 
 -- the map with a group of these blocks from one slot on
 abbrev pub with_group : {Block : Type 0} → Slots Block → ℕ → List Block → Slots Block
-with_group slots first blocks = record slots { places = put_places slots.places first (naming blocks); groups = slice_set slots.groups first (Some (length blocks)) }
+with_group slots first blocks = record slots { places = put_places slots.places first (filled_places blocks); groups = slice_set slots.groups first (Some (length blocks)) }
 
 -- the map without the group of this length that begins at a slot
-abbrev pub without_group : {Block : Type 0} → Slots Block → ℕ → ℕ → Slots Block
-without_group slots first len = record slots { places = put_places slots.places first (replicate len None); groups = slice_set slots.groups first None }
+abbrev pub map_without_group : {Block : Type 0} → Slots Block → ℕ → ℕ → Slots Block
+map_without_group slots first len = record slots { places = put_places slots.places first (replicate len None); groups = slice_set slots.groups first None }

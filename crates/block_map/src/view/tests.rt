@@ -1,6 +1,6 @@
 ghost use Rattle.std.specs.Prelude.{◌≡◌, IsSome};
 ghost use Rattle.os9_base.specs.Cells.{put_cell};
-ghost use Rattle.block_map.specs.Window.{cells_of, SameBeyond};
+ghost use Rattle.block_map.specs.Window.{map_cells, SameBeyond};
 
 use super::*;
 
@@ -14,8 +14,8 @@ fn write_one<B: Bus>(bus: &mut B, at: u16, byte: u8)
 
 // What the owner of map and pool knows after it has lent both for a while.
 fn write_through(map: &Map, pool: &mut Pool, at: u16, byte: u8)
-    requires { IsSome (cells_of map.now pool.old at) }
-    ensures changed { cells_of map.now pool.new ≡ put_cell (cells_of map.now pool.old) at byte }
+    requires { IsSome (map_cells map.now pool.old at) }
+    ensures changed { map_cells map.now pool.new ≡ put_cell (map_cells map.now pool.old) at byte }
     ensures beyond { SameBeyond map.now pool.old pool.new }
 {
     let mut view = map.view(pool);

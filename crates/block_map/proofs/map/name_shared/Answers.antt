@@ -2,9 +2,9 @@ use Rattle.std.proofs.Common.{List, Option, Some, ◌∷◌, [], ◌++◌, get_o
 use Rattle.std.proofs.lemmas.List.{take_more, take_more_set, take_all, map_push, length-take-le}
 use Rattle.std.proofs.lemmas.List.Sums.{fold_more}
 use Rattle.proc_model.specs.declared.group.BlockId.{BlockId}
-use Rattle.block_pool.specs.Blocks.{Blocks, count_of, shared}
-use Rattle.proc_model.specs.Slots.{naming}
-use Rattle.block_map.specs.Takes.{shared_all}
+use Rattle.block_pool.specs.Blocks.{Blocks, reference_count, pool_after_share}
+use Rattle.proc_model.specs.Slots.{filled_places}
+use Rattle.block_map.specs.TakenBlocks.{pool_after_sharing}
 use Rattle.block_map.proofs.Counts.{count_of-shared_all}
 use Rattle.block_map.proofs.Pools.{IsPool-shared_all}
 use Rattle.block_map.proofs.map.name_shared.Goals as goal
@@ -16,7 +16,7 @@ share-requires c =
     let none : BlockId = record { 0 = 0 } in
     let id = get_or blocks k none in
     let few = length-take-le k blocks (omega arith) in
-    let now = ap (λ (pool : Blocks). count_of pool id.0) c.loop-k.invariant.shared in
+    let now = ap (λ (pool : Blocks). reference_count pool id.0) c.loop-k.invariant.shared in
     let bounds = count_of-shared_all c.args.pool.now (take k blocks) id.0 in
     let live = c.requires.live k none c.loop-k-test.true in
     let countable = c.requires.countable k none c.loop-k-test.true in
@@ -33,9 +33,9 @@ loop-k-preserved c =
     let id = get_or blocks k none in
     record {
       named = take_more_set c.loop-k.places k (Some id) (omega arith) ∙ ap (λ (front : List (Option BlockId)). front ++ Some id ∷ []) c.loop-k.invariant.named
-          ∙ sym (map_push (λ (block : BlockId). Some block) (take k blocks) id) ∙ ap naming (sym (take_more blocks k none c.loop-k-test.true));
-      shared = c.share.ensures.one_count ∙ ap (λ (pool : Blocks). shared pool id.0) c.loop-k.invariant.shared
-          ∙ sym (fold_more (λ (pool : Blocks) (block : BlockId). shared pool block.0) c.args.pool.now blocks k none c.loop-k-test.true);
+          ∙ sym (map_push (λ (block : BlockId). Some block) (take k blocks) id) ∙ ap filled_places (sym (take_more blocks k none c.loop-k-test.true));
+      shared = c.share.ensures.one_count ∙ ap (λ (pool : Blocks). pool_after_share pool id.0) c.loop-k.invariant.shared
+          ∙ sym (fold_more (λ (pool : Blocks) (block : BlockId). pool_after_share pool block.0) c.args.pool.now blocks k none c.loop-k-test.true);
     }
 
 pub returns : goal.returns
@@ -44,7 +44,7 @@ returns c =
     let blocks = c.args.blocks.now in
     let whole = take_all k blocks c.loop-k-test.false in
     record {
-      named = sym (take_all k c.loop-k.places (omega arith)) ∙ c.loop-k.invariant.named ∙ ap naming whole;
-      shared = c.loop-k.invariant.shared ∙ ap (shared_all c.args.pool.now) whole;
+      named = sym (take_all k c.loop-k.places (omega arith)) ∙ c.loop-k.invariant.named ∙ ap filled_places whole;
+      shared = c.loop-k.invariant.shared ∙ ap (pool_after_sharing c.args.pool.now) whole;
       pool = IsPool-shared_all c.args.pool.now c.loop-k.pool (take k blocks) c.loop-k.invariant.shared;
     }

@@ -1,6 +1,6 @@
 -- The box at the number is replaced by the one that `put_in_box` left.
 use Rattle.std.proofs.Common.{arith}
-use Rattle.device_table.proofs.ScreenLemmas.{ChangesOne-set}
+use Rattle.device_table.proofs.TerminalLemmas.{ChangesOne-set}
 use Rattle.device_table.proofs.put.put_on.Goals as goal
 
 pub returns-clause-terminal : goal.returns-clause-terminal

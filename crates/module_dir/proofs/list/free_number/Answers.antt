@@ -2,7 +2,7 @@ use Rattle.std.proofs.Common.{◌≡◌, ◌∙◌, sym, rules, position, is_non
 use Rattle.std.proofs.lemmas.Iterator.{YieldsList-from_slice}
 use Rattle.std.proofs.lemmas.Iterator.Search.{position_from_yields_List}
 use Rattle.proc_model.proofs.ModuleListLaws.{room_by_number}
-use Rattle.module_dir.specs.Entries.{seen, entries_of}
+use Rattle.module_dir.specs.Entries.{seen, held_entries}
 use Rattle.module_dir.proofs.Lists.{position-is_none}
 use Rattle.module_dir.proofs.list.free_number.Goals as goal
 
@@ -13,4 +13,4 @@ returns-clause-number c =
     in e ∙ sym (position-is_none seen c.args.entries.now)
 
 pub returns-clause-room : goal.returns-clause-room
-returns-clause-room c = rw (returns-clause-number c) (room_by_number (entries_of c.args.entries.now))
+returns-clause-room c = rw (returns-clause-number c) (room_by_number (held_entries c.args.entries.now))

@@ -1,5 +1,5 @@
 use Rattle.std.proofs.Common.{arith}
-use Rattle.device_table.proofs.ScreenLemmas.{ChangesOne-set}
+use Rattle.device_table.proofs.TerminalLemmas.{ChangesOne-set}
 use Rattle.os9_boot.proofs.ConsoleLemmas.{Takes-from}
 use Rattle.os9_boot.proofs.console.take_from.Goals as goal
 

@@ -1,7 +1,7 @@
 use Rattle.std.proofs.Common.{◌≡◌, ℕ, Err, subst, sym, true, arith}
 use Rattle.std.proofs.lemmas.Result.{err_from_is_err_and}
-use Rattle.proc_model.specs.Group.{blocks_of}
-use Rattle.proc_model.specs.Loading.{Enters, at_end, broken, refused, entered}
+use Rattle.proc_model.specs.Group.{group_block_numbers}
+use Rattle.proc_model.specs.Loading.{EntersModules, at_end, broken, refused, entered}
 use Rattle.proc_model.specs.Module.{step_from}
 use Rattle.proc_model.specs.declared.module.ModuleStep.TheVariants.{Module}
 use Rattle.proc_model.proofs.LoadingLemmas.{LiesIn-step}
@@ -17,7 +17,7 @@ returns-in_err-info-clause-refused c =
     let p = err_from_is_err_and c.from_residual.result c.from_residual.ensures.1 in
     let refusal = c.in_err-info.field-0.0 in
     let is = c.in_err-info.ensures.fault in
-    let Ends : ℕ → Type 0 = λ error. Enters c.args.file.now (blocks_of c.args.group) true 0 c.args.dir.now (Err (refusal.at, error)) in
+    let Ends : ℕ → Type 0 = λ error. EntersModules c.args.file.now (group_block_numbers c.args.group) true 0 c.args.dir.now (Err (refusal.at, error)) in
     rw (p.1, p.2) (subst Ends (sym is.2) (c.loop-info.invariant.goes_on _ (broken is.1)))
 
 pub loop-info-smaller : goal.loop-info-smaller
@@ -41,7 +41,7 @@ returns-in_err-enter_module-clause-refused c =
     let is = next (goal.at.returns-in_err-enter_module-clause-refused c).In-Some in
     let why = c.in_err-enter_module.ensures.refused in
     let error = c.in_err-enter_module.field-0.0.error in
-    let Ends : ℕ → Type 0 = λ at. Enters c.args.file.now (blocks_of c.args.group) true 0 c.args.dir.now (Err (at, error)) in
+    let Ends : ℕ → Type 0 = λ at. EntersModules c.args.file.now (group_block_numbers c.args.group) true 0 c.args.dir.now (Err (at, error)) in
     rw (p.1, p.2) (subst Ends (sym why.0) (c.loop-info.invariant.goes_on _ (refused is why.1)))
 
 pub returns-clause-entered : goal.returns-clause-entered

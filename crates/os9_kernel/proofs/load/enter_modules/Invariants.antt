@@ -1,6 +1,6 @@
 use Rattle.std.proofs.Common.{◌≤◌, ◌-◌, ℕ, length, List, Option, Result, true}
-use Rattle.proc_model.specs.Group.{blocks_of}
-use Rattle.proc_model.specs.Loading.{Enters}
+use Rattle.proc_model.specs.Group.{group_block_numbers}
+use Rattle.proc_model.specs.Loading.{EntersModules}
 use Rattle.proc_model.specs.ModuleList.{ModuleEntry}
 use Rattle.os9_kernel.proofs.load.enter_modules.Given as goal
 
@@ -8,7 +8,7 @@ use Rattle.os9_kernel.proofs.load.enter_modules.Given as goal
 abbrev pub invariant-loop-info : goal.invariant-loop-info
 invariant-loop-info l = record {
   within : l.from ≤ length l.file;
-  goes_on : (outcome : Result (List (Option ModuleEntry)) (ℕ × ℕ)) → Enters l.file (blocks_of l.group) true l.from l.dir outcome → Enters l.file (blocks_of l.group) true 0 l.initial.dir outcome;
+  goes_on : (outcome : Result (List (Option ModuleEntry)) (ℕ × ℕ)) → EntersModules l.file (group_block_numbers l.group) true l.from l.dir outcome → EntersModules l.file (group_block_numbers l.group) true 0 l.initial.dir outcome;
 }
 
 abbrev pub decreases-loop-info : goal.decreases-loop-info

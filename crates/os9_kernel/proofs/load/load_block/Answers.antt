@@ -1,6 +1,6 @@
 use Rattle.std.proofs.Common.{◌≡◌, arith}
 use Rattle.std.proofs.lemmas.Bool.{some_since}
-use Rattle.block_pool.specs.Blocks.{IsPool, IsFree, taken}
+use Rattle.block_pool.specs.Blocks.{IsPool, IsFreeBlock, pool_after_take}
 use Rattle.block_map.proofs.Counts.{no_zeros}
 use Rattle.os9_kernel.proofs.GainLemmas.{Gains-written}
 use Rattle.os9_kernel.proofs.load.load_block.Goals as goal
@@ -13,7 +13,7 @@ pub returns-clause-loaded : goal.returns-clause-loaded
 returns-clause-loaded c =
     let pool = c.args.pool.now in
     let id = c.unwrap-id.result in
-    let free : IsFree pool id.0 = rw c.unwrap-id.ensures at c.take.ensures.was_free in
-    let took : c.take.new.self ≡ taken pool id.0 = rw c.unwrap-id.ensures at c.take.ensures.one_block in
-    let shape : IsPool (taken pool id.0) = rw took at c.take.ensures.shape in
+    let free : IsFreeBlock pool id.0 = rw c.unwrap-id.ensures at c.take.ensures.was_free in
+    let took : c.take.new.self ≡ pool_after_take pool id.0 = rw c.unwrap-id.ensures at c.take.ensures.one_block in
+    let shape : IsPool (pool_after_take pool id.0) = rw took at c.take.ensures.shape in
     rw (c.copy_in.ensures.bytes, took) (Gains-written pool id c.args.bytes.now free shape c.requires.short)

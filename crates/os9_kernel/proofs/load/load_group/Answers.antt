@@ -4,8 +4,8 @@ use Rattle.std.specs.Slice.Iter.{chunks_rest}
 use Rattle.std.proofs.lemmas.List.{length-set, length-drop, drop-drop, take_more_set}
 use Rattle.std.proofs.lemmas.List.FromFn.{map-range_with_len_more}
 use Rattle.proc_model.specs.declared.group.BlockId.{BlockId}
-use Rattle.machine_model.specs.Start.{block_of, file_blocks}
-use Rattle.os9_kernel.specs.Load.{Gains}
+use Rattle.machine_model.specs.Start.{file_block, file_blocks}
+use Rattle.os9_kernel.specs.Load.{GainsBlocks}
 use Rattle.os9_kernel.proofs.GainLemmas.{Gains-then, part-of, block_of-part}
 use Rattle.os9_kernel.proofs.load.load_group.Goals as goal
 
@@ -23,14 +23,14 @@ loop-part-preserved c =
     let left : length here ≡ length file - 8192 * len = ap (λ (xs : List ℕ). length xs) c.loop-part.invariant.rest ∙ length-drop (8192 * len) file in
     let more : 0 < length here = steps.1.2 in
     let below : len < file_blocks file = omega arith in
-    let block : block_of c.in-Some.part.now 0 ≡ block_of file len = block_of-part file c.in-Some.part.now len (parts.0 ∙ ap (take 8192) c.loop-part.invariant.rest) in
-    let contents : map (block_of file) (range_with_len 0 len) ++ block_of c.in-Some.part.now 0 ∷ [] ≡ map (block_of file) (range_with_len 0 (len + 1)) =
-    ap (λ (last : List ℕ). map (block_of file) (range_with_len 0 len) ++ last ∷ []) block ∙ sym (map-range_with_len_more (block_of file) 0 len len (omega arith)) in
+    let block : file_block c.in-Some.part.now 0 ≡ file_block file len = block_of-part file c.in-Some.part.now len (parts.0 ∙ ap (take 8192) c.loop-part.invariant.rest) in
+    let contents : map (file_block file) (range_with_len 0 len) ++ file_block c.in-Some.part.now 0 ∷ [] ≡ map (file_block file) (range_with_len 0 (len + 1)) =
+    ap (λ (last : List ℕ). map (file_block file) (range_with_len 0 len) ++ last ∷ []) block ∙ sym (map-range_with_len_more (file_block file) 0 len len (omega arith)) in
     let group : front ++ id ∷ [] ≡ take (len + 1) (slice_set c.loop-part.ids len id) = sym (take_more_set c.loop-part.ids len id (omega arith)) in
     let grown = Gains-then loaded c.load_block.ensures.loaded in
     record {
-      loaded = subst (λ (ids : List BlockId). Gains c.args.pool.now ids (map (block_of file) (range_with_len 0 (len + 1))) c.load_block.new.pool) group
-          (subst (λ (blocks : List (List ℕ)). Gains c.args.pool.now (front ++ id ∷ []) blocks c.load_block.new.pool) contents grown);
+      loaded = subst (λ (ids : List BlockId). GainsBlocks c.args.pool.now ids (map (file_block file) (range_with_len 0 (len + 1))) c.load_block.new.pool) group
+          (subst (λ (blocks : List (List ℕ)). GainsBlocks c.args.pool.now (front ++ id ∷ []) blocks c.load_block.new.pool) contents grown);
       room = omega (arith, c.load_block.ensures.room, c.loop-part.invariant.room);
       shape = c.load_block.ensures.shape;
       places = length-set c.loop-part.ids len id ∙ c.loop-part.invariant.places;

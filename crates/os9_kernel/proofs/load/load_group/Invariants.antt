@@ -1,16 +1,16 @@
 use Rattle.std.proofs.Common.{◌≡◌, ◌+◌, ◌*◌, ◌≤◌, length, take, drop, map}
 use Rattle.std.specs.List.{range_with_len}
 use Rattle.std.specs.Slice.Iter.{chunks_rest, chunks_size}
-use Rattle.block_pool.specs.Blocks.{IsPool, free_count}
-use Rattle.machine_model.specs.Start.{block_of, file_blocks}
-use Rattle.os9_kernel.specs.Load.{Gains}
+use Rattle.block_pool.specs.Blocks.{IsPool, free_block_count}
+use Rattle.machine_model.specs.Start.{file_block, file_blocks}
+use Rattle.os9_kernel.specs.Load.{GainsBlocks}
 use Rattle.os9_kernel.proofs.load.load_group.Given as goal
 
 -- the first blocks of the file are loaded, and the others are to come
 abbrev pub invariant-loop-part : goal.invariant-loop-part
 invariant-loop-part l = record {
-  loaded : Gains l.initial.pool (take l.len l.ids) (map (block_of l.file) (range_with_len 0 l.len)) l.pool;
-  room : free_count l.pool + l.len ≡ free_count l.initial.pool;
+  loaded : GainsBlocks l.initial.pool (take l.len l.ids) (map (file_block l.file) (range_with_len 0 l.len)) l.pool;
+  room : free_block_count l.pool + l.len ≡ free_block_count l.initial.pool;
   shape : IsPool l.pool;
   places : length l.ids ≡ 7;
   within : l.len ≤ file_blocks l.file;

@@ -1,10 +1,10 @@
 use Rattle.std.proofs.Common.{◌≡◌, ◌≤◌, ℕ, Some, None, Ok, length, get_or, ap, ◌∙◌, subst, arith}
 use Rattle.std.specs.Result.{result_ok}
-use Rattle.block_pool.specs.Blocks.{free_count}
-use Rattle.block_map.specs.Takes.{GainsLow, group_blocks}
+use Rattle.block_pool.specs.Blocks.{free_block_count}
+use Rattle.block_map.specs.TakenBlocks.{GainsLow, group_blocks}
 use Rattle.block_map.proofs.Counts.{Takes-live}
 use Rattle.proc_model.specs.declared.group.BlockId.{BlockId}
-use Rattle.proc_model.specs.Slots.{Slots, no_slots, Names, with_low, with_group}
+use Rattle.proc_model.specs.Slots.{Slots, no_slots, NamesBlock, with_low, with_group}
 use Rattle.os9_kernel.proofs.GainLemmas.{Takes-Gains, count_of-old}
 use Rattle.os9_kernel.proofs.MapLemmas.{was_ok, area_wants, group_wants, group_fits, live-unnamed}
 use Rattle.os9_kernel.proofs.start.first_map.Goals as goal
@@ -14,7 +14,7 @@ pub returns-in_err-ok-clause-none : goal.returns-in_err-ok-clause-none
 returns-in_err-ok-clause-none c =
     let refused : result_ok c.map_low.result ≡ None = grind arith in
     rw c.from_residual.ensures
-    (area_wants c.args.low c.args.group.now.len (free_count c.args.pool.now) c.map_low.result refused c.requires.low c.requires.enough
+    (area_wants c.args.low c.args.group.now.len (free_block_count c.args.pool.now) c.map_low.result refused c.requires.low c.requires.enough
     (rw c.empty-map.ensures at c.map_low.ensures.no_slot) (rw c.empty-map.ensures at c.map_low.ensures.no_block))
 
 -- the area stands in the map
@@ -40,7 +40,7 @@ map_group-requires-clause-unnamed c =
     let short : length area.blocks ≤ 8 = omega (arith, area.all, c.requires.low) in
     λ k d within named.
     live-unnamed area.blocks short c.args.pool.now c.map_low.new.pool area.taken (get_or (group_blocks c.args.group.now) k d) (c.requires.live k d within)
-    (subst (λ (map : Slots BlockId). Names map (get_or (group_blocks c.args.group.now) k d)) area.low named)
+    (subst (λ (map : Slots BlockId). NamesBlock map (get_or (group_blocks c.args.group.now) k d)) area.low named)
 
 pub returns-in_err-ok-2-clause-none : goal.returns-in_err-ok-2-clause-none
 returns-in_err-ok-2-clause-none c =

@@ -1,7 +1,7 @@
 use Rattle.std.proofs.Common.{◌≡◌, ◌-◌, ℕ, List, Option, Some, arith, sym, ap, ◌∙◌, subst, refl}
 use Rattle.proc_model.specs.declared.group.BlockId.{BlockId}
 use Rattle.block_pool.specs.Blocks.{Blocks, IsLive}
-use Rattle.proc_model.specs.Slots.{Slots, place_of}
+use Rattle.proc_model.specs.Slots.{Slots, block_at}
 use Rattle.block_map.proofs.Places.{at}
 use Rattle.block_map.proofs.Maps.{cleared-put, Once-part, live-clear, slots_of, IsMap-clear}
 use Rattle.block_map.proofs.map.Map.cut_low.Goals as goal
@@ -25,7 +25,7 @@ returns-then-n-self-clause-live c =
     let low_fits = c.self.invariant.low_fits in
     let eight = c.self.invariant.eight_places in
     let mid = cleared-put places c.give_back.new.places first len _ (omega arith) refl c.give_back.ensures.cleared in
-    let live = λ (slot : ℕ) (id : BlockId) (here : at places slot ≡ Some id). c.requires slot id (ap (λ (slots : Slots BlockId). place_of slots slot) (sym c.self.view_is) ∙ here) in
+    let live = λ (slot : ℕ) (id : BlockId) (here : at places slot ≡ Some id). c.requires slot id (ap (λ (slots : Slots BlockId). block_at slots slot) (sym c.self.view_is) ∙ here) in
     subst (λ (list : List (Option BlockId)). (slot : ℕ) (id : BlockId) → at list slot ≡ Some id → IsLive c.give_back.new.pool id.0) (sym mid)
     (λ slot id here. subst (λ (pool : Blocks). IsLive pool id.0) (sym c.give_back.ensures.given) (live-clear places first len c.args.pool.now (omega arith) c.self.invariant.once live slot id here))
 

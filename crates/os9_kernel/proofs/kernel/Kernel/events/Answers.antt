@@ -1,6 +1,6 @@
 use Rattle.std.proofs.Common.{◌≡◌, ◌-◌, arith, rules, refl, ◌∙◌, inl, inr}
 use Rattle.machine_model.specs.Run.{cost}
-use Rattle.os9_kernel.specs.Slice.{GoesOnFrom}
+use Rattle.os9_kernel.specs.Slice.{ContinuesFrom}
 use Rattle.os9_kernel.proofs.SliceLemmas.{goes_on-event, over-used_up, over-ended}
 use Rattle.os9_kernel.proofs.kernel.Kernel.events.Goals as goal
 
@@ -21,7 +21,7 @@ pub returns-clause-step : goal.returns-clause-step
 returns-clause-step g c _ s stood =
     let before = c.loop-left.invariant.tied s stood in
     let none : c.loop-left.left ≡ 0 = omega arith in
-    let from : GoesOnFrom c.args.n s 0 before.0 = rw none at before.2 in
+    let from : ContinuesFrom c.args.n s 0 before.0 = rw none at before.2 in
     let all = over-used_up c.args.n s before.0 from in
     (all.0, before.0, all.1, before.1)
 

@@ -3,9 +3,9 @@
 use Rattle.std.proofs.Common.{◌≡◌, ℕ, ◌<◌, option_map, List, map, length, get_or, slice_set, refl, ap, ◌∙◌}
 use Rattle.std.proofs.lemmas.List.{map-set}
 use Rattle.std.proofs.lemmas.Option.{slice_get-map, slice_get_read}
-use Rattle.device_table.specs.Screens.{Screen, ChangesOne}
+use Rattle.os9_outer.specs.TerminalState.{TerminalState, ChangesOneTerminal}
 
-pub ChangesOne-set : {Driver : Type 0} (screen : Driver → Screen) (change : Screen → Screen → Type 0) (drivers : List Driver) (n : ℕ) (old new : Driver) → n < length drivers → old ≡ get_or drivers n old → change (screen old) (screen new) → ChangesOne change n (map screen drivers) (map screen (slice_set drivers n new))
+pub ChangesOne-set : {Driver : Type 0} (screen : Driver → TerminalState) (change : TerminalState → TerminalState → Type 0) (drivers : List Driver) (n : ℕ) (old new : Driver) → n < length drivers → old ≡ get_or drivers n old → change (screen old) (screen new) → ChangesOneTerminal change n (map screen drivers) (map screen (slice_set drivers n new))
 ChangesOne-set screen change drivers n old new inside here changed = (
   screen old,
   screen new,

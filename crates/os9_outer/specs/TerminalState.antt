@@ -1,0 +1,45 @@
+-- What can be observed of the terminals of a machine, as lists that do not depend on how their drivers are made.
+use Rattle.std.specs.Prelude.{◌≡◌, ℕ, Option, Some, Result, List, map, slice_get, slice_set, OnOk}
+use Rattle.std.specs.declared.alloc.Global.{Global}
+use Rattle.std.specs.declared.dyn_box.DynBox.{DynBox}
+use Rattle.os9_base.specs.Count.{Rose}
+use Rattle.os9_outer.specs.Stream.{stream_with, GainsPrefix}
+use Rattle.os9_outer.specs.Terminal.{OnFault, UnlessFault}
+use Rattle.os9_outer.specs.declared.terminal.CharDriver.{Ghosts}
+use Rattle.os9_outer.specs.declared.terminal.Key.{Key}
+use Rattle.os9_outer.specs.declared.terminal.PutFault.{PutFault}
+
+-- the state of a terminal, as far as it can be observed
+pub record TerminalState : Type 0 where
+  pub keys : List Key  -- the keys to come
+  pub put : Option (List ℕ)  -- the bytes put, if the terminal shows them
+  pub faults : ℕ  -- how often it failed
+
+-- the state of a terminal, by its driver, whose ghost members are these
+abbrev pub terminal_state : {Driver : Type 0} → Ghosts Driver → Driver → TerminalState
+terminal_state members driver =
+    record { keys = members.keys_left driver; put = members.bytes_put driver; faults = members.term_faults driver }
+
+-- the state of the terminal in a box; the box's table of methods gives the driver's ghost members
+abbrev pub boxed_terminal_state : {Table : Type 0} {Driver : Table → Type 0} → ((table : Table) → Ghosts (Driver table))
+    → DynBox Table Global Driver → TerminalState
+boxed_terminal_state members terminal = terminal_state (members terminal.vtable) terminal.value
+
+-- the state of each terminal, as `terminal_states ⟦<dyn CharDriver as CharDriver>⟧ devices.now.terms.items`
+abbrev pub terminal_states : {Table : Type 0} {Driver : Table → Type 0} → ((table : Table) → Ghosts (Driver table))
+    → List (DynBox Table Global Driver) → List TerminalState
+terminal_states members terminals = map (boxed_terminal_state members) terminals
+
+-- the terminal of this number changed in this way, and no other terminal changed
+abbrev pub ChangesOneTerminal : (TerminalState → TerminalState → Type 0) → ℕ → List TerminalState → List TerminalState → Type 0
+ChangesOneTerminal change n before now =
+    (old : TerminalState) × (new : TerminalState) × (slice_get before n ≡ Some old) × (now ≡ slice_set before n new)
+    × change old new
+
+-- these bytes were put on the terminal, as far as the answer says
+pub record Puts {Value : Type 0} (answer : Result Value PutFault) (bytes : List ℕ) (old new : TerminalState) : Type 0 where
+  pub all : OnOk answer (new.put ≡ stream_with old.put bytes)
+  pub prefix : GainsPrefix old.put bytes new.put
+  pub fault_counted : OnFault answer (Rose old.faults new.faults)
+  pub faults_kept : UnlessFault answer (new.faults ≡ old.faults)
+  pub keys_kept : new.keys ≡ old.keys
