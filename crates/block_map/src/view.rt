@@ -1,9 +1,11 @@
-ghost use Rattle.std.specs.Prelude.{◌≡◌, ◌/◌, ◌%◌, ◌<◌, ◌≤◌, ◌↔◌, IsTrue};
+ghost use Rattle.std.specs.Prelude.{◌≡◌, ◌+◌, ◌/◌, ◌%◌, ◌<◌, ◌≤◌, ◌↔◌, IsTrue, IfSome, IfNone, OnSome, length};
 ghost use Rattle.std.specs.Bool.{OnTrue};
+ghost use Rattle.os9_base.specs.Cells.{Holds};
 
 use crate::map::Map;
 use block_pool::pool::Pool;
 use os9_base::memory::{Bus, UserMem};
+use proc_model::group::BlockId;
 
 /// The bytes that a process sees: those of the blocks that its map names. A slot counts as named
 /// where its block is live in the pool.
@@ -14,7 +16,7 @@ pub struct View<'a> {
 }
 
 impl Bus for View<'_> {
-    ghost use Rattle.block_map.specs.Window.{map_cells};
+    ghost use Rattle.block_map.specs.Window.{map_cells, IsSlotLive};
     ghost use Rattle.block_map.specs.Beside.{SameBeside, SameBeside-self, SameBeside-then};
 
     ghost cells = { λ view. map_cells view.map.now view.pool.now };
@@ -25,21 +27,29 @@ impl Bus for View<'_> {
 
     ghost same_beside_then = { SameBeside-then };
 
-    fn named(&self, at: u16) -> bool {
-        self.is_slot_live(slot_of(at))
+    fn slice_from(&self, at: u16) -> &[u8]
+        ensures fits { at + length result.now ≤ 65536 }
+        ensures bytes { Holds (map_cells self.now.map.now self.now.pool.now) at result.now }
+        ensures whole { IsSlotLive self.now.map.now self.now.pool.now (at / 8192) → at % 8192 + length result.now ≡ 8192 }
+    {
+        match self.block_in(slot_of(at)) {
+            Some(id) => &self.pool.bytes(id)[offset_in_block(at) as usize..],
+            None => &[],
+        }
     }
 
-    fn get(&self, at: u16) -> u8 {
-        match self.map.place(slot_of(at)) {
-            Some(id) => self.pool.bytes(id)[offset_in_block(at) as usize],
-            None => unreachable!(),
-        }
+    fn read(&self, at: u16) -> Option<u8> {
+        self.slice_from(at).first().copied()
     }
 
     fn put(&mut self, at: u16, byte: u8) {
         if let Some(id) = self.map.place(slot_of(at)) {
             self.pool.copy_in(id, offset_in_block(at), &[byte]);
         }
+    }
+
+    fn store_slice(&mut self, _at: u16, _from: &[u8]) -> bool {
+        false
     }
 }
 
@@ -74,7 +84,9 @@ impl UserMem for View<'_> {
 
     fn load(&self, at: u16, into: &mut [u8]) {
         for (k, byte) in into.iter_mut().enumerate() {
-            *byte = self.get(at + k as u16);
+            if let Some(cell) = self.read(at + k as u16) {
+                *byte = cell;
+            }
         }
     }
 
@@ -90,15 +102,19 @@ impl View<'_> {
     ghost use Rattle.block_pool.specs.Blocks.{IsPool, IsLive};
     ghost use Rattle.block_map.specs.Window.{IsSlotLive, AllSlotsLive};
 
-    // Does the slot name a live block?
-    fn is_slot_live(&self, slot: u8) -> bool
+    // The block in a slot, if it is live.
+    fn block_in(&self, slot: u8) -> Option<BlockId>
         requires { slot < 8 }
-        ensures live { IsTrue result ↔ IsSlotLive self.now.map.now self.now.pool.now slot }
-        ensures shape { OnTrue result (IsPool self.now.pool.now) }
+        ensures some { IfSome result (λ id. block_at self.now.map.now slot ≡ Some id) }
+        ensures live { IfSome result (λ id. IsLive self.now.pool.now id.0) }
+        ensures none { IfNone result (IsSlotLive self.now.map.now self.now.pool.now slot → ⊥) }
+        ensures shape { OnSome result (IsPool self.now.pool.now) }
     {
-        match self.map.place(slot) {
-            Some(id) => self.pool.is_live(id),
-            None => false,
+        let id = self.map.place(slot)?;
+        if self.pool.is_live(id) {
+            Some(id)
+        } else {
+            None
         }
     }
 
@@ -109,7 +125,7 @@ impl View<'_> {
         ensures shape { OnTrue result (first ≤ last → IsPool self.now.pool.now) }
     {
         for slot in first..=last {
-            if !self.is_slot_live(slot) {
+            if self.block_in(slot).is_none() {
                 return false;
             }
         }

@@ -1,4 +1,4 @@
-ghost use Rattle.std.specs.Prelude.{◌≡◌, true, if◌then◌else◌};
+ghost use Rattle.std.specs.Prelude.{◌≡◌, true, is_some, if◌then◌else◌};
 ghost use Rattle.cpu_model.specs.Step.{Leaves, Done, Aborts, all_named, write_cells};
 ghost use Rattle.cpu_model.specs.Effects.{bytes_from};
 ghost use Rattle.cpu6809.specs.Writes.{written, effect};
@@ -8,11 +8,17 @@ use cpu_model::stop::Stop;
 use os9_base::memory::Bus;
 use os9_base::registers::Regs;
 
+fn is_named<B: Bus>(b: &B, at: u16) -> bool
+    ensures { result ≡ is_some (B.cells b.now at) }
+{
+    b.read(at).is_some()
+}
+
 fn all_named_from<B: Bus>(b: &B, mut at: u16, bytes: &[u8]) -> bool
     ensures { result ≡ all_named (B.cells b.now) (bytes_from at bytes.now) }
 {
     for _byte in bytes {
-        if !b.named(at) {
+        if !is_named(b, at) {
             return false;
         }
         at = at.wrapping_add(1);
@@ -26,8 +32,8 @@ fn may_write<B: Bus>(b: &B, writes: &Writes) -> bool
 {
     match writes {
         Writes::Nothing => true,
-        Writes::Byte(at, _) => b.named(*at),
-        Writes::Word(at, _) => b.named(*at) && b.named(at.wrapping_add(1)),
+        Writes::Byte(at, _) => is_named(b, *at),
+        Writes::Word(at, _) => is_named(b, *at) && is_named(b, at.wrapping_add(1)),
         Writes::Frame(at, bytes) => all_named_from(b, *at, bytes.as_slice()),
     }
 }

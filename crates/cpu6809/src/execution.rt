@@ -9,7 +9,7 @@ use crate::effect::{
     abx, andcc, binary_on, branch, changes, daa, exchange, jump, lea, mul, orcc, sex, store,
     store_word, transfer, unary_effect, unary_on, word_on,
 };
-use crate::place::{byte_at, byte_operand, place_of, tail_byte, target_of, word_operand};
+use crate::place::{byte_operand, place_of, tail_byte, target_of, word_operand};
 use crate::stack::{enter, pull, push, return_from_interrupt, return_from_subroutine};
 use arrayvec::ArrayVec;
 use cpu_model::instruction::Instr;
@@ -26,7 +26,7 @@ const LONGEST: usize = 5;
 fn unary_effect_at<B: Bus>(b: &B, operation: Unary, p: Place) -> Option<Change>
     ensures { option_map effect result ≡ changed.unary_effect_at (B.cells b.now) operation p }
 {
-    let value = byte_at(b, p.at)?;
+    let value = b.read(p.at)?;
     Some(unary_effect(operation, p, value))
 }
 
@@ -95,7 +95,7 @@ fn fetch<B: Bus>(b: &B, mut at: u16) -> ArrayVec<u8, LONGEST>
 {
     let mut bytes = ArrayVec::new();
     for _k in 0..LONGEST {
-        match byte_at(b, at) {
+        match b.read(at) {
             Some(byte) => bytes.push(byte),
             None => return bytes,
         }
@@ -108,7 +108,7 @@ fn fetch<B: Bus>(b: &B, mut at: u16) -> ArrayVec<u8, LONGEST>
 fn system_call<B: Bus>(r: &mut Regs, b: &B, next: Regs) -> Stop
     ensures { model.Leaves (model.call_outcome next (B.cells b.now next.pc)) result r.old r.new (B.cells b.now) (B.cells b.now) }
 {
-    match byte_at(b, next.pc) {
+    match b.read(next.pc) {
         Some(code) => {
             *r = past(next, 1);
             Stop::Call(code)

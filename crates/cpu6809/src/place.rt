@@ -48,19 +48,12 @@ fn five_bits(post: u8) -> u16
     if bits > 0x0F { 0xFFE0 + bits } else { bits }
 }
 
-/// The byte at an address, if the address is named.
-pub(crate) fn byte_at<B: Bus>(b: &B, at: u16) -> Option<u8>
-    ensures { result ≡ B.cells b.now at }
-{
-    if b.named(at) { Some(b.get(at)) } else { None }
-}
-
 /// The word at an address, high byte first, if both addresses are named.
 pub(crate) fn word_at<B: Bus>(b: &B, at: u16) -> Option<u16>
     ensures { result ≡ model.word_at (B.cells b.now) at }
 {
-    let high = byte_at(b, at)?;
-    let low = byte_at(b, at.wrapping_add(1))?;
+    let high = b.read(at)?;
+    let low = b.read(at.wrapping_add(1))?;
     Some(high as u16 * 256 + low as u16)
 }
 
@@ -190,7 +183,7 @@ pub(crate) fn target_of(r: Regs, mode: Mode, tail: Tail) -> u16
 fn byte_operand_at<B: Bus>(b: &B, p: Place) -> Option<ByteOperand>
     ensures { result ≡ model.byte_operand_at (B.cells b.now) p }
 {
-    let value = byte_at(b, p.at)?;
+    let value = b.read(p.at)?;
     Some(ByteOperand {
         value,
         regs: p.regs,

@@ -5,7 +5,7 @@ ghost use Rattle.cpu_model.specs.Flags.{has_bit};
 ghost use Rattle.cpu6809.specs.Writes.{effect};
 
 use crate::change::{Change, FRAME, Writes};
-use crate::place::{byte_at, word_at};
+use crate::place::word_at;
 use crate::register::{other_pointer, register, stack_pointer, with_register, with_stack_pointer};
 use arrayvec::ArrayVec;
 use cpu_model::operand::Place;
@@ -96,7 +96,7 @@ fn pull_byte<B: Bus>(b: &B, mask: u8, weight: u8, register: Register, p: Place) 
     if !names(mask, weight) {
         return Some(p);
     }
-    let value = byte_at(b, p.at)?;
+    let value = b.read(p.at)?;
     Some(Place {
         at: p.at.wrapping_add(1),
         regs: with_register(p.regs, register, value as u16),
@@ -154,7 +154,7 @@ pub(crate) fn pull<B: Bus>(b: &B, r: Regs, stack: Stack, mask: u8) -> Option<Reg
 pub(crate) fn return_from_interrupt<B: Bus>(b: &B, r: Regs) -> Option<Regs>
     ensures { result ≡ model.return_from_interrupt (B.cells b.now) r }
 {
-    let cc = byte_at(b, r.s)?;
+    let cc = b.read(r.s)?;
     let mask = if cc > 0x7F { 255 } else { 129 };
     pull(b, r, Stack::System, mask)
 }

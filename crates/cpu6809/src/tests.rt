@@ -20,16 +20,21 @@ impl Bus for Ram {
 
     ghost same_beside_then = { λ _ _ _ _ _. tt };
 
-    fn named(&self, at: u16) -> bool {
-        (at as usize) < self.bytes.len()
+    fn slice_from(&self, at: u16) -> &[u8] {
+        let end = self.bytes.len().min(ADDRESSES);
+        &self.bytes[(at as usize).min(end)..end]
     }
 
-    fn get(&self, at: u16) -> u8 {
-        self.bytes[at as usize]
+    fn read(&self, at: u16) -> Option<u8> {
+        self.bytes.get(at as usize).copied()
     }
 
     fn put(&mut self, at: u16, byte: u8) {
         self.bytes[at as usize] = byte;
+    }
+
+    fn store_slice(&mut self, _at: u16, _from: &[u8]) -> bool {
+        false
     }
 }
 

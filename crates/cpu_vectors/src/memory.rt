@@ -51,15 +51,23 @@ impl Bus for Memory {
 
     ghost same_beside_then = { λ _ _ _ _ _. tt };
 
-    fn named(&self, at: u16) -> bool {
-        self.has_slot(at) && (at as usize) < self.bytes.len()
+    fn slice_from(&self, _at: u16) -> &[u8] {
+        &[]
     }
 
-    fn get(&self, at: u16) -> u8 {
-        self.bytes[at as usize]
+    fn read(&self, at: u16) -> Option<u8> {
+        if self.has_slot(at) {
+            self.bytes.get(at as usize).copied()
+        } else {
+            None
+        }
     }
 
     fn put(&mut self, at: u16, byte: u8) {
         self.bytes[at as usize] = byte;
+    }
+
+    fn store_slice(&mut self, _at: u16, _from: &[u8]) -> bool {
+        false
     }
 }

@@ -1,29 +1,39 @@
-ghost use Rattle.std.specs.Prelude.{◌≡◌, ℕ, Option, Some, IsSome, is_some, IsTrue, ◌↔◌, length};
-ghost use Rattle.os9_base.specs.Cells.{put_cell, store_cells, FitsIn, Holds};
+ghost use Rattle.std.specs.Prelude.{◌≡◌, IsSome, IsTrue, ◌+◌, ◌≤◌, ◌↔◌, length};
+ghost use Rattle.std.specs.Bool.{OnTrue, OnFalse};
+ghost use Rattle.os9_base.specs.Cells.{Cells, put_cell, store_cells, FitsIn, Holds};
 
 /// The bus of a processor: bytes at addresses, of which some are named.
 ///
 /// `cells` is all that a program can see of it: the byte at an address, or nothing where the
 /// address is not named. `same_beside` says that whatever else the value holds is as it was.
 pub trait Bus {
-    ghost cells: { Self → ℕ → Option ℕ };
+    ghost cells: { Self → Cells };
 
     ghost same_beside: { Self → Self → Type 0 };
 
-    /// Is this address named?
-    fn named(&self, at: u16) -> bool
-        ensures { result ≡ is_some (cells self.now at) };
+    /// Bytes from an address on that lie together, as many as the bus has there at hand and none past
+    /// `FFFF`. There may always be none, so it tells nothing of what is named.
+    fn slice_from(&self, at: u16) -> &[u8]
+        ensures fits { at + length result.now ≤ 65536 }
+        ensures bytes { Holds (cells self.now) at result.now };
 
-    /// The byte at a named address.
-    fn get(&self, at: u16) -> u8
-        requires { IsSome (cells self.now at) }
-        ensures { cells self.now at ≡ Some result };
+    /// The byte at an address, or None if the address is not named.
+    fn read(&self, at: u16) -> Option<u8>
+        ensures { result ≡ cells self.now at };
 
     /// Makes the byte at a named address this one, and leaves every other byte, and which
     /// addresses are named.
     fn put(&mut self, at: u16, byte: u8)
         requires { IsSome (cells self.old at) }
         ensures changed { cells self.new ≡ put_cell (cells self.old) at byte }
+        ensures beside { same_beside self.old self.new };
+
+    /// Makes the bytes from an address on these, if they lie together there, and answers whether it
+    /// did. It may always answer false, and has then left every byte as it was.
+    fn store_slice(&mut self, at: u16, from: &[u8]) -> bool
+        ensures fits { OnTrue result (FitsIn (cells self.old) at (length from.now)) }
+        ensures stored { OnTrue result (cells self.new ≡ store_cells (cells self.old) at from.now) }
+        ensures left { OnFalse result (cells self.new ≡ cells self.old) }
         ensures beside { same_beside self.old self.new };
 
     ghost same_beside_self: { (bus : Self) → same_beside bus bus };
@@ -36,7 +46,7 @@ pub trait Bus {
 ///
 /// The ghost members are those of [`Bus`].
 pub trait UserMem {
-    ghost cells: { Self → ℕ → Option ℕ };
+    ghost cells: { Self → Cells };
 
     ghost same_beside: { Self → Self → Type 0 };
 

@@ -1,6 +1,6 @@
 -- Lines that are read byte by byte into the front of a buffer.
 use Rattle.std.proofs.Common.{◌≡◌, ◌≢◌, ℕ, suc, ◌+◌, ◌-◌, ◌<◌, ◌≤◌, ◌==◌, Option, Some, None, List, [], ◌∷◌, ◌++◌, length, set, take, refl, ap, ◌∙◌, append_assoc, sym, add-zero, true, false, arith}
-use Rattle.std.specs.Prelude.{is_some, option_map, if◌then◌else◌}
+use Rattle.std.specs.Prelude.{option_map, if◌then◌else◌}
 use Rattle.std.proofs.lemmas.List.{take_more_set, append-nil}
 use Rattle.std.proofs.Math.Nat.{sub-zero}
 use Rattle.std.proofs.lemmas.Bool.{eq-eqb, ne_eqb, lt-ltb, le-ltb}
@@ -42,10 +42,6 @@ IsReadTo-all cells at most count into all so_far =
     let end : line_at cells (at + count) (most - count) ≡ Some [] = rw nothing refl in
     so_far ∙ ap (option_map (λ rest. take count into ++ rest)) end ∙ ap Some (append-nil (take count into) ∙ ap (λ n. take n into) all)
 
-unnamed : (cell : Option ℕ) → false ≡ is_some cell → cell ≡ None
-unnamed None is = refl
-unnamed (Some byte) is = cc
-
 module _ (cells : ℕ → Option ℕ) (at most count : ℕ) (into : List ℕ) (left : count < most) (so_far : IsReadTo cells at most count into) where
   next : line_at cells at most ≡ option_map (λ rest. take count into ++ rest) (line_at cells (at + count) (suc (most - (count + 1))))
   next =
@@ -63,8 +59,8 @@ module _ (cells : ℕ → Option ℕ) (at most count : ℕ) (into : List ℕ) (l
     usable : user_cell cells (at + count) ≡ cells address
     usable = user_cell-below cells (at + count) below ∙ ap cells (sym place)
 
-    pub line-unnamed : false ≡ is_some (cells address) → line_at cells at most ≡ None
-    line-unnamed is = line-unusable (usable ∙ unnamed (cells address) is)
+    pub line-unnamed : cells address ≡ None → line_at cells at most ≡ None
+    line-unnamed is = line-unusable (usable ∙ is)
 
     module _ (byte : ℕ) (is : cells address ≡ Some byte) (within : count < length into) where
       written : take (count + 1) (set into count byte) ≡ take count into ++ byte ∷ []

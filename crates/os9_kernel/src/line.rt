@@ -37,10 +37,7 @@ fn read_line<B: Bus>(memory: &B, at: u16, most: u16, into: &mut [u8]) -> Option<
 {
     for count in 0..most {
         let address = at.checked_add(count)?;
-        if !memory.named(address) {
-            return None;
-        }
-        let byte = memory.get(address);
+        let byte = memory.read(address)?;
         into[count as usize] = byte;
         if byte == RETURN {
             return Some(count as usize + 1);

@@ -34,7 +34,7 @@ fn new_low_area(rt: HostRuntime) -> Result<(), Fail> {
     assert!(rt; view.fits(0x1fff, 2));
     assert!(rt; !view.fits(0x3fff, 2));
     view.store(0x1fff, &[1, 2]);
-    assert!(rt; view.named(0x2000));
-    assert_eq!(rt; view.get(0x2000), 2);
+    assert_eq!(rt; view.read(0x2000), Some(2));
+    assert_eq!(rt; view.slice_from(0x2000).len(), 8192);
     Ok(())
 }
