@@ -20,7 +20,8 @@ use Rattle.rbf_model.proofs.Keeps.{searched_is}
 use Rattle.rbf_model.proofs.Built.{sound_from_keeps}
 use Rattle.rbf_search.specs.declared.links.Link.{Link}
 use Rattle.rbf_check.specs.declared.survey.Survey.{Survey}
-use Rattle.rbf_search.specs.Reading.{geometry_of}
+use Rattle.rbf_sector.specs.Ident.{geometry_of}
+use Rattle.rbf_sector.specs.Ident.{geometry_of}
 use Rattle.rbf_check.specs.Survey.{IsSurvey}
 use Rattle.rbf_search.proofs.Headers.{header_of, disk_of}
 use Rattle.rbf_search.proofs.FoundNumbers.{number_reached}

@@ -11,7 +11,8 @@ use Rattle.rbf_model.specs.File.{DiskFile, file_at}
 use Rattle.rbf_model.specs.Faults.{Reaches}
 use Rattle.rbf_search.specs.declared.links.Link.{Link}
 use Rattle.rbf_check.specs.declared.survey.Survey.{Survey}
-use Rattle.rbf_search.specs.Reading.{geometry_of}
+use Rattle.rbf_sector.specs.Ident.{geometry_of}
+use Rattle.rbf_sector.specs.Ident.{geometry_of}
 use Rattle.rbf_check.specs.Survey.{IsSurvey}
 use Rattle.rbf_check.specs.declared.tree.Node.{Node}
 use Rattle.rbf_check.specs.Surveyed.{volume_from, AreNodesBelow}

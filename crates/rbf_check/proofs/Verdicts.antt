@@ -15,7 +15,8 @@ use Rattle.rbf_model.specs.Faults.Breaks.{bad_number, bad_segment, bad_map, unma
 use Rattle.rbf_model.specs.Faults.ImageBreaks.{bad_header, breaks}
 use Rattle.rbf_model.proofs.Keeps.{number_of_reached}
 use Rattle.rbf_sector.specs.declared.ident.Ident.{Ident}
-use Rattle.rbf_search.specs.Reading.{geometry_of, IsIdent}
+use Rattle.rbf_sector.specs.Ident.{geometry_of}
+use Rattle.rbf_search.specs.Reading.{IsIdent}
 use Rattle.rbf_search.specs.Least.{IsLeastBreach}
 use Rattle.rbf_tree.specs.Dots.{AreDotsDecided}
 use Rattle.rbf_check.specs.Verdict.{KeepsBefore, IsLeastFault, IsLeastError, IsErrorOf}

@@ -11,7 +11,8 @@ use Rattle.rbf_model.specs.Volume.{DiskVolume, free_clusters, lost_clusters}
 use Rattle.rbf_model.specs.Faults.{Keeps, IsFound, volume_of, image_volume}
 use Rattle.rbf_model.proofs.Images.{vol_from_keeps}
 use Rattle.rbf_check.specs.declared.survey.Survey.{Survey}
-use Rattle.rbf_search.specs.Reading.{geometry_of}
+use Rattle.rbf_sector.specs.Ident.{geometry_of}
+use Rattle.rbf_sector.specs.Ident.{geometry_of}
 use Rattle.rbf_check.specs.Survey.{IsSurvey}
 use Rattle.rbf_check.specs.declared.tree.Node.{Node}
 use Rattle.rbf_check.specs.declared.tree.Tree.{Tree}

@@ -3,7 +3,8 @@ use Rattle.std.specs.Prelude.{ℕ, List}
 use Rattle.rbf_model.specs.Geometry.{sector}
 use Rattle.rbf_model.specs.Faults.{IsFound, Keeps}
 use Rattle.rbf_check.specs.declared.survey.Survey.{Survey}
-use Rattle.rbf_search.specs.Reading.{geometry_of, IsIdent}
+use Rattle.rbf_sector.specs.Ident.{geometry_of}
+use Rattle.rbf_search.specs.Reading.{IsIdent}
 use Rattle.rbf_search.specs.Linked.{AreLinks}
 
 -- the identification, the descriptors that are reached and the links of an image that keeps the rules

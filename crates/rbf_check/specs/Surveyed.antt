@@ -5,7 +5,8 @@ use Rattle.rbf_model.specs.Geometry.{sector}
 use Rattle.rbf_model.specs.Volume.{DiskVolume}
 use Rattle.rbf_model.specs.Faults.{volume_of}
 use Rattle.rbf_check.specs.declared.survey.Survey.{Survey}
-use Rattle.rbf_search.specs.Reading.{geometry_of}
+use Rattle.rbf_sector.specs.Ident.{geometry_of}
+use Rattle.rbf_sector.specs.Ident.{geometry_of}
 use Rattle.rbf_check.specs.declared.tree.Node.{Node}
 use Rattle.rbf_check.specs.Tree.{TellsNode}
 

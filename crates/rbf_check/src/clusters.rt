@@ -5,13 +5,14 @@ ghost use Rattle.rbf_model.specs.Segments.{sectors_of};
 ghost use Rattle.rbf_model.specs.File.{file_at};
 ghost use Rattle.rbf_model.specs.Space.{owned};
 ghost use Rattle.rbf_model.specs.Faults.{Reaches};
-ghost use Rattle.rbf_search.specs.Reading.{geometry_of};
+ghost use Rattle.rbf_sector.specs.Ident.{geometry_of};
+ghost use Rattle.rbf_sector.specs.Ident.{geometry_of};
 ghost use Rattle.rbf_check.specs.Survey.{IsSurvey};
 ghost use Rattle.rbf_check.specs.Clusters.{NotesClusters, AreUsed};
 
 use crate::survey::Survey;
-use rbf_search::{sector, system_sectors};
-use rbf_sector::{Ident, read_fd};
+use rbf_search::sector;
+use rbf_sector::{Ident, read_fd, system_sectors};
 use rbf_segs::Segs;
 use std::alloc::{AllocError, Global};
 

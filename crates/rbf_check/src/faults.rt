@@ -1,7 +1,8 @@
 ghost use Rattle.std.specs.Prelude.{◌≡◌, None, IfErr, IfOk, OnOk, MatchOption, MatchResult};
 ghost use Rattle.rbf_model.specs.Geometry.{sector as sector_of};
 ghost use Rattle.rbf_model.specs.Faults.{IsFound, Keeps};
-ghost use Rattle.rbf_search.specs.Reading.{geometry_of, IsIdent};
+ghost use Rattle.rbf_sector.specs.Ident.{geometry_of};
+ghost use Rattle.rbf_search.specs.Reading.{IsIdent};
 ghost use Rattle.rbf_search.specs.Linked.{AreLinks};
 ghost use Rattle.rbf_check.specs.Verdict.{IsLeastError, KeepsBefore};
 ghost use Rattle.rbf_check.specs.declared.faults.CheckError.TheVariants.{OutOfMemory};

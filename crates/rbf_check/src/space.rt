@@ -2,7 +2,8 @@ ghost use Rattle.std.specs.Prelude.{◌≡◌, ◌+◌, ◌/◌, ◌<◌, ◌&&�
 ghost use Rattle.rbf_model.specs.Geometry.{sector as sector_of};
 ghost use Rattle.rbf_model.specs.Space.{is_marked as is_marked_lem, is_whole as is_whole_lem};
 ghost use Rattle.rbf_model.specs.Volume.{free_clusters, lost_clusters};
-ghost use Rattle.rbf_search.specs.Reading.{geometry_of};
+ghost use Rattle.rbf_sector.specs.Ident.{geometry_of};
+ghost use Rattle.rbf_sector.specs.Ident.{geometry_of};
 ghost use Rattle.rbf_check.specs.Survey.{IsSurvey};
 ghost use Rattle.rbf_check.specs.Clusters.{AreUsed};
 ghost use Rattle.rbf_check.specs.Surveyed.{volume_from};

@@ -3,11 +3,11 @@ use Rattle.std.proofs.Common.{◌≡◌, ℕ, ◌+◌, ◌-◌, ◌<◌, ◌≤�
 use Rattle.std.proofs.lemmas.Bool.{cases_eq}
 use Rattle.rbf_map.specs.declared.map.RbfMap.TheInside.{Inside}
 use Rattle.rbf_map.specs.Map.{mark, ChangesMark}
-use Rattle.rbf_map.specs.Inside.{IsInside}
+use Rattle.rbf_map.specs.Inside.{HoldsMap}
 use Rattle.rbf_map.proofs.Marks.{clear_below-set, clear_below-cleared, clear_below-apart}
 
-module _ (inside : Inside) (kept : IsInside inside) (bytes : Vec ℕ Global) (cluster : ℕ) where
-  pub taken : ChangesMark inside.bytes.items bytes.items cluster 1 → mark inside.bytes.items cluster ≡ 0 → cluster < inside.whole → IsInside (record inside { bytes = bytes; free = inside.free - 1 })
+module _ (inside : Inside) (kept : HoldsMap inside) (bytes : Vec ℕ Global) (cluster : ℕ) where
+  pub taken : ChangesMark inside.bytes.items bytes.items cluster 1 → mark inside.bytes.items cluster ≡ 0 → cluster < inside.whole → HoldsMap (record inside { bytes = bytes; free = inside.free - 1 })
   taken changes clear whole =
       let fewer = clear_below-set inside.bytes.items bytes.items cluster inside.whole changes clear whole in
       let counted = kept.counted in
@@ -22,7 +22,7 @@ module _ (inside : Inside) (kept : IsInside inside) (bytes : Vec ℕ Global) (cl
         ];
       }
 
-  pub given_back : ChangesMark inside.bytes.items bytes.items cluster 0 → mark inside.bytes.items cluster ≡ 1 → cluster < inside.whole → (first : ℕ) → first ≡ min inside.first cluster → IsInside (record inside { bytes = bytes; free = inside.free + 1; first = first })
+  pub given_back : ChangesMark inside.bytes.items bytes.items cluster 0 → mark inside.bytes.items cluster ≡ 1 → cluster < inside.whole → (first : ℕ) → first ≡ min inside.first cluster → HoldsMap (record inside { bytes = bytes; free = inside.free + 1; first = first })
   given_back changes set whole first least =
       let more = clear_below-cleared inside.bytes.items bytes.items cluster inside.whole changes set whole in
       let counted = kept.counted in
@@ -34,7 +34,7 @@ module _ (inside : Inside) (kept : IsInside inside) (bytes : Vec ℕ Global) (cl
         used_before = λ k before. changes.others k (λ same. absurd (omega arith)) ∙ kept.used_before k (omega arith);
       }
 
-  pub part_given_back : ChangesMark inside.bytes.items bytes.items cluster 0 → inside.whole ≤ cluster → IsInside (record inside { bytes = bytes })
+  pub part_given_back : ChangesMark inside.bytes.items bytes.items cluster 0 → inside.whole ≤ cluster → HoldsMap (record inside { bytes = bytes })
   part_given_back changes part =
       let same = clear_below-apart inside.bytes.items bytes.items cluster 0 inside.whole changes part in
       let counted = kept.counted in

@@ -37,13 +37,13 @@ pub record ChangesMark (old new : List ℕ) (cluster bit : ℕ) : Type 0 where
   pub bytes : (i : ℕ) → i ≢ cluster / 8 → slice_index new i ≡ slice_index old i
 
 -- a cluster is free where it is whole and not in use
-pub record IsFree (map : ClusterMap) (cluster : ℕ) : Type 0 where
+pub record IsFreeInMap (map : ClusterMap) (cluster : ℕ) : Type 0 where
   pub whole : cluster < map.whole
   pub clear : mark map.bytes cluster ≡ 0
 
 -- the list of free clusters
-abbrev pub free_clusters : ClusterMap → List ℕ
-free_clusters map = clear_below map.bytes map.whole
+abbrev pub map_free_clusters : ClusterMap → List ℕ
+map_free_clusters map = clear_below map.bytes map.whole
 
 -- every whole cluster is in use
 abbrev pub NoneIsFree : ClusterMap → Type 0
@@ -54,15 +54,27 @@ abbrev pub BeginsRun : ClusterMap → ℕ → Type 0
 BeginsRun map cluster = (cluster ≡ 0) ⊎ (mark map.bytes (cluster - 1) ≡ 1)
 
 -- a cluster is the next after the given one
-abbrev pub IsNext : Option ℕ → ℕ → Type 0
-IsNext last cluster = (at : ℕ) × (last ≡ Some at) × (cluster ≡ at + 1)
+abbrev pub IsNextCluster : Option ℕ → ℕ → Type 0
+IsNextCluster last cluster = (at : ℕ) × (last ≡ Some at) × (cluster ≡ at + 1)
+
+-- it is the next after the given one, and free
+abbrev pub IsNextFree : ClusterMap → Option ℕ → ℕ → Type 0
+IsNextFree map last cluster = IsNextCluster last cluster × IsFreeInMap map cluster
+
+-- the next after the given one, if one is given, is not free
+abbrev pub NextIsUsed : ClusterMap → Option ℕ → Type 0
+NextIsUsed map last = (at : ℕ) → last ≡ Some at → ¬ IsFreeInMap map (at + 1)
+
+-- a free cluster begins a run
+abbrev pub IsFreeRun : ClusterMap → ℕ → Type 0
+IsFreeRun map cluster = IsFreeInMap map cluster × BeginsRun map cluster
 
 -- which cluster may be taken after the given one, if one is given: a free one, the next where that is
 -- free, and elsewhere one that begins a run
 pub record MayTake (map : ClusterMap) (last : Option ℕ) (cluster : ℕ) : Type 0 where
-  pub free : IsFree map cluster
-  pub next : (at : ℕ) → last ≡ Some at → IsFree map (at + 1) → cluster ≡ at + 1
-  pub run : IsNext last cluster ⊎ BeginsRun map cluster
+  pub free : IsFreeInMap map cluster
+  pub next : (at : ℕ) → last ≡ Some at → IsFreeInMap map (at + 1) → cluster ≡ at + 1
+  pub run : IsNextCluster last cluster ⊎ BeginsRun map cluster
 
 -- the map has this mark at one cluster, and is as it was in all else
 pub record Marks (old new : ClusterMap) (cluster bit : ℕ) : Type 0 where

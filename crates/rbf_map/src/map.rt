@@ -1,5 +1,5 @@
 ghost use Rattle.std.specs.Prelude.{◌≡◌, ◌≢◌, ℕ, ◌+◌, ◌-◌, ◌*◌, ◌/◌, ◌<◌, ◌≤◌, ◌↔◌, ◌==◌, length, IsNone, IfNone, IfSome, IsTrue, MatchOption};
-ghost use Rattle.rbf_map.specs.Map.{mark, free_clusters, IsFree, IsNext, BeginsRun, NoneIsFree, MayTake, Marks, IsSectorOf};
+ghost use Rattle.rbf_map.specs.Map.{mark, map_free_clusters, IsFreeInMap, BeginsRun, NextIsUsed, IsNextFree, IsFreeRun, NoneIsFree, MayTake, Marks, IsSectorOf};
 
 use crate::bits::{clear_mark, count_clear, first_clear, is_marked, set_mark};
 use std::marker::Model;
@@ -23,11 +23,11 @@ impl Model for RbfMap {
 
     ghost Value = { ClusterMap };
 
-    ghost use Rattle.rbf_map.specs.Inside.{map_of, IsInside};
+    ghost use Rattle.rbf_map.specs.Inside.{map_of, HoldsMap};
 
     ghost view = { map_of };
 
-    ghost invariant = { IsInside };
+    ghost invariant = { HoldsMap };
 }
 
 impl RbfMap {
@@ -57,7 +57,7 @@ impl RbfMap {
 
     /// How many clusters are free.
     pub fn free_count(&self) -> u32
-        ensures { result ≡ length (free_clusters self.now) }
+        ensures { result ≡ length (map_free_clusters self.now) }
     {
         self.free
     }
@@ -69,6 +69,7 @@ impl RbfMap {
         ensures taken { IfSome result (MayTake self.old c) }
         ensures marked { IfSome result (λ cluster. Marks self.old self.new cluster 1) }
         ensures unchanged { IfNone result (self.new ≡ self.old) }
+        ensures whole_ones { self.old.whole ≤ self.old.clusters }
     {
         if let Some(next) = self.next_of(c) {
             self.take(next);
@@ -81,7 +82,7 @@ impl RbfMap {
 
     // Marks a free cluster as in use.
     fn take(&mut self, cluster: u32)
-        requires { IsFree self.old cluster }
+        requires { IsFreeInMap self.old cluster }
         ensures { Marks self.old self.new cluster 1 }
     {
         set_mark(&mut self.bytes, cluster);
@@ -90,19 +91,23 @@ impl RbfMap {
 
     // The first free cluster, which begins a run.
     fn first_free(&mut self) -> Option<u32>
-        ensures found { MatchOption result (NoneIsFree self.old) (λ cluster. IsFree self.old cluster × BeginsRun self.old cluster) }
+        ensures none { IfNone result (NoneIsFree self.old) }
+        ensures found { IfSome result (IsFreeRun self.old) }
         ensures unchanged { self.new ≡ self.old }
     {
         self.first = first_clear(&self.bytes, self.first, self.whole)?;
         Some(self.first)
     }
 
-    // The next cluster after `last`, where it is free.
+    // The next cluster after `last`, if it is free.
     fn next_of(&self, last: Option<u32>) -> Option<u32>
-        ensures { MatchOption result ((at : ℕ) → last ≡ Some at → ¬ IsFree self.now (at + 1)) (λ next. IsNext last next × IsFree self.now next) }
+        ensures none { IfNone result (NextIsUsed self.now last) }
+        ensures next { IfSome result (IsNextFree self.now last) }
+        ensures whole_ones { self.now.whole ≤ self.now.clusters }
     {
+        let whole = self.whole;
         let next = last?.saturating_add(1);
-        if next < self.whole && !is_marked(&self.bytes, next) {
+        if next < whole && !is_marked(&self.bytes, next) {
             Some(next)
         } else {
             None
@@ -154,6 +159,20 @@ mod tests {
         assert_eq!(rt; bytes[0], 0xFC);
         assert_eq!(rt; bytes[1], 0x20);
         assert_eq!(rt; bytes[2], 0);
+        Ok(())
+    }
+
+    // A volume's map keeps all bytes of its sectors, those past its clusters too.
+    #[test]
+    fn bytes_past_the_clusters_are_kept(rt: HostRuntime) -> Result<(), Fail> {
+        let mut map = RbfMap::new(12, 12, vec![in rt.alloc(); 0xA5u8; 512]?);
+        assert_eq!(rt; map.free_count(), 6);
+        assert_eq!(rt; map.take_after(None), Some(1));
+        let mut bytes = [7; 256];
+        map.sector(0, &mut bytes);
+        assert_eq!(rt; (bytes[0], bytes[1], bytes[255]), (0xE5, 0xA5, 0xA5));
+        map.sector(1, &mut bytes);
+        assert_eq!(rt; (bytes[0], bytes[255]), (0xA5, 0xA5));
         Ok(())
     }
 }

@@ -9,7 +9,7 @@ use Rattle.rbf_model.specs.Segments.{has, sectors_of, AreDistinct}
 use Rattle.rbf_model.specs.File.{DiskFile, file_from, file_at, bytes_of, has_room}
 use Rattle.rbf_model.specs.Space.{is_whole, is_marked, Unused, system_sectors, own_sectors, owned, owns, IsMapped}
 use Rattle.rbf_model.specs.Volume.{DiskVolume, Sound, is_free}
-use Rattle.rbf_model.specs.Writes.{put, put_at, with_same_space}
+use Rattle.rbf_model.specs.Writes.{put, put_at, with_file_in_place}
 use Rattle.rbf_model.specs.Laws.{IsFileSector, IsUnseen, idle, unowned, past_size, with_bytes, Overwrites}
 use Rattle.rbf_model.proofs.Segments.{has_range, sectors_within, length-joined}
 use Rattle.rbf_model.proofs.Keeps.{segments_are, room_is, size_is}
@@ -198,7 +198,7 @@ unseen_law g disk v sound s bytes whole (unowned below free) = unowned_law g dis
 unseen_law g disk v sound s bytes whole (past_size {n = n} {j = j} {file = file} sector agree) = past_size_law g disk v sound n j s file bytes whole sector agree
 
 pub overwrite_law : (g : Geometry) (disk : ℕ → List ℕ) (v : DiskVolume) → Sound g disk v → (n j s : ℕ) (file : DiskFile) (bytes : List ℕ) → length bytes ≡ 256 → Overwrites v n file j s
-    → Sound g (put disk s bytes) (with_same_space v n (with_bytes file j bytes))
+    → Sound g (put disk s bytes) (with_file_in_place v n (with_bytes file j bytes))
 overwrite_law g disk v sound n j s file bytes whole over = record {
   shape = sound.shape;
   sectors = disk_put g disk s bytes sound.sectors whole;

@@ -9,7 +9,7 @@ use Rattle.rbf_model.specs.File.{DiskFile, file_from, file_at, bytes_of, is_dire
 use Rattle.rbf_model.specs.Space.{is_marked, own_sectors, IsMapped}
 use Rattle.rbf_model.specs.Tree.{HasEntry}
 use Rattle.rbf_model.specs.Volume.{DiskVolume, Sound}
-use Rattle.rbf_model.specs.Writes.{put, put_at, put_file, with_file, with_same_space, IsNewEntry}
+use Rattle.rbf_model.specs.Writes.{put, put_at, put_file, with_file, with_file_in_place, IsNewEntry}
 use Rattle.rbf_model.specs.Laws.{PutsEntry, Enters, with_entry}
 use Rattle.rbf_model.proofs.Change.{put_file_cases, mapped_same}
 use Rattle.rbf_model.proofs.Leaf.{tree_with_leaf}
@@ -66,7 +66,7 @@ module _ (g : Geometry) (disk : ℕ → List ℕ) (v : DiskVolume) (sound : Soun
 -- a free entry that becomes a new file's
 pub enter_law : (g : Geometry) (disk : ℕ → List ℕ) (v : DiskVolume) → Sound g disk v → (d : ℕ) (dir : DiskFile) (j s : ℕ) (bytes : List ℕ) → length bytes ≡ 256
     → (i : ℕ) (entry : List ℕ) (n : ℕ) → Enters g disk v d dir j s bytes i entry n
-    → Sound g (put disk s bytes) (with_file g (with_same_space v d (with_entry dir i entry)) n (Some (file_at disk n)))
+    → Sound g (put disk s bytes) (with_file g (with_file_in_place v d (with_entry dir i entry)) n (Some (file_at disk n)))
 enter_law g disk v sound d dir j s bytes whole i entry n enters = record {
   shape = sound.shape;
   sectors = disk_put g disk s bytes sound.sectors whole;

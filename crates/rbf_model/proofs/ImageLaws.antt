@@ -3,7 +3,7 @@ use Rattle.std.proofs.Common.{◌≡◌, ℕ, ◌<◌, ◌≤◌, ◌&&◌, ◌|
 use Rattle.rbf_model.specs.Geometry.{image_geometry, sector}
 use Rattle.rbf_model.specs.File.{DiskFile, file_from, file_at}
 use Rattle.rbf_model.specs.Volume.{DiskVolume, Vol}
-use Rattle.rbf_model.specs.Writes.{put_sector, with_file, with_same_space, with_lost}
+use Rattle.rbf_model.specs.Writes.{put_sector, with_file, with_file_in_place, with_lost}
 use Rattle.rbf_model.specs.Laws.{IsMapSector, Takes, Frees, IsFileSector, IsUnseen, Overwrites, with_bytes, Redescribes, Enters, Appends, Leaves, with_entry}
 use Rattle.rbf_model.proofs.Free.{number_below}
 use Rattle.rbf_model.proofs.Owners.{own_below}
@@ -44,7 +44,7 @@ module _ (image : List ℕ) (v : DiskVolume) (vol : Vol image v) where
       vol_put image v v s bytes vol (omega arith) place.1 whole (unseen_law (image_geometry image) (sector image) v vol.sound s bytes whole unseen) refl
 
   pub overwrite_image : (n j s : ℕ) (file : DiskFile) (bytes : List ℕ) → length bytes ≡ 256 → Overwrites v n file j s
-      → Vol (put_sector image s bytes) (with_same_space v n (with_bytes file j bytes))
+      → Vol (put_sector image s bytes) (with_file_in_place v n (with_bytes file j bytes))
   overwrite_image n j s file bytes whole over =
       vol_put image v _ s bytes vol (sector_after n j s file bytes whole over.sector) (sector_below n j s file bytes whole over.sector) whole
       (overwrite_law (image_geometry image) (sector image) v vol.sound n j s file bytes whole over) refl
@@ -59,7 +59,7 @@ module _ (image : List ℕ) (v : DiskVolume) (vol : Vol image v) where
 
   pub enter_image : (d : ℕ) (dir : DiskFile) (j s : ℕ) (bytes : List ℕ) (i : ℕ) (entry : List ℕ) (n : ℕ) → length bytes ≡ 256
       → Enters (image_geometry image) (sector image) v d dir j s bytes i entry n
-      → Vol (put_sector image s bytes) (with_file (image_geometry image) (with_same_space v d (with_entry dir i entry)) n (Some (file_at (sector image) n)))
+      → Vol (put_sector image s bytes) (with_file (image_geometry image) (with_file_in_place v d (with_entry dir i entry)) n (Some (file_at (sector image) n)))
   enter_image d dir j s bytes i entry n whole enters =
       vol_put image v _ s bytes vol (sector_after d j s dir bytes whole enters.puts.sector) (sector_below d j s dir bytes whole enters.puts.sector) whole
       (enter_law (image_geometry image) (sector image) v vol.sound d dir j s bytes whole i entry n enters) refl
@@ -76,7 +76,7 @@ module _ (image : List ℕ) (v : DiskVolume) (vol : Vol image v) where
 
   pub leave_image : (d : ℕ) (dir : DiskFile) (j s : ℕ) (bytes : List ℕ) (i : ℕ) (entry : List ℕ) (n : ℕ) (file : DiskFile) → length bytes ≡ 256
       → Leaves (sector image) v d dir j s bytes i entry n file
-      → Vol (put_sector image s bytes) (with_file (image_geometry image) (with_same_space v d (with_entry dir i entry)) n None)
+      → Vol (put_sector image s bytes) (with_file (image_geometry image) (with_file_in_place v d (with_entry dir i entry)) n None)
   leave_image d dir j s bytes i entry n file whole leaves =
       vol_put image v _ s bytes vol (sector_after d j s dir bytes whole leaves.puts.sector) (sector_below d j s dir bytes whole leaves.puts.sector) whole
       (leave_law (image_geometry image) (sector image) v vol.sound d dir j s bytes whole i entry n file leaves) refl

@@ -7,7 +7,7 @@ use Rattle.rbf_model.specs.Geometry.{Geometry}
 use Rattle.rbf_model.specs.File.{DiskFile}
 use Rattle.rbf_model.specs.Space.{is_marked}
 use Rattle.rbf_model.specs.Volume.{DiskVolume, Sound}
-use Rattle.rbf_model.specs.Writes.{put, put_file, with_file, with_same_space}
+use Rattle.rbf_model.specs.Writes.{put, put_file, with_file, with_file_in_place}
 use Rattle.rbf_model.specs.Laws.{Leaves, with_entry}
 use Rattle.rbf_model.proofs.Change.{put_file_cases, mapped_after}
 use Rattle.rbf_model.proofs.Fall.{tree_without_leaf}
@@ -17,7 +17,7 @@ use Rattle.rbf_model.proofs.Entered.{past_entry, size_entry, changes_entry, entr
 -- the entry of a file that becomes free
 pub leave_law : (g : Geometry) (disk : ℕ → List ℕ) (v : DiskVolume) → Sound g disk v → (d : ℕ) (dir : DiskFile) (j s : ℕ) (bytes : List ℕ) → length bytes ≡ 256
     → (i : ℕ) (entry : List ℕ) (n : ℕ) (file : DiskFile) → Leaves disk v d dir j s bytes i entry n file
-    → Sound g (put disk s bytes) (with_file g (with_same_space v d (with_entry dir i entry)) n None)
+    → Sound g (put disk s bytes) (with_file g (with_file_in_place v d (with_entry dir i entry)) n None)
 leave_law g disk v sound d dir j s bytes whole i entry n file leaves = record {
   shape = sound.shape;
   sectors = disk_put g disk s bytes sound.sectors whole;

@@ -1,14 +1,33 @@
--- The sectors that a segment list stands for.
-use Rattle.std.specs.Prelude.{ℕ, ◌==◌, ◌≢◌, Bool, List, flat_map, AllPairs}
+-- Segment lists, as a file descriptor has them (OS-9 Technical Reference, Random Block File Manager, FD.SEG), and
+-- the sectors that they represent. A segment is the pair of its first sector and of how many sectors it has.
+use Rattle.std.specs.Prelude.{ℕ, ◌+◌, ◌-◌, ◌==◌, ◌≢◌, ◌&&◌, nat_lt, min, Bool, List, [], ◌∷◌, flat_map, AllPairs, if◌then◌else◌}
 use Rattle.std.specs.List.{range_with_len, list_any}
 
 -- the sectors of one segment: so many from the first on
 abbrev pub run : ℕ × ℕ → List ℕ
 run segment = range_with_len segment.0 segment.1
 
--- the sectors of a segment list, in order, each run after the one before it
+-- the sectors of a segment list, in order, those of each segment after those of the one before it
 abbrev pub sectors_of : List (ℕ × ℕ) → List ℕ
 sectors_of segments = flat_map run segments
+
+-- the sector is the next after the segment, which has room for this many more
+abbrev pub joins : ℕ × ℕ → ℕ → ℕ → Bool
+joins segment lsn count = (segment.0 + segment.1 == lsn) && nat_lt (segment.1 + count) 65536
+
+-- the list with this many sectors from `lsn` on behind it: they lengthen the last segment if they
+-- follow it and its count stays below 65,536, and are a segment of their own otherwise
+abbrev pub appended_segments : List (ℕ × ℕ) → ℕ → ℕ → List (ℕ × ℕ)
+appended_segments [] lsn count = (lsn, count) ∷ []
+appended_segments (segment ∷ []) lsn count =
+    if joins segment lsn count then (segment.0, segment.1 + count) ∷ [] else segment ∷ (lsn, count) ∷ []
+appended_segments (segment ∷ next ∷ segments) lsn count = segment ∷ appended_segments (next ∷ segments) lsn count
+
+-- the list with no more than this many sectors: its first segments, the last of them shortened
+abbrev pub shortened_segments : ℕ → List (ℕ × ℕ) → List (ℕ × ℕ)
+shortened_segments sectors [] = []
+shortened_segments sectors (segment ∷ segments) =
+    if sectors == 0 then [] else (segment.0, min sectors segment.1) ∷ shortened_segments (sectors - segment.1) segments
 
 -- the list has the number
 abbrev pub has : List ℕ → ℕ → Bool

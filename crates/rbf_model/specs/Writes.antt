@@ -38,9 +38,9 @@ with_file g v n file = record {
   rest = v.rest;
 }
 
--- a volume whose file of number n has the same segments and is another for the rest
-abbrev pub with_same_space : DiskVolume → ℕ → DiskFile → DiskVolume
-with_same_space v n file = record { ident = v.ident; files = put_file v.files n (Some file); lost = v.lost; rest = v.rest }
+-- a volume whose file of number n is another in the same place: one with the same segments
+abbrev pub with_file_in_place : DiskVolume → ℕ → DiskFile → DiskVolume
+with_file_in_place v n file = record { ident = v.ident; files = put_file v.files n (Some file); lost = v.lost; rest = v.rest }
 
 -- a volume with other lost clusters
 abbrev pub with_lost : DiskVolume → (ℕ → Bool) → DiskVolume

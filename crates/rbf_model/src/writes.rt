@@ -6,7 +6,7 @@ ghost use Rattle.std.specs.Prelude.{◌≡◌, ℕ, ◌&&◌, ◌||◌, not, Boo
 ghost use Rattle.rbf_model.specs.Geometry.{image_geometry, sector};
 ghost use Rattle.rbf_model.specs.File.{DiskFile, file_from, file_at};
 ghost use Rattle.rbf_model.specs.Volume.{DiskVolume, Vol};
-ghost use Rattle.rbf_model.specs.Writes.{put_sector, with_file, with_same_space, with_lost};
+ghost use Rattle.rbf_model.specs.Writes.{put_sector, with_file, with_file_in_place, with_lost};
 ghost use Rattle.rbf_model.specs.Laws.{Takes, Frees, IsUnseen, Overwrites, with_bytes, Redescribes, Enters, Appends, Leaves, with_entry};
 
 /// Free clusters that are marked in one sector of the map are lost.
@@ -40,7 +40,7 @@ pub fn data_is_overwritten()
     ensures { (image : List ℕ) (v : DiskVolume) (n j s : ℕ) (file : DiskFile) (bytes : List ℕ) →
         Vol image v → length bytes ≡ 256
         → Overwrites v n file j s
-        → Vol (put_sector image s bytes) (with_same_space v n (with_bytes file j bytes)) }
+        → Vol (put_sector image s bytes) (with_file_in_place v n (with_bytes file j bytes)) }
 {}
 
 /// A write of a file's descriptor gives the file that it describes, and loses the whole clusters
@@ -60,7 +60,7 @@ pub fn entry_becomes_used()
         Vol image v → length bytes ≡ 256
         → Enters (image_geometry image) (sector image) v d dir j s bytes i entry n
         → Vol (put_sector image s bytes)
-        (with_file (image_geometry image) (with_same_space v d (with_entry dir i entry)) n
+        (with_file (image_geometry image) (with_file_in_place v d (with_entry dir i entry)) n
         (Some (file_at (sector image) n))) }
 {}
 
@@ -85,6 +85,6 @@ pub fn entry_becomes_free()
         Vol image v → length bytes ≡ 256
         → Leaves (sector image) v d dir j s bytes i entry n file
         → Vol (put_sector image s bytes)
-        (with_file (image_geometry image) (with_same_space v d (with_entry dir i entry)) n
+        (with_file (image_geometry image) (with_file_in_place v d (with_entry dir i entry)) n
         None) }
 {}

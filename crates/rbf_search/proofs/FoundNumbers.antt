@@ -5,7 +5,8 @@ use Rattle.rbf_model.specs.Faults.{IsFound, Reaches, searched}
 use Rattle.rbf_model.proofs.Bytes.{has_place}
 use Rattle.rbf_model.proofs.Keeps.{number_of_reached}
 use Rattle.rbf_sector.specs.declared.ident.Ident.{Ident}
-use Rattle.rbf_search.specs.Reading.{geometry_of, IsIdent}
+use Rattle.rbf_sector.specs.Ident.{geometry_of}
+use Rattle.rbf_search.specs.Reading.{IsIdent}
 use Rattle.rbf_search.proofs.Headers.{header_of}
 
 -- a number that is reached is one of the volume

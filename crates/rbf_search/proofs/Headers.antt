@@ -6,7 +6,8 @@ use Rattle.rbf_model.specs.Space.{is_marked}
 use Rattle.rbf_model.proofs.Images.{is_disk}
 use Rattle.rbf_model.proofs.SectorBytes.{map_byte_is}
 use Rattle.rbf_sector.specs.declared.ident.Ident.{Ident}
-use Rattle.rbf_search.specs.Reading.{geometry_of, IsIdent}
+use Rattle.rbf_sector.specs.Ident.{geometry_of}
+use Rattle.rbf_search.specs.Reading.{IsIdent}
 
 -- a mark is a bit of the image
 pub mark_is : (image : List ℕ) (c : ℕ) → (bit_at (get_or image (256 + c / 8) 0) (7 - c % 8) == 1) ≡ is_marked (sector image) c

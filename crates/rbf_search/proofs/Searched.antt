@@ -13,7 +13,8 @@ use Rattle.rbf_model.specs.Faults.{searched}
 use Rattle.std.proofs.lemmas.Option.{slice_get-get_or}
 use Rattle.rbf_sector.specs.declared.ident.Ident.{Ident}
 use Rattle.rbf_search.specs.declared.directory.Directory.{Directory}
-use Rattle.rbf_search.specs.Reading.{geometry_of, IsIdent, IsDirectory}
+use Rattle.rbf_sector.specs.Ident.{geometry_of}
+use Rattle.rbf_search.specs.Reading.{IsIdent, IsDirectory}
 use Rattle.rbf_search.proofs.Headers.{disk_of}
 use Rattle.rbf_model.proofs.Segments.{sectors_within, length-contents}
 use Rattle.rbf_model.proofs.SectorBytes.{entry_in_take, piece_of_piece, sector_of_joined}

@@ -12,7 +12,8 @@ use Rattle.rbf_model.proofs.Bytes.{place_of}
 use Rattle.rbf_model.proofs.Pieces.{take_append}
 use Rattle.rbf_sector.specs.declared.ident.Ident.{Ident}
 use Rattle.rbf_search.specs.declared.directory.Directory.{Directory}
-use Rattle.rbf_search.specs.Reading.{geometry_of, IsIdent, IsDirectory, listed}
+use Rattle.rbf_sector.specs.Ident.{geometry_of}
+use Rattle.rbf_search.specs.Reading.{IsIdent, IsDirectory, listed}
 use Rattle.rbf_search.specs.Slots.{slot, slots_of, segment_slots}
 use Rattle.rbf_search.proofs.Runs.{runs_within}
 use Rattle.rbf_search.proofs.Headers.{disk_of}

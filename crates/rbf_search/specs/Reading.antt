@@ -6,14 +6,10 @@ use Rattle.rbf_model.specs.Fields.{segments_field}
 use Rattle.rbf_model.specs.Geometry.{Geometry, geometry, HasHeader, is_within, sector}
 use Rattle.rbf_model.specs.File.{has_room, is_directory_size}
 use Rattle.rbf_model.specs.Faults.{searched}
+use Rattle.rbf_sector.specs.Ident.{geometry_of}
 use Rattle.rbf_sector.specs.declared.ident.Ident.{Ident}
 use Rattle.rbf_sector.specs.declared.fd.Fd.{Fd}
 use Rattle.rbf_search.specs.declared.directory.Directory.{Directory}
-
--- the geometry that an identification sector gives
-abbrev pub geometry_of : Ident → Geometry
-geometry_of ident =
-    record { total = ident.total; map_bytes = ident.map_bytes; cluster = ident.cluster; root = ident.root }
 
 -- the identification of an image that holds the volume of which it speaks
 pub record IsIdent (image : List ℕ) (ident : Ident) : Type 0 where

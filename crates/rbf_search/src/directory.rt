@@ -2,7 +2,8 @@ ghost use Rattle.std.specs.Prelude.{◌≡◌, ◌+◌, ◌*◌, ◌<◌, length
 ghost use Rattle.std.specs.List.{list_all};
 ghost use Rattle.rbf_model.specs.Fields.{entry_at};
 ghost use Rattle.rbf_model.specs.Geometry.{is_within};
-ghost use Rattle.rbf_search.specs.Reading.{geometry_of, is_searchable, IsIdent, IsDirectory, listed};
+ghost use Rattle.rbf_sector.specs.Ident.{geometry_of};
+ghost use Rattle.rbf_search.specs.Reading.{is_searchable, IsIdent, IsDirectory, listed};
 
 use crate::header::sector;
 use rbf_sector::{Fd, Ident, read_fd};

@@ -1,10 +1,11 @@
-ghost use Rattle.std.specs.Prelude.{◌≡◌, ◌+◌, ℕ, ◌*◌, ◌/◌, ◌<◌, ◌≤◌, length, IfSome, MatchBool, MatchOption};
+ghost use Rattle.std.specs.Prelude.{◌≡◌, ◌+◌, ℕ, ◌*◌, ◌/◌, ◌<◌, ◌≤◌, length, IfSome, MatchOption};
 ghost use Rattle.rbf_model.specs.Fields.{boot_field, boot_size_field};
-ghost use Rattle.rbf_model.specs.Geometry.{HasHeader, IsHeader, map_sectors, sector as sector_of};
+ghost use Rattle.rbf_model.specs.Geometry.{HasHeader, sector as sector_of};
 ghost use Rattle.rbf_model.specs.Space.{is_marked as is_marked_lem};
-ghost use Rattle.rbf_search.specs.Reading.{geometry_of, IsIdent};
+ghost use Rattle.rbf_sector.specs.Ident.{geometry_of};
+ghost use Rattle.rbf_search.specs.Reading.{IsIdent};
 
-use rbf_sector::{Ident, read_ident};
+use rbf_sector::{Ident, is_header, read_ident};
 
 /// The 256 bytes of a sector.
 pub fn sector(image: &[u8], n: u32) -> [u8; 256]
@@ -32,24 +33,6 @@ pub fn read_header(image: &[u8]) -> Option<Ident>
     } else {
         None
     }
-}
-
-// Does this project take a volume of this size, with these clusters and this root?
-fn is_header(ident: &Ident) -> bool
-    ensures { MatchBool result (IsHeader (geometry_of ident.now)) (¬ IsHeader (geometry_of ident.now)) }
-{
-    let size = 4 <= ident.total && ident.total <= 524_280;
-    let clusters = matches!(ident.cluster, 1 | 2 | 4 | 8 | 16 | 32 | 64);
-    let root = 1 <= ident.root && ident.root < ident.total;
-    size && clusters && root
-}
-
-/// How many sectors the system has, from LSN 0 on: the identification sector, and those of the map.
-pub fn system_sectors(ident: &Ident) -> u16
-    ensures count { result ≡ 1 + map_sectors (geometry_of ident.now) }
-    ensures few { result ≤ 257 }
-{
-    1 + ident.map_bytes.div_ceil(256)
 }
 
 /// Does the map mark this cluster?

@@ -2,7 +2,7 @@
 #![tactic(auto)]
 
 pub use directory::{Directory, entry_bytes, lie_within, read_directory};
-pub use header::{is_marked, read_header, sector, system_sectors};
+pub use header::{is_marked, read_header, sector};
 pub use lesser::least_of;
 pub use links::{Link, link_entry, list_links};
 pub use slots::{list_slots, slot_bytes};

@@ -3,7 +3,8 @@ ghost use Rattle.rbf_model.specs.Fields.{entry_at, descriptor_field};
 ghost use Rattle.rbf_model.specs.Geometry.{sector as sector_of};
 ghost use Rattle.rbf_model.specs.Tree.{Links};
 ghost use Rattle.rbf_model.specs.Faults.{IsFound, searched};
-ghost use Rattle.rbf_search.specs.Reading.{geometry_of, IsIdent, IsDirectory, listed};
+ghost use Rattle.rbf_sector.specs.Ident.{geometry_of};
+ghost use Rattle.rbf_search.specs.Reading.{IsIdent, IsDirectory, listed};
 ghost use Rattle.rbf_search.specs.Linked.{AreAdded, AreLinks};
 
 use crate::directory::{Directory, entry_bytes, read_directory};

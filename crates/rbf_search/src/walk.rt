@@ -5,7 +5,8 @@ ghost use Rattle.rbf_model.specs.Segments.{AreDistinct};
 ghost use Rattle.rbf_model.specs.Tree.{NamesIn};
 ghost use Rattle.rbf_model.specs.Faults.{IsFound};
 ghost use Rattle.rbf_search.specs.Found.{IsSearch, IsVisited, AreFound, added};
-ghost use Rattle.rbf_search.specs.Reading.{geometry_of, IsIdent, IsDirectory, listed};
+ghost use Rattle.rbf_sector.specs.Ident.{geometry_of};
+ghost use Rattle.rbf_search.specs.Reading.{IsIdent, IsDirectory, listed};
 
 use crate::directory::{Directory, entry_bytes, read_directory};
 use crate::slots::{list_slots, slot_bytes};

@@ -1,5 +1,7 @@
-ghost use Rattle.std.specs.Prelude.{◌≡◌};
+ghost use Rattle.std.specs.Prelude.{◌≡◌, ◌+◌, ◌≤◌, MatchBool};
 ghost use Rattle.rbf_model.specs.Fields.{total_field, map_bytes_field, cluster_field, root_field, boot_field, boot_size_field};
+ghost use Rattle.rbf_model.specs.Geometry.{IsHeader, HasMap, map_sectors};
+ghost use Rattle.rbf_sector.specs.Ident.{geometry_of};
 
 use crate::parts::{u16_at, u24_at};
 
@@ -32,7 +34,34 @@ pub fn read_ident(b: &[u8; 256]) -> Ident
         map_bytes: u16_at(b, 4),
         cluster: u16_at(b, 6),
         root: u24_at(b, 8),
-        boot: u24_at(b, 0x15),
-        boot_size: u16_at(b, 0x18),
+        boot: u24_at(b, 21),
+        boot_size: u16_at(b, 24),
     }
+}
+
+/// Does this project take a volume of this size, with these clusters and this root? It has from 4
+/// to 524,280 sectors, and 1, 2, 4, 8, 16, 32 or 64 sectors per cluster.
+pub fn is_header(ident: &Ident) -> bool
+    ensures { MatchBool result (IsHeader (geometry_of ident.now)) (¬ IsHeader (geometry_of ident.now)) }
+{
+    let size = 4 <= ident.total && ident.total <= 524_280;
+    let clusters = matches!(ident.cluster, 1 | 2 | 4 | 8 | 16 | 32 | 64);
+    let root = 1 <= ident.root && ident.root < ident.total;
+    size && clusters && root
+}
+
+/// Has the map a bit for each cluster, and does it end within the volume?
+pub fn has_map(ident: &Ident) -> bool
+    ensures { MatchBool result (HasMap (geometry_of ident.now)) (¬ HasMap (geometry_of ident.now)) }
+{
+    let bits = 8 * u64::from(ident.map_bytes) * u64::from(ident.cluster);
+    u64::from(ident.total) <= bits && u32::from(system_sectors(ident)) <= ident.total
+}
+
+/// How many sectors the system has, from LSN 0 on: the identification sector, and those of the map.
+pub fn system_sectors(ident: &Ident) -> u16
+    ensures count { result ≡ 1 + map_sectors (geometry_of ident.now) }
+    ensures few { result ≤ 257 }
+{
+    1 + ident.map_bytes.div_ceil(256)
 }

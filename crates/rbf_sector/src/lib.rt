@@ -4,7 +4,7 @@
 
 pub use entry::{Entry, read_entry, write_entry};
 pub use fd::{Fd, read_fd, write_fd};
-pub use ident::{Ident, read_ident};
+pub use ident::{Ident, has_map, is_header, read_ident, system_sectors};
 
 mod entry;
 mod fd;

@@ -3,8 +3,8 @@ use Rattle.std.proofs.Common.{◌≡◌, ℕ, ◌+◌, ◌-◌, ◌<◌, ◌≤�
 use Rattle.std.proofs.lemmas.List.{take_at, set_at, set-append_left, set_split, drop_all, length-replicate}
 use Rattle.rbf_segs.specs.declared.segs.Segs.TheInside.{Inside}
 use Rattle.std.proofs.lemmas.List.Elements.{All-push, All-take}
-use Rattle.rbf_model.specs.Segments.{sectors_of}
-use Rattle.rbf_segs.specs.Segments.{shortened, IsSegment}
+use Rattle.rbf_model.specs.Segments.{sectors_of, shortened_segments}
+use Rattle.rbf_segs.specs.Segments.{IsSegment}
 use Rattle.rbf_segs.specs.Places.{in_places, IsInside}
 use Rattle.rbf_segs.proofs.Runs.{shortened-append, length-shortened, All-shortened}
 
@@ -67,15 +67,15 @@ module _ (inside : Inside) (fits : IsInside inside) (run : ℕ × ℕ) (whole : 
       let place_is : place ≡ length segments - 1 = omega arith in
       hold (front ++ run ∷ []) (set inside.places place run) inside.len (omega arith) (All-push IsSegment front run (All-take IsSegment (length segments - 1) segments fits.each) whole) (ap (λ p. set p place run) fits.zeros ∙ ap (λ n. set (in_places segments) n run) place_is ∙ in_places-last segments run (omega arith)) (omega arith)
 
-pub cut_short : (inside : Inside) (fits : IsInside inside) (sectors : ℕ) (places : List (ℕ × ℕ)) (len : ℕ) → sectors ≤ length (sectors_of (take inside.len inside.places)) → places ≡ shortened sectors inside.places ++ replicate (length inside.places - len) (0, 0) → len ≡ length (shortened sectors inside.places) → Hold (shortened sectors (take inside.len inside.places)) (record { places = places; len = len })
+pub cut_short : (inside : Inside) (fits : IsInside inside) (sectors : ℕ) (places : List (ℕ × ℕ)) (len : ℕ) → sectors ≤ length (sectors_of (take inside.len inside.places)) → places ≡ shortened_segments sectors inside.places ++ replicate (length inside.places - len) (0, 0) → len ≡ length (shortened_segments sectors inside.places) → Hold (shortened_segments sectors (take inside.len inside.places)) (record { places = places; len = len })
 cut_short inside fits sectors places len within cut counted =
     let segments = take inside.len inside.places in
     let zero : ℕ × ℕ = (0, 0) in
     let few = fits.few in
     let length_is = fits.counted in
-    let kept = shortened sectors segments in
+    let kept = shortened_segments sectors segments in
     let all : length inside.places ≡ 48 = ap length fits.zeros ∙ omega (arith, length-append segments (replicate (48 - length segments) zero), length-replicate (48 - length segments) zero) in
-    let same : shortened sectors inside.places ≡ kept = ap (shortened sectors) fits.zeros ∙ shortened-append sectors segments (replicate (48 - length segments) zero) within in
+    let same : shortened_segments sectors inside.places ≡ kept = ap (shortened_segments sectors) fits.zeros ∙ shortened-append sectors segments (replicate (48 - length segments) zero) within in
     let len_is : len ≡ length kept = counted ∙ ap length same in
     let behind : length inside.places - len ≡ 48 - length kept = omega arith in
     hold kept places len (omega (arith, length-shortened sectors segments)) (All-shortened sectors segments fits.each) (cut ∙ ap (λ front. front ++ replicate (length inside.places - len) zero) same ∙ ap (λ n. kept ++ replicate n zero) behind) len_is

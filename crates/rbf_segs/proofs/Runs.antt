@@ -8,8 +8,8 @@ use Rattle.std.proofs.lemmas.List.{get_or-append-add, take_more, drop_more, take
 use Rattle.std.proofs.lemmas.List.Concat.{flat_map-append}
 use Rattle.std.proofs.lemmas.Bool.Decides.{nat_tests}
 use Rattle.std.proofs.lemmas.Grind.{drop_more_same}
-use Rattle.rbf_model.specs.Segments.{run, sectors_of}
-use Rattle.rbf_segs.specs.Segments.{joins, appended, shortened, IsSegment, Lengthens}
+use Rattle.rbf_model.specs.Segments.{run, sectors_of, joins, appended_segments, shortened_segments}
+use Rattle.rbf_segs.specs.Segments.{IsSegment, Lengthens}
 
 -- a run has as many sectors as its count says
 pub length-run : (segment : ℕ × ℕ) → length (run segment) ≡ segment.1
@@ -70,21 +70,21 @@ cut_places-none (segment ∷ runs) =
     (let none : 0 - segment.1 ≡ 0 = omega arith in ap (λ left. (0, 0) ∷ cut_places left runs) none) ∙ ap (λ places. (0, 0) ∷ places) (cut_places-none runs)
 
 -- what is left of the runs, and zeros behind it
-pub cut_places_is : (left : ℕ) (runs : List (ℕ × ℕ)) → cut_places left runs ≡ shortened left runs ++ replicate (length runs - length (shortened left runs)) (0, 0)
+pub cut_places_is : (left : ℕ) (runs : List (ℕ × ℕ)) → cut_places left runs ≡ shortened_segments left runs ++ replicate (length runs - length (shortened_segments left runs)) (0, 0)
 cut_places_is left [] = refl
 cut_places_is zero (segment ∷ runs) =
     let all : length (segment ∷ runs) ≡ length (segment ∷ runs) - 0 = omega arith in
     cut_places-none (segment ∷ runs) ∙ ap (λ n. replicate n (0, 0)) all
 cut_places_is (suc n) (segment ∷ runs) =
-    let rest = shortened (suc n - segment.1) runs in
+    let rest = shortened_segments (suc n - segment.1) runs in
     let front : ℕ × ℕ = (segment.0, min (suc n) segment.1) in
     let some : 0 < suc n = omega arith in
     let cut_is : cut_places (suc n) (segment ∷ runs) ≡ front ∷ cut_places (suc n - segment.1) runs = ap (λ r. r ∷ cut_places (suc n - segment.1) runs) (at_some (suc n) (0, 0) front some) in
-    let left_is : shortened (suc n) (segment ∷ runs) ≡ front ∷ rest = at_some (suc n) [] (front ∷ rest) some in
+    let left_is : shortened_segments (suc n) (segment ∷ runs) ≡ front ∷ rest = at_some (suc n) [] (front ∷ rest) some in
     let zeros : length runs - length rest ≡ length (segment ∷ runs) - length (front ∷ rest) = omega arith in
     cut_is ∙ ap (λ places. front ∷ places) (cut_places_is (suc n - segment.1) runs) ∙ ap (λ k. (front ∷ rest) ++ replicate k (0, 0)) zeros ∙ ap (λ r. r ++ replicate (length (segment ∷ runs) - length r) (0, 0)) (sym left_is)
 
-shortened-none : (runs : List (ℕ × ℕ)) → shortened 0 runs ≡ []
+shortened-none : (runs : List (ℕ × ℕ)) → shortened_segments 0 runs ≡ []
 shortened-none [] = refl
 shortened-none (segment ∷ runs) = refl
 
@@ -92,21 +92,21 @@ shortened-none (segment ∷ runs) = refl
 pub record IsCutTo (old places : List (ℕ × ℕ)) (sectors i left runs : ℕ) : Type 0 where
   pub cut : take i places ++ cut_places left (drop i old) ≡ cut_places sectors old
   pub rest : drop i places ≡ drop i old
-  pub counted : runs + length (shortened left (drop i old)) ≡ length (shortened sectors old)
+  pub counted : runs + length (shortened_segments left (drop i old)) ≡ length (shortened_segments sectors old)
   pub few : runs ≤ i
 
 pub IsCutTo-same : {old places places' : List (ℕ × ℕ)} {sectors i left left' runs runs' : ℕ} → places' ≡ places → left' ≡ left → runs' ≡ runs → IsCutTo old places sectors i left runs → IsCutTo old places' sectors i left' runs'
 IsCutTo-same same_places same_left same_runs cutting = rw (same_places, same_left, same_runs) cutting
 
 -- all the places
-pub cut_all : (old places : List (ℕ × ℕ)) (sectors i left runs : ℕ) → IsCutTo old places sectors i left runs → length places ≡ length old → length old ≤ i → (places ≡ shortened sectors old ++ replicate (length old - runs) (0, 0)) × (runs ≡ length (shortened sectors old))
+pub cut_all : (old places : List (ℕ × ℕ)) (sectors i left runs : ℕ) → IsCutTo old places sectors i left runs → length places ≡ length old → length old ≤ i → (places ≡ shortened_segments sectors old ++ replicate (length old - runs) (0, 0)) × (runs ≡ length (shortened_segments sectors old))
 cut_all old places sectors i left runs cutting same_length all =
     let past : drop i old ≡ [] = drop_all i old all in
-    let none : length (shortened left (drop i old)) ≡ 0 = ap (λ r. length (shortened left r)) past in
-    let counted : runs ≡ length (shortened sectors old) = omega (arith, cutting.counted) in
+    let none : length (shortened_segments left (drop i old)) ≡ 0 = ap (λ r. length (shortened_segments left r)) past in
+    let counted : runs ≡ length (shortened_segments sectors old) = omega (arith, cutting.counted) in
     let whole : take i places ≡ places = take_all i places (omega arith) in
     let cut : places ≡ cut_places sectors old = sym (append_nil places) ∙ ap (λ p. p ++ []) (sym whole) ∙ ap (λ r. take i places ++ cut_places left r) (sym past) ∙ cutting.cut in
-    (cut ∙ cut_places_is sectors old ∙ ap (λ n. shortened sectors old ++ replicate (length old - n) (0, 0)) (sym counted), counted)
+    (cut ∙ cut_places_is sectors old ∙ ap (λ n. shortened_segments sectors old ++ replicate (length old - n) (0, 0)) (sym counted), counted)
 
 -- one place more
 module _ (old places : List (ℕ × ℕ)) (sectors i left runs : ℕ) (d : ℕ × ℕ) (cutting : IsCutTo old places sectors i left runs) (within : i < length places) where
@@ -134,7 +134,7 @@ module _ (old places : List (ℕ × ℕ)) (sectors i left runs : ℕ) (d : ℕ �
             front_is kept (cut_places (left - segment.1) rest) ∙ ap (λ r. take i places ++ r) (ap (λ r. r ∷ cut_places (left - segment.1) rest) (sym (at_some left (0, 0) kept some)) ∙ ap (cut_places left) (sym rest_is)) ∙ cutting.cut;
         rest = rest_kept kept;
         counted =
-            let now : length (shortened left (drop i old)) ≡ suc (length (shortened (left - segment.1) rest)) = ap (λ r. length (shortened left r)) rest_is ∙ ap length (at_some left [] (kept ∷ shortened (left - segment.1) rest) some) in
+            let now : length (shortened_segments left (drop i old)) ≡ suc (length (shortened_segments (left - segment.1) rest)) = ap (λ r. length (shortened_segments left r)) rest_is ∙ ap length (at_some left [] (kept ∷ shortened_segments (left - segment.1) rest) some) in
             omega (arith, cutting.counted);
         few = omega (arith, cutting.few);
       }
@@ -149,8 +149,8 @@ module _ (old places : List (ℕ × ℕ)) (sectors i left runs : ℕ) (d : ℕ �
             front_is (0, 0) (cut_places 0 rest) ∙ ap (λ r. take i places ++ (0, 0) ∷ cut_places r rest) (sym zero_left) ∙ ap (λ n. take i places ++ cut_places n (segment ∷ rest)) (sym none) ∙ ap (λ r. take i places ++ cut_places left r) (sym rest_is) ∙ cutting.cut;
         rest = rest_kept (0, 0);
         counted =
-            let all_cut : length (shortened left (drop i old)) ≡ 0 = ap (λ n. length (shortened n (drop i old))) none ∙ ap length (shortened-none (drop i old)) in
-            let still : length (shortened 0 rest) ≡ 0 = ap length (shortened-none rest) in
+            let all_cut : length (shortened_segments left (drop i old)) ≡ 0 = ap (λ n. length (shortened_segments n (drop i old))) none ∙ ap length (shortened-none (drop i old)) in
+            let still : length (shortened_segments 0 rest) ≡ 0 = ap length (shortened-none rest) in
             omega (arith, cutting.counted);
         few = omega (arith, cutting.few);
       }
@@ -183,7 +183,7 @@ module _ (lsn count : ℕ) where
   cond-cons false segment a b = refl
 
   -- sectors behind a list whose last run is known
-  pub appended-push : (front : List (ℕ × ℕ)) (segment : ℕ × ℕ) → appended (front ++ segment ∷ []) lsn count ≡ cond (joins segment lsn count) (front ++ (segment.0, segment.1 + count) ∷ []) (front ++ segment ∷ (lsn, count) ∷ [])
+  pub appended-push : (front : List (ℕ × ℕ)) (segment : ℕ × ℕ) → appended_segments (front ++ segment ∷ []) lsn count ≡ cond (joins segment lsn count) (front ++ (segment.0, segment.1 + count) ∷ []) (front ++ segment ∷ (lsn, count) ∷ [])
   appended-push [] segment = refl
   appended-push (x ∷ []) segment = cond-cons (joins segment lsn count) x _ _
   appended-push (x ∷ y ∷ front) segment =
@@ -212,19 +212,19 @@ lengthens runs segment lsn count found follows room each =
     record {
       some = some;
       list =
-          ap (λ r. appended r lsn count) split ∙ appended-push lsn count (take n runs) segment ∙ ap (λ test. cond test (take n runs ++ (segment.0, segment.1 + count) ∷ []) (take n runs ++ segment ∷ (lsn, count) ∷ [])) (joins_true lsn count segment follows room);
+          ap (λ r. appended_segments r lsn count) split ∙ appended-push lsn count (take n runs) segment ∙ ap (λ test. cond test (take n runs ++ (segment.0, segment.1 + count) ∷ []) (take n runs ++ segment ∷ (lsn, count) ∷ [])) (joins_true lsn count segment follows room);
       whole = record { lsn = whole.lsn; some = omega (arith, whole.some); count = room };
     }
 
 -- the last run does not end at `lsn`, or has no room
-pub adds_run : (runs : List (ℕ × ℕ)) (segment : ℕ × ℕ) (lsn count : ℕ) → IsLast runs segment → joins segment lsn count ≡ false → appended runs lsn count ≡ runs ++ (lsn, count) ∷ []
+pub adds_run : (runs : List (ℕ × ℕ)) (segment : ℕ × ℕ) (lsn count : ℕ) → IsLast runs segment → joins segment lsn count ≡ false → appended_segments runs lsn count ≡ runs ++ (lsn, count) ∷ []
 adds_run runs segment lsn count found apart =
     let n = length runs - 1 in
     let inside = slice_get_within runs n segment (sym found) in
     let some : 1 ≤ length runs = omega arith in
     let last = sym (get_or_from_slice_get runs n segment segment (sym found)) in
     let split = last_is runs segment some last in
-    ap (λ r. appended r lsn count) split ∙ appended-push lsn count (take n runs) segment ∙ ap (λ test. cond test (take n runs ++ (segment.0, segment.1 + count) ∷ []) (take n runs ++ segment ∷ (lsn, count) ∷ [])) apart ∙ sym (append_assoc (take n runs) (segment ∷ []) ((lsn, count) ∷ [])) ∙ ap (λ r. r ++ (lsn, count) ∷ []) (sym split)
+    ap (λ r. appended_segments r lsn count) split ∙ appended-push lsn count (take n runs) segment ∙ ap (λ test. cond test (take n runs ++ (segment.0, segment.1 + count) ∷ []) (take n runs ++ segment ∷ (lsn, count) ∷ [])) apart ∙ sym (append_assoc (take n runs) (segment ∷ []) ((lsn, count) ∷ [])) ∙ ap (λ r. r ++ (lsn, count) ∷ []) (sym split)
 
 range_with_len-append : (a m n : ℕ) → range_with_len a (m + n) ≡ range_with_len a m ++ range_with_len (a + m) n
 range_with_len-append a zero n =
@@ -276,7 +276,7 @@ pub joins-no_room : (segment : ℕ × ℕ) (lsn count : ℕ) → (segment.1 + co
 joins-no_room segment lsn count full = grind (arith, nat_tests)
 
 -- the sectors of the list with more sectors behind it
-pub sectors_of-appended : (runs : List (ℕ × ℕ)) (lsn count : ℕ) → sectors_of (appended runs lsn count) ≡ sectors_of runs ++ run (lsn, count)
+pub sectors_of-appended : (runs : List (ℕ × ℕ)) (lsn count : ℕ) → sectors_of (appended_segments runs lsn count) ≡ sectors_of runs ++ run (lsn, count)
 sectors_of-appended [] lsn count = append_nil (run (lsn, count))
 sectors_of-appended (segment ∷ []) lsn count =
     sectors_of-joined segment lsn count (joins segment lsn count) refl
@@ -284,30 +284,30 @@ sectors_of-appended (segment ∷ next ∷ runs) lsn count =
     ap (λ rest. run segment ++ rest) (sectors_of-appended (next ∷ runs) lsn count) ∙ sym (append_assoc (run segment) (sectors_of (next ∷ runs)) (run (lsn, count)))
 
 -- the sectors of the list cut off
-pub sectors_of-shortened : (n : ℕ) (runs : List (ℕ × ℕ)) → sectors_of (shortened n runs) ≡ take n (sectors_of runs)
+pub sectors_of-shortened : (n : ℕ) (runs : List (ℕ × ℕ)) → sectors_of (shortened_segments n runs) ≡ take n (sectors_of runs)
 sectors_of-shortened n [] = sym (take_all n [] (omega arith))
 sectors_of-shortened zero (segment ∷ runs) = refl
 sectors_of-shortened (suc n) (segment ∷ runs) =
     let left = suc n - segment.1 in
     let front : ℕ × ℕ = (segment.0, min (suc n) segment.1) in
     let some : 0 < suc n = omega arith in
-    ap sectors_of (at_some (suc n) [] (front ∷ shortened left runs) some) ∙ ap (λ rest. run front ++ rest) (sectors_of-shortened left runs) ∙ sym (take-run (suc n) segment.0 segment.1 (sectors_of runs))
+    ap sectors_of (at_some (suc n) [] (front ∷ shortened_segments left runs) some) ∙ ap (λ rest. run front ++ rest) (sectors_of-shortened left runs) ∙ sym (take-run (suc n) segment.0 segment.1 (sectors_of runs))
 
 -- no more of a list is seen than the sectors that are kept
-pub shortened-append : (n : ℕ) (runs more : List (ℕ × ℕ)) → n ≤ length (sectors_of runs) → shortened n (runs ++ more) ≡ shortened n runs
+pub shortened-append : (n : ℕ) (runs more : List (ℕ × ℕ)) → n ≤ length (sectors_of runs) → shortened_segments n (runs ++ more) ≡ shortened_segments n runs
 shortened-append n [] more within =
     let none : n ≡ 0 = omega arith in
-    ap (λ m. shortened m more) none ∙ shortened-none more
+    ap (λ m. shortened_segments m more) none ∙ shortened-none more
 shortened-append zero (segment ∷ runs) more within = refl
 shortened-append (suc n) (segment ∷ runs) more within =
     let left = suc n - segment.1 in
     let front : ℕ × ℕ = (segment.0, min (suc n) segment.1) in
     let some : 0 < suc n = omega arith in
     let fits : left ≤ length (sectors_of runs) = omega (arith, length-append (run segment) (sectors_of runs), length-run segment) in
-    at_some (suc n) [] (front ∷ shortened left (runs ++ more)) some ∙ ap (λ rest. front ∷ rest) (shortened-append left runs more fits) ∙ sym (at_some (suc n) [] (front ∷ shortened left runs) some)
+    at_some (suc n) [] (front ∷ shortened_segments left (runs ++ more)) some ∙ ap (λ rest. front ∷ rest) (shortened-append left runs more fits) ∙ sym (at_some (suc n) [] (front ∷ shortened_segments left runs) some)
 
 -- runs cut off are runs
-pub All-shortened : (n : ℕ) (runs : List (ℕ × ℕ)) → All IsSegment runs → All IsSegment (shortened n runs)
+pub All-shortened : (n : ℕ) (runs : List (ℕ × ℕ)) → All IsSegment runs → All IsSegment (shortened_segments n runs)
 All-shortened n [] each = each
 All-shortened zero (segment ∷ runs) each = All-nil IsSegment
 All-shortened (suc n) (segment ∷ runs) each =
@@ -316,15 +316,15 @@ All-shortened (suc n) (segment ∷ runs) each =
     let some : 0 < suc n = omega arith in
     let whole = All-head IsSegment segment runs each in
     let kept : IsSegment front = record { lsn = whole.lsn; some = omega (arith, whole.some); count = omega (arith, whole.count) } in
-    All-same IsSegment _ _ (at_some (suc n) [] (front ∷ shortened left runs) some) (All-cons IsSegment front (shortened left runs) kept (All-shortened left runs (All-tail IsSegment segment runs each)))
+    All-same IsSegment _ _ (at_some (suc n) [] (front ∷ shortened_segments left runs) some) (All-cons IsSegment front (shortened_segments left runs) kept (All-shortened left runs (All-tail IsSegment segment runs each)))
 
 -- a list cut off has no more runs
-pub length-shortened : (n : ℕ) (runs : List (ℕ × ℕ)) → length (shortened n runs) ≤ length runs
+pub length-shortened : (n : ℕ) (runs : List (ℕ × ℕ)) → length (shortened_segments n runs) ≤ length runs
 length-shortened n [] = omega arith
 length-shortened zero (segment ∷ runs) = omega arith
 length-shortened (suc n) (segment ∷ runs) =
     let left = suc n - segment.1 in
     let front : ℕ × ℕ = (segment.0, min (suc n) segment.1) in
     let some : 0 < suc n = omega arith in
-    let now : length (shortened (suc n) (segment ∷ runs)) ≡ suc (length (shortened left runs)) = ap length (at_some (suc n) [] (front ∷ shortened left runs) some) in
+    let now : length (shortened_segments (suc n) (segment ∷ runs)) ≡ suc (length (shortened_segments left runs)) = ap length (at_some (suc n) [] (front ∷ shortened_segments left runs) some) in
     omega (arith, length-shortened left runs)

@@ -1,11 +1,12 @@
-ghost use Rattle.std.specs.Prelude.{◌≡◌, ℕ, ◌+◌, ◌-◌, ◌<◌, ◌≤◌, ◌++◌, length, take, slice_get, All, MatchOption, [], ◌∷◌, replicate};
-ghost use Rattle.rbf_model.specs.Segments.{sectors_of};
-ghost use Rattle.rbf_segs.specs.Segments.{appended, shortened, IsSegment, Lengthens};
+ghost use Rattle.std.specs.Prelude.{◌≡◌, ℕ, ◌+◌, ◌-◌, ◌*◌, ◌<◌, ◌≤◌, ◌++◌, length, take, slice_get, All, MatchOption, [], ◌∷◌, replicate};
+ghost use Rattle.rbf_model.specs.Segments.{sectors_of, appended_segments, shortened_segments};
+ghost use Rattle.rbf_segs.specs.Segments.{IsSegment, Lengthens};
 
 // How many sectors the runs have.
 pub fn total(runs: &[(u32, u16)]) -> u32
     requires { length runs.now ≤ 48 }
-    ensures { result ≡ length (sectors_of runs.now) }
+    ensures count { result ≡ length (sectors_of runs.now) }
+    ensures few { result ≤ 48 * 65535 }
 {
     let mut sectors = 0;
     for &(_, count) in runs {
@@ -41,7 +42,7 @@ pub fn last_sector(runs: &[(u32, u16)]) -> Option<u32>
 // The last run with `count` more sectors, where `lsn` follows it and it has room for them.
 pub fn lengthened(runs: &[(u32, u16)], lsn: u32, count: u16) -> Option<(u32, u16)>
     requires { All IsSegment runs.now }
-    ensures { MatchOption result (appended runs.now lsn count ≡ runs.now ++ (lsn, count) ∷ []) (Lengthens runs.now lsn count) }
+    ensures { MatchOption result (appended_segments runs.now lsn count ≡ runs.now ++ (lsn, count) ∷ []) (Lengthens runs.now lsn count) }
 {
     let &(first, had) = runs.last()?;
     if first + u32::from(had) != lsn {
@@ -53,8 +54,8 @@ pub fn lengthened(runs: &[(u32, u16)], lsn: u32, count: u16) -> Option<(u32, u16
 // Leaves the first `sectors` sectors, with zeros in the places behind their runs, and answers how
 // many runs they are.
 pub fn shorten(places: &mut [(u32, u16)], sectors: u32) -> usize
-    ensures places { places.new ≡ shortened sectors places.old ++ replicate (length places.old - result) (0, 0) }
-    ensures runs { result ≡ length (shortened sectors places.old) }
+    ensures places { places.new ≡ shortened_segments sectors places.old ++ replicate (length places.old - result) (0, 0) }
+    ensures runs { result ≡ length (shortened_segments sectors places.old) }
 {
     let mut left = sectors;
     let mut runs = 0;

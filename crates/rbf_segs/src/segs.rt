@@ -1,6 +1,6 @@
 ghost use Rattle.std.specs.Prelude.{◌≡◌, ◌+◌, ◌-◌, ◌*◌, ◌^◌, ◌<◌, ◌≤◌, ◌↔◌, [], ◌∷◌, ◌++◌, length, take, OnOk, OnErr, IsErr, slice_get};
-ghost use Rattle.rbf_model.specs.Segments.{run, sectors_of};
-ghost use Rattle.rbf_segs.specs.Segments.{appended, shortened, IsSegment, IsSegments};
+ghost use Rattle.rbf_model.specs.Segments.{run, sectors_of, appended_segments, shortened_segments};
+ghost use Rattle.rbf_segs.specs.Segments.{IsSegment, IsSegments};
 
 use crate::run_list::{last_sector, lengthened, sector_at, shorten, total};
 use std::marker::Model;
@@ -51,9 +51,10 @@ impl Segs {
         }
     }
 
-    /// How many sectors the runs have together.
+    /// How many sectors the segments have together.
     pub fn sectors(&self) -> u32
-        ensures { result ≡ length (sectors_of self.now) }
+        ensures count { result ≡ length (sectors_of self.now) }
+        ensures few { result ≤ 48 * 65535 }
     {
         total(&self.places[..usize::from(self.len)])
     }
@@ -114,8 +115,8 @@ impl Segs {
         requires lsn_fits { lsn < 16777216 }
         requires some { 1 ≤ n }
         ensures sectors { OnOk result (sectors_of self.new ≡ sectors_of self.old ++ run (lsn, n)) }
-        ensures segments { OnOk result (self.new ≡ appended self.old lsn n) }
-        ensures full { IsErr result ↔ (48 < length (appended self.old lsn n)) }
+        ensures segments { OnOk result (self.new ≡ appended_segments self.old lsn n) }
+        ensures full { IsErr result ↔ (48 < length (appended_segments self.old lsn n)) }
         ensures err { OnErr result (self.new ≡ self.old) }
     {
         let runs = usize::from(self.len);
@@ -132,7 +133,7 @@ impl Segs {
     pub fn cut(&mut self, sectors: u32)
         requires { sectors ≤ length (sectors_of self.old) }
         ensures sectors { sectors_of self.new ≡ take sectors (sectors_of self.old) }
-        ensures segments { self.new ≡ shortened sectors self.old }
+        ensures segments { self.new ≡ shortened_segments sectors self.old }
     {
         self.len = shorten(&mut self.places, sectors) as u8;
     }

@@ -14,7 +14,8 @@ use Rattle.rbf_model.proofs.Keeps.{number_of_reached}
 use Rattle.rbf_model.proofs.Owners.{owned_below}
 use Rattle.rbf_segs.specs.Segments.{IsSegment}
 use Rattle.rbf_sector.specs.declared.ident.Ident.{Ident}
-use Rattle.rbf_search.specs.Reading.{geometry_of, IsIdent}
+use Rattle.rbf_sector.specs.Ident.{geometry_of}
+use Rattle.rbf_search.specs.Reading.{IsIdent}
 use Rattle.rbf_space.specs.Used.{used_by}
 use Rattle.rbf_search.proofs.Headers.{header_of}
 use Rattle.rbf_search.proofs.Runs.{runs_within}

@@ -4,7 +4,8 @@ ghost use Rattle.rbf_model.specs.File.{has_room};
 ghost use Rattle.rbf_model.specs.Geometry.{IsNumber, sector as sector_of};
 ghost use Rattle.rbf_model.specs.Tree.{HasEntry};
 ghost use Rattle.rbf_model.specs.Faults.{IsFound};
-ghost use Rattle.rbf_search.specs.Reading.{geometry_of, IsIdent, IsDirectory, listed};
+ghost use Rattle.rbf_sector.specs.Ident.{geometry_of};
+ghost use Rattle.rbf_search.specs.Reading.{IsIdent, IsDirectory, listed};
 ghost use Rattle.rbf_space.specs.Rules.{BreaksOwn, BreaksOwnAt, number_of};
 ghost use Rattle.rbf_search.specs.Least.{IsLeast, IsLeastBreach};
 

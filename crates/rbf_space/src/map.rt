@@ -1,18 +1,9 @@
-ghost use Rattle.std.specs.Prelude.{MatchBool};
-ghost use Rattle.rbf_model.specs.Geometry.{HasMap, sector as sector_of};
-ghost use Rattle.rbf_search.specs.Reading.{geometry_of, IsIdent};
+ghost use Rattle.rbf_model.specs.Geometry.{sector as sector_of};
+ghost use Rattle.rbf_sector.specs.Ident.{geometry_of};
+ghost use Rattle.rbf_search.specs.Reading.{IsIdent};
 ghost use Rattle.rbf_search.specs.Least.{IsLeastBreach};
 
-use rbf_search::system_sectors;
-use rbf_sector::Ident;
-
-// Has the map a bit for each cluster, and does it end within the volume?
-fn has_map(ident: &Ident) -> bool
-    ensures { MatchBool result (HasMap (geometry_of ident.now)) (¬ HasMap (geometry_of ident.now)) }
-{
-    let bits = 8 * u64::from(ident.map_bytes) * u64::from(ident.cluster);
-    u64::from(ident.total) <= bits && u32::from(system_sectors(ident)) <= ident.total
-}
+use rbf_sector::{Ident, has_map};
 
 /// The breach of rule 2, the map's, which is shown at LSN 1. None where the rule is kept.
 pub fn map_breach(image: &[u8], ident: &Ident) -> Option<u32>

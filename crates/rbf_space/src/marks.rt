@@ -2,7 +2,8 @@ ghost use Rattle.std.specs.Prelude.{◌≡◌, ℕ, ◌+◌, ◌/◌, ◌<◌, �
 ghost use Rattle.rbf_model.specs.Geometry.{HasMap, sector as sector_of};
 ghost use Rattle.rbf_model.specs.Space.{is_marked as is_marked_lem};
 ghost use Rattle.rbf_model.specs.Faults.{Breaks, IsFound, Reaches};
-ghost use Rattle.rbf_search.specs.Reading.{geometry_of, IsIdent};
+ghost use Rattle.rbf_sector.specs.Ident.{geometry_of};
+ghost use Rattle.rbf_search.specs.Reading.{IsIdent};
 ghost use Rattle.rbf_search.specs.Least.{IsLeastBreach, IsLeast};
 ghost use Rattle.rbf_space.specs.Nexts.{AreNexts};
 ghost use Rattle.rbf_space.specs.Used.{used_by, IsUnmarked, IsUnmarkedIn};

@@ -1,7 +1,8 @@
 ghost use Rattle.std.specs.Prelude.{◌≡◌, ℕ, ◌+◌, ◌*◌, ◌<◌, ◌≤◌, IfOk, MatchBool, length};
 ghost use Rattle.rbf_model.specs.Geometry.{sector as sector_of};
 ghost use Rattle.rbf_model.specs.Faults.{IsFound};
-ghost use Rattle.rbf_search.specs.Reading.{geometry_of, IsIdent, IsDirectory, listed};
+ghost use Rattle.rbf_sector.specs.Ident.{geometry_of};
+ghost use Rattle.rbf_search.specs.Reading.{IsIdent, IsDirectory, listed};
 ghost use Rattle.rbf_space.specs.Rules.{BreaksNumbersAt, HasBadNumber, IsBadSlot};
 ghost use Rattle.rbf_search.specs.Least.{IsLeastBreach, IsLeast};
 ghost use Rattle.rbf_space.specs.Nexts.{AreNexts};

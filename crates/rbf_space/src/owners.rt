@@ -2,11 +2,12 @@ ghost use Rattle.std.specs.Prelude.{◌≡◌, ℕ, ◌+◌, ◌<◌, ◌++◌, 
 ghost use Rattle.rbf_model.specs.Geometry.{sector as sector_of};
 ghost use Rattle.rbf_model.specs.Segments.{sectors_of};
 ghost use Rattle.rbf_segs.specs.Segments.{IsSegment};
-ghost use Rattle.rbf_search.specs.Reading.{geometry_of, IsIdent};
+ghost use Rattle.rbf_sector.specs.Ident.{geometry_of};
+ghost use Rattle.rbf_search.specs.Reading.{IsIdent};
 ghost use Rattle.rbf_space.specs.Used.{used_by};
 
-use rbf_search::{sector, system_sectors};
-use rbf_sector::{Ident, read_fd};
+use rbf_search::sector;
+use rbf_sector::{Ident, read_fd, system_sectors};
 use rbf_segs::Segs;
 use std::alloc::AllocError;
 

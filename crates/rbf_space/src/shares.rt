@@ -1,7 +1,8 @@
 ghost use Rattle.std.specs.Prelude.{ℕ, IfOk};
 ghost use Rattle.rbf_model.specs.Geometry.{HasMap, sector as sector_of};
 ghost use Rattle.rbf_model.specs.Faults.{Breaks, IsFound};
-ghost use Rattle.rbf_search.specs.Reading.{geometry_of, IsIdent};
+ghost use Rattle.rbf_sector.specs.Ident.{geometry_of};
+ghost use Rattle.rbf_search.specs.Reading.{IsIdent};
 ghost use Rattle.rbf_search.specs.Least.{IsLeastBreach};
 
 use crate::owners::list_runs;

@@ -12,7 +12,8 @@ use Rattle.rbf_model.specs.Faults.{Breaks, IsFound, searched}
 use Rattle.rbf_model.specs.Faults.Breaks.{no_dots}
 use Rattle.rbf_sector.specs.declared.entry.Entry.{Entry}
 use Rattle.rbf_sector.specs.declared.ident.Ident.{Ident}
-use Rattle.rbf_search.specs.Reading.{geometry_of, IsIdent}
+use Rattle.rbf_sector.specs.Ident.{geometry_of}
+use Rattle.rbf_search.specs.Reading.{IsIdent}
 use Rattle.rbf_search.specs.declared.links.Link.{Link}
 use Rattle.rbf_search.specs.Linked.{AreLinks}
 use Rattle.rbf_search.specs.Least.{IsLeast, Before, IsLeastBreach}

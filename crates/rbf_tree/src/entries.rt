@@ -2,7 +2,8 @@ ghost use Rattle.std.specs.Prelude.{◌≡◌, ◌+◌, ◌<◌, ◌≤◌, IfOk
 ghost use Rattle.rbf_model.specs.Geometry.{sector as sector_of};
 ghost use Rattle.rbf_model.specs.Tree.{HasNames, HasDifferentNames};
 ghost use Rattle.rbf_model.specs.Faults.{IsFound};
-ghost use Rattle.rbf_search.specs.Reading.{geometry_of, IsIdent, IsDirectory, listed};
+ghost use Rattle.rbf_sector.specs.Ident.{geometry_of};
+ghost use Rattle.rbf_search.specs.Reading.{IsIdent, IsDirectory, listed};
 ghost use Rattle.rbf_search.specs.Least.{IsLeast, IsLeastBreach};
 ghost use Rattle.rbf_tree.specs.Keys.{AreNamed, IsBadlyNamed, IsBadlyNamedAt};
 

@@ -1,6 +1,7 @@
 ghost use Rattle.std.specs.Prelude.{◌≡◌, ◌⊎◌, ◌+◌, ◌<◌, ◌≤◌, ℕ, All, IfOk, MatchBool, Some, None, length, slice_index_or};
 ghost use Rattle.rbf_model.specs.Geometry.{sector as sector_of};
-ghost use Rattle.rbf_search.specs.Reading.{geometry_of, IsIdent};
+ghost use Rattle.rbf_sector.specs.Ident.{geometry_of};
+ghost use Rattle.rbf_search.specs.Reading.{IsIdent};
 ghost use Rattle.rbf_search.specs.Linked.{AreLinks};
 ghost use Rattle.rbf_search.specs.Least.{IsLeast, IsLeastBreach};
 ghost use Rattle.rbf_search.specs.Given.{IsGiven};

@@ -2,7 +2,8 @@ use Rattle.std.proofs.Common.{ℕ, List, get_or, subst, arith}
 use Rattle.rbf_model.specs.Geometry.{sector}
 use Rattle.rbf_model.specs.File.{file_at}
 use Rattle.rbf_model.specs.Space.{owned}
-use Rattle.rbf_search.specs.Reading.{geometry_of}
+use Rattle.rbf_sector.specs.Ident.{geometry_of}
+use Rattle.rbf_sector.specs.Ident.{geometry_of}
 use Rattle.rbf_check.specs.Clusters.{NotesClusters}
 use Rattle.rbf_check.proofs.Noted.{used_more}
 use Rattle.rbf_check.proofs.clusters.list_used.Goals as goal

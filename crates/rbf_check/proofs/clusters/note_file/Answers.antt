@@ -1,7 +1,8 @@
 use Rattle.std.proofs.Common.{◌∙◌, ap, arith}
 use Rattle.rbf_model.specs.Fields.{segments_field}
 use Rattle.rbf_model.specs.Geometry.{sector}
-use Rattle.rbf_search.specs.Reading.{geometry_of}
+use Rattle.rbf_sector.specs.Ident.{geometry_of}
+use Rattle.rbf_sector.specs.Ident.{geometry_of}
 use Rattle.rbf_check.proofs.Noted.{notes_owner}
 use Rattle.rbf_check.proofs.Surveys.{header_is, reached_below, descriptor_fits, segments_below}
 use Rattle.rbf_check.proofs.clusters.note_file.Goals as goal

@@ -1,6 +1,7 @@
 use Rattle.std.proofs.Common.{arith}
 use Rattle.rbf_model.specs.Geometry.{sector}
-use Rattle.rbf_search.specs.Reading.{geometry_of}
+use Rattle.rbf_sector.specs.Ident.{geometry_of}
+use Rattle.rbf_sector.specs.Ident.{geometry_of}
 use Rattle.rbf_check.specs.Verdict.{IsLeastError}
 use Rattle.rbf_check.proofs.Verdicts.{none_first, has_map, not_broken, passed, stopped, handed_on}
 use Rattle.rbf_check.proofs.faults.test_files.Goals as goal

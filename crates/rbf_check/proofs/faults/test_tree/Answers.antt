@@ -1,6 +1,7 @@
 use Rattle.std.proofs.Common.{arith}
 use Rattle.rbf_model.specs.Geometry.{sector}
-use Rattle.rbf_search.specs.Reading.{geometry_of}
+use Rattle.rbf_sector.specs.Ident.{geometry_of}
+use Rattle.rbf_sector.specs.Ident.{geometry_of}
 use Rattle.rbf_search.proofs.Headers.{header_of}
 use Rattle.rbf_check.specs.Verdict.{IsLeastError}
 use Rattle.rbf_check.proofs.Verdicts.{keeps, passed, stopped, handed_on}

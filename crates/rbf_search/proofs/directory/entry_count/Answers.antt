@@ -4,7 +4,8 @@ use Rattle.std.specs.Int.{bit_at}
 use Rattle.std.proofs.lemmas.Bool.{cond-true}
 use Rattle.rbf_model.specs.Geometry.{is_within}
 use Rattle.rbf_model.specs.File.{has_room, is_directory_size}
-use Rattle.rbf_search.specs.Reading.{geometry_of, is_searchable}
+use Rattle.rbf_sector.specs.Ident.{geometry_of}
+use Rattle.rbf_search.specs.Reading.{is_searchable}
 use Rattle.rbf_search.proofs.Searched.{four_parts, whole_entries}
 use Rattle.rbf_search.proofs.directory.entry_count.Goals as goal
 

@@ -4,7 +4,7 @@ use Rattle.std.proofs.lemmas.List.Folds.{list_all_at}
 use Rattle.std.proofs.lemmas.List.Sums.{list_all-from_AllPass}
 use Rattle.std.proofs.lemmas.List.Elements.{All-from_get_or}
 use Rattle.rbf_model.specs.Geometry.{is_within}
-use Rattle.rbf_search.specs.Reading.{geometry_of}
+use Rattle.rbf_sector.specs.Ident.{geometry_of}
 use Rattle.rbf_search.proofs.directory.lie_within.Goals as goal
 
 pub returns-then-not-is_run_within : goal.returns-then-not-is_run_within

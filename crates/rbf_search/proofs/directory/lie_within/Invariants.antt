@@ -1,6 +1,6 @@
 use Rattle.std.proofs.Common.{◌≡◌, ℕ, ◌<◌, true, get_or}
 use Rattle.rbf_model.specs.Geometry.{is_within}
-use Rattle.rbf_search.specs.Reading.{geometry_of}
+use Rattle.rbf_sector.specs.Ident.{geometry_of}
 use Rattle.rbf_search.proofs.directory.lie_within.Given as goal
 
 abbrev pub invariant-loop-i : goal.invariant-loop-i

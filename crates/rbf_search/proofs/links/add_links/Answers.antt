@@ -1,7 +1,8 @@
 use Rattle.std.proofs.Common.{◌+◌, Vec, Global, subst, sym, arith}
 use Rattle.rbf_search.specs.declared.links.Link.{Link}
 use Rattle.rbf_search.specs.Linked.{AreAdded}
-use Rattle.rbf_search.specs.Reading.{geometry_of, listed}
+use Rattle.rbf_sector.specs.Ident.{geometry_of}
+use Rattle.rbf_search.specs.Reading.{listed}
 use Rattle.rbf_search.proofs.Linking.{added_none, added_more, added_past, added_before}
 use Rattle.rbf_search.proofs.links.add_links.Goals as goal
 use Rattle.rbf_search.proofs.links.add_links.Goals.{in-Some+in_ok-push, in_default}

@@ -1,5 +1,6 @@
 use Rattle.rbf_search.specs.Linked.{AreAdded}
-use Rattle.rbf_search.specs.Reading.{geometry_of, listed}
+use Rattle.rbf_sector.specs.Ident.{geometry_of}
+use Rattle.rbf_search.specs.Reading.{listed}
 use Rattle.rbf_search.proofs.links.add_links.Given as goal
 
 abbrev pub invariant-loop-i : goal.invariant-loop-i

@@ -1,6 +1,7 @@
 use Rattle.std.proofs.Common.{arith}
 use Rattle.rbf_model.specs.Geometry.{sector}
-use Rattle.rbf_search.specs.Reading.{geometry_of}
+use Rattle.rbf_sector.specs.Ident.{geometry_of}
+use Rattle.rbf_sector.specs.Ident.{geometry_of}
 use Rattle.rbf_search.proofs.FoundNumbers.{number_found}
 use Rattle.rbf_search.proofs.Linking.{links_none, links_more, links_are}
 use Rattle.rbf_search.proofs.links.list_links.Goals as goal

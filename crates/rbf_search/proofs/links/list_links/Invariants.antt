@@ -1,5 +1,6 @@
 use Rattle.rbf_model.specs.Geometry.{sector}
-use Rattle.rbf_search.specs.Reading.{geometry_of}
+use Rattle.rbf_sector.specs.Ident.{geometry_of}
+use Rattle.rbf_sector.specs.Ident.{geometry_of}
 use Rattle.rbf_search.proofs.Linking.{AreLinksOf}
 use Rattle.rbf_search.proofs.links.list_links.Given as goal
 

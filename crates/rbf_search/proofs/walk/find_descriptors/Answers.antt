@@ -3,7 +3,8 @@ use Rattle.std.proofs.lemmas.List.{get_or_read}
 use Rattle.rbf_model.specs.Geometry.{sector}
 use Rattle.rbf_model.specs.Faults.{searched}
 use Rattle.rbf_search.specs.Found.{added}
-use Rattle.rbf_search.specs.Reading.{geometry_of}
+use Rattle.rbf_sector.specs.Ident.{geometry_of}
+use Rattle.rbf_sector.specs.Ident.{geometry_of}
 use Rattle.rbf_search.proofs.Searching.{searching_none}
 use Rattle.rbf_search.proofs.Walked.{walked_none, walked_more, found_are, number_at}
 use Rattle.rbf_search.proofs.walk.find_descriptors.Goals as goal

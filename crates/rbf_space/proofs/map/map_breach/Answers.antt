@@ -1,5 +1,6 @@
 use Rattle.rbf_model.specs.Geometry.{sector}
-use Rattle.rbf_search.specs.Reading.{geometry_of}
+use Rattle.rbf_sector.specs.Ident.{geometry_of}
+use Rattle.rbf_sector.specs.Ident.{geometry_of}
 use Rattle.rbf_space.proofs.MapRule.{no_map_breach, map_breach_is}
 use Rattle.rbf_space.proofs.map.map_breach.Goals as goal
 

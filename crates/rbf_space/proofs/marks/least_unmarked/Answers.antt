@@ -1,6 +1,7 @@
 use Rattle.std.proofs.Common.{ℕ, List, arith, get_or, subst, sym}
 use Rattle.rbf_model.specs.Geometry.{sector}
-use Rattle.rbf_search.specs.Reading.{geometry_of}
+use Rattle.rbf_sector.specs.Ident.{geometry_of}
+use Rattle.rbf_sector.specs.Ident.{geometry_of}
 use Rattle.rbf_space.specs.Nexts.{AreNexts}
 use Rattle.rbf_space.specs.Used.{IsUnmarked, IsUnmarkedIn, used_by}
 use Rattle.rbf_search.proofs.FoundNumbers.{number_found, reached_found}

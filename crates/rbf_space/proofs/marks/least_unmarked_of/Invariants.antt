@@ -1,7 +1,8 @@
 use Rattle.std.proofs.Common.{take}
 use Rattle.rbf_model.specs.Geometry.{sector}
 use Rattle.rbf_model.specs.Segments.{sectors_of}
-use Rattle.rbf_search.specs.Reading.{geometry_of}
+use Rattle.rbf_sector.specs.Ident.{geometry_of}
+use Rattle.rbf_sector.specs.Ident.{geometry_of}
 use Rattle.rbf_search.specs.Least.{IsLeast}
 use Rattle.rbf_space.specs.Used.{IsUnmarkedIn}
 use Rattle.rbf_space.proofs.marks.least_unmarked_of.Given as goal

@@ -1,7 +1,8 @@
 use Rattle.std.proofs.Common.{ℕ, ◌-◌, subst, sym, ◌∙◌, arith, rules}
 use Rattle.std.proofs.lemmas.Bool.{both_ways}
 use Rattle.rbf_model.specs.Geometry.{sector}
-use Rattle.rbf_search.specs.Reading.{geometry_of}
+use Rattle.rbf_sector.specs.Ident.{geometry_of}
+use Rattle.rbf_sector.specs.Ident.{geometry_of}
 use Rattle.rbf_space.specs.Used.{IsUnmarked}
 use Rattle.rbf_space.specs.Nexts.{IsNext}
 use Rattle.rbf_space.proofs.NextTables.{IsFilled, filled_none, filled_more, filled_all, next_with, next_without}

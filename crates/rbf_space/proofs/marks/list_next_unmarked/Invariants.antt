@@ -1,5 +1,6 @@
 use Rattle.rbf_model.specs.Geometry.{sector}
-use Rattle.rbf_search.specs.Reading.{geometry_of}
+use Rattle.rbf_sector.specs.Ident.{geometry_of}
+use Rattle.rbf_sector.specs.Ident.{geometry_of}
 use Rattle.rbf_space.specs.Used.{IsUnmarked}
 use Rattle.rbf_space.proofs.NextTables.{IsFilled}
 use Rattle.rbf_space.proofs.marks.list_next_unmarked.Given as goal

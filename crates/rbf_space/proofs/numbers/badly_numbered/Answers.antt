@@ -1,7 +1,8 @@
 use Rattle.std.proofs.Common.{sym, ◌∙◌}
 use Rattle.std.proofs.lemmas.Bool.{MatchBool-at_false}
 use Rattle.rbf_model.specs.Geometry.{sector}
-use Rattle.rbf_search.specs.Reading.{geometry_of, listed}
+use Rattle.rbf_sector.specs.Ident.{geometry_of}
+use Rattle.rbf_search.specs.Reading.{listed}
 use Rattle.rbf_space.specs.Rules.{HasBadNumber}
 use Rattle.rbf_space.proofs.Numbered.{none_broken}
 use Rattle.rbf_space.proofs.numbers.badly_numbered.Goals as goal

@@ -1,7 +1,8 @@
 use Rattle.std.proofs.Common.{◌≡◌, ◌*◌, ◌<◌, List, ℕ, Some, None, length, get_or, arith}
 use Rattle.std.proofs.lemmas.Bool.{false≢true}
 use Rattle.rbf_model.specs.Geometry.{sector}
-use Rattle.rbf_search.specs.Reading.{geometry_of, listed}
+use Rattle.rbf_sector.specs.Ident.{geometry_of}
+use Rattle.rbf_search.specs.Reading.{listed}
 use Rattle.rbf_space.specs.Rules.{IsBadSlot}
 use Rattle.rbf_space.proofs.NextTables.{least_of_run}
 use Rattle.rbf_search.proofs.Headers.{header_of}

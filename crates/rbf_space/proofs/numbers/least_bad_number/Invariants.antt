@@ -1,6 +1,7 @@
 use Rattle.std.proofs.Common.{get_or}
 use Rattle.rbf_model.specs.Geometry.{sector}
-use Rattle.rbf_search.specs.Reading.{geometry_of}
+use Rattle.rbf_sector.specs.Ident.{geometry_of}
+use Rattle.rbf_sector.specs.Ident.{geometry_of}
 use Rattle.rbf_search.specs.Least.{IsLeast, Before}
 use Rattle.rbf_space.specs.Rules.{BreaksNumbersAt}
 use Rattle.rbf_space.proofs.numbers.least_bad_number.Given as goal

@@ -1,6 +1,7 @@
 use Rattle.std.proofs.Common.{◌*◌}
 use Rattle.rbf_model.specs.Geometry.{sector}
-use Rattle.rbf_search.specs.Reading.{geometry_of}
+use Rattle.rbf_sector.specs.Ident.{geometry_of}
+use Rattle.rbf_sector.specs.Ident.{geometry_of}
 use Rattle.rbf_space.specs.Rules.{IsBadSlot}
 use Rattle.rbf_space.proofs.NextTables.{IsFilled}
 use Rattle.rbf_space.proofs.numbers.list_next_bad.Given as goal

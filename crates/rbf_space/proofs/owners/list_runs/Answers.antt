@@ -4,7 +4,8 @@ use Rattle.rbf_model.specs.Fields.{segments_field}
 use Rattle.rbf_model.specs.Geometry.{sector}
 use Rattle.rbf_model.specs.Segments.{sectors_of}
 use Rattle.rbf_model.specs.Space.{system_sectors}
-use Rattle.rbf_search.specs.Reading.{geometry_of}
+use Rattle.rbf_sector.specs.Ident.{geometry_of}
+use Rattle.rbf_sector.specs.Ident.{geometry_of}
 use Rattle.rbf_space.proofs.Listed.{front_of_root, front_of_other, listed_is}
 use Rattle.rbf_space.proofs.owners.list_runs.Goals as goal
 use Rattle.rbf_space.proofs.owners.list_runs.Goals.{then-n-ident+in_ok-push, else-n-ident}

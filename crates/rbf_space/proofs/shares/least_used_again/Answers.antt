@@ -2,7 +2,8 @@ use Rattle.std.proofs.Common.{◌≡◌, ℕ, List, length, get_or, refl, subst,
 use Rattle.rbf_model.specs.Geometry.{sector}
 use Rattle.rbf_model.specs.Segments.{sectors_of}
 use Rattle.rbf_space.specs.declared.uses.Owner.{Owner}
-use Rattle.rbf_search.specs.Reading.{geometry_of}
+use Rattle.rbf_sector.specs.Ident.{geometry_of}
+use Rattle.rbf_sector.specs.Ident.{geometry_of}
 use Rattle.rbf_space.specs.Noted.{IsNoted}
 use Rattle.rbf_search.proofs.FoundNumbers.{number_found, reached_found}
 use Rattle.rbf_space.proofs.Owned.{AreRuns, runs_are}

@@ -1,6 +1,7 @@
 use Rattle.std.proofs.Common.{arith, get_or}
 use Rattle.rbf_model.specs.Geometry.{sector}
-use Rattle.rbf_search.specs.Reading.{geometry_of}
+use Rattle.rbf_sector.specs.Ident.{geometry_of}
+use Rattle.rbf_sector.specs.Ident.{geometry_of}
 use Rattle.rbf_tree.specs.Dots.{IsWithoutDots}
 use Rattle.rbf_search.proofs.FoundNumbers.{number_found}
 use Rattle.rbf_search.proofs.Leasts.{least_next}

@@ -1,7 +1,8 @@
 use Rattle.std.proofs.Common.{◌≡◌, ℕ, refl, subst, arith, rules, length, replicate, false}
 use Rattle.std.specs.Prelude.{MatchBool}
 use Rattle.rbf_model.specs.Geometry.{sector}
-use Rattle.rbf_search.specs.Reading.{geometry_of, listed}
+use Rattle.rbf_sector.specs.Ident.{geometry_of}
+use Rattle.rbf_search.specs.Reading.{listed}
 use Rattle.rbf_tree.specs.Dots.{BeginsWithDots}
 use Rattle.rbf_search.proofs.Headers.{header_of}
 use Rattle.rbf_tree.proofs.Dotting.{answer_true, answer_must, nothing_marked, dotted_root, dotted_more, dotted_are, number_linked}

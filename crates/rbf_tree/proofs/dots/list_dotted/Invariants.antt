@@ -1,5 +1,6 @@
 use Rattle.rbf_model.specs.Geometry.{sector}
-use Rattle.rbf_search.specs.Reading.{geometry_of}
+use Rattle.rbf_sector.specs.Ident.{geometry_of}
+use Rattle.rbf_sector.specs.Ident.{geometry_of}
 use Rattle.rbf_tree.proofs.Dotting.{AreDottedBy}
 use Rattle.rbf_tree.proofs.dots.list_dotted.Given as goal
 

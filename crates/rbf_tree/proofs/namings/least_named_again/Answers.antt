@@ -1,6 +1,7 @@
 use Rattle.std.proofs.Common.{◌≡◌, ◌∙◌, ℕ, arith, rules, length, replicate, None, subst}
 use Rattle.rbf_model.specs.Geometry.{sector}
-use Rattle.rbf_search.specs.Reading.{geometry_of}
+use Rattle.rbf_sector.specs.Ident.{geometry_of}
+use Rattle.rbf_sector.specs.Ident.{geometry_of}
 use Rattle.rbf_search.specs.Least.{IsLeast, Before}
 use Rattle.rbf_tree.specs.Named.{AreFirsts, IsNamedAgain}
 use Rattle.rbf_search.proofs.Leasts.{least_before, least_next}

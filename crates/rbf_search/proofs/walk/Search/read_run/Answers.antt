@@ -1,6 +1,7 @@
 use Rattle.std.proofs.Common.{◌∙◌, ap, length, arith}
 use Rattle.rbf_model.specs.Geometry.{sector}
-use Rattle.rbf_search.specs.Reading.{geometry_of}
+use Rattle.rbf_sector.specs.Ident.{geometry_of}
+use Rattle.rbf_sector.specs.Ident.{geometry_of}
 use Rattle.rbf_search.specs.declared.unread.Unread.{Unread}
 use Rattle.rbf_search.proofs.Searching.{searching_same, searching_after, named_after}
 use Rattle.rbf_search.proofs.SlotsRead.{read_none, read_more, read_all}

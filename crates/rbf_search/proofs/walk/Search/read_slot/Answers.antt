@@ -1,7 +1,8 @@
 use Rattle.std.proofs.Common.{ℕ, ◌∙◌, ap, subst, sym}
 use Rattle.rbf_model.specs.Fields.{is_used, descriptor_field}
 use Rattle.rbf_model.specs.Geometry.{IsNumber, sector}
-use Rattle.rbf_search.specs.Reading.{geometry_of}
+use Rattle.rbf_sector.specs.Ident.{geometry_of}
+use Rattle.rbf_sector.specs.Ident.{geometry_of}
 use Rattle.rbf_search.specs.Slots.{NamesAt}
 use Rattle.rbf_search.proofs.SlotsRead.{found_nothing, found_one}
 use Rattle.rbf_search.proofs.walk.Search.read_slot.Goals as goal

@@ -1,6 +1,7 @@
 use Rattle.std.proofs.Common.{◌≡◌, List, ℕ, refl, arith}
 use Rattle.rbf_model.specs.Geometry.{sector}
-use Rattle.rbf_search.specs.Reading.{geometry_of, listed}
+use Rattle.rbf_sector.specs.Ident.{geometry_of}
+use Rattle.rbf_search.specs.Reading.{listed}
 use Rattle.rbf_search.proofs.Headers.{header_of}
 use Rattle.rbf_search.proofs.Slotted.{AreSlots, slots_are}
 use Rattle.rbf_search.proofs.SlotsRead.{next_before, visited_none, visited_run, visited_all}

@@ -1,6 +1,7 @@
 use Rattle.std.proofs.Common.{◌≡◌, ◌-◌, length, take}
 use Rattle.rbf_model.specs.Geometry.{sector}
-use Rattle.rbf_search.specs.Reading.{geometry_of, listed}
+use Rattle.rbf_sector.specs.Ident.{geometry_of}
+use Rattle.rbf_search.specs.Reading.{listed}
 use Rattle.rbf_search.specs.Slots.{slots_of}
 use Rattle.rbf_search.specs.Walk.{IsSearching}
 use Rattle.rbf_search.proofs.SlotsRead.{IsVisitedTo}

@@ -1,6 +1,5 @@
 use Rattle.std.proofs.Common.{◌≤◌, ◌∙◌, length, take, ap}
-use Rattle.rbf_model.specs.Segments.{sectors_of}
-use Rattle.rbf_segs.specs.Segments.{shortened}
+use Rattle.rbf_model.specs.Segments.{sectors_of, shortened_segments}
 use Rattle.rbf_segs.proofs.Runs.{sectors_of-shortened}
 use Rattle.rbf_segs.proofs.Places.{cut_short}
 use Rattle.rbf_segs.proofs.segs.Segs.cut.Goals as goal
@@ -20,4 +19,4 @@ pub returns-clause-segments : goal.returns-clause-segments
 returns-clause-segments c =
     let within : c.args.sectors ≤ length (sectors_of (take c.self.inside.len c.self.inside.places)) = rw c.self.view_is c.requires in
     let held = cut_short c.self.inside c.self.invariant c.args.sectors _ _ within c.shorten.ensures.places c.shorten.ensures.runs in
-    held.list ∙ ap (shortened c.args.sectors) c.self.view_is
+    held.list ∙ ap (shortened_segments c.args.sectors) c.self.view_is
