@@ -1,0 +1,12 @@
+pub mod Contents
+pub mod Growth
+pub mod Cut
+pub mod Names
+pub mod Calls
+pub mod NewFiles
+pub mod Faults
+pub mod Parts
+pub mod Agrees
+pub mod Tidy
+pub mod Lawful
+pub mod Examples

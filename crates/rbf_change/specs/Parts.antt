@@ -1,0 +1,42 @@
+-- The steps of which a creation and a deletion are made: a new file whose clusters are lost, its entry, and the
+-- clusters of a file that has gone.
+use Rattle.std.specs.Prelude.{◌≡◌, ℕ, ◌*◌, ◌&&◌, ◌||◌, not, List, Some, None}
+use Rattle.os9_base.specs.declared.registers.TimePacket.{TimePacket}
+use Rattle.rbf_model.specs.Fields.{entry_at, descriptor_field}
+use Rattle.rbf_model.specs.File.{DiskFile, file_at}
+use Rattle.rbf_model.specs.Space.{has_cluster}
+use Rattle.rbf_model.specs.Volume.{DiskVolume}
+use Rattle.rbf_model.specs.Writes.{with_file, with_lost}
+use Rattle.rbf_model.specs.Laws.{with_entry}
+use Rattle.rbf_change.specs.Names.{freed_entry}
+use Rattle.rbf_change.specs.Calls.{shape, cluster_size, is_free_in, replaced, WritesFile}
+use Rattle.rbf_change.specs.NewFiles.{Plan, IsNewFile}
+
+-- the descriptor of a new file n is on the disk, and the clusters that it took are lost
+pub record MakesFile (v w : DiskVolume) (disk : ℕ → List ℕ) (n : ℕ) (plan : Plan) : Type 0 where
+  pub file : DiskFile
+  pub made : IsNewFile (cluster_size v) (is_free_in v) n plan file
+  pub shown : file_at disk n ≡ file
+  pub volume : w ≡ with_lost v (λ c. v.lost c || has_cluster (shape v) n file c)
+
+-- an entry has been put into place i of directory d: the file that it names is in the volume, and its clusters are
+-- lost no more
+pub record PutsEntry (v w : DiskVolume) (disk : ℕ → List ℕ) (d i : ℕ) (entry : List ℕ) (now : TimePacket) : Type 0 where
+  pub old : DiskFile
+  pub new : DiskFile
+  pub is : v.files d ≡ Some old
+  pub written : WritesFile (cluster_size v) (is_free_in v) (32 * i) entry now old new
+  pub volume : w ≡ with_file (shape v) (replaced v d (Some new)) (descriptor_field entry)
+      (Some (file_at disk (descriptor_field entry)))
+
+-- an entry in place i of directory d has been made free: the file that it named has gone, and its whole clusters are
+-- lost
+pub record FreesEntry (v w : DiskVolume) (d i : ℕ) : Type 0 where
+  pub old : DiskFile
+  pub is : v.files d ≡ Some old
+  pub volume : w ≡ with_file (shape v) (replaced v d (Some (with_entry old i (freed_entry (entry_at old.contents i)))))
+      (descriptor_field (entry_at old.contents i)) None
+
+-- the clusters of file n, which has gone, are lost no more
+abbrev pub FreesClusters : DiskVolume → DiskVolume → ℕ → DiskFile → Type 0
+FreesClusters v w n file = w ≡ with_lost v (λ c. v.lost c && not (has_cluster (shape v) n file c))
