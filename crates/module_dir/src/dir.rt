@@ -7,17 +7,13 @@ use crate::list::{find_entry, free_number, is_in_use, is_known, remove_group};
 use os9_base::call::OutOfMemory;
 use os9_base::name::Name;
 use proc_model::group::Group;
-use proc_model::module::ModuleInfo;
+use proc_model::module::{ModId, ModuleInfo};
 use std::alloc::{AllocError, Global};
 use std::marker::Model;
 use thiserror::Error;
 
 /// How many modules may be entered.
 const PLACES: usize = 64;
-
-/// The number of an entry of the module directory.
-#[derive(Clone, Copy, Debug, PartialEq, Eq)]
-pub struct ModId(pub u8);
 
 /// Why a module is not entered.
 #[derive(Clone, Copy, Debug, PartialEq, Eq, Error)]

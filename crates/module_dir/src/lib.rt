@@ -1,9 +1,9 @@
 //! The module directory: the modules that are entered, their revisions, links and groups.
 #![tactic(auto)]
 
-pub use dir::{Dir, DirFault, ModId};
+pub use dir::{Dir, DirFault};
 pub use proc_model::group::{BlockId, Group};
-pub use proc_model::module::ModuleInfo;
+pub use proc_model::module::{ModId, ModuleInfo};
 
 mod dir;
 mod entry;

@@ -16,7 +16,7 @@ use Rattle.block_map.specs.TakenBlocks.{NamesLiveBlocks, pool_after_giving}
 use Rattle.block_map.proofs.Places.{at}
 use Rattle.os9_kernel.specs.References.{mapped_blocks, references, AreReferenceCounts, AreBoot}
 use Rattle.os9_outer.specs.TerminalState.{TerminalState}
-use Rattle.module_dir.specs.declared.dir.ModId.{ModId}
+use Rattle.proc_model.specs.declared.module.ModId.{ModId}
 use Rattle.machine_model.specs.declared.activity.Activity.TheVariants.{Finished}
 use Rattle.machine_model.specs.Call.{ended}
 use Rattle.machine_model.specs.State.{State}

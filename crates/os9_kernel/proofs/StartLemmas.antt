@@ -10,7 +10,7 @@ use Rattle.block_pool.specs.Blocks.{Blocks, IsPool, IsLive, reference_count, blo
 use Rattle.block_map.specs.TakenBlocks.{group_blocks}
 use Rattle.block_map.proofs.Counts.{live-within}
 use Rattle.os9_outer.specs.TerminalState.{TerminalState}
-use Rattle.module_dir.specs.declared.dir.ModId.{ModId}
+use Rattle.proc_model.specs.declared.module.ModId.{ModId}
 use Rattle.proc_model.specs.Group.{group_block_numbers}
 use Rattle.proc_model.specs.Loading.{EntersModules, no_entries}
 use Rattle.proc_model.specs.ModuleList.{ModuleEntry, module_entry_at, entered_groups, entry_linked, with_module_entry}

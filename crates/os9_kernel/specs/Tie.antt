@@ -8,7 +8,7 @@ use Rattle.machine_model.specs.declared.activity.Activity.TheVariants.{Running, 
 use Rattle.machine_model.specs.Call.{line_at}
 use Rattle.machine_model.specs.State.{State, Process, lives}
 use Rattle.machine_model.specs.Start.{only_process}
-use Rattle.module_dir.specs.declared.dir.ModId.{ModId}
+use Rattle.proc_model.specs.declared.module.ModId.{ModId}
 use Rattle.proc_model.specs.declared.group.BlockId.{BlockId}
 use Rattle.proc_model.specs.ModuleList.{ModuleEntry}
 use Rattle.proc_model.specs.Slots.{Slots}

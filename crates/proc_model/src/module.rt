@@ -15,6 +15,10 @@ pub enum ModuleFault {
     BadCrc,
 }
 
+/// The number of an entry of the module directory, from 0 to 63.
+#[derive(Clone, Copy, Debug, PartialEq, Eq)]
+pub struct ModId(pub u8);
+
 /// What a module's header says (System Programmer's Manual, "Memory module structure").
 #[derive(Clone, Copy, Debug)]
 pub struct ModuleInfo {

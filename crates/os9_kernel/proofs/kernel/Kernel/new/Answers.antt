@@ -10,7 +10,7 @@ use Rattle.machine_model.specs.Start.{Refuses, first_program, data_size, data_bl
 use Rattle.machine_model.specs.declared.ends.BootFault.TheVariants.{OutOfMemory, NoFirst, TooLarge}
 use Rattle.os9_kernel.specs.Start.{IsFirstMap}
 use Rattle.machine_model.proofs.StartLaws.{never-both, first_entry}
-use Rattle.module_dir.specs.declared.dir.ModId.{ModId}
+use Rattle.proc_model.specs.declared.module.ModId.{ModId}
 use Rattle.os9_kernel.proofs.StartLemmas.{IsPlaced, IsFound, free_count-unnamed, refuses_module, refuses_without, refuses_large, group_live, group_countable, enough_left, some_blocks, begins_within, area_within, first_of_file, first_stays, all_boot, counted, stands}
 use Rattle.os9_kernel.proofs.kernel.Kernel.new.Goals as goal
 use Rattle.os9_kernel.proofs.kernel.Kernel.new.Goals.{In_ok-buffer, After-load_group-group, After-first_program, In_ok-enter_modules, In_ok-first, After-block_count-low, In_ok-map, After-link}

@@ -1,0 +1,57 @@
+-- The end of a process, and what its parent is given of it (System Programmer's Manual, F$Exit and F$Wait).
+use Rattle.std.specs.Prelude.{ℕ, ◌==◌, ◌&&◌, Bool, Option, Some, None, Result, Ok, Err, List, map, position, slice_set, if◌then◌else◌}
+use Rattle.std.specs.List.{list_any}
+use Rattle.std.specs.Option.{option_map_or}
+use Rattle.os9_base.specs.declared.registers.Pid.{Pid}
+use Rattle.proc_rules.specs.declared.record.Life.{Life}
+use Rattle.proc_rules.specs.declared.record.Life.TheVariants.{Running, Waiting, Ended}
+use Rattle.proc_rules.specs.declared.record.Reap.{Reap}
+use Rattle.proc_rules.specs.declared.record.Reap.TheVariants.{NoChild, NotYet}
+use Rattle.proc_rules.specs.declared.record.Record.{Record}
+use Rattle.proc_rules.specs.Records.{record_passes, has_ended, record_at, without_record}
+
+-- a record is of a child of this process
+abbrev pub is_child : ℕ → Record → Bool
+is_child parent r = r.parent.0 == parent
+
+-- a record is of a child of this process that has ended
+abbrev pub is_ended_child : ℕ → Record → Bool
+is_ended_child parent r = is_child parent r && has_ended r.life
+
+-- some record has this parent
+abbrev pub has_child : List (Option Record) → ℕ → Bool
+has_child records parent = list_any (record_passes (is_child parent)) records
+
+-- the ended child of least number
+abbrev pub ended_child : List (Option Record) → ℕ → Option ℕ
+ended_child records parent = position (record_passes (is_ended_child parent)) records
+
+-- the status with which a process has ended
+abbrev pub status_of : Life → ℕ
+status_of Running = 0
+status_of Waiting = 0
+status_of (Ended status) = status
+
+-- what a parent is given that waits: the ended child of least number, and its status
+abbrev pub reaped : List (Option Record) → ℕ → Result (Pid × ℕ) Reap
+reaped records parent =
+    option_map_or (λ child. Ok (record { 0 = child }, status_of (record_at records child).life)) (ended_child records parent)
+    (if has_child records parent then Err NotYet else Err NoChild)
+
+-- the records after it: without the child that was given
+abbrev pub after_reap : List (Option Record) → ℕ → List (Option Record)
+after_reap records parent = option_map_or (without_record records) (ended_child records parent) records
+
+-- what the end of a process leaves of its own record: the status for its parent, or nothing if it has no parent
+abbrev pub ended_record : Record → ℕ → Option Record
+ended_record r status = if r.parent.0 == 0 then None else Some (record r { life = Ended status })
+
+-- what it leaves of any other: an ended child's record goes, and a living child has no parent any more
+abbrev pub orphaned : ℕ → Option Record → Option Record
+orphaned parent None = None
+orphaned parent (Some r) =
+    if is_child parent r then (if has_ended r.life then None else Some (record r { parent = record { 0 = 0 } })) else Some r
+
+-- the records after the end of a process
+abbrev pub after_exit : List (Option Record) → ℕ → ℕ → List (Option Record)
+after_exit records p status = slice_set (map (orphaned p) records) p (ended_record (record_at records p) status)
