@@ -1,0 +1,135 @@
+-- Line editing (Level Two manual, SCF; the echo is this project's own).
+use Rattle.std.specs.Prelude.{ℕ, ◌+◌, ◌-◌, ◌==◌, ◌&&◌, ◌||◌, nat_lt, Bool, Option, Some, None, List, [], ◌∷◌, ◌++◌, length, map, take, if◌then◌else◌}
+use Rattle.std.specs.List.{flat_map}
+use Rattle.io_model.specs.declared.keys.TheConstants.{BACKSPACE, DELETE_LINE, REPRINT, DUPLICATE, RETURN, END_OF_FILE, BELL, SPACE, LINE_FEED, DOT, DELETE}
+use Rattle.io_model.specs.declared.edit.LineEnd.{LineEnd}
+use Rattle.io_model.specs.declared.edit.LineEnd.TheVariants.{Line, EndOfFile}
+
+-- a line that is being typed
+pub record Editing : Type 0 where
+  pub bytes : List ℕ  -- the line so far
+  pub last : List ℕ  -- the last finished line, without its carriage return
+
+-- what a key makes of a line
+pub record Edited : Type 0 where
+  pub line : Editing
+  pub echo : List ℕ  -- the bytes that are put
+  pub end : Option LineEnd
+
+-- the line with these bytes in place of its own
+abbrev pub with_bytes : Editing → List ℕ → Editing
+with_bytes line bytes = record line { bytes = bytes }
+
+-- the line without a byte; the last finished one stays
+abbrev pub cleared : Editing → Editing
+cleared line = with_bytes line []
+
+-- the line before anything was typed
+abbrev pub no_line : Editing
+no_line = record { bytes = []; last = [] }
+
+-- the line is this now, these bytes are put, and typing goes on
+abbrev pub still_typing : Editing → List ℕ → Edited
+still_typing line echo = record { line = line; echo = echo; end = None }
+
+-- a byte of a line as it is shown: a dot for a control character
+abbrev pub shown : ℕ → ℕ
+shown byte = if nat_lt byte SPACE || (byte == DELETE) then DOT else byte
+
+-- what takes the bytes of a line away on the screen
+abbrev pub rubouts : List ℕ → List ℕ
+rubouts bytes = flat_map (λ byte. BACKSPACE ∷ SPACE ∷ BACKSPACE ∷ []) bytes
+
+-- the key is not taken
+abbrev pub refused_key : Editing → Edited
+refused_key line = still_typing line (BELL ∷ [])
+
+-- 08 takes the last byte away; nothing on an empty line
+abbrev pub backspaced : Editing → Edited
+backspaced line =
+    still_typing (with_bytes line (take (length line.bytes - 1) line.bytes)) (rubouts (take 1 line.bytes))
+
+-- 18 takes each byte away
+abbrev pub deleted : Editing → Edited
+deleted line = still_typing (cleared line) (rubouts line.bytes)
+
+-- 04 shows the line again
+abbrev pub reprinted : Editing → Edited
+reprinted line = still_typing line (RETURN ∷ LINE_FEED ∷ map shown line.bytes)
+
+-- as much of the last finished line as there is room for
+abbrev pub last_that_fits : ℕ → Editing → List ℕ
+last_that_fits most line = take (most - 1) line.last
+
+-- 01 takes each byte away and types the last finished line, as much as fits
+abbrev pub duplicated : ℕ → Editing → Edited
+duplicated most line =
+    still_typing (with_bytes line (last_that_fits most line)) (rubouts line.bytes ++ map shown (last_that_fits most line))
+
+-- 0D ends the line, which is then the last finished one
+abbrev pub returned : Editing → Edited
+returned line =
+    record { line = record { bytes = line.bytes ++ RETURN ∷ []; last = line.bytes }; echo = RETURN ∷ LINE_FEED ∷ []; end = Some Line }
+
+-- the end of the file
+abbrev pub file_ended : Editing → Edited
+file_ended line = record { line = line; echo = []; end = Some EndOfFile }
+
+-- the line has no byte
+abbrev pub is_empty_line : Editing → Bool
+is_empty_line line = length line.bytes == 0
+
+-- any other key, where the line has room for it and a carriage return
+abbrev pub typed_key : ℕ → Editing → ℕ → Edited
+typed_key most line key =
+    if nat_lt (length line.bytes) (most - 1) then still_typing (with_bytes line (line.bytes ++ key ∷ [])) (shown key ∷ []) else refused_key line
+
+-- a key of I$ReadLn, which asks for at most so many bytes
+unfoldable pub edited : ℕ → Editing → ℕ → Edited
+edited most line key =
+    if key == BACKSPACE then backspaced line else (if key == DELETE_LINE then deleted line else (if key == REPRINT then reprinted line else (if key == DUPLICATE then duplicated most line else (if key == RETURN then returned line else (if key == END_OF_FILE then (if is_empty_line line then file_ended line else refused_key line) else typed_key most line key)))))
+
+-- this byte is the last one of an I$Read, which asks for at most so many
+abbrev pub is_last_byte : ℕ → Editing → ℕ → Bool
+is_last_byte most line key = (key == RETURN) || (length line.bytes + 1 == most)
+
+-- the byte is moved as it is
+abbrev pub moved : ℕ → Editing → ℕ → Edited
+moved most line key =
+    record { line = with_bytes line (line.bytes ++ key ∷ []); echo = key ∷ []; end = if is_last_byte most line key then Some Line else None }
+
+-- a key of I$Read, which asks for at most so many bytes
+unfoldable pub copied : ℕ → Editing → ℕ → Edited
+copied most line key =
+    if (key == END_OF_FILE) && is_empty_line line then file_ended line else moved most line key
+
+-- what a list of keys makes of a line, until it ends
+pub record Typing : Type 0 where
+  pub line : Editing
+  pub echo : List ℕ
+  pub end : Option LineEnd
+  pub left : List ℕ  -- the keys behind the one that ended it
+
+-- what was typed, with an echo before its own
+abbrev pub after_echo : List ℕ → Typing → Typing
+after_echo echo typed = record typed { echo = echo ++ typed.echo }
+
+-- what a key and those behind it make of a line, where `rest` is what those behind it make of it after the key
+abbrev pub after_key : Option LineEnd → Edited → List ℕ → Typing → Typing
+after_key None key keys rest = after_echo key.echo rest
+after_key (Some end) key keys rest = record { line = key.line; echo = key.echo; end = Some end; left = keys }
+
+-- what a list of keys makes of a line, where `step` is what one key makes of it
+abbrev pub typing : (Editing → ℕ → Edited) → Editing → List ℕ → Typing
+typing step line [] = record { line = line; echo = []; end = None; left = [] }
+typing step line (key ∷ keys) =
+    after_key (step line key).end (step line key) keys (typing step (step line key).line keys)
+
+-- what was typed goes on with these keys: they are left where it has ended
+abbrev pub goes_on : Option LineEnd → (Editing → ℕ → Edited) → Typing → List ℕ → Typing
+goes_on None step typed keys = after_echo typed.echo (typing step typed.line keys)
+goes_on (Some end) step typed keys = record typed { left = typed.left ++ keys }
+
+-- what was typed, with these keys after it
+abbrev pub after_typing : (Editing → ℕ → Edited) → Typing → List ℕ → Typing
+after_typing step typed keys = goes_on typed.end step typed keys

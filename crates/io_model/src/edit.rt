@@ -1,0 +1,113 @@
+//! How a line ends, and line editing as laws over every list of keys.
+
+ghost use Rattle.std.specs.Prelude.{◌≡◌, ℕ, Some, None, List, [], ◌∷◌, ◌++◌, codes};
+ghost use Rattle.io_model.specs.Edit.{Editing, Edited, typing, edited, copied, after_typing, no_line, refused_key, still_typing, file_ended};
+
+/// What ends a read of a terminal.
+#[derive(Clone, Copy, Debug, PartialEq, Eq)]
+pub enum LineEnd {
+    /// A carriage return, or the last byte that was asked for.
+    Line,
+    /// The end-of-file key with no byte before it.
+    EndOfFile,
+}
+
+/// Keys that come in two parts are as good as all of them at once, for I$ReadLn, I$Read and any
+/// other effect of keys: the second part goes on where the first one left off.
+pub fn typing_can_be_cut()
+    ensures { (step : Editing → ℕ → Edited) (line : Editing) (first later : List ℕ) →
+        typing step line (first ++ later) ≡ after_typing step (typing step line first) later }
+{}
+
+/// Three lines that are typed one after another: one with a byte taken back, one that is deleted
+/// and typed again by one key, and the end of the file.
+pub fn line_editing()
+    ensures first { typing (edited 80) no_line (97 ∷ 98 ∷ 120 ∷ 8 ∷ 99 ∷ 13 ∷ [])
+        ≡ record {
+          line = record { bytes = codes "abc" ++ 13 ∷ []; last = codes "abc" };
+          echo = 97 ∷ 98 ∷ 120 ∷ 8 ∷ 32 ∷ 8 ∷ 99 ∷ 13 ∷ 10 ∷ [];
+          end = Some LineEnd.Line;
+          left = [];
+        } }
+    ensures second { typing (edited 80) (record { bytes = []; last = codes "abc" })
+        (122 ∷ 122 ∷ 24 ∷ 1 ∷ 13 ∷ [])
+        ≡ record {
+          line = record { bytes = codes "abc" ++ 13 ∷ []; last = codes "abc" };
+          echo = 122 ∷ 122 ∷ 8 ∷ 32 ∷ 8 ∷ 8 ∷ 32 ∷ 8 ∷ 97 ∷ 98 ∷ 99 ∷ 13 ∷ 10 ∷ [];
+          end = Some LineEnd.Line;
+          left = [];
+        } }
+    ensures third { typing (edited 80) (record { bytes = []; last = codes "abc" }) (27 ∷ [])
+        ≡ record {
+          line = record { bytes = []; last = codes "abc" };
+          echo = [];
+          end = Some LineEnd.EndOfFile;
+          left = [];
+        } }
+{}
+
+/// Each key of I$ReadLn on a line of two bytes, the second of which is shown as a dot, and on an
+/// empty line.
+pub fn editing_keys()
+    ensures backspace { edited 80 (record { bytes = 97 ∷ 2 ∷ []; last = [] }) 8
+        ≡ still_typing (record { bytes = 97 ∷ []; last = [] }) (8 ∷ 32 ∷ 8 ∷ []) }
+    ensures backspace_on_none { edited 80 no_line 8 ≡ still_typing no_line [] }
+    ensures delete_line { edited 80 (record { bytes = 97 ∷ 2 ∷ []; last = [] }) 24
+        ≡ still_typing no_line (8 ∷ 32 ∷ 8 ∷ 8 ∷ 32 ∷ 8 ∷ []) }
+    ensures reprint { edited 80 (record { bytes = 97 ∷ 2 ∷ []; last = [] }) 4
+        ≡ still_typing (record { bytes = 97 ∷ 2 ∷ []; last = [] }) (13 ∷ 10 ∷ 97 ∷ 46 ∷ []) }
+    ensures duplicate { edited 80 (record { bytes = 97 ∷ []; last = 98 ∷ 127 ∷ [] }) 1
+        ≡ still_typing (record { bytes = 98 ∷ 127 ∷ []; last = 98 ∷ 127 ∷ [] })
+        (8 ∷ 32 ∷ 8 ∷ 98 ∷ 46 ∷ []) }
+    ensures duplicate_of_more { edited 3 (record { bytes = []; last = codes "wxyz" }) 1
+        ≡ still_typing (record { bytes = codes "wx"; last = codes "wxyz" }) (codes "wx") }
+    ensures end_of_file { edited 80 no_line 27 ≡ file_ended no_line }
+    ensures end_of_file_in_a_line { edited 80 (record { bytes = 97 ∷ []; last = [] }) 27
+        ≡ refused_key (record { bytes = 97 ∷ []; last = [] }) }
+{}
+
+/// Any other key of I$ReadLn: it is typed while the line has room for it and a carriage return.
+pub fn typed_keys()
+    ensures letter { edited 80 no_line 97
+        ≡ still_typing (record { bytes = 97 ∷ []; last = [] }) (97 ∷ []) }
+    ensures zero { edited 80 no_line 0
+        ≡ still_typing (record { bytes = 0 ∷ []; last = [] }) (46 ∷ []) }
+    ensures last_control { edited 80 no_line 31
+        ≡ still_typing (record { bytes = 31 ∷ []; last = [] }) (46 ∷ []) }
+    ensures delete { edited 80 no_line 127
+        ≡ still_typing (record { bytes = 127 ∷ []; last = [] }) (46 ∷ []) }
+    ensures above { edited 80 no_line 128
+        ≡ still_typing (record { bytes = 128 ∷ []; last = [] }) (128 ∷ []) }
+    ensures last_place { edited 3 (record { bytes = 97 ∷ []; last = [] }) 98
+        ≡ still_typing (record { bytes = codes "ab"; last = [] }) (98 ∷ []) }
+    ensures full { edited 3 (record { bytes = codes "ab"; last = [] }) 99
+        ≡ still_typing (record { bytes = codes "ab"; last = [] }) (7 ∷ []) }
+    ensures return_alone { edited 1 no_line 13
+        ≡ record {
+          line = record { bytes = 13 ∷ []; last = [] };
+          echo = 13 ∷ 10 ∷ [];
+          end = Some LineEnd.Line;
+        } }
+{}
+
+/// The keys of I$Read are moved as they are, and the last finished line stays.
+pub fn copied_keys()
+    ensures control { copied 80 (record { bytes = []; last = codes "abc" }) 8
+        ≡ still_typing (record { bytes = 8 ∷ []; last = codes "abc" }) (8 ∷ []) }
+    ensures return_key { copied 80 (record { bytes = codes "x"; last = codes "abc" }) 13
+        ≡ record {
+          line = record { bytes = 120 ∷ 13 ∷ []; last = codes "abc" };
+          echo = 13 ∷ [];
+          end = Some LineEnd.Line;
+        } }
+    ensures last_byte { copied 2 (record { bytes = codes "x"; last = codes "abc" }) 121
+        ≡ record {
+          line = record { bytes = codes "xy"; last = codes "abc" };
+          echo = 121 ∷ [];
+          end = Some LineEnd.Line;
+        } }
+    ensures end_of_file { copied 80 (record { bytes = []; last = codes "abc" }) 27
+        ≡ file_ended (record { bytes = []; last = codes "abc" }) }
+    ensures later_end_of_file { copied 80 (record { bytes = codes "x"; last = [] }) 27
+        ≡ still_typing (record { bytes = 120 ∷ 27 ∷ []; last = [] }) (27 ∷ []) }
+{}
