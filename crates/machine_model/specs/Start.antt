@@ -1,8 +1,9 @@
 -- The state in which a boot file starts (Level Two manual, "Booting"; the first process is this project's own).
-use Rattle.std.specs.Prelude.{◌≡◌, ◌⊎◌, ℕ, ◌+◌, ◌-◌, ◌*◌, ◌/◌, ◌<◌, ◌≤◌, true, max, min, Option, Some, None, Result, Ok, Err, List, ◌∷◌, ◌++◌, length, map, take, drop, replicate, codes}
+use Rattle.std.specs.Prelude.{◌≡◌, ◌⊎◌, ℕ, ◌+◌, ◌-◌, ◌*◌, ◌/◌, ◌<◌, ◌≤◌, true, max, min, Option, Some, None, Result, Ok, Err, List, ◌∷◌, ◌++◌, length, map, replicate, codes}
 use Rattle.std.specs.List.{range_with_len}
 use Rattle.os9_base.specs.declared.registers.Regs.{Regs}
 use Rattle.proc_model.specs.Slots.{Slots}
+pub use Rattle.proc_model.specs.Objects.{zero_object, block_count, file_blocks, file_block, file_objects}
 use Rattle.proc_model.specs.ModuleList.{ModuleEntry, module_entry_at, found_module, entry_linked, with_module_entry}
 use Rattle.proc_model.specs.Loading.{EntersModules, no_entries}
 use Rattle.os9_outer.specs.TerminalState.{TerminalState}
@@ -12,23 +13,17 @@ use Rattle.machine_model.specs.declared.ends.BootFault.TheVariants.{OutOfMemory,
 use Rattle.machine_model.specs.State.{State, Process}
 use Rattle.os9_base.specs.declared.limits.TheConstants.{MOST_GROUP_BYTES}
 
--- so many bytes are so many pages of 256, and so many blocks of 8,192
+-- so many bytes are so many pages of 256
 abbrev pub page_count : ℕ → ℕ
 page_count bytes = (bytes + 255) / 256
-
-abbrev pub block_count : ℕ → ℕ
-block_count bytes = (bytes + 8191) / 8192
 
 -- the size of a program's data area in bytes: its storage in whole pages, and at least one page
 abbrev pub data_size : ModuleEntry → ℕ
 data_size program = 256 * max 1 (page_count program.info.storage)
 
--- the blocks of a program's data area, and of the file that holds it
+-- the blocks of a program's data area
 abbrev pub data_blocks : ModuleEntry → ℕ
 data_blocks program = block_count (data_size program)
-
-abbrev pub file_blocks : List ℕ → ℕ
-file_blocks file = block_count (length file)
 
 -- the numbers of the objects that hold the boot file: they are the first to appear
 abbrev pub boot_group : List ℕ → List ℕ
@@ -70,18 +65,6 @@ Refuses file blocks (BadModule at error) =
 Refuses file blocks NoFirst =
     (length file ≤ longest_file) × ((entries : List (Option ModuleEntry)) × EntersBoot file (Ok entries) × (first_program entries ≡ None))
 Refuses file blocks OutOfMemory = ⊥
-
--- a new object
-abbrev pub zero_object : List ℕ
-zero_object = replicate 8192 0
-
--- the k-th block of a file; zeros fill the last one
-abbrev pub file_block : List ℕ → ℕ → List ℕ
-file_block file k = take 8192 (drop (8192 * k) file ++ zero_object)
-
--- the objects that hold a file
-abbrev pub file_objects : List ℕ → List (List ℕ)
-file_objects file = map (file_block file) (range_with_len 0 (file_blocks file))
 
 -- the objects of the start: those of the boot file, then the data area of the first process
 abbrev pub first_objects : List ℕ → ModuleEntry → List (List ℕ)

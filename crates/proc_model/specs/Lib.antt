@@ -2,5 +2,8 @@ pub mod Crc
 pub mod Group
 pub mod Loading
 pub mod Module
+pub mod Memory
+pub mod MemoryChanges
 pub mod ModuleList
+pub mod Objects
 pub mod Slots

@@ -1,7 +1,7 @@
 -- The map of a process: the eight slots of 8,192 bytes that it sees (Level Two manual, "Memory
 -- management"). What stands in a slot is a block of the pool or, in the machine, an object.
-use Rattle.std.specs.Prelude.{◌≡◌, ℕ, ◌+◌, ◌-◌, ◌<◌, ◌≤◌, Option, Some, None, List, ◌++◌, length, take, drop, replicate, map, slice_index_or, slice_range, slice_set}
-use Rattle.std.specs.List.{filter_map}
+use Rattle.std.specs.Prelude.{◌≡◌, ℕ, zero, suc, ◌+◌, ◌-◌, ◌<◌, ◌≤◌, ◌==◌, ◌&&◌, nat_le, Bool, false, Option, Some, None, is_none, option_and_then, List, ◌++◌, length, take, drop, replicate, map, position, slice_get, slice_index, slice_index_or, slice_range, slice_set, if◌then◌else◌}
+use Rattle.std.specs.List.{filter_map, list_all}
 
 -- the eight places, the length of the low area, which begins at slot 0, and for each slot the length
 -- of the group that begins there, if one does
@@ -41,6 +41,33 @@ IsFreeRun slots first len = (first + len ≤ 8) × ((slot : ℕ) → first ≤ s
 -- the highest run of slots of this length that name nothing
 abbrev pub IsHighestFreeRun : {Block : Type 0} → Slots Block → ℕ → ℕ → Type 0
 IsHighestFreeRun slots len first = IsFreeRun slots first len × ((higher : ℕ) → IsFreeRun slots higher len → higher ≤ first)
+
+-- the test of a run of slots that name nothing
+abbrev pub is_free_run : {Block : Type 0} → Slots Block → ℕ → ℕ → Bool
+is_free_run slots first len = nat_le (first + len) 8 && list_all is_none (slice_range slots.places first (first + len))
+
+-- the first slot of the highest run of this length that names nothing and begins at a slot or below it, if there is one
+unfoldable pub highest_run_upto : {Block : Type 0} → Slots Block → ℕ → ℕ → Option ℕ
+highest_run_upto slots len zero = if is_free_run slots 0 len then Some 0 else None
+highest_run_upto slots len (suc first) = if is_free_run slots (suc first) len then Some (suc first) else highest_run_upto slots len first
+
+-- the first slot of the highest run of this length that names nothing, if there is one
+abbrev pub highest_free_run : {Block : Type 0} → Slots Block → ℕ → Option ℕ
+highest_free_run slots len = highest_run_upto slots len 8
+
+-- a group begins at a slot: its length is kept there, and its blocks stand in the slots from there on
+pub record BeginsAt (slots : Slots ℕ) (group : List ℕ) (first : ℕ) : Type 0 where
+  pub length_is : group_of slots first ≡ Some (length group)
+  pub stands : (k : ℕ) → k < length group → block_at slots (first + k) ≡ Some (slice_index group k)
+
+-- the place names this block
+abbrev pub place_names : ℕ → Option ℕ → Bool
+place_names block None = false
+place_names block (Some other) = other == block
+
+-- the slot at which a group begins in a map, if it does: that of its first block
+abbrev pub group_slot : Slots ℕ → List ℕ → Option ℕ
+group_slot slots group = option_and_then (λ first. position (place_names first) slots.places) (slice_get group 0)
 
 -- the places with these from one slot on
 abbrev pub put_places : {Block : Type 0} → List (Option Block) → ℕ → List (Option Block) → List (Option Block)

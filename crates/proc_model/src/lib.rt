@@ -4,4 +4,5 @@
 
 pub mod group;
 pub mod loading;
+pub mod memory;
 pub mod module;

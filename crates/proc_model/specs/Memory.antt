@@ -1,0 +1,60 @@
+-- Memory: objects of 8,192 bytes, the maps that name them, and the module directory (Level Two manual, "Memory management").
+-- The objects that appeared are kept for ever, by number; the machine has blocks for those that live.
+use Rattle.std.specs.Prelude.{ℕ, ◌-◌, ◌==◌, nat_lt, Bool, Option, List, [], ◌++◌, flat_map, length, count_by, slice_index_or, slice_set}
+use Rattle.std.specs.List.{list_any, range_with_len}
+use Rattle.std.specs.Option.{option_map_or}
+use Rattle.os9_base.specs.declared.errors.TheConstants.{E_MEMFUL, E_NORAM}
+use Rattle.proc_model.specs.declared.memory.MemoryFault.{MemoryFault}
+use Rattle.proc_model.specs.declared.memory.MemoryFault.TheVariants.{MemFull, NoRam}
+use Rattle.proc_model.specs.ModuleList.{ModuleEntry, module_entry_at, entered_groups}
+use Rattle.proc_model.specs.Slots.{Slots, no_slots, blocks_in}
+
+-- the memory of the machine
+pub record MemoryState : Type 0 where
+  pub blocks : ℕ  -- how many blocks of 8,192 bytes the machine has
+  pub objects : List (List ℕ)  -- by number: all objects that ever appeared
+  pub maps : List (Slots ℕ)  -- by process number: the map of each process
+  pub modules : List (Option ModuleEntry)  -- by number: the module directory, whose groups are lists of objects' numbers
+
+-- the error of a change of memory that is refused
+abbrev pub memory_error : MemoryFault → ℕ
+memory_error MemFull = E_MEMFUL
+memory_error NoRam = E_NORAM
+
+-- the map of a process
+abbrev pub map_at : MemoryState → ℕ → Slots ℕ
+map_at m process = slice_index_or m.maps process no_slots
+
+-- the memory with this map of a process
+abbrev pub with_map : MemoryState → ℕ → Slots ℕ → MemoryState
+with_map m process slots = record m { maps = slice_set m.maps process slots }
+
+-- the group of an entered module
+abbrev pub group_at : MemoryState → ℕ → List ℕ
+group_at m number = option_map_or (λ entry. entry.group) (module_entry_at m.modules number) []
+
+-- ---- the objects that live
+
+-- the objects that stand in the places of a map
+abbrev pub mapped_objects : Slots ℕ → List ℕ
+mapped_objects slots = blocks_in slots.places
+
+-- the objects that the maps name, and those of the entered groups
+abbrev pub named_objects : MemoryState → List ℕ
+named_objects m = flat_map mapped_objects m.maps ++ flat_map (λ group. group) (entered_groups m.modules)
+
+-- an object lives while a map or an entered group names it
+abbrev pub is_living_object : MemoryState → ℕ → Bool
+is_living_object m number = list_any (λ named. named == number) (named_objects m)
+
+-- how many objects live
+abbrev pub living_object_count : MemoryState → ℕ
+living_object_count m = count_by (is_living_object m) (range_with_len 0 (length m.objects))
+
+-- how many blocks are free: those of the machine less the living objects
+abbrev pub free_blocks : MemoryState → ℕ
+free_blocks m = m.blocks - living_object_count m
+
+-- fewer blocks are free than are wanted
+abbrev pub wants_blocks : MemoryState → ℕ → Bool
+wants_blocks m wanted = nat_lt (free_blocks m) wanted
