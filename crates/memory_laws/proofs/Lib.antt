@@ -1,0 +1,12 @@
+pub mod Gains
+pub mod Groups
+pub mod Keeping
+pub mod Lists
+pub mod Naming
+pub mod Living
+pub mod Objects
+pub mod Renamed
+pub mod Represented
+pub mod Runs
+pub mod Stores
+pub mod Times

@@ -1,0 +1,5 @@
+pub mod Gains
+pub mod Memory
+pub mod References
+pub mod Renaming
+pub mod Sound

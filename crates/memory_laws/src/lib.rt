@@ -1,0 +1,19 @@
+//! What holds of memory at all times, and how its blocks, maps and groups represent objects.
+#![tactic(auto)]
+
+ghost use Rattle.std.specs.Prelude.{◌≡◌, Option, List};
+ghost use Rattle.block_pool.specs.Blocks.{Blocks, free_block_count};
+ghost use Rattle.proc_model.specs.declared.group.BlockId.{BlockId};
+ghost use Rattle.proc_model.specs.Memory.{MemoryState, free_blocks};
+ghost use Rattle.proc_model.specs.ModuleList.{ModuleEntry};
+ghost use Rattle.proc_model.specs.Slots.{Slots};
+ghost use Rattle.memory_laws.specs.Memory.{RepresentMemory};
+ghost use Rattle.memory_laws.specs.Sound.{IsSound};
+
+/// The blocks of the machine less the living objects are as many as the blocks that no map and no
+/// entered group names: so a change of memory is refused exactly where blocks are too few.
+pub fn free_blocks_are_those_that_nothing_names()
+    ensures { (pool : Blocks) (maps : List (Slots BlockId)) (entries : List (Option ModuleEntry)) (m : MemoryState)
+        → IsSound pool maps entries → RepresentMemory pool maps entries m
+        → free_blocks m ≡ free_block_count pool }
+{}
