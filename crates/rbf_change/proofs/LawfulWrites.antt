@@ -3,7 +3,7 @@ use Rattle.std.proofs.Common.{◌≡◌, ℕ, List, length, Some, None, ap, sym,
 use Rattle.rbf_model.specs.Geometry.{geometry, image_geometry, sector}
 use Rattle.rbf_model.specs.File.{file_from, file_at}
 use Rattle.rbf_model.specs.Volume.{DiskVolume, Vol}
-use Rattle.rbf_model.specs.Writes.{put_sector, with_file, with_same_space}
+use Rattle.rbf_model.specs.Writes.{put_sector, with_file, with_file_in_place}
 use Rattle.rbf_model.specs.Laws.{Takes, Frees, IsUnseen, Redescribes, Enters, Appends, with_entry}
 use Rattle.rbf_model.proofs.ImageLaws.{takes_image, frees_image, unseen_image, overwrite_image, describe_image, enter_image, append_image, leave_image}
 use Rattle.rbf_change.specs.Calls.{shape}
@@ -26,13 +26,13 @@ lawful_step image v s bytes _ vol whole (redescribes {old = old} law) =
     subst (λ g. Vol (put_sector image s bytes) (with_file g v s (Some (file_from (sector image) bytes)))) (sym (shape-image image v vol))
     (describe_image image v vol s old bytes whole (subst (λ g. Redescribes g (sector image) v s old bytes) (shape-image image v vol) law))
 lawful_step image v s bytes _ vol whole (enters {d = d} {j = j} {i = i} {n = n} {dir = dir} {entry = entry} law) =
-    subst (λ g. Vol (put_sector image s bytes) (with_file g (with_same_space v d (with_entry dir i entry)) n (Some (file_at (sector image) n)))) (sym (shape-image image v vol))
+    subst (λ g. Vol (put_sector image s bytes) (with_file g (with_file_in_place v d (with_entry dir i entry)) n (Some (file_at (sector image) n)))) (sym (shape-image image v vol))
     (enter_image image v vol d dir j s bytes i entry n whole (subst (λ g. Enters g (sector image) v d dir j s bytes i entry n) (shape-image image v vol) law))
 lawful_step image v s bytes _ vol whole (appends {i = i} {n = n} {dir = dir} {entry = entry} law) =
     subst (λ g. Vol (put_sector image s bytes) (with_file g (with_file g v s (Some (file_from (sector image) bytes))) n (Some (file_at (sector image) n)))) (sym (shape-image image v vol))
     (append_image image v vol s dir bytes i entry n whole (subst (λ g. Appends g (sector image) v s dir bytes i entry n) (shape-image image v vol) law))
 lawful_step image v s bytes _ vol whole (leaves {d = d} {j = j} {i = i} {n = n} {dir = dir} {file = file} {entry = entry} law) =
-    subst (λ g. Vol (put_sector image s bytes) (with_file g (with_same_space v d (with_entry dir i entry)) n None)) (sym (shape-image image v vol))
+    subst (λ g. Vol (put_sector image s bytes) (with_file g (with_file_in_place v d (with_entry dir i entry)) n None)) (sym (shape-image image v vol))
     (leave_image image v vol d dir j s bytes i entry n file whole law)
 
 pub lawful_steps : (image : List ℕ) (v : DiskVolume) (now : List ℕ) (w : DiskVolume) → Vol image v → AreLawful image v now w → Vol now w

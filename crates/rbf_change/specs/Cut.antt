@@ -4,7 +4,7 @@ use Rattle.rbf_model.specs.Segments.{sectors_of}
 use Rattle.rbf_model.specs.Geometry.{Geometry}
 use Rattle.rbf_model.specs.File.{DiskFile}
 use Rattle.rbf_model.specs.Space.{own_sectors, has_cluster}
-use Rattle.rbf_segs.specs.Segments.{shortened}
+use Rattle.rbf_model.specs.Segments.{shortened_segments}
 use Rattle.rbf_change.specs.Contents.{sector_count}
 
 -- of the sectors of file n, the one before place j: the descriptor is before the first
@@ -24,7 +24,7 @@ abbrev pub cut_file : ℕ → ℕ → DiskFile → ℕ → List ℕ → DiskFile
 cut_file k n file size now =
     record file {
       contents = take size file.contents;
-      segments = shortened (kept_count k n file size) file.segments;
+      segments = shortened_segments (kept_count k n file size) file.segments;
       modified = now;
     }
 

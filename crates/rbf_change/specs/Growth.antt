@@ -3,7 +3,7 @@
 use Rattle.std.specs.Prelude.{◌≡◌, ◌⊎◌, ℕ, ◌+◌, ◌-◌, ◌*◌, ◌/◌, ◌≤◌, ◌<◌, ◌==◌, ◌&&◌, ◌||◌, Bool, true, not, List, [], ◌∷◌, length, get_or}
 use Rattle.std.specs.List.{list_any}
 use Rattle.rbf_model.specs.Segments.{sectors_of}
-use Rattle.rbf_segs.specs.Segments.{appended}
+use Rattle.rbf_model.specs.Segments.{appended_segments}
 use Rattle.rbf_change.specs.Contents.{sector_count}
 
 -- the cluster, of k sectors, has a sector of these segments
@@ -33,13 +33,13 @@ free_beside k free segments c = free c && not (uses k segments c)
 -- the segments with the sectors of these clusters behind them
 abbrev pub with_clusters : ℕ → List (ℕ × ℕ) → List ℕ → List (ℕ × ℕ)
 with_clusters k segments [] = segments
-with_clusters k segments (c ∷ clusters) = with_clusters k (appended segments (c * k) k) clusters
+with_clusters k segments (c ∷ clusters) = with_clusters k (appended_segments segments (c * k) k) clusters
 
 -- each of these clusters may be gained after those before it
 abbrev pub Gains : ℕ → (ℕ → Bool) → List (ℕ × ℕ) → List ℕ → Type 0
 Gains k free segments [] = Unit {0}
 Gains k free segments (c ∷ clusters) =
-    MayGain k (free_beside k free segments) segments c × Gains k free (appended segments (c * k) k) clusters
+    MayGain k (free_beside k free segments) segments c × Gains k free (appended_segments segments (c * k) k) clusters
 
 -- how many clusters a file with these segments needs besides, to hold a size
 abbrev pub clusters_needed : ℕ → List (ℕ × ℕ) → ℕ → ℕ

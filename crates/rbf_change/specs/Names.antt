@@ -1,6 +1,6 @@
 -- Entries of directories: their bytes and places, and what a user may do with them.
 use Rattle.std.specs.Prelude.{ℕ, ◌+◌, ◌/◌, ◌%◌, ◌&&◌, ◌||◌, Bool, false, not, bytes_eq, List, [], ◌∷◌, ◌++◌, length, drop, position, unwrap_or, Option, Some, None, if◌then◌else◌}
-use Rattle.os9_base.specs.Name.{padded}
+use Rattle.os9_base.specs.Name.{padded_name}
 use Rattle.rbf_model.specs.Fields.{is_used}
 use Rattle.rbf_model.specs.File.{DiskFile, is_directory}
 use Rattle.rbf_model.specs.Tree.{dot, dot_dot}
@@ -14,7 +14,7 @@ marked_name (c ∷ next ∷ name) = c ∷ marked_name (next ∷ name)
 
 -- the 32 bytes of a new entry: its name, zeros after it, and the number of its descriptor
 abbrev pub new_entry : List ℕ → ℕ → List ℕ
-new_entry name n = padded (marked_name name) ++ n / 65536 ∷ n / 256 % 256 ∷ n % 256 ∷ []
+new_entry name n = padded_name (marked_name name) ++ n / 65536 ∷ n / 256 % 256 ∷ n % 256 ∷ []
 
 -- an entry that is made free: its first byte is 0, and the others stay
 abbrev pub freed_entry : List ℕ → List ℕ
