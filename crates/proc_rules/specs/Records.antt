@@ -1,12 +1,16 @@
 -- The records of processes (System Programmer's Manual, process descriptors). It is a list by
 -- number: place p has the record of process p, or nothing. Processes have numbers from 2 to 32.
-use Rattle.std.specs.Prelude.{◌≡◌, ℕ, ◌+◌, ◌<◌, not, Bool, true, false, Option, Some, None, is_none, option_map, unwrap_or, List, length, drop, position, slice_index_or, slice_set}
+use Rattle.std.specs.Prelude.{◌≡◌, ℕ, ◌+◌, ◌<◌, ◌≤◌, not, Bool, true, false, Option, Some, None, is_none, option_map, unwrap_or, List, length, drop, position, slice_index_or, slice_set}
 use Rattle.std.specs.Option.{option_map_or}
 use Rattle.os9_base.specs.declared.registers.Pid.{Pid}
 use Rattle.os9_base.specs.declared.registers.Regs.{Regs}
 use Rattle.proc_rules.specs.declared.record.Life.{Life}
 use Rattle.proc_rules.specs.declared.record.Life.TheVariants.{Running, Waiting, Ended}
 use Rattle.proc_rules.specs.declared.record.Record.{Record}
+
+-- the numbers that processes have
+abbrev pub IsProcess : ℕ → Type 0
+IsProcess p = (2 ≤ p) × (p < 33)
 
 -- registers that are all 0
 abbrev pub zero_regs : Regs

@@ -1,0 +1,63 @@
+ghost use Rattle.std.specs.Prelude.{◌≡◌, None, option_map, IfOk, IfSome, IsSome, length, map, replicate};
+ghost use Rattle.proc_rules.specs.Records.{IsProcess, free_process as free_process_lem, record_of};
+ghost use Rattle.proc_rules.specs.Ends.{has_child as has_child_lem, ended_child as ended_child_lem, orphaned as orphaned_lem};
+
+use crate::places::{is_child, is_ended_child, orphaned};
+use os9_base::registers::Pid;
+use proc_rules::record::Record;
+use std::alloc::{AllocError, Global};
+
+/// The least number that a process has.
+const FIRST: usize = 2;
+
+/// How many numbers there are, with those that no process has.
+const PLACES: usize = 33;
+
+/// Places without records.
+pub fn empty_places(alloc: Global) -> Result<Vec<Option<Record>>, AllocError>
+    ensures { IfOk result (λ places. places.items ≡ replicate 33 None) }
+{
+    let mut places = Vec::with_capacity(alloc, PLACES)?;
+    'fill: while places.len() < PLACES {
+        places.push(None)?;
+    }
+    Ok(places)
+}
+
+/// The least number of a process that no record has.
+pub fn free_process(records: &[Option<Record>]) -> Option<Pid>
+    requires { length records.now ≡ 33 }
+    ensures number { option_map (λ p. p.0) result ≡ free_process_lem records.now }
+    ensures process { IfSome result (λ p. IsProcess p.0) }
+{
+    let place = records[FIRST..].iter().position(|place| place.is_none())?;
+    Some(Pid((place + FIRST) as u8))
+}
+
+/// Has some record this parent?
+pub fn has_child(records: &[Option<Record>], parent: Pid) -> bool
+    ensures { result ≡ has_child_lem records.now parent.0 }
+{
+    records.iter().any(|place| is_child(place, parent))
+}
+
+/// The number of the first record of a child that has ended.
+pub fn ended_child(records: &[Option<Record>], parent: Pid) -> Option<Pid>
+    requires { length records.now ≡ 33 }
+    ensures number { option_map (λ p. p.0) result ≡ ended_child_lem records.now parent.0 }
+    ensures there { IfSome result (λ p. IsSome (record_of records.now p.0)) }
+{
+    let place = records
+        .iter()
+        .position(|place| is_ended_child(place, parent))?;
+    Some(Pid(place as u8))
+}
+
+/// Takes this parent from its children: the records of those that have ended go.
+pub fn orphan(records: &mut [Option<Record>], parent: Pid)
+    ensures { records.new ≡ map (orphaned_lem parent.0) records.old }
+{
+    for place in records.iter_mut() {
+        *place = orphaned(place, parent);
+    }
+}

@@ -1,0 +1,85 @@
+ghost use Rattle.std.specs.Prelude.{◌≡◌};
+ghost use Rattle.proc_rules.specs.Records.{record_passes, new_record as new_record_lem};
+ghost use Rattle.proc_rules.specs.Ends.{is_child as is_child_lem, is_ended_child as is_ended_child_lem, orphaned as orphaned_lem, ended_record as ended_record_lem};
+
+use os9_base::registers::{Pid, Regs};
+use proc_rules::record::{Life, Record};
+
+/// The number that stands for no process where a parent is named.
+const NO_PARENT: Pid = Pid(0);
+
+/// The registers of a process before they are set.
+const ZERO_REGS: Regs = Regs {
+    a: 0,
+    b: 0,
+    dp: 0,
+    cc: 0,
+    x: 0,
+    y: 0,
+    u: 0,
+    s: 0,
+    pc: 0,
+};
+
+/// The record of a new process.
+pub fn new_record(parent: Pid, user: u16, priority: u8) -> Record
+    ensures { result ≡ new_record_lem parent user priority }
+{
+    Record {
+        parent,
+        user,
+        priority,
+        regs: ZERO_REGS,
+        life: Life::Running,
+        intercept: None,
+        signal: None,
+    }
+}
+
+/// The record of a process that has ended with this status, if it has a parent to wait for it.
+pub fn ended(process: Record, status: u8) -> Option<Record>
+    ensures { result ≡ ended_record_lem process status }
+{
+    if process.parent == NO_PARENT {
+        return None;
+    }
+    let life = Life::Ended(status);
+    Some(Record { life, ..process })
+}
+
+/// Is there a record here of a child of this process?
+pub fn is_child(place: &Option<Record>, parent: Pid) -> bool
+    ensures { result ≡ record_passes (is_child_lem parent.0) place.now }
+{
+    match place {
+        None => false,
+        Some(record) => record.parent == parent,
+    }
+}
+
+/// Is there a record here of a child of this process that has ended?
+pub fn is_ended_child(place: &Option<Record>, parent: Pid) -> bool
+    ensures { result ≡ record_passes (is_ended_child_lem parent.0) place.now }
+{
+    match place {
+        None => false,
+        Some(record) => record.parent == parent && matches!(record.life, Life::Ended(_)),
+    }
+}
+
+/// What is left of a record when this process has ended.
+pub fn orphaned(place: &Option<Record>, parent: Pid) -> Option<Record>
+    ensures { result ≡ orphaned_lem parent.0 place.now }
+{
+    let record = (*place)?;
+    if record.parent != parent {
+        return Some(record);
+    }
+    match record.life {
+        Life::Ended(_) => None,
+        Life::Running | Life::Waiting => Some(Record {
+            parent: NO_PARENT,
+            ..record
+        }),
+    }
+}
