@@ -1,0 +1,4 @@
+pub mod Dispatch
+pub mod Members
+pub mod Schedule
+pub mod Waits

@@ -1,0 +1,10 @@
+//! The scheduler: the processes in the order in which they were chosen, with their ages, and who
+//! of them waits for what.
+#![tactic(auto)]
+
+pub use member::{Cause, Wait};
+pub use sched::Sched;
+
+mod list;
+mod member;
+mod sched;

@@ -1,0 +1,120 @@
+ghost use Rattle.std.specs.Prelude.{◌≡◌, ◌==◌, ◌&&◌, None, IfOk, IfSome, IfNone, option_map, map, length, replicate};
+ghost use Rattle.std.specs.List.{find};
+ghost use Rattle.proc_rules.specs.Turns.{ready_turns, greatest_age as greatest_age_lem, eldest as eldest_lem, aged};
+ghost use Rattle.os9_sched.specs.Waits.{woken_at as woken_at_lem};
+ghost use Rattle.os9_sched.specs.Members.{IsMember, is_active_in as is_active_in_lem, priority_in as priority_in_lem, IsNextWaiting, NobodyWaits};
+ghost use Rattle.os9_sched.specs.Schedule.{age_in as age_in_lem};
+
+use crate::member::{Cause, Member, is_active, waits_for, woken_at};
+use os9_base::registers::Pid;
+use proc_rules::turn::Turn;
+use std::alloc::{AllocError, Global};
+
+/// How many process numbers there are, with those that no process has.
+pub const PLACES: usize = 33;
+
+/// Places without members.
+pub fn empty_places(alloc: Global) -> Result<Vec<Option<Member>>, AllocError>
+    ensures { IfOk result (λ places. places.items ≡ replicate 33 None) }
+{
+    let mut places = Vec::with_capacity(alloc, PLACES)?;
+    'fill: while places.len() < PLACES {
+        places.push(None)?;
+    }
+    Ok(places)
+}
+
+/// Is this process a member, and active?
+pub fn is_active_in(members: &[Option<Member>], p: Pid) -> bool
+    ensures { result ≡ is_active_in_lem members.now p.0 }
+{
+    match members.get(p.0 as usize) {
+        Some(Some(member)) => is_active(member.standing),
+        _ => false,
+    }
+}
+
+/// The priority of a process, if it is a member.
+pub fn priority_in(members: &[Option<Member>], p: Pid) -> u8
+    ensures { result ≡ priority_in_lem members.now p.0 }
+{
+    match members.get(p.0 as usize) {
+        Some(Some(member)) => member.priority,
+        _ => 0,
+    }
+}
+
+/// The age of a process, if it has a turn.
+pub fn age_in(order: &[Turn], p: Pid) -> Option<u8>
+    ensures { result ≡ age_in_lem order.now p.0 }
+{
+    let turn = order.iter().find(|turn| turn.process == p)?;
+    Some(turn.age)
+}
+
+/// The active process of greatest age; of several the one that comes first.
+pub fn eldest(order: &[Turn], members: &[Option<Member>]) -> Option<Pid>
+    ensures eldest { result ≡ eldest_lem (ready_turns (is_active_in_lem members.now) order.now) }
+    ensures member { IfSome result (λ p. IsMember members.now p.0) }
+{
+    first_of_age(order, members, greatest_age(order, members))
+}
+
+/// The first active process of this age.
+fn first_of_age(order: &[Turn], members: &[Option<Member>], age: u8) -> Option<Pid>
+    ensures member { IfSome result (λ p. IsMember members.now p.0) }
+    ensures first { result ≡ option_map (λ t. t.process) (find (λ t. is_active_in_lem members.now t.process.0 && (t.age == age)) order.now) }
+{
+    let turn = order.iter().find(|turn| is_active_in(members, turn.process) && turn.age == age)?;
+    Some(turn.process)
+}
+
+/// The greatest age that an active process has, if there is one.
+fn greatest_age(order: &[Turn], members: &[Option<Member>]) -> u8
+    ensures { result ≡ greatest_age_lem (ready_turns (is_active_in_lem members.now) order.now) }
+{
+    let mut most = 0;
+    for turn in order {
+        if is_active_in(members, turn.process) {
+            most = most.max(turn.age);
+        }
+    }
+    most
+}
+
+/// The ages after a choice of another process: an active process grows older by 1 up to 255, and a
+/// resting one has its priority.
+pub fn age(order: &mut [Turn], members: &[Option<Member>])
+    ensures { order.new ≡ map (aged (is_active_in_lem members.now) (priority_in_lem members.now)) order.old }
+{
+    for turn in order.iter_mut() {
+        turn.age = if is_active_in(members, turn.process) {
+            turn.age.saturating_add(1)
+        } else {
+            priority_in(members, turn.process)
+        };
+    }
+}
+
+/// Makes each process active whose tick is reached.
+pub fn wake_due(members: &mut [Option<Member>], tick: u32)
+    ensures { members.new ≡ map (option_map (woken_at_lem tick)) members.old }
+{
+    for place in members.iter_mut() {
+        *place = place.map(|member| woken_at(tick, member));
+    }
+}
+
+/// The process of least number above this one that waits for this.
+pub fn next_waiting(members: &[Option<Member>], cause: Cause, after: u8) -> Option<Pid>
+    requires { length members.now ≡ 33 }
+    ensures found { IfSome result (λ p. IsNextWaiting members.now cause after p.0) }
+    ensures none { IfNone result (NobodyWaits members.now cause after) }
+{
+    for number in after as usize + 1..members.len() {
+        if waits_for(members[number], cause) {
+            return Some(Pid(number as u8));
+        }
+    }
+    None
+}
