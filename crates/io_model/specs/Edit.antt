@@ -1,5 +1,5 @@
 -- Line editing (Level Two manual, SCF; the echo is this project's own).
-use Rattle.std.specs.Prelude.{ℕ, ◌+◌, ◌-◌, ◌==◌, ◌&&◌, ◌||◌, nat_lt, Bool, Option, Some, None, List, [], ◌∷◌, ◌++◌, length, map, take, if◌then◌else◌}
+use Rattle.std.specs.Prelude.{ℕ, ◌+◌, ◌-◌, ◌<◌, ◌≤◌, ◌==◌, ◌&&◌, ◌||◌, nat_lt, Bool, Option, Some, None, IfNone, List, [], ◌∷◌, ◌++◌, length, map, take, if◌then◌else◌}
 use Rattle.std.specs.List.{flat_map}
 use Rattle.io_model.specs.declared.keys.TheConstants.{BACKSPACE, DELETE_LINE, REPRINT, DUPLICATE, RETURN, END_OF_FILE, BELL, SPACE, LINE_FEED, DOT, DELETE}
 use Rattle.io_model.specs.declared.edit.LineEnd.{LineEnd}
@@ -15,6 +15,11 @@ pub record Edited : Type 0 where
   pub line : Editing
   pub echo : List ℕ  -- the bytes that are put
   pub end : Option LineEnd
+
+-- the line has room: for a byte more where it may still be typed, else for what it has
+pub record HasRoom (most : ℕ) (end : Option LineEnd) (line : Editing) : Type 0 where
+  pub more : IfNone end (length line.bytes < most)
+  pub within : length line.bytes ≤ most
 
 -- the line with these bytes in place of its own
 abbrev pub with_bytes : Editing → List ℕ → Editing
@@ -79,6 +84,10 @@ file_ended line = record { line = line; echo = []; end = Some EndOfFile }
 abbrev pub is_empty_line : Editing → Bool
 is_empty_line line = length line.bytes == 0
 
+-- 1B is the end of the file on an empty line, else it is not taken
+abbrev pub escaped : Editing → Edited
+escaped line = if is_empty_line line then file_ended line else refused_key line
+
 -- any other key, where the line has room for it and a carriage return
 abbrev pub typed_key : ℕ → Editing → ℕ → Edited
 typed_key most line key =
@@ -87,7 +96,7 @@ typed_key most line key =
 -- a key of I$ReadLn, which asks for at most so many bytes
 unfoldable pub edited : ℕ → Editing → ℕ → Edited
 edited most line key =
-    if key == BACKSPACE then backspaced line else (if key == DELETE_LINE then deleted line else (if key == REPRINT then reprinted line else (if key == DUPLICATE then duplicated most line else (if key == RETURN then returned line else (if key == END_OF_FILE then (if is_empty_line line then file_ended line else refused_key line) else typed_key most line key)))))
+    if key == BACKSPACE then backspaced line else (if key == DELETE_LINE then deleted line else (if key == REPRINT then reprinted line else (if key == DUPLICATE then duplicated most line else (if key == RETURN then returned line else (if key == END_OF_FILE then escaped line else typed_key most line key)))))
 
 -- this byte is the last one of an I$Read, which asks for at most so many
 abbrev pub is_last_byte : ℕ → Editing → ℕ → Bool

@@ -1,1 +1,3 @@
 pub mod Edit
+pub mod Line
+pub mod Terminal

@@ -1,7 +1,7 @@
 //! How a line ends, and line editing as laws over every list of keys.
 
-ghost use Rattle.std.specs.Prelude.{◌≡◌, ℕ, Some, None, List, [], ◌∷◌, ◌++◌, codes};
-ghost use Rattle.io_model.specs.Edit.{Editing, Edited, typing, edited, copied, after_typing, no_line, refused_key, still_typing, file_ended};
+ghost use Rattle.std.specs.Prelude.{◌≡◌, ℕ, ◌<◌, Some, None, List, [], ◌∷◌, ◌++◌, length, codes};
+ghost use Rattle.io_model.specs.Edit.{Editing, Edited, HasRoom, typing, edited, copied, after_typing, no_line, refused_key, still_typing, file_ended};
 
 /// What ends a read of a terminal.
 #[derive(Clone, Copy, Debug, PartialEq, Eq)]
@@ -17,6 +17,14 @@ pub enum LineEnd {
 pub fn typing_can_be_cut()
     ensures { (step : Editing → ℕ → Edited) (line : Editing) (first later : List ℕ) →
         typing step line (first ++ later) ≡ after_typing step (typing step line first) later }
+{}
+
+/// A line that has room for a byte has room after every key that does not end it.
+pub fn typing_keeps_room()
+    ensures whole_line { (most : ℕ) (line : Editing) (key : ℕ) → length line.bytes < most →
+        HasRoom most (edited most line key).end (edited most line key).line }
+    ensures bytes { (most : ℕ) (line : Editing) (key : ℕ) → length line.bytes < most →
+        HasRoom most (copied most line key).end (copied most line key).line }
 {}
 
 /// Three lines that are typed one after another: one with a byte taken back, one that is deleted

@@ -1,0 +1,237 @@
+-- Terminals: keys that arrive, reads and writes (Level Two manual, SCF; the type-ahead is this project's own).
+use Rattle.std.specs.Prelude.{◌≡◌, ℕ, ◌+◌, ◌-◌, ◌<◌, ◌≤◌, ◌==◌, ◌^◌, min, Bool, true, false, MatchBool, not, Option, Some, None, IfSome, is_none, option_map, List, [], ◌∷◌, ◌++◌, length, map, take, drop, filter, replicate, slice_get, All, if◌then◌else◌}
+use Rattle.std.specs.Option.{option_map_or}
+use Rattle.std.specs.List.{filter_map}
+use Rattle.os9_base.specs.declared.registers.Pid.{Pid}
+use Rattle.os9_base.specs.Count.{Rose}
+use Rattle.os9_outer.specs.Stream.{appended}
+use Rattle.os9_outer.specs.Terminal.{due_byte}
+use Rattle.os9_outer.specs.declared.terminal.Key.{Key}
+use Rattle.io_model.specs.Edit.{Editing, Edited, Typing, typing, edited, copied, cleared, no_line}
+use Rattle.io_model.specs.declared.edit.LineEnd.{LineEnd}
+use Rattle.io_model.specs.declared.edit.LineEnd.TheVariants.{Line, EndOfFile}
+use Rattle.io_model.specs.declared.keys.TheConstants.{INTERRUPT, QUIT, BELL}
+use Rattle.io_model.specs.declared.terminal.Arrival.{Arrival}
+use Rattle.io_model.specs.declared.terminal.Progress.{Progress}
+use Rattle.io_model.specs.declared.terminal.Progress.TheVariants.{Done, Wait, End, Fault, NoMemory}
+use Rattle.io_model.specs.declared.terminal.ReadKind.{ReadKind}
+use Rattle.io_model.specs.declared.terminal.ReadKind.TheVariants.{Bytes, WholeLine}
+use Rattle.io_model.specs.declared.terminal.Reading.{Reading}
+use Rattle.io_model.specs.declared.terminal.TheConstants.{TYPE_AHEAD}
+
+-- what the driver of a terminal tells: the keys to come, the bytes put, and how often it failed
+pub record TerminalState : Type 0 where
+  pub keys : List Key
+  pub put : Option (List ℕ)
+  pub faults : ℕ
+
+-- what stands at a terminal
+pub record Terminal : Type 0 where
+  pub ahead : List ℕ  -- the type-ahead: the keys that no read has used yet
+  pub line : Editing  -- the line of the unfinished read, and the last finished line
+  pub reading : Option Reading  -- the unfinished read
+  pub user : Option Pid  -- the process that last attempted a read or a write
+
+-- a terminal at the start
+abbrev pub new_terminal : Terminal
+new_terminal = record { ahead = []; line = no_line; reading = None; user = None }
+
+-- the terminal without an unfinished read; the last finished line stays
+abbrev pub without_reading : Terminal → Terminal
+without_reading t = record t { line = cleared t.line; reading = None }
+
+-- the terminal with this process as its last user
+abbrev pub used_by : Pid → Terminal → Terminal
+used_by process t = record t { user = Some process }
+
+-- the process that reads, where a read is unfinished
+abbrev pub reader : Terminal → Option Pid
+reader t = option_map (λ reading. reading.process) t.reading
+
+-- the two are one process
+abbrev pub is_process : Pid → Pid → Bool
+is_process p q = p.0 == q.0
+
+-- the terminal without the unfinished read of this process
+abbrev pub released : Pid → Terminal → Terminal
+released process t = if option_map_or (is_process process) (reader t) false then without_reading t else t
+
+-- the terminal without a trace of this process
+abbrev pub forgotten : Pid → Terminal → Terminal
+forgotten process t =
+    if option_map_or (is_process process) t.user false then record (released process t) { user = None } else released process t
+
+-- Keys that arrive.
+
+-- the signal that a key sends to the last user; no other key sends one
+abbrev pub signal_of : ℕ → Option ℕ
+signal_of key = if key == INTERRUPT then Some 3 else (if key == QUIT then Some 2 else None)
+
+-- the bytes of the keys that send no signal
+abbrev pub typed_bytes : List Key → List ℕ
+typed_bytes keys = filter (λ byte. is_none (signal_of byte)) (map (λ key. key.byte) keys)
+
+-- the signal of the first key that sends one
+abbrev pub first_signal : List Key → Option ℕ
+first_signal keys = slice_get (filter_map signal_of (map (λ key. key.byte) keys)) 0
+
+-- how many of the keys find the type-ahead full
+abbrev pub dropped_count : List ℕ → List Key → ℕ
+dropped_count ahead keys = length ahead + length (typed_bytes keys) - TYPE_AHEAD
+
+-- the count of faults rose at least this often, or stands at its last value
+pub record RoseTimes (times before now : ℕ) : Type 0 where
+  pub rose : min (before + times) (2 ^ 64 - 1) ≤ now
+  pub never_falls : before ≤ now
+  pub stood : times ≡ 0 → now ≡ before
+
+-- The keys of a tick that are due arrive: they go into the type-ahead, as many as fit, and a bell is put for each one
+-- that does not. The first key that sends a signal sends it.
+pub record Arrives (tick : ℕ) (old new : Terminal) (before now : TerminalState) (answer : Arrival) : Type 0 where
+  pub taken : List Key  -- the keys that arrive
+  pub bells : ℕ  -- the bells that are put
+  pub mute : ℕ  -- the bells that the driver failed to put
+  pub broken : ℕ  -- 1 where the driver failed to give a key, which ends the poll, else 0
+  pub in_order : before.keys ≡ taken ++ now.keys
+  pub due : All (λ key. key.tick ≤ tick) taken
+  pub kept : new ≡ record old { ahead = take TYPE_AHEAD (old.ahead ++ typed_bytes taken) }
+  pub signal : answer.signal ≡ first_signal taken
+  pub put : now.put ≡ appended before.put (replicate bells BELL)
+  pub faults : RoseTimes (mute + broken) before.faults now.faults
+  pub every_bell : answer.memory ≡ true → bells + mute ≡ dropped_count old.ahead taken
+  pub last_bell : answer.memory ≡ false → bells + mute + 1 ≡ dropped_count old.ahead taken
+  pub all_taken : answer.memory ≡ true → broken ≡ 0 → due_byte now.keys tick ≡ None
+
+-- Reads.
+
+-- what a key makes of a line, by the kind of the read and how many bytes it asks for
+abbrev pub effect_by : ReadKind → ℕ → Editing → ℕ → Edited
+effect_by Bytes most = copied most
+effect_by WholeLine most = edited most
+
+-- what a key makes of the line of a read
+abbrev pub key_effect : Reading → Editing → ℕ → Edited
+key_effect request = effect_by request.kind request.most
+
+-- what a list of keys makes of the line of a read
+abbrev pub typed : Reading → Editing → List ℕ → Typing
+typed request line keys = typing (key_effect request) line keys
+
+-- the read of another process is unfinished
+abbrev pub is_taken : Pid → Terminal → Bool
+is_taken process t = option_map_or (λ other. not (is_process process other)) (reader t) false
+
+-- a read of a process whose read is unfinished is the same call
+abbrev pub IsSameCall : Reading → Terminal → Type 0
+IsSameCall request t = IfSome t.reading (λ reading. reading.process ≡ request.process → reading ≡ request)
+
+-- what an attempt of a read comes to where every byte of its echo is put
+pub record Attempt : Type 0 where
+  pub answer : Progress
+  pub terminal : Terminal
+  pub echo : List ℕ
+  pub stored : List ℕ  -- the bytes that are stored into the buffer
+
+-- the attempt of a read, by what its keys made of its line
+abbrev pub attempt_by : Option LineEnd → Typing → Reading → Terminal → Attempt
+attempt_by None it request t =
+    record { answer = Wait; terminal = record { ahead = it.left; line = it.line; reading = Some request; user = Some request.process }; echo = it.echo; stored = [] }
+attempt_by (Some EndOfFile) it request t =
+    record { answer = End; terminal = record { ahead = it.left; line = cleared it.line; reading = None; user = Some request.process }; echo = it.echo; stored = [] }
+attempt_by (Some Line) it request t =
+    record { answer = Done (length it.line.bytes); terminal = record { ahead = it.left; line = cleared it.line; reading = None; user = Some request.process }; echo = it.echo; stored = it.line.bytes }
+
+-- the attempt of a read that no other process's read keeps waiting
+abbrev pub typed_attempt : Reading → Terminal → Attempt
+typed_attempt request t =
+    attempt_by (typed request t.line t.ahead).end (typed request t.line t.ahead) request t
+
+-- an attempt of a read: it waits for another process's read, or types the keys of the type-ahead
+abbrev pub read_attempt : Reading → Terminal → Attempt
+read_attempt request t =
+    if is_taken request.process t then record { answer = Wait; terminal = used_by request.process t; echo = []; stored = [] } else typed_attempt request t
+
+-- the attempt came to this
+pub record Attempted (attempt : Attempt) (answer : Progress) (new : Terminal) (before now : TerminalState) : Type 0 where
+  pub answer_is : answer ≡ attempt.answer
+  pub terminal : new ≡ attempt.terminal
+  pub echo : now.put ≡ appended before.put attempt.echo
+
+-- what the last of these keys makes of the line of a read, after those before it
+abbrev pub last_effect : Reading → Editing → List ℕ → ℕ → Edited
+last_effect request line front key = key_effect request (typed request line front).line key
+
+-- the terminal after a read whose echo was refused at a key, where that key makes this line and these are left
+abbrev pub broken_off : Reading → Editing → List ℕ → Terminal
+broken_off request line rest =
+    record { ahead = rest; line = cleared line; reading = None; user = Some request.process }
+
+-- A read whose echo was refused: it used the keys up to the one whose echo failed and no others. What the keys before
+-- that one echo is out, and a part of what that one echoes. Where that key ended a line, this is the last finished one.
+pub record BreaksOff (request : Reading) (old new : Terminal) (before now : TerminalState) : Type 0 where
+  pub front : List ℕ  -- the keys before the one whose echo failed
+  pub key : ℕ  -- the key whose echo failed
+  pub rest : List ℕ  -- the keys that are not used
+  pub count : ℕ  -- how many bytes of that key's echo are out
+  pub keys : old.ahead ≡ front ++ key ∷ rest
+  pub unfinished : (typed request old.line front).end ≡ None
+  pub part : count < length (last_effect request old.line front key).echo
+  pub echo : now.put ≡ appended before.put ((typed request old.line front).echo ++ take count (last_effect request old.line front key).echo)
+  pub terminal : new ≡ broken_off request (last_effect request old.line front key).line rest
+
+-- a byte was not put
+abbrev pub is_refused : Progress → Bool
+is_refused (Done count) = false
+is_refused Wait = false
+is_refused End = false
+is_refused Fault = true
+is_refused NoMemory = true
+
+-- the driver failed
+abbrev pub is_fault : Progress → Bool
+is_fault (Done count) = false
+is_fault Wait = false
+is_fault End = false
+is_fault Fault = true
+is_fault NoMemory = false
+
+-- what a call leaves of its terminal's driver: its keys, and its count of faults where it did not fail
+pub record LeavesDriver (answer : Progress) (before now : TerminalState) : Type 0 where
+  pub keys : now.keys ≡ before.keys
+  pub faults : MatchBool (is_fault answer) (Rose before.faults now.faults) (now.faults ≡ before.faults)
+
+-- the buffer with these bytes at its start
+abbrev pub stored_over : List ℕ → List ℕ → List ℕ
+stored_over bytes buffer = bytes ++ drop (length bytes) buffer
+
+-- an attempt of a read came to this answer
+pub record Reads (request : Reading) (answer : Progress) (old new : Terminal) (before now : TerminalState) : Type 0 where
+  pub outcome : MatchBool (is_refused answer) (BreaksOff request old new before now) (Attempted (read_attempt request old) answer new before now)
+  pub driver : LeavesDriver answer before now
+
+-- what a read stores into its buffer: its bytes where it is done, else nothing
+abbrev pub stored_bytes : Progress → Reading → Terminal → List ℕ
+stored_bytes answer request t = if is_refused answer then [] else (read_attempt request t).stored
+
+-- Writes.
+
+-- the terminal was given a part of these bytes: one of them at least was refused
+abbrev pub PutsPart : List ℕ → TerminalState → TerminalState → Type 0
+PutsPart bytes before now =
+    (count : ℕ) × (count < length bytes) × (now.put ≡ appended before.put (take count bytes))
+
+-- a write was done: these bytes are out, and it answers this count
+pub record IsWritten (process : Pid) (bytes : List ℕ) (count : ℕ) (answer : Progress) (old new : Terminal) (before now : TerminalState) : Type 0 where
+  pub answer_is : answer ≡ Done count
+  pub terminal : new ≡ used_by process old
+  pub put : now.put ≡ appended before.put bytes
+
+-- a byte of a write was refused: a part of the bytes is out, and no read is unfinished
+pub record IsCutShort (process : Pid) (bytes : List ℕ) (old new : Terminal) (before now : TerminalState) : Type 0 where
+  pub terminal : new ≡ without_reading (used_by process old)
+  pub part : PutsPart bytes before now
+
+-- a write of these bytes came to this answer, where a write that is done answers this count
+pub record Writes (process : Pid) (bytes : List ℕ) (count : ℕ) (answer : Progress) (old new : Terminal) (before now : TerminalState) : Type 0 where
+  pub outcome : MatchBool (is_refused answer) (IsCutShort process bytes old new before now) (IsWritten process bytes count answer old new before now)
+  pub driver : LeavesDriver answer before now

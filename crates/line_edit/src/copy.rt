@@ -1,0 +1,49 @@
+ghost use Rattle.std.specs.Prelude.{◌≡◌, ◌<◌, ◌≤◌, length};
+ghost use Rattle.io_model.specs.Edit.{HasRoom, copied, file_ended, moved};
+ghost use Rattle.line_edit.specs.Echo.{echoed, Makes};
+
+use crate::edit_out::EditOut;
+use crate::line::Line;
+use io_model::edit::LineEnd;
+use io_model::keys::{END_OF_FILE, RETURN};
+
+/// A key of I$Read (Level Two manual, SCF): moves it to the line as it is, and answers what is put
+/// on the terminal and whether the read has ended. `most` is how many bytes the read asks for, from
+/// 1 to 256, and the line has room for one of them at least.
+#[tactic(auto, using(io_model::proofs::RoomLemmas::copied_room), unfolding(io_model::specs::Edit::copied))]
+pub fn copy(line: &mut Line, most: u16, key: u8) -> EditOut
+    requires most { most ≤ 256 }
+    requires room { length line.old.bytes < most }
+    ensures line { line.new ≡ (copied most line.old key).line }
+    ensures echo { echoed result ≡ (copied most line.old key).echo }
+    ensures end { result.end ≡ (copied most line.old key).end }
+    ensures room { HasRoom most result.end line.new }
+{
+    if key == END_OF_FILE && line.len() == 0 {
+        end_file(line)
+    } else {
+        move_byte(line, most, key)
+    }
+}
+
+// The end of the file.
+pub(crate) fn end_file(line: &Line) -> EditOut
+    ensures { Makes (file_ended line.now) line.now result }
+{
+    let mut out = EditOut::silent();
+    out.end = Some(LineEnd::EndOfFile);
+    out
+}
+
+fn move_byte(line: &mut Line, most: u16, key: u8) -> EditOut
+    requires { length line.old.bytes < 256 }
+    ensures { Makes (moved most line.old key) line.new result }
+{
+    let mut out = EditOut::silent();
+    line.push(key);
+    out.put(key);
+    if key == RETURN || line.len() == most {
+        out.end = Some(LineEnd::Line);
+    }
+    out
+}
