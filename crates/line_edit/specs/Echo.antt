@@ -1,5 +1,5 @@
 -- What a key does, as `EditOut` tells it.
-use Rattle.std.specs.Prelude.{◌≡◌, ℕ, List, take}
+use Rattle.std.specs.Prelude.{◌≡◌, ℕ, ◌≤◌, List, take}
 use Rattle.io_model.specs.Edit.{Editing, Edited}
 use Rattle.line_edit.specs.declared.edit_out.EditOut.{EditOut}
 
@@ -12,3 +12,4 @@ pub record Makes (key : Edited) (line : Editing) (out : EditOut) : Type 0 where
   pub line_is : line ≡ key.line
   pub echo_is : echoed out ≡ key.echo
   pub end_is : out.end ≡ key.end
+  pub fits : out.echo_len ≤ 1024

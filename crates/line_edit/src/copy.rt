@@ -17,6 +17,7 @@ pub fn copy(line: &mut Line, most: u16, key: u8) -> EditOut
     ensures line { line.new ≡ (copied most line.old key).line }
     ensures echo { echoed result ≡ (copied most line.old key).echo }
     ensures end { result.end ≡ (copied most line.old key).end }
+    ensures fits { result.echo_len ≤ 1024 }
     ensures room { HasRoom most result.end line.new }
 {
     if key == END_OF_FILE && line.len() == 0 {

@@ -18,6 +18,7 @@ pub fn edit(line: &mut Line, most: u16, key: u8) -> EditOut
     ensures line { line.new ≡ (edited most line.old key).line }
     ensures echo { echoed result ≡ (edited most line.old key).echo }
     ensures end { result.end ≡ (edited most line.old key).end }
+    ensures fits { result.echo_len ≤ 1024 }
     ensures room { HasRoom most result.end line.new }
 {
     match key {

@@ -16,6 +16,14 @@ pub struct EditOut {
 }
 
 impl EditOut {
+    /// The bytes to put on the terminal.
+    pub fn echo(&self) -> &[u8]
+        requires { self.now.echo_len ≤ 1024 }
+        ensures { result.now ≡ echoed self.now }
+    {
+        &self.echo[..usize::from(self.echo_len)]
+    }
+
     // Nothing is put, and typing goes on.
     pub(crate) fn silent() -> EditOut
         ensures nothing { echoed result ≡ [] }
@@ -32,6 +40,7 @@ impl EditOut {
     // The key is not taken.
     pub(crate) fn bell() -> EditOut
         ensures rung { echoed result ≡ 7 ∷ [] }
+        ensures len { result.echo_len ≡ 1 }
         ensures no_end { result.end ≡ None }
     {
         let mut out = EditOut::silent();

@@ -1,0 +1,3 @@
+pub mod Driver
+pub mod Term
+pub mod Typing

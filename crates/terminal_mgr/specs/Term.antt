@@ -1,0 +1,31 @@
+-- The terminal that a `Term` keeps.
+use Rattle.std.specs.Prelude.{◌≡◌, ℕ, ◌<◌, ◌≤◌, Option, MatchOption, List, [], length}
+use Rattle.os9_base.specs.declared.registers.Pid.{Pid}
+use Rattle.os9_outer.specs.declared.terminal.CharDriver.{Ghosts}
+use Rattle.io_model.specs.Edit.{Editing}
+use Rattle.io_model.specs.Terminal.{Terminal, TerminalState}
+use Rattle.io_model.specs.declared.terminal.Reading.{Reading}
+
+-- what a driver tells, as `dyn_state ⟦<dyn CharDriver as CharDriver>⟧ d.old`
+abbrev pub dyn_state : {Table : Type 0} {Driver : Table → Type 0} → ((table : Table) → Ghosts (Driver table)) → ((table : Table) × Driver table) → TerminalState
+dyn_state members d =
+    record { keys = (members d.0).keys_left d.1; put = (members d.0).bytes_put d.1; faults = (members d.0).term_faults d.1 }
+
+-- a terminal by its parts
+abbrev pub terminal_of : List ℕ → Editing → Option Reading → Option Pid → Terminal
+terminal_of ahead line reading user =
+    record { ahead = ahead; line = line; reading = reading; user = user }
+
+-- the line has room for a byte that the read asks for
+pub record HasRead (line : Editing) (reading : Reading) : Type 0 where
+  pub most : reading.most ≤ 256
+  pub room : length line.bytes < reading.most
+
+-- a line is there only for a read
+abbrev pub HasLine : Editing → Option Reading → Type 0
+HasLine line reading = MatchOption reading (line.bytes ≡ []) (HasRead line)
+
+-- what holds of a terminal at every moment: the type-ahead is within its limit, and so is the line
+pub record IsTerminal (t : Terminal) : Type 0 where
+  pub ahead : length t.ahead ≤ 256
+  pub line : HasLine t.line t.reading

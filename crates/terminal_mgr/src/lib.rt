@@ -1,0 +1,9 @@
+//! Terminals: keys that arrive, one read at a time, and writes, over a driver that may fail in any call.
+#![tactic(auto)]
+
+mod driver;
+pub mod term;
+mod type_ahead;
+mod typist;
+
+pub use io_model::terminal::{Arrival, Progress};

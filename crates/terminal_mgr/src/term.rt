@@ -1,0 +1,233 @@
+ghost use Rattle.std.specs.Prelude.{◌≡◌, ◌<◌, ◌≤◌, IfOk, length};
+ghost use Rattle.io_model.specs.Line.{line_length, line_put};
+ghost use Rattle.io_model.specs.Terminal.{new_terminal, reader, released, forgotten, Reads, Writes, IsSameCall, stored_over, stored_bytes};
+ghost use Rattle.terminal_mgr.specs.Term.{dyn_state};
+ghost use Rattle.io_model.specs.declared.terminal.ReadKind.TheVariants.{Bytes, WholeLine};
+
+use crate::driver::{line_len, put_bytes, put_line};
+use crate::type_ahead::TypeAhead;
+use crate::typist::{read_keys, refused};
+use io_model::terminal::{Progress, ReadKind, Reading};
+use line_edit::line::Line;
+use os9_base::call::OutOfMemory;
+use os9_base::registers::Pid;
+use os9_outer::terminal::CharDriver;
+use std::alloc::Global;
+use std::marker::Model;
+
+/// A terminal: its type-ahead, the line of its unfinished read and its last user (Level Two manual,
+/// SCF). Its driver is lent to each call that uses it.
+#[derive(Drop)]
+pub struct Term {
+    ahead: TypeAhead,
+    line: Line,
+    reading: Option<Reading>,
+    user: Option<Pid>,
+}
+
+impl Model for Term {
+    ghost use Rattle.io_model.specs.Terminal.{Terminal};
+    ghost use Rattle.terminal_mgr.specs.Term.{terminal_of, IsTerminal};
+
+    ghost Value = { Terminal };
+
+    ghost view = { λ t. terminal_of t.ahead t.line t.reading t.user };
+
+    ghost invariant = { λ t. IsTerminal (terminal_of t.ahead t.line t.reading t.user) };
+}
+
+impl Term {
+    /// A terminal on which nothing was typed. Only this call and the driver's `put` take memory.
+    pub fn new(alloc: Global) -> Result<Term, OutOfMemory>
+        ensures { IfOk result (λ term. term ≡ new_terminal) }
+    {
+        Ok(Term {
+            ahead: TypeAhead::new(alloc)?,
+            line: Line::new(),
+            reading: None,
+            user: None,
+        })
+    }
+
+    /// How many keys the type-ahead holds, at most 256.
+    pub fn waiting(&self) -> u16
+        ensures len { result ≡ length self.now.ahead }
+        ensures within { result ≤ 256 }
+    {
+        self.ahead.len()
+    }
+
+    /// The process whose read is unfinished. None if there is none.
+    pub fn reader(&self) -> Option<Pid>
+        ensures { result ≡ reader self.now }
+    {
+        match self.reading {
+            Some(reading) => Some(reading.process),
+            None => None,
+        }
+    }
+
+    /// The process that last attempted a read or a write here, also one that waited or failed. None
+    /// if there is none, or if it was forgotten since. A key that sends a signal sends it to this one.
+    pub fn last_user(&self) -> Option<Pid>
+        ensures { result ≡ self.now.user }
+    {
+        self.user
+    }
+
+    /// An attempt of I$Read of at most `most` bytes, from 1 to 256, which are stored into `into` once
+    /// it is done (Level Two manual, I$Read). It waits while another process's read is unfinished, and
+    /// where the keys of the type-ahead do not finish it.
+    pub fn read(
+        &mut self,
+        p: Pid,
+        most: u16,
+        into: &mut [u8],
+        d: &mut dyn CharDriver,
+    ) -> Progress
+        requires some { 1 ≤ most }
+        requires most { most ≤ 256 }
+        requires buffer { most ≤ length into.old }
+        requires same { IsSameCall (record { process = p; kind = Bytes; most = most }) self.old }
+        ensures read { Reads (record { process = p; kind = Bytes; most = most }) result
+            self.old self.new
+            (dyn_state ⟦<dyn CharDriver as CharDriver>⟧ d.old)
+            (dyn_state ⟦<dyn CharDriver as CharDriver>⟧ d.new) }
+        ensures stored { into.new ≡ stored_over (stored_bytes result
+            (record { process = p; kind = Bytes; most = most }) self.old) into.old }
+    {
+        self.attempt(
+            Reading {
+                process: p,
+                kind: ReadKind::Bytes,
+                most,
+            },
+            into,
+            d,
+        )
+    }
+
+    /// An attempt of I$ReadLn of at most `most` bytes, from 1 to 256, with editing (Level Two manual,
+    /// I$ReadLn). It stores and waits as [`Term::read`] does.
+    pub fn read_line(
+        &mut self,
+        p: Pid,
+        most: u16,
+        into: &mut [u8],
+        d: &mut dyn CharDriver,
+    ) -> Progress
+        requires some { 1 ≤ most }
+        requires most { most ≤ 256 }
+        requires buffer { most ≤ length into.old }
+        requires same { IsSameCall (record { process = p; kind = WholeLine; most = most }) self.old }
+        ensures read { Reads (record { process = p; kind = WholeLine; most = most }) result
+            self.old self.new
+            (dyn_state ⟦<dyn CharDriver as CharDriver>⟧ d.old)
+            (dyn_state ⟦<dyn CharDriver as CharDriver>⟧ d.new) }
+        ensures stored { into.new ≡ stored_over (stored_bytes result
+            (record { process = p; kind = WholeLine; most = most }) self.old) into.old }
+    {
+        self.attempt(
+            Reading {
+                process: p,
+                kind: ReadKind::WholeLine,
+                most,
+            },
+            into,
+            d,
+        )
+    }
+
+    fn attempt(
+        &mut self,
+        request: Reading,
+        into: &mut [u8],
+        d: &mut dyn CharDriver,
+    ) -> Progress
+        requires some { 1 ≤ request.most }
+        requires most { request.most ≤ 256 }
+        requires buffer { request.most ≤ length into.old }
+        requires same { IsSameCall request self.old }
+        ensures read { Reads request result self.old self.new
+            (dyn_state ⟦<dyn CharDriver as CharDriver>⟧ d.old)
+            (dyn_state ⟦<dyn CharDriver as CharDriver>⟧ d.new) }
+        ensures stored { into.new ≡ stored_over (stored_bytes result request self.old) into.old }
+    {
+        self.user = Some(request.process);
+        if let Some(reading) = self.reading {
+            if reading.process != request.process {
+                return Progress::Wait;
+            }
+        }
+        read_keys(
+            &mut self.ahead,
+            &mut self.line,
+            &mut self.reading,
+            request,
+            into,
+            d,
+        )
+    }
+
+    /// I$Write of at most 65,535 bytes: puts them. It never waits. Where one is refused those before
+    /// it are out, and the unfinished read is dropped, whoever's it is.
+    pub fn write(&mut self, p: Pid, bytes: &[u8], d: &mut dyn CharDriver) -> Progress
+        requires { length bytes.now ≤ 65535 }
+        ensures { Writes p bytes.now (length bytes.now) result self.old self.new
+            (dyn_state ⟦<dyn CharDriver as CharDriver>⟧ d.old)
+            (dyn_state ⟦<dyn CharDriver as CharDriver>⟧ d.new) }
+    {
+        self.user = Some(p);
+        match put_bytes(d, bytes) {
+            Ok(()) => Progress::Done(bytes.len() as u16),
+            Err(refusal) => {
+                self.line.clear();
+                self.reading = None;
+                refused(refusal)
+            }
+        }
+    }
+
+    /// I$WritLn: puts the bytes up to and with the first carriage return, and a line feed after it.
+    /// The count that it answers does not have the line feed. Else as [`Term::write`].
+    pub fn write_line(&mut self, p: Pid, bytes: &[u8], d: &mut dyn CharDriver) -> Progress
+        requires { length bytes.now ≤ 65535 }
+        ensures { Writes p (line_put bytes.now) (line_length bytes.now) result self.old self.new
+            (dyn_state ⟦<dyn CharDriver as CharDriver>⟧ d.old)
+            (dyn_state ⟦<dyn CharDriver as CharDriver>⟧ d.new) }
+    {
+        self.user = Some(p);
+        match put_line(d, bytes) {
+            Ok(()) => Progress::Done(line_len(bytes) as u16),
+            Err(refusal) => {
+                self.line.clear();
+                self.reading = None;
+                refused(refusal)
+            }
+        }
+    }
+
+    /// Drops the unfinished read of a process, if it has one here. The last user stays.
+    pub fn release(&mut self, p: Pid)
+        ensures { self.new ≡ released p self.old }
+    {
+        if let Some(reading) = self.reading {
+            if reading.process == p {
+                self.line.clear();
+                self.reading = None;
+            }
+        }
+    }
+
+    /// Drops the unfinished read of a process that ends, and leaves no last user if that is the one.
+    pub fn forget(&mut self, p: Pid)
+        ensures { self.new ≡ forgotten p self.old }
+    {
+        self.release(p);
+        if let Some(user) = self.user {
+            if user == p {
+                self.user = None;
+            }
+        }
+    }
+}

@@ -1,0 +1,131 @@
+ghost use Rattle.std.specs.Prelude.{◌≡◌, ◌<◌, ◌≤◌, IfOk, OnErr, length};
+ghost use Rattle.os9_base.specs.Count.{Rose};
+ghost use Rattle.os9_outer.specs.Terminal.{OnFault, UnlessFault};
+ghost use Rattle.io_model.specs.Edit.{HasRoom};
+ghost use Rattle.io_model.specs.Terminal.{key_effect, stored_over};
+ghost use Rattle.line_edit.specs.Echo.{Makes};
+ghost use Rattle.terminal_mgr.specs.Term.{dyn_state, terminal_of, HasLine};
+ghost use Rattle.terminal_mgr.specs.Typing.{IsTyped, TypingBreaksOff, Comes, refusal_answer};
+
+use crate::driver::put_bytes;
+use crate::type_ahead::TypeAhead;
+use io_model::terminal::{Progress, ReadKind, Reading};
+use line_edit::LineEnd;
+use line_edit::copy::copy;
+use line_edit::edit::edit;
+use line_edit::edit_out::EditOut;
+use line_edit::line::Line;
+use os9_outer::terminal::{CharDriver, PutFault};
+
+// A key of a read.
+fn press(line: &mut Line, request: Reading, key: u8) -> EditOut
+    requires most { request.most ≤ 256 }
+    requires room { length line.old.bytes < request.most }
+    ensures effect { Makes (key_effect request line.old key) line.new result }
+    ensures room { HasRoom request.most result.end line.new }
+{
+    match request.kind {
+        ReadKind::Bytes => copy(line, request.most, key),
+        ReadKind::WholeLine => edit(line, request.most, key),
+    }
+}
+
+// Types the keys of the type-ahead until one ends the read or its echo is refused. None where no
+// key is left that did.
+pub(crate) fn type_keys(
+    ahead: &mut TypeAhead,
+    line: &mut Line,
+    request: Reading,
+    d: &mut dyn CharDriver,
+) -> Result<Option<LineEnd>, PutFault>
+    requires most { request.most ≤ 256 }
+    requires room { length line.old.bytes < request.most }
+    ensures typed { IfOk result (λ end. IsTyped request end line.old line.new ahead.old ahead.new
+        (bytes_put d.old) (bytes_put d.new)) }
+    ensures broken { OnErr result (TypingBreaksOff request line.old line.new ahead.old ahead.new
+        (bytes_put d.old) (bytes_put d.new)) }
+    ensures room { IfOk result (λ end. HasRoom request.most end line.new) }
+    ensures within { length ahead.new ≤ 256 }
+    ensures fault_counted { OnFault result (Rose (term_faults d.old) (term_faults d.new)) }
+    ensures faults_kept { UnlessFault result (term_faults d.new ≡ term_faults d.old) }
+    ensures keys_kept { keys_left d.new ≡ keys_left d.old }
+{
+    while let Some(key) = ahead.next() {
+        let out = press(line, request, key);
+        match put_bytes(d, out.echo()) {
+            Ok(()) => {}
+            Err(refusal) => return Err(refusal),
+        }
+        match out.end {
+            Some(end) => return Ok(Some(end)),
+            None => {}
+        }
+    }
+    Ok(None)
+}
+
+// Types the keys of the type-ahead for a read that no other one keeps waiting, and ends it or leaves
+// it unfinished.
+pub(crate) fn read_keys(
+    ahead: &mut TypeAhead,
+    line: &mut Line,
+    reading: &mut Option<Reading>,
+    request: Reading,
+    into: &mut [u8],
+    d: &mut dyn CharDriver,
+) -> Progress
+    requires most { request.most ≤ 256 }
+    requires room { length line.old.bytes < request.most }
+    requires buffer { request.most ≤ length into.old }
+    ensures outcome { Comes request result
+        (terminal_of ahead.old line.old reading.old (Some request.process))
+        (terminal_of ahead.new line.new reading.new (Some request.process))
+        (dyn_state ⟦<dyn CharDriver as CharDriver>⟧ d.old)
+        (dyn_state ⟦<dyn CharDriver as CharDriver>⟧ d.new) into.old into.new }
+    ensures shape { HasLine line.new reading.new }
+    ensures within { length ahead.new ≤ 256 }
+{
+    match type_keys(ahead, line, request, d) {
+        Ok(None) => {
+            *reading = Some(request);
+            Progress::Wait
+        }
+        Ok(Some(LineEnd::EndOfFile)) => {
+            line.clear();
+            *reading = None;
+            Progress::End
+        }
+        Ok(Some(LineEnd::Line)) => {
+            let count = store(line, into);
+            line.clear();
+            *reading = None;
+            Progress::Done(count)
+        }
+        Err(refusal) => {
+            line.clear();
+            *reading = None;
+            refused(refusal)
+        }
+    }
+}
+
+// Copies the line to the buffer's start; how many bytes it has.
+fn store(line: &Line, into: &mut [u8]) -> u16
+    requires { length line.now.bytes ≤ length into.old }
+    ensures stored { into.new ≡ stored_over line.now.bytes into.old }
+    ensures count { result ≡ length line.now.bytes }
+{
+    let bytes = line.as_slice();
+    into[..bytes.len()].copy_from_slice(bytes);
+    line.len()
+}
+
+// The answer of a call one of whose bytes was refused.
+pub(crate) fn refused(refusal: PutFault) -> Progress
+    ensures { result ≡ refusal_answer refusal }
+{
+    match refusal {
+        PutFault::Fault => Progress::Fault,
+        PutFault::OutOfMemory => Progress::NoMemory,
+    }
+}
