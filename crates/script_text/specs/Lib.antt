@@ -1,2 +1,4 @@
 pub mod Fault
+pub mod Lines
 pub mod Slices
+pub mod Totals

@@ -1,18 +1,50 @@
--- The list of slices.
-use Rattle.std.specs.Prelude.{ℕ, ◌-◌, nat_eq, Option, Some, None, Result, Ok, Err, List, [], ◌∷◌, length, take, if◌then◌else◌}
-use Rattle.std.specs.List.{ends_with}
+-- The list of slices: how many instructions each slice has (this project's own).
+use Rattle.std.specs.Prelude.{◌≤◌, ◌==◌, ◌&&◌, nat_le, nat_lt, ℕ, Bool, All, Option, Some, None, option_map, option_and_then, Result, List, [], ◌∷◌, length, drop, sum, replicate, if◌then◌else◌}
+use Rattle.std.specs.List.{position_or_len, before_first}
 use Rattle.number_text.specs.Number.{number_of, within}
+use Rattle.script_text.specs.Lines.{line_words, is_edged, all_given, text_gives}
 
--- the text without the line feed that may end it
-abbrev pub without_line_end : List ℕ → List ℕ
-without_line_end text = if ends_with nat_eq text (10 ∷ []) then take (length text - 1) text else text
+-- a number of the slice text: from 1 to 1,000,000
+abbrev pub slice_number : List ℕ → Option ℕ
+slice_number digits = within 1 1000000 (number_of digits)
 
--- the one slice that a number is; the number is that of the first line
-abbrev pub one_slice : Option ℕ → Result (List ℕ) ℕ
-one_slice None = Err 1
-one_slice (Some n) = Ok (n ∷ [])
+-- an asterisk
+abbrev pub is_asterisk : ℕ → Bool
+is_asterisk byte = byte == 42
 
--- the slices that the text gives, or its first line that breaks a rule: the text is one number of
--- instructions from 1 to 1,000,000, and a line feed may stand after it
+-- what stands in a word from its first asterisk on, or nothing
+abbrev pub from_asterisk : List ℕ → List ℕ
+from_asterisk word = drop (position_or_len is_asterisk word) word
+
+-- how often a word gives a slice, by what stands from its first asterisk on
+abbrev pub times_of : List ℕ → Option ℕ
+times_of [] = Some 1
+times_of (asterisk ∷ digits) = slice_number digits
+
+-- the slices that a word gives: in the form `n` one slice of n instructions, and in the form `n*k` k of them
+abbrev pub word_slices : List ℕ → Option (List ℕ)
+word_slices word =
+    option_and_then (λ n. option_map (λ k. replicate k n) (times_of (from_asterisk word))) (slice_number (before_first is_asterisk word))
+
+-- the slices that a line gives; none where a word of it is refused, or a space stands at an end of it
+abbrev pub line_slices : List ℕ → Option (List ℕ)
+line_slices line = if is_edged line then None else all_given word_slices (line_words line)
+
+-- a list of slices has at most 1,000,000 slices and 10,000,000 instructions
+abbrev pub are_few_slices : List ℕ → Bool
+are_few_slices slices = nat_le (length slices) 1000000 && nat_le (sum slices) 10000000
+
+-- the slices that the text gives, or its first line that breaks a rule
 abbrev pub slices_of : List ℕ → Result (List ℕ) ℕ
-slices_of text = one_slice (within 1 1000000 (number_of (without_line_end text)))
+slices_of text = text_gives line_slices are_few_slices text
+
+-- a number of instructions that a slice can have
+pub record IsSlice (instructions : ℕ) : Type 0 where
+  pub least : 1 ≤ instructions
+  pub most : instructions ≤ 1000000
+
+-- slices that a text can give
+pub record AreSlices (slices : List ℕ) : Type 0 where
+  pub few : length slices ≤ 1000000
+  pub each : All IsSlice slices
+  pub total : sum slices ≤ 10000000

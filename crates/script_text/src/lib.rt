@@ -1,5 +1,6 @@
-//! The texts that drive a run: the list of slices.
+//! The texts that drive a run: the list of slices, and the script of keys.
 #![tactic(auto)]
 
 pub mod fault;
 pub mod slices;
+mod words;

@@ -1,59 +1,225 @@
-ghost use Rattle.std.specs.Prelude.{◌≡◌, Ok, Err, IfOk};
+ghost use Rattle.std.specs.Prelude.{◌≡◌, ◌≤◌, ◌*◌, ◌++◌, Ok, Err, IfOk, IfSome, Option, [], length, is_none, option_map, replicate, unwrap_or};
+ghost use Rattle.std.specs.List.{flat_map, position_or_len};
 ghost use Rattle.script_text.specs.Fault.{OnLine};
-ghost use Rattle.script_text.specs.Slices.{slices_of};
+ghost use Rattle.script_text.specs.Lines.{line_words};
+ghost use Rattle.script_text.specs.Slices.{slices_of, slice_number as slice_number_lem, word_slices, line_slices, is_asterisk, AreSlices};
+ghost use Rattle.script_text.specs.Totals.{total_with, IsWithinLimits};
 
 use crate::fault::LineFault;
+use crate::words::Words;
 use number_text::read_number;
-use std::alloc::Global;
+use std::alloc::{AllocError, Global};
 
-/// The most instructions of a slice.
-const LONGEST: u32 = 1_000_000;
+/// The greatest number of the slice text.
+const MOST: u32 = 1_000_000;
+
+/// The most slices of a text.
+const MOST_SLICES: u32 = 1_000_000;
+
+/// The most instructions of a text.
+const MOST_INSTRUCTIONS: u32 = 10_000_000;
+
+/// What lines of a text give so far.
+#[derive(Clone, Copy)]
+struct Total {
+    slices: u32,
+    instructions: u32,
+}
+
+/// What a word gives: so many slices of so many instructions each.
+#[derive(Clone, Copy)]
+struct Repeat {
+    instructions: u32,
+    times: u32,
+}
 
 /// Reads the list of slices: how many instructions each slice has.
 ///
-/// The text is one number from 1 to 1,000,000, after which a line feed may stand (this project's
-/// own).
+/// A text is words with one or more spaces between them, in lines that end with a line feed, which
+/// the last may lack; empty lines are skipped. A word `n` is a slice of n instructions, and `n*k`
+/// is k such slices, with n and k from 1 to 1,000,000 in decimal digits. A text has at most
+/// 1,000,000 slices and 10,000,000 instructions (this project's own).
 ///
 /// # Errors
 ///
-/// `Line` with the first line that breaks a rule, exactly where one does.
+/// `Line` with the first line that breaks a rule, exactly if one does. A line that is refused
+/// takes no memory.
 pub fn read_slices(alloc: Global, text: &[u8]) -> Result<Vec<u32>, LineFault>
     ensures slices { IfOk result (λ slices. slices_of text.now ≡ Ok slices.items) }
+    ensures limits { IfOk result (λ slices. AreSlices slices.items) }
     ensures line { OnLine result (λ line. slices_of text.now ≡ Err line) }
 {
-    let number = text.strip_suffix(b"\n").unwrap_or(text);
-    let Some(slice) = read_number(number, 1, LONGEST) else {
-        return Err(LineFault::Line(1));
-    };
     let mut slices = Vec::new(alloc);
-    match slices.push(slice) {
-        Ok(()) => Ok(slices),
-        Err(_) => Err(LineFault::OutOfMemory),
+    let mut total = Total {
+        slices: 0,
+        instructions: 0,
+    };
+    let mut number = 0;
+    for line in text.split(|byte| *byte == b'\n') {
+        number += 1;
+        let Some(with_line) = add_line(total, line) else {
+            return Err(LineFault::Line(number));
+        };
+        total = with_line;
+        match push_line(&mut slices, line) {
+            Ok(()) => {}
+            Err(_) => return Err(LineFault::OutOfMemory),
+        }
     }
+    Ok(slices)
+}
+
+// The total with the slices of a line, if the line is not refused.
+fn add_line(total: Total, line: &[u8]) -> Option<Total>
+    requires { IsWithinLimits total }
+    ensures total { result ≡ total_with total (line_slices line.now) }
+    ensures limits { IfSome result IsWithinLimits }
+{
+    if line.starts_with(b" ") || line.ends_with(b" ") {
+        return None;
+    }
+    let mut total = total;
+    for word in Words::of(line) {
+        total = add_word(total, word)?;
+    }
+    Some(total)
+}
+
+// The total with the slices of a word, if the word is not refused.
+fn add_word(total: Total, word: &[u8]) -> Option<Total>
+    requires { IsWithinLimits total }
+    ensures total { result ≡ total_with total (word_slices word.now) }
+    ensures limits { IfSome result IsWithinLimits }
+{
+    let repeat = read_word(word)?;
+    let slices = total.slices + repeat.times;
+    let added = u64::from(repeat.instructions) * u64::from(repeat.times);
+    let instructions = u64::from(total.instructions) + added;
+    if slices > MOST_SLICES || instructions > u64::from(MOST_INSTRUCTIONS) {
+        return None;
+    }
+    Some(Total {
+        slices,
+        instructions: instructions as u32,
+    })
+}
+
+// Puts the slices of a line behind these, those of words that are refused left out.
+fn push_line(slices: &mut Vec<u32>, line: &[u8]) -> Result<(), AllocError>
+    ensures { IfOk result (λ _. slices.new.items ≡ slices.old.items
+        ++ flat_map (λ word. unwrap_or (word_slices word) []) (line_words line.now)) }
+{
+    for word in Words::of(line) {
+        if let Some(repeat) = read_word(word) {
+            push_repeat(slices, repeat)?;
+        }
+    }
+    Ok(())
+}
+
+// Puts the slices of a word behind these.
+fn push_repeat(slices: &mut Vec<u32>, repeat: Repeat) -> Result<(), AllocError>
+    ensures { IfOk result (λ _. slices.new.items ≡ slices.old.items
+        ++ replicate repeat.times repeat.instructions) }
+{
+    for _ in 0..repeat.times {
+        slices.push(repeat.instructions)?;
+    }
+    Ok(())
+}
+
+// What a word gives, if it is not refused.
+fn read_word(word: &[u8]) -> Option<Repeat>
+    ensures slices { option_map (λ repeat. replicate repeat.times repeat.instructions) result
+        ≡ word_slices word.now }
+    ensures instructions { IfSome result (λ repeat. repeat.instructions ≤ 1000000) }
+    ensures times { IfSome result (λ repeat. repeat.times ≤ 1000000) }
+{
+    let end = first_asterisk(word);
+    let (instructions, times) = word.split_at(end);
+    let instructions = slice_number(instructions)?;
+    let times = match times {
+        [] => 1,
+        [_, times @ ..] => slice_number(times)?,
+    };
+    Some(Repeat {
+        instructions,
+        times,
+    })
+}
+
+// The place of the first asterisk, or the end where there is none.
+fn first_asterisk(word: &[u8]) -> usize
+    ensures place { result ≡ position_or_len is_asterisk word.now }
+    ensures within { result ≤ length word.now }
+{
+    word.iter()
+        .position(|byte| *byte == b'*')
+        .unwrap_or(word.len())
+}
+
+// The number that the digits spell, if it is from 1 to 1,000,000.
+fn slice_number(digits: &[u8]) -> Option<u32>
+    ensures number { result ≡ slice_number_lem digits.now }
+    ensures most { IfSome result (λ number. number ≤ 1000000) }
+{
+    read_number(digits, 1, MOST)
 }
 
 #[cfg(test)]
 mod tests {
     use super::*;
+    use std::test::Fail;
+
+    fn refused(alloc: Global, text: &[u8]) -> Option<LineFault> {
+        read_slices(alloc, text).err()
+    }
 
     #[test]
-    fn one_slice(rt: HostRuntime) {
-        for (text, slice) in [
-            (b"100".as_slice(), Some(100)),
-            (b"4\n", Some(4)),
-            (b"0001000000", Some(1_000_000)),
-            (b"1000001", None),
-            (b"18446744073709551617", None),
-            (b"0", None),
-            (b"", None),
-            (b"6\n\n", None),
-            (b" 7", None),
+    fn text_lines(rt: HostRuntime) -> Result<(), Fail> {
+        let alloc = rt.alloc();
+        for (text, slices) in [
+            (b"3 2*2".as_slice(), [3, 2, 2].as_slice()),
+            (b"100\n", &[100]),
+            (b"\n\n0001000000\n1*2   7\n", &[1_000_000, 1, 1, 7]),
+            (b"", &[]),
+            (b"\n", &[]),
         ] {
-            let read = read_slices(rt.alloc(), text);
-            match slice {
-                None => assert_eq!(rt; read.err(), Some(LineFault::Line(1))),
-                Some(n) => assert_eq!(rt; read.map(|v| v.get(0).copied()), Ok(Some(n))),
-            }
+            assert_eq!(rt; read_slices(alloc, text)?.as_slice(), slices);
         }
+        for (text, line) in [
+            (b"5*0".as_slice(), 1),
+            (b"1\n\n1000001", 3),
+            (b"1\n2\n18446744073709551617\n", 3),
+            (b" 7", 1),
+            (b"7 ", 1),
+            (b"7\n   \n", 2),
+            (b"7\t8", 1),
+            (b"7\r\n", 1),
+            (b"1*2*3", 1),
+            (b"1*", 1),
+            (b"*1", 1),
+            (b"# 1", 1),
+        ] {
+            assert_eq!(rt; refused(alloc, text), Some(LineFault::Line(line)));
+        }
+        Ok(())
+    }
+
+    #[test]
+    fn limits(rt: HostRuntime) -> Result<(), Fail> {
+        let alloc = rt.alloc();
+        assert_eq!(rt; read_slices(alloc, b"1*1000000")?.len(), 1_000_000);
+        assert_eq!(rt; read_slices(alloc, b"1000000*10")?.len(), 10);
+        for (text, line) in [
+            (b"1*1000000\n1".as_slice(), 2),
+            (b"1*1000000 1", 1),
+            (b"1000000*10\n1", 2),
+            (b"1000000*11", 1),
+            (b"1000000*1000000 1000000*1000000", 1),
+        ] {
+            assert_eq!(rt; refused(alloc, text), Some(LineFault::Line(line)));
+        }
+        Ok(())
     }
 }

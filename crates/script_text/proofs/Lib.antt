@@ -1,0 +1,4 @@
+pub mod SliceLemmas
+pub mod TextLemmas
+pub mod TotalLemmas
+pub mod WordLemmas

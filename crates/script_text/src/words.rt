@@ -1,0 +1,55 @@
+ghost use Rattle.std.specs.Prelude.{◌≡◌, ◌≤◌, length, drop, not};
+ghost use Rattle.std.specs.Iterator.{YieldsFirstRef, item_count};
+ghost use Rattle.std.specs.List.{position_or_len};
+ghost use Rattle.script_text.specs.Lines.{line_words, is_space, without_spaces};
+
+/// The words of a line that are left: the parts between its spaces that are not empty.
+#[derive(Clone, Copy)]
+pub(crate) struct Words<'a> {
+    line: &'a [u8],
+}
+
+impl<'a> Words<'a> {
+    /// The words of this line.
+    pub(crate) fn of(line: &'a [u8]) -> Self
+        ensures { result.line.now ≡ line.now }
+    {
+        Words { line }
+    }
+}
+
+impl<'a> Iterator for Words<'a> {
+    type Item = &'a [u8];
+
+    ghost next_gives = { YieldsFirstRef (λ words. line_words words.line.now) };
+
+    ghost remaining = { item_count (λ words. line_words words.line.now) };
+
+    fn next(&mut self) -> Option<&'a [u8]> {
+        let line = without_spaces(self.line);
+        let (word, rest) = line.split_at(first_space(line));
+        self.line = rest;
+        if word.is_empty() { None } else { Some(word) }
+    }
+}
+
+// The line without the spaces that it begins with.
+fn without_spaces(line: &[u8]) -> &[u8]
+    ensures { result.now ≡ without_spaces line.now }
+{
+    let spaces = line
+        .iter()
+        .position(|byte| *byte != b' ')
+        .unwrap_or(line.len());
+    &line[spaces..]
+}
+
+// The place of the first space, or the end where there is none.
+fn first_space(line: &[u8]) -> usize
+    ensures place { result ≡ position_or_len is_space line.now }
+    ensures within { result ≤ length line.now }
+{
+    line.iter()
+        .position(|byte| *byte == b' ')
+        .unwrap_or(line.len())
+}
