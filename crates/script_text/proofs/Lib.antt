@@ -1,3 +1,4 @@
+pub mod KeyLemmas
 pub mod SliceLemmas
 pub mod TextLemmas
 pub mod TotalLemmas

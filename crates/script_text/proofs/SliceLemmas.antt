@@ -1,5 +1,5 @@
 -- The slices of a text, line after line.
-use Rattle.std.proofs.Common.{◌≡◌, ◌≤◌, ◌<◌, ℕ, ◌+◌, ◌&&◌, Bool, true, false, nat_le, cond, Option, Some, None, is_none, unwrap_or, option_map, Ok, Err, List, [], ◌∷◌, ◌++◌, All, length, sum, replicate, get_or, refl, sym, ap, ◌∙◌, arith, length-append, if◌then◌else◌}
+use Rattle.std.proofs.Common.{◌≡◌, ◌≤◌, ◌<◌, ℕ, ◌+◌, ◌&&◌, Bool, true, false, nat_le, Option, Some, None, unwrap_or, option_map, Ok, Err, List, [], ◌∷◌, ◌++◌, All, length, sum, replicate, get_or, refl, sym, ap, ◌∙◌, arith, length-append, if◌then◌else◌}
 use Rattle.std.specs.List.{flat_map, before_first}
 use Rattle.std.specs.Option.{option_and_then}
 use Rattle.std.proofs.lemmas.Bool.{and_parts, leb-true}
@@ -30,7 +30,7 @@ range-at least most m n true is some =
     (omega arith, omega arith)
 range-at least most m n false is some = absurd (cc)
 
-range-as : (least most : ℕ) (number : Option ℕ) (n : ℕ) → within least most number ≡ Some n → (least ≤ n) × (n ≤ most)
+pub range-as : (least most : ℕ) (number : Option ℕ) (n : ℕ) → within least most number ≡ Some n → (least ≤ n) × (n ≤ most)
 range-as least most None n is = absurd (cc)
 range-as least most (Some m) n is = range-at least most m n _ refl is
 
@@ -98,10 +98,10 @@ module _ (text : List ℕ) (place : ℕ) (slices : List ℕ) (total : Total) (li
 
   refused-as : (read : Option (List ℕ)) → line_slices line ≡ read → None ≡ total_with total read → slices_of text ≡ Err (place + 1)
   refused-as None reads none =
-    refused-unread line_slices are_few_slices (text_lines text) place slices line so_far.so_far below is reads
+      refused-unread line_slices are_few_slices (text_lines text) place slices line so_far.so_far below is reads
   refused-as (Some added) reads none =
-    let passes : are_few_slices (slices ++ added) ≡ false = within-none (length (slices ++ added)) (sum (slices ++ added)) _ refl (rw (← many-with added, ← long-with added) (sym none)) in
-    refused-passed line_slices are_few_slices (text_lines text) place slices added line so_far.so_far below is reads passes
+      let passes : are_few_slices (slices ++ added) ≡ false = within-none (length (slices ++ added)) (sum (slices ++ added)) _ refl (rw (← many-with added, ← long-with added) (sym none)) in
+      refused-passed line_slices are_few_slices (text_lines text) place slices added line so_far.so_far below is reads passes
 
   pub slices-refused : None ≡ total_with total (line_slices line) → slices_of text ≡ Err (place + 1)
   slices-refused none = refused-as (line_slices line) refl none
@@ -109,27 +109,27 @@ module _ (text : List ℕ) (place : ℕ) (slices : List ℕ) (total : Total) (li
   next-as : (read : Option (List ℕ)) (next : Total) (now : List ℕ) → line_slices line ≡ read → Some next ≡ total_with total read → now ≡ slices ++ unwrap_or read [] → IsWithinLimits next → All IsSlice now → SlicesSoFar text (place + 1) now next
   next-as None next now reads some is_now limits each = absurd (cc)
   next-as (Some added) next now reads some is_now limits each =
-    let within : total_within (length (slices ++ added)) (sum (slices ++ added)) ≡ Some next = rw (← many-with added, ← long-with added) (sym some) in
-    let fields = within-fields (length (slices ++ added)) (sum (slices ++ added)) next _ refl within in
-    let keeps : are_few_slices (slices ++ added) ≡ true = within-some (length (slices ++ added)) (sum (slices ++ added)) next _ refl within in
-    record {
-      so_far = rw is_now (ReadSoFar-next line_slices are_few_slices (text_lines text) place slices added line so_far.so_far below is reads keeps);
-      many = fields.0 ∙ ap length (sym is_now);
-      long = fields.1 ∙ ap sum (sym is_now);
-      limits = limits;
-      each = each;
-    }
+      let within : total_within (length (slices ++ added)) (sum (slices ++ added)) ≡ Some next = rw (← many-with added, ← long-with added) (sym some) in
+      let fields = within-fields (length (slices ++ added)) (sum (slices ++ added)) next _ refl within in
+      let keeps : are_few_slices (slices ++ added) ≡ true = within-some (length (slices ++ added)) (sum (slices ++ added)) next _ refl within in
+      record {
+        so_far = rw is_now (ReadSoFar-next line_slices are_few_slices (text_lines text) place slices added line so_far.so_far below is reads keeps);
+        many = fields.0 ∙ ap length (sym is_now);
+        long = fields.1 ∙ ap sum (sym is_now);
+        limits = limits;
+        each = each;
+      }
 
   given-as : (edged : Bool) (read : Option (List ℕ)) → is_edged line ≡ edged → line_slices line ≡ read → (next : Total) → Some next ≡ total_with total read → flat_map (λ word. unwrap_or (word_slices word) []) (line_words line) ≡ unwrap_or read []
   given-as edged None is_edge reads next some = absurd (cc)
   given-as true (Some added) is_edge reads next some = absurd (let none : line_slices line ≡ None = simp is_edge in cc)
   given-as false (Some added) is_edge reads next some =
-    let all : all_given word_slices (line_words line) ≡ Some added = (let as_words : line_slices line ≡ all_given word_slices (line_words line) = simp is_edge in sym as_words ∙ reads) in
-    all_given-Some word_slices (line_words line) added all
+      let all : all_given word_slices (line_words line) ≡ Some added = (let as_words : line_slices line ≡ all_given word_slices (line_words line) = simp is_edge in sym as_words ∙ reads) in
+      all_given-Some word_slices (line_words line) added all
 
   -- a line that keeps the rules
   pub SlicesSoFar-next : (next : Total) (now : List ℕ) → Some next ≡ total_with total (line_slices line) → now ≡ slices ++ flat_map (λ word. unwrap_or (word_slices word) []) (line_words line) → IsWithinLimits next → SlicesSoFar text (place + 1) now next
   SlicesSoFar-next next now some is_now limits =
-    let given = given-as (is_edged line) (line_slices line) refl refl next some in
-    let each : All IsSlice now = rw is_now (All-append IsSlice slices (flat_map (λ word. unwrap_or (word_slices word) []) (line_words line)) so_far.each (each-words (line_words line))) in
-    next-as (line_slices line) next now refl some (is_now ∙ ap (λ g. slices ++ g) given) limits each
+      let given = given-as (is_edged line) (line_slices line) refl refl next some in
+      let each : All IsSlice now = rw is_now (All-append IsSlice slices (flat_map (λ word. unwrap_or (word_slices word) []) (line_words line)) so_far.each (each-words (line_words line))) in
+      next-as (line_slices line) next now refl some (is_now ∙ ap (λ g. slices ++ g) given) limits each

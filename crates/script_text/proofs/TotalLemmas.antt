@@ -1,11 +1,10 @@
 -- The total of words, one after another.
-use Rattle.std.proofs.Common.{◌≡◌, ◌≤◌, ◌<◌, ℕ, ◌+◌, ◌&&◌, Bool, true, cond, nat_le, Option, Some, None, option_map, inl, inr, List, [], ◌∷◌, ◌++◌, length, sum, refl, sym, ap, subst, ◌∙◌, arith, add-zero, length-append, if◌then◌else◌, false, replicate, ◌*◌}
+use Rattle.std.proofs.Common.{◌≡◌, ◌≤◌, ◌<◌, ℕ, ◌+◌, ◌&&◌, true, nat_le, Option, Some, None, option_map, inl, inr, List, [], ◌∷◌, ◌++◌, length, sum, refl, sym, ap, subst, ◌∙◌, arith, add-zero, length-append, false, replicate, ◌*◌}
 use Rattle.std.specs.Option.{option_and_then}
-use Rattle.std.proofs.lemmas.Bool.{cases_lt, le-leb, lt-leb, and_left, and_right}
+use Rattle.std.proofs.lemmas.Bool.{cases_lt, le-leb, lt-leb, and_right}
 use Rattle.std.proofs.lemmas.List.{length-replicate}
 use Rattle.std.proofs.lemmas.List.Folds.{sum_by-replicate}
 use Rattle.std.proofs.lemmas.List.Sums.{sum_by-append}
-use Rattle.std.proofs.lemmas.Grind.{common_steps}
 use Rattle.script_text.specs.declared.slices.Total.{Total}
 use Rattle.script_text.specs.Lines.{all_given, line_words, is_edged}
 use Rattle.script_text.specs.Slices.{word_slices, line_slices}
@@ -32,18 +31,18 @@ total_with-append total first rest =
     let After : Option Total → Option Total = λ o. option_and_then (λ next. total_with next (Some rest)) o in
     elim (cases_lt 1000000 (total.slices + length first)) [
       | inl over ↦
-        ap After (total_within-many _ _ over)
-        ∙ sym (total_within-many _ _ (let is : 1000000 < total.slices + length (first ++ rest) = omega arith in is))
+          ap After (total_within-many _ _ over)
+          ∙ sym (total_within-many _ _ (let is : 1000000 < total.slices + length (first ++ rest) = omega arith in is))
       | inr few ↦
-        elim (cases_lt 10000000 (total.instructions + sum first)) [
-          | inl over ↦
-            ap After (total_within-long _ _ over)
-            ∙ sym (total_within-long _ _ (let is : 10000000 < total.instructions + sum (first ++ rest) = omega arith in is))
-          | inr short ↦
-            ap After (total_within-kept _ _ few short)
-            ∙ sym (ap (λ n. total_within n ((total.instructions + sum first) + sum rest)) many)
-            ∙ sym (ap (total_within (total.slices + length (first ++ rest))) long)
-        ]
+          elim (cases_lt 10000000 (total.instructions + sum first)) [
+            | inl over ↦
+                ap After (total_within-long _ _ over)
+                ∙ sym (total_within-long _ _ (let is : 10000000 < total.instructions + sum (first ++ rest) = omega arith in is))
+            | inr short ↦
+                ap After (total_within-kept _ _ few short)
+                ∙ sym (ap (λ n. total_within n ((total.instructions + sum first) + sum rest)) many)
+                ∙ sym (ap (total_within (total.slices + length (first ++ rest))) long)
+          ]
     ]
 
 total_with-none : (total : Total) → IsWithinLimits total → total_with total (Some []) ≡ Some total
@@ -61,13 +60,13 @@ total_within-limits slices instructions next is =
     elim (cases_lt 1000000 slices) [
       | inl over ↦ let none = total_within-many slices instructions over in absurd (cc)
       | inr few ↦
-        elim (cases_lt 10000000 instructions) [
-          | inl over ↦ let none = total_within-long slices instructions over in absurd (cc)
-          | inr short ↦
-            let kept = total_within-kept slices instructions few short in
-            let same : record { slices = slices; instructions = instructions } ≡ next = cc in
-            subst IsWithinLimits same (record { few = few; short = short })
-        ]
+          elim (cases_lt 10000000 instructions) [
+            | inl over ↦ let none = total_within-long slices instructions over in absurd (cc)
+            | inr short ↦
+                let kept = total_within-kept slices instructions few short in
+                let same : record { slices = slices; instructions = instructions } ≡ next = cc in
+                subst IsWithinLimits same (record { few = few; short = short })
+          ]
     ]
 
 same-and_then : (o : Option Total) (f g : Total → Option Total) → ((next : Total) → o ≡ Some next → f next ≡ g next) → option_and_then f o ≡ option_and_then g o

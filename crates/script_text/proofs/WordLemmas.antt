@@ -1,6 +1,6 @@
 -- The words of a line, one after another.
-use Rattle.std.proofs.Common.{◌≡◌, ℕ, zero, suc, ◌+◌, ◌<◌, ◌≤◌, Bool, true, false, not, cond, ltb, Option, Some, None, unwrap_or, inl, inr, List, [], ◌∷◌, length, take, drop, get_or, filter, refl, sym, ap, subst, ◌∙◌, arith}
-use Rattle.std.specs.List.{position_or_len, prefix_len, slice_split, onto_first}
+use Rattle.std.proofs.Common.{◌≡◌, ℕ, suc, ◌<◌, ◌≤◌, Bool, true, false, not, cond, ltb, Option, Some, None, unwrap_or, inl, inr, List, [], ◌∷◌, length, take, drop, filter, refl, sym, ap, subst, ◌∙◌, arith}
+use Rattle.std.specs.List.{position_or_len, prefix_len, slice_split}
 use Rattle.std.proofs.lemmas.Bool.{cases_lt, lt-ltb, le-ltb}
 use Rattle.std.proofs.lemmas.List.{length-take}
 use Rattle.std.proofs.lemmas.List.Folds.{length-prefix_len}
@@ -11,12 +11,12 @@ pub unwrap_or-position : (n len : ℕ) (found : Option ℕ) (place : ℕ) → fo
 unwrap_or-position n len found place is_found within is_place =
     elim (cases_lt n len) [
       | inl below ↦
-        let at : found ≡ Some n = is_found ∙ ap (λ b. cond b (Some n) None) (lt-ltb n len below) in
-        is_place ∙ ap (λ o. unwrap_or o len) at
+          let at : found ≡ Some n = is_found ∙ ap (λ b. cond b (Some n) None) (lt-ltb n len below) in
+          is_place ∙ ap (λ o. unwrap_or o len) at
       | inr past ↦
-        let at : found ≡ None = is_found ∙ ap (λ b. cond b (Some n) None) (le-ltb n len past) in
-        let same : len ≡ n = omega arith in
-        is_place ∙ ap (λ o. unwrap_or o len) at ∙ same
+          let at : found ≡ None = is_found ∙ ap (λ b. cond b (Some n) None) (le-ltb n len past) in
+          let same : len ≡ n = omega arith in
+          is_place ∙ ap (λ o. unwrap_or o len) at ∙ same
     ]
 
 pub position_or_len-first : {X : Type 0} (p : X → Bool) (x : X) (xs : List X) → p x ≡ true → position_or_len p (x ∷ xs) ≡ 0

@@ -1,5 +1,5 @@
 -- Texts of lines (this project's own).
-use Rattle.std.specs.Prelude.{ℕ, ◌+◌, ◌==◌, ◌||◌, not, nat_eq, Bool, true, false, Option, Some, None, is_none, unwrap_or, option_map, option_and_then, position, filter, Result, Ok, Err, List, [], ◌∷◌, ◌++◌, length, take, drop, slice_index_or}
+use Rattle.std.specs.Prelude.{ℕ, ◌+◌, ◌==◌, ◌||◌, not, nat_eq, Bool, true, false, Option, Some, is_none, unwrap_or, option_map, option_and_then, position, filter, Result, Ok, Err, List, [], ◌∷◌, ◌++◌, length, take, drop, slice_index_or}
 use Rattle.std.specs.List.{position_or_len, slice_split, starts_with, ends_with, flat_map, range_with_len}
 use Rattle.std.specs.Option.{option_map_or}
 

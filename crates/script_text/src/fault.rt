@@ -6,7 +6,7 @@ pub enum LineFault {
     /// The line of this number, from 1, is the first that breaks a rule.
     #[error("line {0}")]
     Line(u64),
-    /// Memory is wanting.
-    #[error("no memory")]
+    /// Out of memory.
+    #[error("out of memory")]
     OutOfMemory,
 }

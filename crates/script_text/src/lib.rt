@@ -2,5 +2,7 @@
 #![tactic(auto)]
 
 pub mod fault;
+pub mod script;
 pub mod slices;
 mod words;
+pub mod worked;

@@ -1,5 +1,5 @@
 -- Each word takes its slices to the total.
-use Rattle.std.proofs.Common.{◌≡◌, false, None, arith, rules, ap, sym, ◌∙◌}
+use Rattle.std.proofs.Common.{◌≡◌, false, arith, sym, ◌∙◌}
 use Rattle.std.proofs.lemmas.Grind.{common_steps}
 use Rattle.script_text.specs.Lines.{is_edged}
 use Rattle.script_text.proofs.TotalLemmas.{line_total-refused, line_total-taken}

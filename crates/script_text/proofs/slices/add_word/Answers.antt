@@ -1,10 +1,6 @@
 -- So many slices of n instructions have n times as many instructions.
-use Rattle.std.proofs.Common.{◌≡◌, ◌*◌, ℕ, Some, length, sum, replicate, sym, ap, ◌∙◌, arith}
-use Rattle.std.proofs.lemmas.List.{length-replicate}
-use Rattle.std.proofs.lemmas.List.Folds.{sum_by-replicate}
+use Rattle.std.proofs.Common.{arith}
 use Rattle.std.proofs.lemmas.Grind.{common_steps}
-use Rattle.script_text.specs.Slices.{word_slices}
-use Rattle.script_text.specs.Totals.{total_with}
 use Rattle.script_text.proofs.TotalLemmas.{total_with-repeated}
 use Rattle.script_text.proofs.slices.add_word.Goals as goal
 

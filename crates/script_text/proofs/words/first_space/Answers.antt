@@ -1,4 +1,4 @@
-use Rattle.std.proofs.Common.{length, rules, tests, arith}
+use Rattle.std.proofs.Common.{length, rules, tests}
 use Rattle.std.specs.List.{position_or_len}
 use Rattle.std.proofs.lemmas.Iterator.{YieldsList-from_slice}
 use Rattle.std.proofs.lemmas.Iterator.Search.{position_from_yields_List}

@@ -1,4 +1,4 @@
-use Rattle.std.proofs.Common.{not, ◌≡◌, ◌≤◌, length, rules, tests, arith}
+use Rattle.std.proofs.Common.{not, ◌≡◌, length, rules, tests}
 use Rattle.std.specs.List.{position_or_len}
 use Rattle.std.proofs.lemmas.List.{take_rest}
 use Rattle.std.proofs.lemmas.Iterator.{YieldsList-from_slice}
