@@ -3,7 +3,8 @@ use Rattle.std.specs.Prelude.{ℕ, ◌+◌, ◌==◌, ◌||◌, not, nat_eq, Boo
 use Rattle.std.specs.List.{position_or_len, slice_split, starts_with, ends_with, flat_map, range_with_len}
 use Rattle.std.specs.Option.{option_map_or}
 
--- the lines of a text: the parts between its line feeds; what stands behind the last line feed is a line too, an empty one where the text ends there
+-- the lines of a text: the parts between its line feeds; what stands behind the last line feed is a line too,
+-- an empty one if the text ends there
 abbrev pub text_lines : List ℕ → List (List ℕ)
 text_lines text = slice_split (λ byte. byte == 10) text
 
@@ -38,7 +39,8 @@ all_given read (word ∷ words) =
 abbrev pub lines_give : {A : Type 0} → (List ℕ → Option (List A)) → List (List ℕ) → List A
 lines_give read lines = flat_map (λ line. unwrap_or (read line) []) lines
 
--- the line at a place breaks a rule: it is refused by itself, or the lines up to its end give what a text may not give
+-- the line at a place breaks a rule: it is refused by itself, or the lines up to its end give what a text may
+-- not give
 abbrev pub is_broken : {A : Type 0} → (List ℕ → Option (List A)) → (List A → Bool) → List (List ℕ) → ℕ → Bool
 is_broken read allowed lines place =
     is_none (read (slice_index_or lines place [])) || not (allowed (lines_give read (take (place + 1) lines)))
@@ -50,4 +52,5 @@ first_broken read allowed lines = position (is_broken read allowed lines) (range
 -- what a text gives, or the number, from 1, of its first line that breaks a rule
 abbrev pub text_gives : {A : Type 0} → (List ℕ → Option (List A)) → (List A → Bool) → List ℕ → Result (List A) ℕ
 text_gives read allowed text =
-    option_map_or (λ place. Err (place + 1)) (first_broken read allowed (text_lines text)) (Ok (lines_give read (text_lines text)))
+    option_map_or (λ place. Err (place + 1)) (first_broken read allowed (text_lines text))
+    (Ok (lines_give read (text_lines text)))

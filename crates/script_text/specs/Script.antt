@@ -21,7 +21,8 @@ terminal_names = codes "TERM" ∷ codes "T1" ∷ codes "T2" ∷ codes "T3" ∷ [
 -- the number of the terminal of this name, if it is one of so many
 abbrev pub terminal_of : ℕ → List ℕ → Option ℕ
 terminal_of terminals name =
-    option_and_then (λ number. if nat_lt number terminals then Some number else None) (position (bytes_eq name) terminal_names)
+    option_and_then (λ number. if nat_lt number terminals then Some number else None)
+    (position (bytes_eq name) terminal_names)
 
 -- the number that a hexadecimal digit of either case is
 abbrev pub hex_digit : ℕ → Option ℕ
@@ -54,7 +55,9 @@ keys_at tick term (byte ∷ bytes) =
 -- the keys that words give: a tick, one of so many terminals, and one or more bytes
 abbrev pub words_keys : ℕ → List (List ℕ) → Option (List ScriptKey)
 words_keys terminals (tick ∷ terminal ∷ bytes) =
-    option_and_then (λ t. option_and_then (λ n. option_and_then (keys_at t n) (bytes_of bytes)) (terminal_of terminals terminal)) (tick_of tick)
+    option_and_then
+    (λ t. option_and_then (λ n. option_and_then (keys_at t n) (bytes_of bytes)) (terminal_of terminals terminal))
+    (tick_of tick)
 words_keys terminals _ = None
 
 -- the keys that a line gives, for a machine with so many terminals

@@ -24,7 +24,8 @@ times_of (asterisk ∷ digits) = slice_number digits
 -- the slices that a word gives: in the form `n` one slice of n instructions, and in the form `n*k` k of them
 abbrev pub word_slices : List ℕ → Option (List ℕ)
 word_slices word =
-    option_and_then (λ n. option_map (λ k. replicate k n) (times_of (from_asterisk word))) (slice_number (before_first is_asterisk word))
+    option_and_then (λ n. option_map (λ k. replicate k n) (times_of (from_asterisk word)))
+    (slice_number (before_first is_asterisk word))
 
 -- the slices that a line gives; none where a word of it is refused, or a space stands at an end of it
 abbrev pub line_slices : List ℕ → Option (List ℕ)
