@@ -60,7 +60,7 @@ performs-partly (Some files) others run text file slices first_name second_name 
 pub checks : (told : Option (List ℕ → Option (List ℕ))) (image bytes name : List ℕ) (tree : Tree) (before before_then now : Option (List ℕ)) (status : ℕ) → IfSome told (λ files. bytes ≡ file_contents files name) → name ≡ image → IsTreeOf bytes tree → before_then ≡ before → (status ≡ 0) × (now ≡ stream_with before_then (tree_line tree)) → IfSome told (λ files. Checks (file_contents files image) before now status)
 checks None image bytes name tree before before_then now status read named is same printed = tt
 checks (Some files) image bytes name tree before before_then now status read named is same printed =
-    rw (← named, ← read) (inl (is.volume, is.stands, printed.0, printed.1 ∙ rw (same, is.counts.files, is.counts.directories, is.tells.free, is.tells.lost) refl))
+    rw (← named, ← read) (inl (is.volume, is.represents, printed.0, printed.1 ∙ rw (same, is.counts.files, is.counts.directories, is.tells.free, is.tells.lost) refl))
 
 -- it was read, and has a fault
 pub faults : (told : Option (List ℕ → Option (List ℕ))) (image bytes name : List ℕ) (rule lsn : ℕ) (before now : Option (List ℕ)) → IfSome told (λ files. bytes ≡ file_contents files name) → name ≡ image → IsFault bytes rule lsn → now ≡ before → IfSome told (λ files. Checks (file_contents files image) before now 6)

@@ -7,8 +7,8 @@ use Rattle.std.proofs.lemmas.Bool.{cases_lt}
 use Rattle.std.proofs.lemmas.Grind.{flat_map-append}
 use Rattle.std.proofs.lemmas.List.{append-nil, take_all, take_more}
 use Rattle.rbf_model.specs.Geometry.{sector}
-use Rattle.rbf_model.specs.Segments.{run, sectors_of}
-use Rattle.rbf_model.specs.File.{bytes_of}
+use Rattle.rbf_model.specs.Segments.{segment_sectors, sectors_of}
+use Rattle.rbf_model.specs.File.{segment_bytes}
 use Rattle.rbf_model.proofs.Pieces.{take_append}
 
 -- the bytes of a run of an image's sectors
@@ -29,19 +29,19 @@ take_lesser left held part xs is = ⊎_elim
     (cases_lt left held)
 
 module _ (image : List ℕ) (segments : List (ℕ × ℕ)) (i : ℕ) (segment : ℕ × ℕ) (low : i < length segments) (at : get_or segments i (0, 0) ≡ segment) where
-  bytes_more : bytes_of (sector image) (take (i + 1) segments) ≡ bytes_of (sector image) (take i segments) ++ take (256 * segment.1) (drop (256 * segment.0) image)
+  bytes_more : segment_bytes (sector image) (take (i + 1) segments) ≡ segment_bytes (sector image) (take i segments) ++ take (256 * segment.1) (drop (256 * segment.0) image)
   bytes_more =
       let front : take (i + 1) segments ≡ take i segments ++ segment ∷ [] = take_more segments i (0, 0) low ∙ ap (λ s. take i segments ++ s ∷ []) at in
-      ap (bytes_of (sector image)) front ∙ ap (flat_map (sector image)) (flat_map-append run (take i segments) (segment ∷ []))
+      ap (segment_bytes (sector image)) front ∙ ap (flat_map (sector image)) (flat_map-append segment_sectors (take i segments) (segment ∷ []))
       ∙ flat_map-append (sector image) (sectors_of (take i segments)) (sectors_of (segment ∷ []))
-      ∙ ap (λ xs. bytes_of (sector image) (take i segments) ++ flat_map (sector image) xs) (append-nil (run segment))
-      ∙ ap (λ b. bytes_of (sector image) (take i segments) ++ b) (run_bytes image segment.0 segment.1)
+      ∙ ap (λ xs. segment_bytes (sector image) (take i segments) ++ flat_map (sector image) xs) (append-nil (segment_sectors segment))
+      ∙ ap (λ b. segment_bytes (sector image) (take i segments) ++ b) (run_bytes image segment.0 segment.1)
 
   -- a run more of the contents
-  pub contents_more : (size part : ℕ) (bytes : List ℕ) → bytes ≡ take size (bytes_of (sector image) (take i segments)) → part ≡ min (size - length bytes) (256 * segment.1)
-      → bytes ++ take part (drop (256 * segment.0) image) ≡ take size (bytes_of (sector image) (take (i + 1) segments))
+  pub contents_more : (size part : ℕ) (bytes : List ℕ) → bytes ≡ take size (segment_bytes (sector image) (take i segments)) → part ≡ min (size - length bytes) (256 * segment.1)
+      → bytes ++ take part (drop (256 * segment.0) image) ≡ take size (segment_bytes (sector image) (take (i + 1) segments))
   contents_more size part bytes is lesser =
-      let before = bytes_of (sector image) (take i segments) in
+      let before = segment_bytes (sector image) (take i segments) in
       let piece = take (256 * segment.1) (drop (256 * segment.0) image) in
       let left : part ≡ min (size - length before) (256 * segment.1) = omega (arith, ap length is, length-take size before) in
       sym (ap (take size) bytes_more ∙ take_append size before piece ∙ ap (λ b. b ++ take (size - length before) piece) (sym is)

@@ -1,4 +1,5 @@
 -- Clusters that are noted as used.
+use Rattle.rbf_model.specs.Disk.{disk_of}
 use Rattle.std.proofs.Common.{◌≡◌, ℕ, zero, suc, ◌+◌, ◌-◌, ◌/◌, ◌<◌, ◌≤◌, ◌==◌, ◌||◌, Bool, true, false, List, [], ◌∷◌, ◌++◌, length, get_or, set, take, refl, sym, ap, ◌∙◌, subst, ⊎_elim, arith, eq-eqb, eqb-true}
 use Rattle.std.specs.Prelude.{if◌then◌else◌}
 use Rattle.std.specs.List.{range_with_len, list_any}
@@ -9,7 +10,7 @@ use Rattle.std.proofs.lemmas.List.Folds.{list_any-append}
 use Rattle.std.proofs.lemmas.Grind.{flat_map-append}
 use Rattle.rbf_model.specs.Fields.{segments_field}
 use Rattle.rbf_model.specs.Geometry.{Geometry, map_sectors}
-use Rattle.rbf_model.specs.Segments.{run, sectors_of}
+use Rattle.rbf_model.specs.Segments.{segment_sectors, sectors_of}
 use Rattle.rbf_model.specs.File.{file_at}
 use Rattle.rbf_model.specs.Space.{system_sectors, owned, has_cluster}
 use Rattle.rbf_check.specs.Clusters.{NotesClusters, AreUsed}
@@ -65,7 +66,7 @@ pub notes_run : (k : ℕ) (segments : List (ℕ × ℕ)) (i : ℕ) (segment : �
 notes_run k segments i segment old mid new low at before one =
     let front : take (i + 1) segments ≡ take i segments ++ segment ∷ [] = take_more segments i (0, 0) low ∙ ap (λ s. take i segments ++ s ∷ []) at in
     let P : List ℕ → Type 0 = λ xs. NotesClusters k xs old new in
-    subst P (ap (λ xs. sectors_of (take i segments) ++ xs) (sym (append-nil (run segment))) ∙ sym (flat_map-append run (take i segments) (segment ∷ [])) ∙ ap sectors_of (sym front))
+    subst P (ap (λ xs. sectors_of (take i segments) ++ xs) (sym (append-nil (segment_sectors segment))) ∙ sym (flat_map-append segment_sectors (take i segments) (segment ∷ [])) ∙ ap sectors_of (sym front))
     (notes_then k (sectors_of (take i segments)) (range_with_len segment.0 segment.1) old mid new before one)
 
 -- the sectors of an owner
@@ -85,8 +86,8 @@ notes_owner g disk n k count segments a b c d sized counted are system own other
     (notes_then k (range_with_len 0 count) (n ∷ sectors_of segments) a b d system (notes_then k (n ∷ []) (sectors_of segments) b c d own others)))
 
 -- an owner more
-pub used_more : (g : Geometry) (disk : ℕ → List ℕ) (found : List ℕ) (i : ℕ) (old new : List Bool) → i < length found → AreUsed g disk (take i found) old
-    → NotesClusters g.cluster (owned g (get_or found i 0) (file_at disk (get_or found i 0))) old new → AreUsed g disk (take (i + 1) found) new
+pub used_more : (g : Geometry) (disk : ℕ → List ℕ) (found : List ℕ) (i : ℕ) (old new : List Bool) → i < length found → AreUsed (disk_of g disk) (take i found) old
+    → NotesClusters g.cluster (owned g (get_or found i 0) (file_at disk (get_or found i 0))) old new → AreUsed (disk_of g disk) (take (i + 1) found) new
 unfolding has_cluster
 used_more g disk found i old new low before notes =
     let n = get_or found i 0 in

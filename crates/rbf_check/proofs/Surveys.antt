@@ -1,33 +1,33 @@
 -- What a survey says of the volume of its image.
+use Rattle.rbf_model.specs.Disk.{disk_of, IsDisk}
 use Rattle.std.proofs.Common.{◌≡◌, ◌≢◌, ◌⊎◌, ℕ, ◌+◌, ◌*◌, ◌&&◌, not, ◌<◌, ◌≤◌, true, List, All, length, get_or, drop, Option, Some, None, refl, sym, ap, ◌∙◌, subst, inl, inr, ⊎_elim, arith, leb-true}
 use Rattle.std.specs.Prelude.{filter}
 use Rattle.std.specs.Int.{div_ceil}
 use Rattle.std.specs.List.{range_with_len}
 use Rattle.std.proofs.lemmas.Bool.{cond-true, cond-false, false_from_ne_true, and_parts}
-use Rattle.rbf_model.specs.Fields.{entry_at, name_field, segments_field}
-use Rattle.rbf_model.specs.Geometry.{Geometry, IsHeader, IsDisk, IsNumber, LieWithin, is_within, image_geometry, sector}
+use Rattle.rbf_model.specs.Fields.{directory_entry, entry_name_field, segments_field}
+use Rattle.rbf_model.specs.Geometry.{Geometry, IsHeader, IsNumber, LieWithin, is_within, image_geometry, sector}
 use Rattle.rbf_model.specs.Segments.{has}
 use Rattle.rbf_model.specs.File.{file_at}
 use Rattle.rbf_model.specs.Space.{is_whole, is_marked, cluster_count}
-use Rattle.rbf_model.specs.Tree.{Reached, NamesIn, Links}
+use Rattle.rbf_model.specs.Tree.{Reached, EntryNames, Links}
 use Rattle.rbf_model.specs.Tree.Reached.{root, named}
 use Rattle.rbf_model.specs.Volume.{Sound, directories, free_clusters}
-use Rattle.rbf_model.specs.Faults.{Reaches, searched}
+use Rattle.rbf_model.specs.Search.{IsReachedOn, searchable_bytes}
 use Rattle.rbf_model.proofs.Lists.{some_is}
 use Rattle.rbf_model.proofs.Free.{free_clusters_are}
 use Rattle.rbf_model.proofs.Owners.{cluster_positive}
 use Rattle.rbf_model.proofs.Keeps.{searched_is}
 use Rattle.rbf_model.proofs.Built.{sound_from_keeps}
-use Rattle.rbf_search.specs.declared.links.Link.{Link}
+use Rattle.rbf_reach.specs.declared.links.Link.{Link}
 use Rattle.rbf_check.specs.declared.survey.Survey.{Survey}
 use Rattle.rbf_sector.specs.Ident.{geometry_of}
-use Rattle.rbf_sector.specs.Ident.{geometry_of}
 use Rattle.rbf_check.specs.Survey.{IsSurvey}
-use Rattle.rbf_search.proofs.Headers.{header_of, disk_of}
-use Rattle.rbf_search.proofs.FoundNumbers.{number_reached}
+use Rattle.rbf_reach.proofs.Headers.{header_of, is_disk_of}
+use Rattle.rbf_reach.proofs.FoundNumbers.{number_reached}
 use Rattle.rbf_check.proofs.Counted.{ceil_is}
 use Rattle.rbf_check.specs.Places.{ArePlaces}
-use Rattle.rbf_check.specs.Surveyed.{volume_from}
+use Rattle.rbf_check.specs.VolumeNodes.{volume_from}
 use Rattle.rbf_check.specs.Tree.{IsPlaced}
 use Rattle.rbf_check.specs.Tree.IsPlaced.{named as in_directory}
 
@@ -40,32 +40,32 @@ module _ (image : List ℕ) (survey : Survey) (is : IsSurvey image survey) where
   pub header_is : IsHeader (geometry_of survey.ident)
   header_is = header_of image survey.ident is.ident
 
-  pub disk_is : IsDisk (geometry_of survey.ident) (sector image)
-  disk_is = disk_of image survey.ident is.ident
+  pub disk_is : IsDisk (disk_of (geometry_of survey.ident) (sector image))
+  disk_is = is_disk_of image survey.ident is.ident
 
   total_is : (image_geometry image).total ≡ survey.ident.total
   total_is = ap (λ (g : Geometry). g.total) is.ident.geometry
 
   -- a descriptor that is reached and its segments are in the image
-  pub reached_below : (n : ℕ) → Reaches (geometry_of survey.ident) (sector image) n → n < survey.ident.total
+  pub reached_below : (n : ℕ) → IsReachedOn (disk_of (geometry_of survey.ident) (sector image)) n → n < survey.ident.total
   reached_below n reached = (number_reached image survey.ident is.ident n reached).below
 
   pub descriptor_fits : (n : ℕ) → n < survey.ident.total → 256 * (n + 1) ≤ length image
   descriptor_fits n below = omega (arith, is.ident.header.fits, total_is)
 
-  pub segments_below : (n : ℕ) (segments : List (ℕ × ℕ)) → Reaches (geometry_of survey.ident) (sector image) n → segments ≡ segments_field (sector image n) → All (λ segment. segment.0 + segment.1 ≤ survey.ident.total) segments
+  pub segments_below : (n : ℕ) (segments : List (ℕ × ℕ)) → IsReachedOn (disk_of (geometry_of survey.ident) (sector image)) n → segments ≡ segments_field (sector image n) → All (λ segment. segment.0 + segment.1 ≤ survey.ident.total) segments
   segments_below n segments reached same k d low =
       let segment = get_or segments k d in
       let within : is_within (geometry_of survey.ident) segment ≡ true =
       subst (λ xs. LieWithin (geometry_of survey.ident) xs) (sym same) (is.kept.segments n reached) k d low in
       leb-true (segment.0 + segment.1) survey.ident.total (and_parts _ _ within).1
 
-  pub segments_fit : (n : ℕ) → Reaches (geometry_of survey.ident) (sector image) n → All (λ segment. 256 * (segment.0 + segment.1) ≤ length image) (segments_field (sector image n))
+  pub segments_fit : (n : ℕ) → IsReachedOn (disk_of (geometry_of survey.ident) (sector image)) n → All (λ segment. 256 * (segment.0 + segment.1) ≤ length image) (segments_field (sector image n))
   segments_fit n reached k d low =
       omega (arith, segments_below n (segments_field (sector image n)) reached refl k d low, is.ident.header.fits, total_is)
 
   -- the image stands for the volume
-  pub sound_is : Sound (geometry_of survey.ident) (sector image) (volume_from image survey)
+  pub sound_is : Sound (disk_of (geometry_of survey.ident) (sector image)) (volume_from image survey)
   sound_is =
       sound_from_keeps (geometry_of survey.ident) (sector image) header_is disk_is is.kept survey.found.items is.found (drop (256 * survey.ident.total) image)
 
@@ -79,19 +79,19 @@ module _ (image : List ℕ) (survey : Survey) (is : IsSurvey image survey) where
       is ∙ ap (div_ceil survey.ident.total) sized ∙ sym (ceil_is survey.ident.total survey.ident.cluster (cluster_positive survey.ident.cluster header_is.clusters))
 
   -- which has a file for each descriptor that is reached, and no other
-  pub file_is : (n : ℕ) → Reaches (geometry_of survey.ident) (sector image) n → (volume_from image survey).files n ≡ Some (file_at (sector image) n)
+  pub file_is : (n : ℕ) → IsReachedOn (disk_of (geometry_of survey.ident) (sector image)) n → (volume_from image survey).files n ≡ Some (file_at (sector image) n)
   file_is n reached = cond-true (has survey.found.items n) (Some (file_at (sector image) n)) None ((is.found n).1 reached)
 
-  pub no_file : (n : ℕ) → (Reaches (geometry_of survey.ident) (sector image) n → ⊥) → (volume_from image survey).files n ≡ None
+  pub no_file : (n : ℕ) → (IsReachedOn (disk_of (geometry_of survey.ident) (sector image)) n → ⊥) → (volume_from image survey).files n ≡ None
   no_file n never =
       cond-false (has survey.found.items n) (Some (file_at (sector image) n)) None (false_from_ne_true (has survey.found.items n) (λ found. never ((is.found n).0 found)))
 
   pub root_file : (n : ℕ) → n ≡ survey.ident.root → (volume_from image survey).files n ≡ Some (file_at (sector image) n)
   root_file n same =
-      file_is n (subst (λ m. Reaches (geometry_of survey.ident) (sector image) m) (sym same) root)
+      file_is n (subst (λ m. IsReachedOn (disk_of (geometry_of survey.ident) (sector image)) m) (sym same) root)
 
   -- a directory of the volume is what a search finds
-  directory_is : (d : ℕ) → Reaches (geometry_of survey.ident) (sector image) d → directories (volume_from image survey).files d ≡ searched (geometry_of survey.ident) (sector image) d
+  directory_is : (d : ℕ) → IsReachedOn (disk_of (geometry_of survey.ident) (sector image)) d → directories (volume_from image survey).files d ≡ searchable_bytes (disk_of (geometry_of survey.ident) (sector image)) d
   directory_is d reached =
       searched_is (geometry_of survey.ident) (sector image) (volume_from image survey) sound_is d (some_is ((volume_from image survey).files d) (file_at (sector image) d) (file_is d reached))
 
@@ -101,23 +101,23 @@ module _ (image : List ℕ) (survey : Survey) (is : IsSurvey image survey) where
     no_place other none = no_file n (λ reached. ⊎_elim
         (λ is_root. other is_root)
         (λ link. are.there (record { directory = link.0; entry = link.1; descriptor = n }) (is.links.all link.0 link.1 n link.2 link.3) none)
-        (reached_cases (geometry_of survey.ident) (searched (geometry_of survey.ident) (sector image)) n reached))
+        (reached_cases (geometry_of survey.ident) (searchable_bytes (disk_of (geometry_of survey.ident) (sector image))) n reached))
 
     module _ (link : Link) (there : get_or places n None ≡ Some link) where
       -- and a link that is kept is one of the image's
-      pub link_is : Links (geometry_of survey.ident) (searched (geometry_of survey.ident) (sector image)) link.directory link.entry link.descriptor
+      pub link_is : Links (geometry_of survey.ident) (searchable_bytes (disk_of (geometry_of survey.ident) (sector image))) link.directory link.entry link.descriptor
       link_is = (is.links.each link (are.each n link there).0).0
 
-      named_is : NamesIn (searched (geometry_of survey.ident) (sector image) link.directory) link.entry n
+      named_is : EntryNames (searchable_bytes (disk_of (geometry_of survey.ident) (sector image)) link.directory) link.entry n
       named_is =
-          subst (λ m. NamesIn (searched (geometry_of survey.ident) (sector image) link.directory) link.entry m) (are.each n link there).1 link_is.names
+          subst (λ m. EntryNames (searchable_bytes (disk_of (geometry_of survey.ident) (sector image)) link.directory) link.entry m) (are.each n link there).1 link_is.names
 
       pub linked_file : (volume_from image survey).files n ≡ Some (file_at (sector image) n)
       linked_file =
           file_is n (named link_is.from named_is (subst (λ m. IsNumber (geometry_of survey.ident) m) (are.each n link there).1 (is.links.each link (are.each n link there).0).1))
 
-      pub linked_place : (name : List ℕ) → name_field (entry_at (searched (geometry_of survey.ident) (sector image) link.directory) link.entry) ≡ Some name
+      pub linked_place : (name : List ℕ) → entry_name_field (directory_entry (searchable_bytes (disk_of (geometry_of survey.ident) (sector image)) link.directory) link.entry) ≡ Some name
           → IsPlaced (geometry_of survey.ident) (volume_from image survey) n link.directory name
       linked_place name spelled =
           let same = directory_is link.directory link_is.from in
-          in_directory (subst (λ c. NamesIn c link.entry n) (sym same) named_is) (subst (λ c. name_field (entry_at c link.entry) ≡ Some name) (sym same) spelled)
+          in_directory (subst (λ c. EntryNames c link.entry n) (sym same) named_is) (subst (λ c. entry_name_field (directory_entry c link.entry) ≡ Some name) (sym same) spelled)

@@ -1,4 +1,5 @@
 -- The nodes of a survey's files, by rising descriptor number.
+use Rattle.rbf_model.specs.Disk.{disk_of}
 use Rattle.std.proofs.Common.{◌≡◌, ℕ, ◌+◌, ◌<◌, ◌≤◌, true, List, [], ◌∷◌, ◌++◌, All, length, map, get_or, Some, None, is_some, sym, ap, ◌∙◌, subst, arith}
 use Rattle.std.specs.Prelude.{filter}
 use Rattle.std.specs.List.{range_with_len}
@@ -8,14 +9,13 @@ use Rattle.std.proofs.lemmas.Option.{cond_some}
 use Rattle.rbf_model.specs.Geometry.{sector}
 use Rattle.rbf_model.specs.Segments.{has}
 use Rattle.rbf_model.specs.File.{DiskFile, file_at}
-use Rattle.rbf_model.specs.Faults.{Reaches}
-use Rattle.rbf_search.specs.declared.links.Link.{Link}
+use Rattle.rbf_model.specs.Search.{IsReachedOn}
+use Rattle.rbf_reach.specs.declared.links.Link.{Link}
 use Rattle.rbf_check.specs.declared.survey.Survey.{Survey}
-use Rattle.rbf_sector.specs.Ident.{geometry_of}
 use Rattle.rbf_sector.specs.Ident.{geometry_of}
 use Rattle.rbf_check.specs.Survey.{IsSurvey}
 use Rattle.rbf_check.specs.declared.tree.Node.{Node}
-use Rattle.rbf_check.specs.Surveyed.{volume_from, AreNodesBelow}
+use Rattle.rbf_check.specs.VolumeNodes.{volume_from, AreNodesBelow}
 use Rattle.rbf_check.specs.Tree.{TellsFile, TellsNode, IsPlaced}
 use Rattle.rbf_check.proofs.Counted.{filter_next, filter_yes, filter_no, count_most}
 
@@ -28,7 +28,7 @@ module _ (image : List ℕ) (survey : Survey) (is : IsSurvey image survey) where
       subst P (sym same) (is.links.each (get_or survey.links.items k d) (Contains-get_or survey.links.items k d below)).1.below
 
   -- a file's descriptor is reached
-  pub file_reached : (n : ℕ) (file : DiskFile) → (volume_from image survey).files n ≡ Some file → Reaches (geometry_of survey.ident) (sector image) n
+  pub file_reached : (n : ℕ) (file : DiskFile) → (volume_from image survey).files n ≡ Some file → IsReachedOn (disk_of (geometry_of survey.ident) (sector image)) n
   file_reached n file there = (is.found n).0 (cond_some (has survey.found.items n) (file_at (sector image) n) file there).0
 
 module _ (image : List ℕ) (survey : Survey) where

@@ -1,4 +1,5 @@
 -- The tree of an image that was surveyed.
+use Rattle.rbf_model.specs.Disk.{disk_of}
 use Rattle.std.proofs.Common.{◌≡◌, ℕ, ◌+◌, ◌*◌, ◌==◌, Bool, false, not, List, [], ◌∷◌, All, length, map, drop, refl, sym, ap, ap₂, ◌∙◌, subst}
 use Rattle.std.specs.Prelude.{count_by, if◌then◌else◌}
 use Rattle.std.specs.Int.{bit_at}
@@ -8,15 +9,15 @@ use Rattle.std.proofs.lemmas.List.Elements.{All-head, All-tail}
 use Rattle.rbf_model.specs.Geometry.{Geometry, image_geometry, sector}
 use Rattle.rbf_model.specs.File.{is_directory}
 use Rattle.rbf_model.specs.Volume.{DiskVolume, free_clusters, lost_clusters}
-use Rattle.rbf_model.specs.Faults.{Keeps, IsFound, volume_of, image_volume}
+use Rattle.rbf_model.specs.Keeps.{Keeps}
+use Rattle.rbf_model.specs.Search.{IsFound, volume_of, image_volume}
 use Rattle.rbf_model.proofs.Images.{vol_from_keeps}
 use Rattle.rbf_check.specs.declared.survey.Survey.{Survey}
-use Rattle.rbf_sector.specs.Ident.{geometry_of}
 use Rattle.rbf_sector.specs.Ident.{geometry_of}
 use Rattle.rbf_check.specs.Survey.{IsSurvey}
 use Rattle.rbf_check.specs.declared.tree.Node.{Node}
 use Rattle.rbf_check.specs.declared.tree.Tree.{Tree}
-use Rattle.rbf_check.specs.Surveyed.{volume_from, AreNodesBelow}
+use Rattle.rbf_check.specs.VolumeNodes.{volume_from, AreNodesBelow}
 use Rattle.rbf_check.specs.Tree.{TellsNode, TellsVolume, CountsFiles, IsTreeOf, is_directory_node}
 
 -- nodes that pass a test where their descriptors pass another
@@ -53,14 +54,14 @@ module _ (image : List ℕ) (survey : Survey) (is : IsSurvey image survey) where
       let tree : Tree = record { nodes = nodes; free = free; lost = lost } in
       let same = is.ident.geometry in
       let rest = λ (g : Geometry). drop (256 * g.total) image in
-      let P : Geometry → Type 0 = λ g. TellsVolume g (volume_of g (sector image) survey.found.items (rest g)) tree in
-      let Q : Geometry → Type 0 = λ g. Keeps g (sector image) in
-      let R : Geometry → Type 0 = λ g. IsFound g (sector image) survey.found.items in
+      let P : Geometry → Type 0 = λ g. TellsVolume g (volume_of (disk_of g (sector image)) survey.found.items (rest g)) tree in
+      let Q : Geometry → Type 0 = λ g. Keeps (disk_of g (sector image)) in
+      let R : Geometry → Type 0 = λ g. IsFound (disk_of g (sector image)) survey.found.items in
       let tells : TellsVolume (image_geometry image) (image_volume image survey.found.items) tree =
       subst P (sym same) (record { numbers = are.numbers; each = are.each; free = free_is; lost = lost_is }) in
       record {
         volume = image_volume image survey.found.items;
-        stands = vol_from_keeps image is.ident.header (subst Q (sym same) is.kept) survey.found.items (subst R (sym same) is.found);
+        represents = vol_from_keeps image is.ident.header (subst Q (sym same) is.kept) survey.found.items (subst R (sym same) is.found);
         tells = tells;
         counts = counts_files (image_geometry image) (image_volume image survey.found.items) tree tells;
       }

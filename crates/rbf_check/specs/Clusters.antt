@@ -1,4 +1,5 @@
 -- Clusters that are in use.
+use Rattle.rbf_model.specs.Disk.{Disk}
 use Rattle.std.specs.Prelude.{◌≡◌, ℕ, ◌/◌, ◌==◌, ◌||◌, Bool, false, List, length, get_or}
 use Rattle.std.specs.List.{list_any}
 use Rattle.rbf_model.specs.Geometry.{Geometry}
@@ -11,6 +12,6 @@ pub record NotesClusters (k : ℕ) (sectors : List ℕ) (old new : List Bool) : 
   pub each : (c : ℕ) → get_or new c false ≡ (get_or old c false || list_any (λ s. s / k == c) sectors)
 
 -- the table says of each cluster whether one of the files found has it
-pub record AreUsed (g : Geometry) (disk : ℕ → List ℕ) (found : List ℕ) (used : List Bool) : Type 0 where
-  pub size : length used ≡ g.total
-  pub each : (c : ℕ) → get_or used c false ≡ list_any (λ n. has_cluster g n (file_at disk n) c) found
+pub record AreUsed (disk : Disk) (found : List ℕ) (used : List Bool) : Type 0 where
+  pub size : length used ≡ disk.geometry.total
+  pub each : (c : ℕ) → get_or used c false ≡ list_any (λ n. has_cluster disk.geometry n (file_at disk.sectors n) c) found

@@ -1,6 +1,6 @@
 pub mod Clusters
 pub mod Places
 pub mod Survey
-pub mod Surveyed
+pub mod VolumeNodes
 pub mod Tree
 pub mod Verdict

@@ -1,10 +1,10 @@
 -- The tree that a check hands out of an image: what it tells of the volume.
 use Rattle.std.specs.Prelude.{◌≡◌, ℕ, ◌==◌, Bool, not, List, map, length, count_by, All, Some}
 use Rattle.std.specs.Int.{bit_at}
-use Rattle.rbf_model.specs.Fields.{entry_at, name_field}
+use Rattle.rbf_model.specs.Fields.{directory_entry, entry_name_field}
 use Rattle.rbf_model.specs.Geometry.{Geometry, image_geometry}
 use Rattle.rbf_model.specs.File.{DiskFile}
-use Rattle.rbf_model.specs.Tree.{dot, Names}
+use Rattle.rbf_model.specs.Tree.{dot, EntryNames}
 use Rattle.rbf_model.specs.Volume.{DiskVolume, Vol, directories, file_numbers, free_clusters, lost_clusters}
 use Rattle.rbf_model.specs.Counts.{file_count, directory_count}
 use Rattle.rbf_check.specs.declared.tree.Node.{Node}
@@ -22,7 +22,7 @@ pub record TellsFile (node : Node) (file : DiskFile) : Type 0 where
 -- where a file stands: the root in itself, under the name `.`; any other in the directory that names it by an entry after the first two, under the name of that entry
 pub data IsPlaced (g : Geometry) (v : DiskVolume) (n parent : ℕ) (name : List ℕ) : Type 0 where
   root : n ≡ g.root → parent ≡ g.root → name ≡ dot → IsPlaced g v n parent name
-  named : {i : ℕ} → Names (directories v.files) parent i n → name_field (entry_at (directories v.files parent) i) ≡ Some name → IsPlaced g v n parent name
+  named : {i : ℕ} → EntryNames (directories v.files parent) i n → entry_name_field (directory_entry (directories v.files parent) i) ≡ Some name → IsPlaced g v n parent name
 
 -- the node is that of a file of the volume
 pub record TellsNode (g : Geometry) (v : DiskVolume) (node : Node) : Type 0 where
@@ -47,9 +47,9 @@ pub record CountsFiles (g : Geometry) (v : DiskVolume) (tree : Tree) : Type 0 wh
   pub files : count_by (λ node. not (is_directory_node node)) tree.nodes ≡ file_count g v
   pub directories : count_by is_directory_node tree.nodes ≡ directory_count g v
 
--- the image stands for a volume, and the tree tells it
+-- the image represents a volume, and the tree tells it
 pub record IsTreeOf (image : List ℕ) (tree : Tree) : Type 0 where
   pub volume : DiskVolume
-  pub stands : Vol image volume
+  pub represents : Vol image volume
   pub tells : TellsVolume (image_geometry image) volume tree
   pub counts : CountsFiles (image_geometry image) volume tree

@@ -1,23 +1,23 @@
+ghost use Rattle.rbf_model.specs.Disk.{disk_of};
 ghost use Rattle.std.specs.Prelude.{◌≡◌, ◌+◌, ◌<◌, ◌≤◌, ◌==◌, All, IfOk, length, if◌then◌else◌};
 ghost use Rattle.std.specs.List.{range_with_len};
 ghost use Rattle.rbf_model.specs.Geometry.{map_sectors, sector as sector_of};
 ghost use Rattle.rbf_model.specs.Segments.{sectors_of};
 ghost use Rattle.rbf_model.specs.File.{file_at};
 ghost use Rattle.rbf_model.specs.Space.{owned};
-ghost use Rattle.rbf_model.specs.Faults.{Reaches};
-ghost use Rattle.rbf_sector.specs.Ident.{geometry_of};
+ghost use Rattle.rbf_model.specs.Search.{IsReachedOn};
 ghost use Rattle.rbf_sector.specs.Ident.{geometry_of};
 ghost use Rattle.rbf_check.specs.Survey.{IsSurvey};
 ghost use Rattle.rbf_check.specs.Clusters.{NotesClusters, AreUsed};
 
 use crate::survey::Survey;
-use rbf_search::sector;
+use rbf_reach::sector;
 use rbf_sector::{Ident, read_fd, system_sectors};
 use rbf_segs::Segs;
 use std::alloc::{AllocError, Global};
 
-// Notes the clusters of a run of sectors as used.
-fn note_run(used: &mut Vec<bool>, cluster: u32, first: u32, count: u32)
+// Notes the clusters of these sectors as used.
+fn note_sectors(used: &mut Vec<bool>, cluster: u32, first: u32, count: u32)
     requires cluster { 0 < cluster }
     requires within { first + count ≤ length used.old.items }
     requires fits { first + count < 4294967296 }
@@ -36,7 +36,7 @@ fn note_segments(used: &mut Vec<bool>, cluster: u32, segs: &Segs)
 {
     for i in 0..segs.runs() {
         let (first, count) = segs.run(i);
-        note_run(used, cluster, first, u32::from(count));
+        note_sectors(used, cluster, first, u32::from(count));
     }
 }
 
@@ -55,14 +55,14 @@ fn system_count(ident: &Ident, n: u32) -> u32
 // Notes the clusters of a file, and with the root's those of the system.
 fn note_file(used: &mut Vec<bool>, image: &[u8], survey: &Survey, n: u32)
     requires survey { IsSurvey image.now survey.now }
-    requires reached { Reaches (geometry_of survey.now.ident) (sector_of image.now) n }
+    requires reached { IsReachedOn (disk_of (geometry_of survey.now.ident) (sector_of image.now)) n }
     requires size { length used.old.items ≡ survey.now.ident.total }
     ensures { NotesClusters survey.now.ident.cluster (owned (geometry_of survey.now.ident) n (file_at (sector_of image.now) n)) used.old.items used.new.items }
 {
     let cluster = u32::from(survey.ident.cluster);
     let fd = read_fd(&sector(image, n));
-    note_run(used, cluster, 0, system_count(&survey.ident, n));
-    note_run(used, cluster, n, 1);
+    note_sectors(used, cluster, 0, system_count(&survey.ident, n));
+    note_sectors(used, cluster, n, 1);
     note_segments(used, cluster, &fd.segs);
 }
 
@@ -70,7 +70,7 @@ fn note_file(used: &mut Vec<bool>, image: &[u8], survey: &Survey, n: u32)
 /// sectors.
 pub fn list_used(alloc: Global, image: &[u8], survey: &Survey) -> Result<Vec<bool>, AllocError>
     requires { IsSurvey image.now survey.now }
-    ensures { IfOk result (λ used. AreUsed (geometry_of survey.now.ident) (sector_of image.now) survey.now.found.items used.items) }
+    ensures { IfOk result (λ used. AreUsed (disk_of (geometry_of survey.now.ident) (sector_of image.now)) survey.now.found.items used.items) }
 {
     let mut used = vec![in alloc; false; survey.ident.total as usize]?;
     for n in &survey.found {

@@ -1,6 +1,6 @@
 ghost use Rattle.std.specs.Prelude.{◌≡◌, ◌+◌, ◌*◌, ◌≤◌, All, IfOk, length, take};
 ghost use Rattle.rbf_model.specs.Geometry.{sector as sector_of};
-ghost use Rattle.rbf_model.specs.File.{bytes_of};
+ghost use Rattle.rbf_model.specs.File.{segment_bytes};
 
 use crate::tree::FileBytes;
 use rbf_segs::Segs;
@@ -14,7 +14,7 @@ pub fn read_contents(
     size: u32,
 ) -> Result<FileBytes, AllocError>
     requires { All (λ segment. 256 * (segment.0 + segment.1) ≤ length image.now) segs.now }
-    ensures { IfOk result (λ bytes. bytes ≡ take size (bytes_of (sector_of image.now) segs.now)) }
+    ensures { IfOk result (λ bytes. bytes ≡ take size (segment_bytes (sector_of image.now) segs.now)) }
 {
     let size = size as usize;
     let mut bytes = Vec::with_capacity(alloc, size)?;

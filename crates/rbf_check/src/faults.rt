@@ -1,18 +1,20 @@
+ghost use Rattle.rbf_model.specs.Disk.{disk_of};
 ghost use Rattle.std.specs.Prelude.{◌≡◌, None, IfErr, IfOk, OnOk, MatchOption, MatchResult};
 ghost use Rattle.rbf_model.specs.Geometry.{sector as sector_of};
-ghost use Rattle.rbf_model.specs.Faults.{IsFound, Keeps};
+ghost use Rattle.rbf_model.specs.Search.{IsFound};
+ghost use Rattle.rbf_model.specs.Keeps.{Keeps};
 ghost use Rattle.rbf_sector.specs.Ident.{geometry_of};
-ghost use Rattle.rbf_search.specs.Reading.{IsIdent};
-ghost use Rattle.rbf_search.specs.Linked.{AreLinks};
+ghost use Rattle.rbf_reach.specs.Reading.{IsIdent};
+ghost use Rattle.rbf_reach.specs.Linked.{AreLinks};
 ghost use Rattle.rbf_check.specs.Verdict.{IsLeastError, KeepsBefore};
 ghost use Rattle.rbf_check.specs.declared.faults.CheckError.TheVariants.{OutOfMemory};
 
-use rbf_search::{Link, list_links};
+use rbf_name_rules::{least_badly_named, least_named_again, least_without_dots};
+use rbf_reach::{Link, list_links};
 use rbf_sector::Ident;
-use rbf_space::{
+use rbf_sector_rules::{
     OwnRule, least_bad_number, least_breach, least_unmarked, least_used_again, map_breach,
 };
-use rbf_tree::{least_badly_named, least_named_again, least_without_dots};
 use std::alloc::{AllocError, Global};
 use thiserror::Error;
 
@@ -30,7 +32,7 @@ pub enum CheckError {
     /// The image breaks a rule.
     #[error(transparent)]
     Fault(CheckFault),
-    /// Memory is wanting.
+    /// Out of memory.
     #[error("no memory")]
     OutOfMemory,
 }
@@ -56,9 +58,9 @@ fn pass(rule: u8, breach: Option<u32>) -> Result<(), CheckError>
 // Tests the rules on numbers, the map and each file's sectors and size, 1 to 6.
 fn test_files(alloc: Global, image: &[u8], ident: &Ident, found: &[u32]) -> Result<(), CheckError>
     requires ident { IsIdent image.now ident.now }
-    requires found { IsFound (geometry_of ident.now) (sector_of image.now) found.now }
-    ensures kept { OnOk result (KeepsBefore (geometry_of ident.now) (sector_of image.now) 7) }
-    ensures broken { IfErr result (IsLeastError (geometry_of ident.now) (sector_of image.now)) }
+    requires found { IsFound (disk_of (geometry_of ident.now) (sector_of image.now)) found.now }
+    ensures kept { OnOk result (KeepsBefore (disk_of (geometry_of ident.now) (sector_of image.now)) 7) }
+    ensures broken { IfErr result (IsLeastError (disk_of (geometry_of ident.now) (sector_of image.now))) }
 {
     pass(1, least_bad_number(alloc, image, ident, found)?)?;
     pass(2, map_breach(image, ident))?;
@@ -78,11 +80,11 @@ fn test_tree(
     links: &[Link],
 ) -> Result<(), CheckError>
     requires ident { IsIdent image.now ident.now }
-    requires found { IsFound (geometry_of ident.now) (sector_of image.now) found.now }
-    requires links { AreLinks (geometry_of ident.now) (sector_of image.now) links.now }
-    requires before { KeepsBefore (geometry_of ident.now) (sector_of image.now) 7 }
-    ensures kept { OnOk result (Keeps (geometry_of ident.now) (sector_of image.now)) }
-    ensures broken { IfErr result (IsLeastError (geometry_of ident.now) (sector_of image.now)) }
+    requires found { IsFound (disk_of (geometry_of ident.now) (sector_of image.now)) found.now }
+    requires links { AreLinks (disk_of (geometry_of ident.now) (sector_of image.now)) links.now }
+    requires before { KeepsBefore (disk_of (geometry_of ident.now) (sector_of image.now)) 7 }
+    ensures kept { OnOk result (Keeps (disk_of (geometry_of ident.now) (sector_of image.now))) }
+    ensures broken { IfErr result (IsLeastError (disk_of (geometry_of ident.now) (sector_of image.now))) }
 {
     pass(7, least_without_dots(alloc, image, ident, found, links)?)?;
     pass(8, least_badly_named(alloc, image, ident, found)?)?;
@@ -102,10 +104,10 @@ pub fn test_rules(
     found: &[u32],
 ) -> Result<Vec<Link>, CheckError>
     requires ident { IsIdent image.now ident.now }
-    requires found { IsFound (geometry_of ident.now) (sector_of image.now) found.now }
-    ensures links { IfOk result (λ links. AreLinks (geometry_of ident.now) (sector_of image.now) links.items) }
-    ensures kept { OnOk result (Keeps (geometry_of ident.now) (sector_of image.now)) }
-    ensures broken { IfErr result (IsLeastError (geometry_of ident.now) (sector_of image.now)) }
+    requires found { IsFound (disk_of (geometry_of ident.now) (sector_of image.now)) found.now }
+    ensures links { IfOk result (λ links. AreLinks (disk_of (geometry_of ident.now) (sector_of image.now)) links.items) }
+    ensures kept { OnOk result (Keeps (disk_of (geometry_of ident.now) (sector_of image.now))) }
+    ensures broken { IfErr result (IsLeastError (disk_of (geometry_of ident.now) (sector_of image.now))) }
 {
     test_files(alloc, image, ident, found)?;
     let links = list_links(alloc, image, ident, found)?;

@@ -1,4 +1,4 @@
-//! The check of an image: the tree of the volume that it stands for, or its fault.
+//! The check of an image: the tree of the volume that it represents, or its fault.
 #![tactic(auto)]
 
 pub use faults::{CheckError, CheckFault};

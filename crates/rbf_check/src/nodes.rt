@@ -3,14 +3,14 @@ ghost use Rattle.rbf_model.specs.Fields.{segments_field};
 ghost use Rattle.rbf_model.specs.Geometry.{sector as sector_of};
 ghost use Rattle.rbf_model.specs.File.{file_at};
 ghost use Rattle.rbf_check.specs.Survey.{IsSurvey};
-ghost use Rattle.rbf_check.specs.Surveyed.{AreNodesBelow};
+ghost use Rattle.rbf_check.specs.VolumeNodes.{AreNodesBelow};
 ghost use Rattle.rbf_check.specs.Tree.{TellsFile};
 
 use crate::contents::read_contents;
 use crate::places::{Place, list_places, place_of};
 use crate::survey::Survey;
 use crate::tree::{Node, Nodes};
-use rbf_search::sector;
+use rbf_reach::sector;
 use rbf_sector::read_fd;
 use std::alloc::{AllocError, Global};
 

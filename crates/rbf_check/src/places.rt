@@ -1,19 +1,20 @@
+ghost use Rattle.rbf_model.specs.Disk.{disk_of};
 ghost use Rattle.std.specs.Prelude.{◌≡◌, ◌<◌, All, IfOk, IfSome, None, Some};
-ghost use Rattle.rbf_model.specs.Fields.{entry_at, name_field};
+ghost use Rattle.rbf_model.specs.Fields.{directory_entry, entry_name_field};
 ghost use Rattle.rbf_model.specs.Geometry.{sector as sector_of};
 ghost use Rattle.rbf_model.specs.File.{file_at};
-ghost use Rattle.rbf_model.specs.Faults.{searched};
+ghost use Rattle.rbf_model.specs.Search.{searchable_bytes};
 ghost use Rattle.rbf_model.specs.Tree.{dot, Links};
 ghost use Rattle.rbf_sector.specs.Ident.{geometry_of};
-ghost use Rattle.rbf_search.specs.Reading.{listed};
+ghost use Rattle.rbf_reach.specs.Reading.{listed};
 ghost use Rattle.rbf_check.specs.Survey.{IsSurvey};
 ghost use Rattle.rbf_check.specs.Places.{ArePlaces};
-ghost use Rattle.rbf_check.specs.Surveyed.{volume_from};
+ghost use Rattle.rbf_check.specs.VolumeNodes.{volume_from};
 ghost use Rattle.rbf_check.specs.Tree.{IsPlaced};
 
 use crate::survey::Survey;
 use os9_base::name::{Name, header_name, parse_name};
-use rbf_search::{Link, link_entry};
+use rbf_reach::{Link, link_entry};
 use std::alloc::{AllocError, Global};
 
 /// Where a file stands in the tree: its directory, and its name there.
@@ -49,8 +50,8 @@ fn root_name() -> Name
 // The name that a link gives.
 fn link_name(image: &[u8], survey: &Survey, link: &Link) -> Name
     requires survey { IsSurvey image.now survey.now }
-    requires link { Links (geometry_of survey.now.ident) (searched (geometry_of survey.now.ident) (sector_of image.now)) link.now.directory link.now.entry link.now.descriptor }
-    ensures { name_field (entry_at (listed image.now survey.now.ident link.now.directory) link.now.entry) ≡ Some result }
+    requires link { Links (geometry_of survey.now.ident) (searchable_bytes (disk_of (geometry_of survey.now.ident) (sector_of image.now))) link.now.directory link.now.entry link.now.descriptor }
+    ensures { entry_name_field (directory_entry (listed image.now survey.now.ident link.now.directory) link.now.entry) ≡ Some result }
 {
     let entry = link_entry(image, &survey.ident, link);
     header_name(&entry.name).unwrap()

@@ -1,16 +1,16 @@
+ghost use Rattle.rbf_model.specs.Disk.{disk_of};
 ghost use Rattle.std.specs.Prelude.{◌≡◌, ◌+◌, ◌/◌, ◌<◌, ◌&&◌, not, IfOk, length};
 ghost use Rattle.rbf_model.specs.Geometry.{sector as sector_of};
 ghost use Rattle.rbf_model.specs.Space.{is_marked as is_marked_lem, is_whole as is_whole_lem};
 ghost use Rattle.rbf_model.specs.Volume.{free_clusters, lost_clusters};
 ghost use Rattle.rbf_sector.specs.Ident.{geometry_of};
-ghost use Rattle.rbf_sector.specs.Ident.{geometry_of};
 ghost use Rattle.rbf_check.specs.Survey.{IsSurvey};
 ghost use Rattle.rbf_check.specs.Clusters.{AreUsed};
-ghost use Rattle.rbf_check.specs.Surveyed.{volume_from};
+ghost use Rattle.rbf_check.specs.VolumeNodes.{volume_from};
 
 use crate::clusters::list_used;
 use crate::survey::Survey;
-use rbf_search::is_marked;
+use rbf_reach::is_marked;
 use rbf_sector::Ident;
 use std::alloc::{AllocError, Global};
 
@@ -37,7 +37,7 @@ fn is_free(image: &[u8], survey: &Survey, c: u32) -> bool
 
 fn is_lost(image: &[u8], survey: &Survey, used: &[bool], c: u32) -> bool
     requires survey { IsSurvey image.now survey.now }
-    requires used { AreUsed (geometry_of survey.now.ident) (sector_of image.now) survey.now.found.items used.now }
+    requires used { AreUsed (disk_of (geometry_of survey.now.ident) (sector_of image.now)) survey.now.found.items used.now }
     ensures { result ≡ (volume_from image.now survey.now).lost c }
 {
     is_whole(&survey.ident, c) && is_marked(image, c) && !used[c as usize]
@@ -46,7 +46,7 @@ fn is_lost(image: &[u8], survey: &Survey, used: &[bool], c: u32) -> bool
 // Counts the clusters that are free, and those that are lost.
 fn count_clusters(image: &[u8], survey: &Survey, used: &[bool]) -> Space
     requires survey { IsSurvey image.now survey.now }
-    requires used { AreUsed (geometry_of survey.now.ident) (sector_of image.now) survey.now.found.items used.now }
+    requires used { AreUsed (disk_of (geometry_of survey.now.ident) (sector_of image.now)) survey.now.found.items used.now }
     ensures free { result.free ≡ length (free_clusters (geometry_of survey.now.ident) (volume_from image.now survey.now)) }
     ensures lost { result.lost ≡ length (lost_clusters (geometry_of survey.now.ident) (volume_from image.now survey.now)) }
 {

@@ -3,7 +3,7 @@ ghost use Rattle.rbf_check.specs.Survey.{IsSurvey};
 ghost use Rattle.rbf_check.specs.Verdict.{IsErrorOf};
 
 use crate::faults::{CheckError, CheckFault, test_rules};
-use rbf_search::{Link, find_descriptors, read_header};
+use rbf_reach::{Link, find_descriptors, read_header};
 use rbf_sector::Ident;
 use std::alloc::Global;
 
@@ -21,7 +21,7 @@ pub struct Survey {
 /// # Errors
 ///
 /// `Fault` with the least rule that the image breaks, at the least sector: exactly where the image
-/// stands for no volume, unless memory was wanting. `OutOfMemory` where memory was wanting.
+/// represents no volume, unless out of memory. `OutOfMemory` if out of memory.
 pub fn survey_image(alloc: Global, image: &[u8]) -> Result<Survey, CheckError>
     ensures survey { IfOk result (IsSurvey image.now) }
     ensures fault { IfErr result (IsErrorOf image.now) }

@@ -1,5 +1,5 @@
 ghost use Rattle.std.specs.Prelude.{IfErr, IfOk};
-ghost use Rattle.rbf_check.specs.Verdict.{IsErrorOf, StandsForNone};
+ghost use Rattle.rbf_check.specs.Verdict.{IsErrorOf, RepresentsNone};
 ghost use Rattle.rbf_check.specs.Tree.{IsTreeOf};
 
 use crate::faults::CheckError;
@@ -10,17 +10,17 @@ use crate::tree::Tree;
 use std::alloc::Global;
 
 /// Checks an image against the rules of well formed RBF volumes, and hands out the tree of the
-/// volume that it stands for.
+/// volume that it represents.
 ///
 /// # Errors
 ///
 /// `Fault` with the least rule that the image breaks, at the least sector: exactly where the image
-/// stands for no volume, unless memory was wanting. `OutOfMemory` where memory was wanting.
-#[tactic(auto, using(crate::proofs::NoVolume::stands_for_none))]
+/// represents no volume, unless out of memory. `OutOfMemory` if out of memory.
+#[tactic(auto, using(crate::proofs::NoVolume::represents_none))]
 pub fn check(alloc: Global, image: &[u8]) -> Result<Tree, CheckError>
     ensures tree { IfOk result (IsTreeOf image.now) }
     ensures fault { IfErr result (IsErrorOf image.now) }
-    ensures no_volume { IfErr result (StandsForNone image.now) }
+    ensures no_volume { IfErr result (RepresentsNone image.now) }
 {
     let survey = survey_image(alloc, image)?;
     let nodes = read_nodes(alloc, image, &survey)?;

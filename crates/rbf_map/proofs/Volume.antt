@@ -1,4 +1,5 @@
 -- The marks and the free clusters of a map, beside those of the volume whose map it is.
+use Rattle.rbf_model.specs.Disk.{disk_of}
 use Rattle.std.proofs.Common.{◌≡◌, ◌↔◌, ℕ, ◌+◌, ◌-◌, ◌*◌, ◌/◌, ◌%◌, ◌<◌, ◌≤◌, zero, suc, Bool, true, false, cond, not, ◌==◌, List, [], ◌∷◌, filter, refl, sym, ap, ◌∙◌, ⊎_elim, arith, slice_index, eq-eqb, leb-true, le-leb}
 use Rattle.std.specs.Int.{bit_at}
 use Rattle.std.specs.List.{range_with_len}
@@ -37,7 +38,7 @@ not_marked : (m : ℕ) → (m ≡ 0) → not (m == 1) ≡ true
 not_marked m clear = ap (λ k. not (k == 1)) clear
 
 -- the map has the whole clusters of the volume, and the disk's marks of them
-module _ (g : Geometry) (disk : ℕ → List ℕ) (v : DiskVolume) (sound : Sound g disk v) (map : ClusterMap) (whole : map.whole ≡ g.total / g.cluster) (marks : (c : ℕ) → c < map.whole → is_marked disk c ≡ (mark map.bytes c == 1)) where
+module _ (g : Geometry) (disk : ℕ → List ℕ) (v : DiskVolume) (sound : Sound (disk_of g disk) v) (map : ClusterMap) (whole : map.whole ≡ g.total / g.cluster) (marks : (c : ℕ) → c < map.whole → is_marked disk c ≡ (mark map.bytes c == 1)) where
   -- the clusters below the count of whole ones are whole
   pub whole_is : (c : ℕ) → (is_whole g c ≡ true) ↔ (c < map.whole)
   whole_is c =

@@ -1,4 +1,4 @@
--- The allocation map of an RBF volume: a bit for each cluster (System Programmer's Manual, RBF,
+-- The allocation map of an RBF volume: a bit for each cluster (OS-9 Technical Reference, Random Block File Manager,
 -- "Disk Allocation Map").
 use Rattle.std.specs.Prelude.{◌≡◌, ◌≢◌, ◌⊎◌, ℕ, ◌+◌, ◌-◌, ◌*◌, ◌/◌, ◌%◌, ◌<◌, ◌≤◌, ◌==◌, List, length, filter, slice_index, Option, Some}
 use Rattle.std.specs.List.{range_with_len}
@@ -10,7 +10,7 @@ pub record ClusterMap : Type 0 where
   pub whole : ℕ
   pub bytes : List ℕ
 
--- the mark of a cluster: its bit, the most significant first, which is 1 where the cluster is in use
+-- the mark of a cluster: its bit, the most significant first, which is 1 if the cluster is in use
 abbrev pub mark : List ℕ → ℕ → ℕ
 mark bytes cluster = bit_at (slice_index bytes (cluster / 8)) (7 - cluster % 8)
 
@@ -36,7 +36,7 @@ pub record ChangesMark (old new : List ℕ) (cluster bit : ℕ) : Type 0 where
   pub others : (other : ℕ) → other ≢ cluster → mark new other ≡ mark old other
   pub bytes : (i : ℕ) → i ≢ cluster / 8 → slice_index new i ≡ slice_index old i
 
--- a cluster is free where it is whole and not in use
+-- a cluster is free if it is whole and not in use
 pub record IsFreeInMap (map : ClusterMap) (cluster : ℕ) : Type 0 where
   pub whole : cluster < map.whole
   pub clear : mark map.bytes cluster ≡ 0
@@ -69,8 +69,8 @@ NextIsUsed map last = (at : ℕ) → last ≡ Some at → ¬ IsFreeInMap map (at
 abbrev pub IsFreeRun : ClusterMap → ℕ → Type 0
 IsFreeRun map cluster = IsFreeInMap map cluster × BeginsRun map cluster
 
--- which cluster may be taken after the given one, if one is given: a free one, the next where that is
--- free, and elsewhere one that begins a run
+-- which cluster may be taken after the given one, if one is given: a free one, the next if that is
+-- free, and else one that begins a run
 pub record MayTake (map : ClusterMap) (last : Option ℕ) (cluster : ℕ) : Type 0 where
   pub free : IsFreeInMap map cluster
   pub next : (at : ℕ) → last ≡ Some at → IsFreeInMap map (at + 1) → cluster ≡ at + 1

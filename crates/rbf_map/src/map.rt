@@ -4,10 +4,11 @@ ghost use Rattle.rbf_map.specs.Map.{mark, map_free_clusters, IsFreeInMap, Begins
 use crate::bits::{clear_mark, count_clear, first_clear, is_marked, set_mark};
 use std::marker::Model;
 
-/// The allocation map of a volume: a bit for each cluster, the most significant first, set where
-/// the cluster is in use (System Programmer's Manual, RBF, "Disk Allocation Map").
+/// The allocation map of a volume: a bit for each cluster, the most significant first, set if
+/// the cluster is in use (OS-9 Technical Reference, Random Block File Manager, "Disk
+/// Allocation Map").
 ///
-/// A cluster is free where it is whole and its bit is clear. Bits behind the last cluster are kept
+/// A cluster is free if it is whole and its bit is clear. Bits behind the last cluster are kept
 /// as they were given.
 #[derive(Debug, Drop)]
 pub struct RbfMap {
@@ -62,8 +63,8 @@ impl RbfMap {
         self.free
     }
 
-    /// Takes a free cluster: the next after `c` where that is free, and elsewhere, as without a
-    /// `c`, one that begins a run. None exactly where no cluster is free.
+    /// Takes a free cluster: the next after `c` if that is free, and else, as without a `c`, one that
+    /// begins a run. None exactly if no cluster is free.
     pub fn take_after(&mut self, c: Option<u32>) -> Option<u32>
         ensures none { IsNone result ↔ NoneIsFree self.old }
         ensures taken { IfSome result (MayTake self.old c) }

@@ -1,8 +1,9 @@
 -- A write of a directory's descriptor with which a file comes into the volume.
+use Rattle.rbf_model.specs.Disk.{disk_of}
 use Rattle.std.proofs.Common.{◌≡◌, ◌≢◌, ℕ, ◌+◌, ◌%◌, ◌≤◌, ◌==◌, true, List, length, Some, None, refl, sym, ap, ◌∙◌, subst, ⊎_elim, arith, length-append, leb-true, le-leb, eqb-true, eq-eqb}
 use Rattle.std.proofs.lemmas.Bool.{false_from_ne_true, or_left, cases_eq, and_parts, and_from}
 use Rattle.std.proofs.lemmas.Option.{same_Some, none-some}
-use Rattle.rbf_model.specs.Fields.{entry_at, is_used}
+use Rattle.rbf_model.specs.Fields.{directory_entry, is_used}
 use Rattle.rbf_model.specs.Geometry.{Geometry}
 use Rattle.rbf_model.specs.Segments.{has, sectors_of}
 use Rattle.rbf_model.specs.File.{DiskFile, file_from, file_at, is_directory_size}
@@ -10,7 +11,7 @@ use Rattle.rbf_model.specs.Space.{is_marked, own_sectors, IsMapped}
 use Rattle.rbf_model.specs.Tree.{HasEntry}
 use Rattle.rbf_model.specs.Volume.{DiskVolume, Sound}
 use Rattle.rbf_model.specs.Writes.{put, put_file, lost_after, with_file, IsNewEntry}
-use Rattle.rbf_model.specs.Laws.{Appends}
+use Rattle.rbf_model.specs.Laws.{AppendsEntry}
 use Rattle.rbf_model.proofs.Change.{put_file_here, put_file_beside, put_file_cases}
 use Rattle.rbf_model.proofs.Leaf.{tree_with_leaf}
 use Rattle.rbf_model.proofs.Pieces.{ChangesEntry, entry_added, changes_added}
@@ -27,9 +28,9 @@ grown_size size h =
     let even : size % 32 ≡ 0 = eqb-true (size % 32) 0 parts.1 in
     and_from _ _ (le-leb 64 (size + 32) (omega arith)) (eq-eqb ((size + 32) % 32) 0 (omega arith))
 
-pub append_law : (g : Geometry) (disk : ℕ → List ℕ) (v : DiskVolume) → Sound g disk v → (d : ℕ) (dir : DiskFile) (bytes : List ℕ) → length bytes ≡ 256
-    → (i : ℕ) (entry : List ℕ) (n : ℕ) → Appends g disk v d dir bytes i entry n
-    → Sound g (put disk d bytes) (with_file g (with_file g v d (Some (file_from disk bytes))) n (Some (file_at disk n)))
+pub append_law : (g : Geometry) (disk : ℕ → List ℕ) (v : DiskVolume) → Sound (disk_of g disk) v → (d : ℕ) (dir : DiskFile) (bytes : List ℕ) → length bytes ≡ 256
+    → (i : ℕ) (entry : List ℕ) (n : ℕ) → AppendsEntry (disk_of g disk) v (record { directory = d; file = dir; place = i; bytes = entry }) bytes n
+    → Sound (disk_of g (put disk d bytes)) (with_file g (with_file g v d (Some (file_from disk bytes))) n (Some (file_at disk n)))
 append_law g disk v sound d dir bytes whole i entry n appends = record {
   shape = sound.shape;
   sectors = disk_put g disk d bytes sound.sectors whole;
@@ -83,13 +84,13 @@ append_law g disk v sound d dir bytes whole i entry n appends = record {
     changes : ChangesEntry dir.contents (file_from disk bytes).contents i
     changes = subst (λ c. ChangesEntry dir.contents c i) (sym appends.contents) (changes_added dir.contents entry i appends.whole appends.end)
 
-    entry_there : entry_at (file_from disk bytes).contents i ≡ entry
-    entry_there = ap (λ c. entry_at c i) appends.contents ∙ entry_added dir.contents entry i appends.whole appends.end
+    entry_there : directory_entry (file_from disk bytes).contents i ≡ entry
+    entry_there = ap (λ c. directory_entry c i) appends.contents ∙ entry_added dir.contents entry i appends.whole appends.end
 
     has_entry : HasEntry (file_from disk bytes).contents i
     has_entry = record { within = let end = appends.end in let longer = grown in omega arith; used = ap is_used entry_there ∙ appends.new.used }
 
-    new : IsNewEntry dir.contents i (entry_at (file_from disk bytes).contents i) n
+    new : IsNewEntry dir.contents i (directory_entry (file_from disk bytes).contents i) n
     new = subst (λ e. IsNewEntry dir.contents i e n) (sym entry_there) appends.new
 
     own_descriptor : has (own_sectors d (file_from disk bytes)) d ≡ true

@@ -1,17 +1,19 @@
 -- A disk on which no rule is broken stands for the volume of what is found on it.
+use Rattle.rbf_model.specs.Disk.{disk_of, IsDisk}
 use Rattle.std.proofs.Common.{◌≡◌, ◌↔◌, ℕ, Bool, true, false, not, ◌&&◌, List, length, Option, Some, None, refl, sym, ap, ◌∙◌, subst, ⊎_elim}
 use Rattle.std.specs.Prelude.{if◌then◌else◌}
 use Rattle.std.specs.List.{list_any}
 use Rattle.std.proofs.lemmas.Bool.{cond-true, cond-false, cases_Bool, both_ways, not-true, not_from_false, false_from_ne_true}
 use Rattle.std.proofs.lemmas.Option.{cond_some}
 use Rattle.rbf_model.specs.Fields.{size_field, segments_field}
-use Rattle.rbf_model.specs.Geometry.{LieWithin, Geometry, IsHeader, IsDisk, IsNumber}
+use Rattle.rbf_model.specs.Geometry.{LieWithin, Geometry, IsHeader, IsNumber}
 use Rattle.rbf_model.specs.Segments.{AreDistinct, has}
 use Rattle.rbf_model.specs.File.{DiskFile, file_at, is_directory, is_directory_size, has_room}
 use Rattle.rbf_model.specs.Space.{is_whole, is_marked, owned, has_cluster, IsLost, IsMapped}
-use Rattle.rbf_model.specs.Tree.{NamesIn, Reached, Links, HasNames, HasDifferentNames}
+use Rattle.rbf_model.specs.Tree.{EntryNames, Reached, Links, HasNames, HasDifferentNames}
 use Rattle.rbf_model.specs.Volume.{Sound, IsTree, directories, listing}
-use Rattle.rbf_model.specs.Faults.{searched, Reaches, Keeps, IsFound, volume_of}
+use Rattle.rbf_model.specs.Search.{searchable_bytes, IsReachedOn, IsFound, volume_of}
+use Rattle.rbf_model.specs.Keeps.{Keeps}
 use Rattle.rbf_model.proofs.Lists.{some_is, some_of, any_witness, any_from, three_pass, three_parts}
 use Rattle.rbf_model.proofs.Segments.{length-contents}
 use Rattle.rbf_model.proofs.Space.{owns_from_cluster}
@@ -19,7 +21,7 @@ use Rattle.rbf_model.proofs.Tree.{reached_along, reached_back, dots_along}
 use Rattle.rbf_model.proofs.Files.{listing_is}
 use Rattle.rbf_model.proofs.Keeps.{no_entry}
 
-module _ (g : Geometry) (disk : ℕ → List ℕ) (header : IsHeader g) (sectors : IsDisk g disk) (keeps : Keeps g disk) (numbers : List ℕ) (found : IsFound g disk numbers) where
+module _ (g : Geometry) (disk : ℕ → List ℕ) (header : IsHeader g) (sectors : IsDisk (disk_of g disk)) (keeps : Keeps (disk_of g disk)) (numbers : List ℕ) (found : IsFound (disk_of g disk) numbers) where
   files : ℕ → Option DiskFile
   files n = if has numbers n then Some (file_at disk n) else None
 
@@ -27,13 +29,13 @@ module _ (g : Geometry) (disk : ℕ → List ℕ) (header : IsHeader g) (sectors
   lost c = is_whole g c && is_marked disk c && not (list_any (λ n. has_cluster g n (file_at disk n) c) numbers)
 
   -- a file is one that is reached, as its descriptor says
-  file_is : (n : ℕ) (file : DiskFile) → files n ≡ Some file → Reaches g disk n × (file_at disk n ≡ file)
+  file_is : (n : ℕ) (file : DiskFile) → files n ≡ Some file → IsReachedOn (disk_of g disk) n × (file_at disk n ≡ file)
   unfolding files
   file_is n file h =
       let w = cond_some (has numbers n) (file_at disk n) file h in
       ((found n).0 w.0, w.1)
 
-  file_of : (n : ℕ) → Reaches g disk n → files n ≡ Some (file_at disk n)
+  file_of : (n : ℕ) → IsReachedOn (disk_of g disk) n → files n ≡ Some (file_at disk n)
   unfolding files
   file_of n r = cond-true (has numbers n) (Some (file_at disk n)) None ((found n).1 r)
 
@@ -42,21 +44,21 @@ module _ (g : Geometry) (disk : ℕ → List ℕ) (header : IsHeader g) (sectors
   no_file n h = cond-false (has numbers n) (Some (file_at disk n)) None h
 
   -- the directories are those that can be searched
-  searched_is : (n : ℕ) → Reaches g disk n → searched g disk n ≡ directories files n
+  searched_is : (n : ℕ) → IsReachedOn (disk_of g disk) n → searchable_bytes (disk_of g disk) n ≡ directories files n
   searched_is n r =
       sym (ap listing (file_of n r) ∙ listing_is g disk n (keeps.segments n r) (keeps.room n r) (keeps.sizes n r))
 
-  reached_is : (n : ℕ) → Reaches g disk n → Reached g (directories files) n
-  reached_is n r = reached_along g (searched g disk) (directories files) searched_is r
+  reached_is : (n : ℕ) → IsReachedOn (disk_of g disk) n → Reached g (directories files) n
+  reached_is n r = reached_along g (searchable_bytes (disk_of g disk)) (directories files) searched_is r
 
-  reaches_is : (n : ℕ) → Reached g (directories files) n → Reaches g disk n
-  reaches_is n r = reached_back g (directories files) (searched g disk) (λ d h. sym (searched_is d h)) r
+  reaches_is : (n : ℕ) → Reached g (directories files) n → IsReachedOn (disk_of g disk) n
+  reaches_is n r = reached_back g (directories files) (searchable_bytes (disk_of g disk)) (λ d h. sym (searched_is d h)) r
 
   -- a directory that names something is reached
-  links_are : (d i n : ℕ) → NamesIn (directories files d) i n → Links g (searched g disk) d i n
+  links_are : (d i n : ℕ) → EntryNames (directories files d) i n → Links g (searchable_bytes (disk_of g disk)) d i n
   links_are d i n names =
       ⊎_elim
-      (λ here. let r = (found d).0 here in record { from = r; names = subst (λ c. NamesIn c i n) (sym (searched_is d r)) names })
+      (λ here. let r = (found d).0 here in record { from = r; names = subst (λ c. EntryNames c i n) (sym (searched_is d r)) names })
       (λ gone. absurd (no_entry (directories files d) i (ap listing (no_file d gone)) names.entry))
       (cases_Bool (has numbers d))
 
@@ -74,7 +76,7 @@ module _ (g : Geometry) (disk : ℕ → List ℕ) (header : IsHeader g) (sectors
       (λ gone. λ i j one other low low2 entry entry2 e f same. absurd (no_entry (directories files n) i (ap listing (no_file n gone)) entry))
       (cases_Bool (has numbers n))
 
-  size_is : (n : ℕ) → Reaches g disk n → length (file_at disk n).contents ≡ size_field (disk n)
+  size_is : (n : ℕ) → IsReachedOn (disk_of g disk) n → length (file_at disk n).contents ≡ size_field (disk n)
   size_is n r = length-contents g disk (segments_field (disk n)) (size_field (disk n)) sectors (keeps.segments n r) (keeps.room n r)
 
   tree_is : IsTree g files
@@ -90,14 +92,14 @@ module _ (g : Geometry) (disk : ℕ → List ℕ) (header : IsHeader g) (sectors
         subst (IsNumber g) link.names.descriptor (keeps.numbers d i link.from link.names.entry);
     dots = λ n file h is_dir.
         let w = file_is n file h in
-        dots_along g (searched g disk) (directories files) searched_is n w.0 (keeps.dots n w.0 (subst (λ f. is_directory f ≡ true) (sym w.1) is_dir));
+        dots_along g (searchable_bytes (disk_of g disk)) (directories files) searched_is n w.0 (keeps.dots n w.0 (subst (λ f. is_directory f ≡ true) (sym w.1) is_dir));
     names = names_are;
     different = different_are;
     once = λ d e i j n one other. keeps.named_once d e i j n (links_are d i n one) (links_are e j n other);
     root_free = λ d i names. keeps.root_free d i (links_are d i g.root names);
   }
 
-  marks_are : (n c : ℕ) → Reaches g disk n → has_cluster g n (file_at disk n) c ≡ true → is_marked disk c ≡ true
+  marks_are : (n c : ℕ) → IsReachedOn (disk_of g disk) n → has_cluster g n (file_at disk n) c ≡ true → is_marked disk c ≡ true
   marks_are n c r h =
       let w = owns_from_cluster g n (file_at disk n) c h in
       subst (λ d. is_marked disk d ≡ true) w.2 (keeps.marks n w.0 r w.1)
@@ -135,7 +137,7 @@ module _ (g : Geometry) (disk : ℕ → List ℕ) (header : IsHeader g) (sectors
   }
 
   -- the disk stands for the volume
-  pub sound_from_keeps : (rest : List ℕ) → Sound g disk (volume_of g disk numbers rest)
+  pub sound_from_keeps : (rest : List ℕ) → Sound (disk_of g disk) (volume_of (disk_of g disk) numbers rest)
   unfolding files lost
   sound_from_keeps rest = record {
     shape = record { header = header; map = keeps.map };

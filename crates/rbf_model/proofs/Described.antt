@@ -1,11 +1,12 @@
 -- Writes of descriptors.
+use Rattle.rbf_model.specs.Disk.{disk_of}
 use Rattle.std.proofs.Common.{◌≡◌, ◌≢◌, ℕ, ◌<◌, ◌==◌, true, List, length, take, Some, refl, sym, ap, ◌∙◌, subst, inl, inr, ⊎_elim, arith, eq-eqb}
 use Rattle.std.proofs.lemmas.Bool.{false_from_ne_true, or_left, cases_Bool}
 use Rattle.std.proofs.lemmas.Option.{same_Some}
 use Rattle.rbf_model.specs.Fields.{size_field, segments_field}
 use Rattle.rbf_model.specs.Geometry.{Geometry, LieWithin, map_sectors}
 use Rattle.rbf_model.specs.Segments.{has, sectors_of, AreDistinct}
-use Rattle.rbf_model.specs.File.{DiskFile, file_from, file_at, bytes_of, has_room, is_directory}
+use Rattle.rbf_model.specs.File.{DiskFile, file_from, file_at, segment_bytes, has_room, is_directory}
 use Rattle.rbf_model.specs.Space.{is_marked, own_sectors, owned, IsMapped}
 use Rattle.rbf_model.specs.Volume.{DiskVolume, Sound, IsTree, listing}
 use Rattle.rbf_model.specs.Writes.{put, put_file, lost_after, with_file}
@@ -20,8 +21,8 @@ use Rattle.rbf_model.proofs.Owners.{own_after, own_apart, marks_stay, mapped_by_
 use Rattle.rbf_model.proofs.Shown.{IsShown, disk_put, shown_beside, ident_beside}
 use Rattle.rbf_model.proofs.Data.{own_distinct}
 
-module _ (g : Geometry) (disk : ℕ → List ℕ) (v : DiskVolume) (sound : Sound g disk v) (n : ℕ) (old : DiskFile) (bytes : List ℕ) (whole : length bytes ≡ 256)
-    (describes : Describes g disk v n old bytes) where
+module _ (g : Geometry) (disk : ℕ → List ℕ) (v : DiskVolume) (sound : Sound (disk_of g disk) v) (n : ℕ) (old : DiskFile) (bytes : List ℕ) (whole : length bytes ≡ 256)
+    (describes : Describes (disk_of g disk) v n old bytes) where
   own_descriptor : has (own_sectors n old) n ≡ true
   own_descriptor = or_left (n == n) (has (sectors_of old.segments) n) (eq-eqb n n refl)
 
@@ -60,7 +61,7 @@ module _ (g : Geometry) (disk : ℕ → List ℕ) (v : DiskVolume) (sound : Soun
       (λ c h. ⊎_elim (λ lost. inl lost) (λ was. inr (in_file_at g n (v.files n) old c describes.is ∙ was)) (describes.clusters c h)))
 
   -- the disk stands for the volume, where the tree is one
-  pub described_write : IsTree g (put_file v.files n (Some (file_from disk bytes))) → Sound g (put disk n bytes) (with_file g v n (Some (file_from disk bytes)))
+  pub described_write : IsTree g (put_file v.files n (Some (file_from disk bytes))) → Sound (disk_of g (put disk n bytes)) (with_file g v n (Some (file_from disk bytes)))
   described_write tree = record {
     shape = sound.shape;
     sectors = disk_put g disk n bytes sound.sectors whole;
@@ -81,8 +82,8 @@ module _ (g : Geometry) (disk : ℕ → List ℕ) (v : DiskVolume) (sound : Soun
   }
 
 -- a file with another descriptor of its kind
-pub describe_law : (g : Geometry) (disk : ℕ → List ℕ) (v : DiskVolume) → Sound g disk v → (n : ℕ) (old : DiskFile) (bytes : List ℕ) → length bytes ≡ 256
-    → Redescribes g disk v n old bytes → Sound g (put disk n bytes) (with_file g v n (Some (file_from disk bytes)))
+pub describe_law : (g : Geometry) (disk : ℕ → List ℕ) (v : DiskVolume) → Sound (disk_of g disk) v → (n : ℕ) (old : DiskFile) (bytes : List ℕ) → length bytes ≡ 256
+    → Redescribes (disk_of g disk) v n old bytes → Sound (disk_of g (put disk n bytes)) (with_file g v n (Some (file_from disk bytes)))
 describe_law g disk v sound n old bytes whole re =
     described_write g disk v sound n old bytes whole re.describes
     (tree_kept g v.files sound.tree n old (file_from disk bytes) re.describes.is re.kind same)
@@ -95,7 +96,7 @@ describe_law g disk v sound n old bytes whole re =
         let keeps = re.directory is_dir in
         let segments : segments_field bytes ≡ segments_field (disk n) = keeps.0 ∙ ap (λ f. f.segments) is_at in
         let size : size_field bytes ≡ size_field (disk n) = keeps.1 ∙ ap (λ f. length f.contents) is_at ∙ size_is g disk v sound n old re.describes.is in
-        ap (λ k. take k (bytes_of disk (segments_field bytes))) size ∙ ap (λ x. take (size_field (disk n)) (bytes_of disk x)) segments ∙ sym (ap (λ f. f.contents) is_at)
+        ap (λ k. take k (segment_bytes disk (segments_field bytes))) size ∙ ap (λ x. take (size_field (disk n)) (segment_bytes disk x)) segments ∙ sym (ap (λ f. f.contents) is_at)
 
     same : listing (Some (file_from disk bytes)) ≡ listing (Some old)
     same =

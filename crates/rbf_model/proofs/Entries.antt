@@ -3,7 +3,7 @@ use Rattle.std.proofs.Common.{◌≡◌, ◌≢◌, ℕ, ◌≤◌, true, false,
 use Rattle.std.proofs.lemmas.Bool.{cases_Bool, cond-true, cond-false}
 use Rattle.rbf_model.specs.Fields.{is_used, descriptor_field}
 use Rattle.rbf_model.specs.File.{DiskFile, is_directory}
-use Rattle.rbf_model.specs.Tree.{HasEntry, NamesIn}
+use Rattle.rbf_model.specs.Tree.{HasEntry, EntryNames}
 use Rattle.rbf_model.specs.Volume.{listing}
 use Rattle.rbf_model.proofs.Pieces.{ChangesEntry}
 use Rattle.rbf_model.specs.Writes.{IsNewDirectory}
@@ -17,14 +17,14 @@ pub entry_back : (old new : List ℕ) (i j : ℕ) → ChangesEntry old new i →
 entry_back old new i j change differ h =
     record { within = change.no_more j differ h.within; used = subst (λ e. is_used e ≡ true) (change.beside j differ) h.used }
 
-pub names_kept : (old new : List ℕ) (i j n : ℕ) → ChangesEntry old new i → j ≢ i → NamesIn old j n → NamesIn new j n
+pub names_kept : (old new : List ℕ) (i j n : ℕ) → ChangesEntry old new i → j ≢ i → EntryNames old j n → EntryNames new j n
 names_kept old new i j n change differ h = record {
   after = h.after;
   entry = entry_kept old new i j change differ h.entry;
   descriptor = ap descriptor_field (change.beside j differ) ∙ h.descriptor;
 }
 
-pub names_back : (old new : List ℕ) (i j n : ℕ) → ChangesEntry old new i → j ≢ i → NamesIn new j n → NamesIn old j n
+pub names_back : (old new : List ℕ) (i j n : ℕ) → ChangesEntry old new i → j ≢ i → EntryNames new j n → EntryNames old j n
 names_back old new i j n change differ h = record {
   after = h.after;
   entry = entry_back old new i j change differ h.entry;

@@ -2,10 +2,10 @@
 use Rattle.std.proofs.Common.{◌≡◌, ◌≢◌, ℕ, true, false, [], length, Option, Some, None, IsSome, sym, ap, ◌∙◌, subst, ⊎_elim, arith}
 use Rattle.std.proofs.lemmas.Bool.{cases_eq, both_ways, false≢true}
 use Rattle.std.proofs.lemmas.Option.{same_Some}
-use Rattle.rbf_model.specs.Fields.{entry_at, name_field, descriptor_field}
+use Rattle.rbf_model.specs.Fields.{directory_entry, entry_name_field, descriptor_field}
 use Rattle.rbf_model.specs.Geometry.{Geometry}
 use Rattle.rbf_model.specs.File.{DiskFile, is_directory, is_directory_size}
-use Rattle.rbf_model.specs.Tree.{dot, dot_dot, HasEntry, NamesIn, Reached, root, named, Links, IsEntry, IsParent, of_root, of_other, HasDots, self_first, parent_first, HasNames, HasDifferentNames}
+use Rattle.rbf_model.specs.Tree.{dot, dot_dot, HasEntry, EntryNames, Reached, root, named, Links, IsEntry, IsParent, of_root, of_other, HasDots, self_first, parent_first, HasNames, HasDifferentNames}
 use Rattle.rbf_model.specs.Volume.{IsTree, directories, listing}
 use Rattle.rbf_model.proofs.Pieces.{ChangesEntry}
 use Rattle.rbf_model.specs.Writes.{put_file}
@@ -17,7 +17,7 @@ use Rattle.rbf_model.proofs.Entries.{entry_back, names_kept, names_back, listing
 
 module _ (g : Geometry) (files : ℕ → Option DiskFile) (tree : IsTree g files) (d i n : ℕ) (old dir file : DiskFile) (is : files d ≡ Some old)
     (old_dir : is_directory old ≡ true) (new_dir : is_directory dir ≡ true) (size : is_directory_size (length dir.contents) ≡ true)
-    (change : ChangesEntry old.contents dir.contents i) (gone : HasEntry dir.contents i → ⊥) (was : NamesIn old.contents i n) (is_file : files n ≡ Some file)
+    (change : ChangesEntry old.contents dir.contents i) (gone : HasEntry dir.contents i → ⊥) (was : EntryNames old.contents i n) (is_file : files n ≡ Some file)
     (not_dir : is_directory file ≡ false) where
   news : ℕ → Option DiskFile
   news = put_file (put_file files d (Some dir)) n None
@@ -55,37 +55,37 @@ module _ (g : Geometry) (files : ℕ → Option DiskFile) (tree : IsTree g files
   is_beside : (m : ℕ) → m ≢ n → m ≢ d → directories news m ≡ directories files m
   is_beside m not_n not_d = ap listing (file_beside m not_n not_d)
 
-  named_here : NamesIn (directories files d) i n
-  named_here = subst (λ c. NamesIn c i n) (sym was_above) was
+  named_here : EntryNames (directories files d) i n
+  named_here = subst (λ c. EntryNames c i n) (sym was_above) was
 
   -- all names but one are kept
-  keep : (e j m : ℕ) → NamesIn (directories files e) j m → m ≢ n → NamesIn (directories news e) j m
+  keep : (e j m : ℕ) → EntryNames (directories files e) j m → m ≢ n → EntryNames (directories news e) j m
   keep e j m names other =
       by_place n d e
       (λ here. absurd (no_entry (directories files e) j (ap (directories files) here ∙ was_here) names.entry))
       (λ above.
-      let before = subst (λ c. NamesIn c j m) (ap (directories files) above ∙ was_above) names in
-      let differ : j ≢ i = λ same. other (sym before.descriptor ∙ ap (λ k. descriptor_field (entry_at old.contents k)) same ∙ was.descriptor) in
-      subst (λ c. NamesIn c j m) (sym (ap (directories news) above ∙ is_above)) (names_kept old.contents dir.contents i j m change differ before))
-      (λ not_n not_d. subst (λ c. NamesIn c j m) (sym (is_beside e not_n not_d)) names)
+      let before = subst (λ c. EntryNames c j m) (ap (directories files) above ∙ was_above) names in
+      let differ : j ≢ i = λ same. other (sym before.descriptor ∙ ap (λ k. descriptor_field (directory_entry old.contents k)) same ∙ was.descriptor) in
+      subst (λ c. EntryNames c j m) (sym (ap (directories news) above ∙ is_above)) (names_kept old.contents dir.contents i j m change differ before))
+      (λ not_n not_d. subst (λ c. EntryNames c j m) (sym (is_beside e not_n not_d)) names)
 
   -- and there is no other; that one is gone
-  only : (e j m : ℕ) → NamesIn (directories news e) j m → NamesIn (directories files e) j m × (((e ≡ d) × (j ≡ i)) → ⊥)
+  only : (e j m : ℕ) → EntryNames (directories news e) j m → EntryNames (directories files e) j m × (((e ≡ d) × (j ≡ i)) → ⊥)
   only e j m names =
       by_place n d e
       (λ here. absurd (no_entry (directories news e) j (ap (directories news) here ∙ is_here) names.entry))
       (λ above.
-      let now = subst (λ c. NamesIn c j m) (ap (directories news) above ∙ is_above) names in
+      let now = subst (λ c. EntryNames c j m) (ap (directories news) above ∙ is_above) names in
       let differ : j ≢ i = λ same. gone (subst (HasEntry dir.contents) same now.entry) in
-      (subst (λ c. NamesIn c j m) (sym (ap (directories files) above ∙ was_above)) (names_back old.contents dir.contents i j m change differ now), λ same. differ same.1))
-      (λ not_n not_d. (subst (λ c. NamesIn c j m) (is_beside e not_n not_d) names, λ same. not_d same.0))
+      (subst (λ c. EntryNames c j m) (sym (ap (directories files) above ∙ was_above)) (names_back old.contents dir.contents i j m change differ now), λ same. differ same.1))
+      (λ not_n not_d. (subst (λ c. EntryNames c j m) (is_beside e not_n not_d) names, λ same. not_d same.0))
 
   -- so the file is named no more
-  not_named : (e j : ℕ) → NamesIn (directories news e) j n → ⊥
+  not_named : (e j : ℕ) → EntryNames (directories news e) j n → ⊥
   not_named e j names = let w = only e j n names in w.1 (tree.once e d j i n w.0 named_here)
 
   root_not_n : n ≢ g.root
-  root_not_n same = tree.root_free d i (subst (NamesIn (directories files d) i) same named_here)
+  root_not_n same = tree.root_free d i (subst (EntryNames (directories files d) i) same named_here)
 
   -- no path leads through it
   stays : {m : ℕ} → Reached g (directories files) m → m ≢ n → Reached g (directories news) m
@@ -107,7 +107,7 @@ module _ (g : Geometry) (files : ℕ → Option DiskFile) (tree : IsTree g files
   reached_some : {m : ℕ} → Reached g (directories news) m → IsSome (news m)
   reached_some root = some_after g.root (λ same. root_not_n (sym same)) ((tree.reached g.root).1 root)
   reached_some (named {d = e} {i = j} {n = m} r names num) =
-      some_after m (λ same. not_named e j (subst (NamesIn (directories news e) j) same names)) (names_to g files tree e j m (only e j m names).0)
+      some_after m (λ same. not_named e j (subst (EntryNames (directories news e) j) same names)) (names_to g files tree e j m (only e j m names).0)
 
   reached_after : (m : ℕ) → IsSome (news m) → Reached g (directories news) m
   reached_after m some = let not_n = some_not_n m some in stays ((tree.reached m).0 (some_before m not_n some)) not_n
@@ -122,16 +122,16 @@ module _ (g : Geometry) (files : ℕ → Option DiskFile) (tree : IsTree g files
   parent_stays m p not_n (of_root a b) = of_root a b
   parent_stays m p not_n (of_other {i = j} a link) = of_other a (link_stays p j m not_n link)
 
-  dots_stay : (m : ℕ) → m ≢ n → (entry_at (directories news m) 0 ≡ entry_at (directories files m) 0) → (entry_at (directories news m) 1 ≡ entry_at (directories files m) 1)
+  dots_stay : (m : ℕ) → m ≢ n → (directory_entry (directories news m) 0 ≡ directory_entry (directories files m) 0) → (directory_entry (directories news m) 1 ≡ directory_entry (directories files m) 1)
       → HasDots g (directories files) m → HasDots g (directories news) m
   dots_stay m not_n zeroth first (self_first {p = p} one two parent) =
       self_first (subst (λ e. IsEntry e dot m) (sym zeroth) one) (subst (λ e. IsEntry e dot_dot p) (sym first) two) (parent_stays m p not_n parent)
   dots_stay m not_n zeroth first (parent_first {p = p} one two parent) =
       parent_first (subst (λ e. IsEntry e dot_dot p) (sym zeroth) one) (subst (λ e. IsEntry e dot m) (sym first) two) (parent_stays m p not_n parent)
 
-  beside_entry : (j : ℕ) → j ≢ i → entry_at (directories news d) j ≡ entry_at (directories files d) j
+  beside_entry : (j : ℕ) → j ≢ i → directory_entry (directories news d) j ≡ directory_entry (directories files d) j
   beside_entry j differ =
-      ap (λ c. entry_at c j) is_above ∙ change.beside j differ ∙ sym (ap (λ c. entry_at c j) was_above)
+      ap (λ c. directory_entry c j) is_above ∙ change.beside j differ ∙ sym (ap (λ c. directory_entry c j) was_above)
 
   dots_above : HasDots g (directories news) d
   dots_above = let low = was.after in dots_stay d d_not_n (beside_entry 0 (omega arith)) (beside_entry 1 (omega arith)) (tree.dots d old is old_dir)
@@ -143,7 +143,7 @@ module _ (g : Geometry) (files : ℕ → Option DiskFile) (tree : IsTree g files
       (λ above. subst (HasDots g (directories news)) (sym above) dots_above)
       (λ not_n not_d.
       let lists = is_beside m not_n not_d in
-      dots_stay m not_n (ap (λ c. entry_at c 0) lists) (ap (λ c. entry_at c 1) lists) (tree.dots m one (sym (file_beside m not_n not_d) ∙ h) is_dir))
+      dots_stay m not_n (ap (λ c. directory_entry c 0) lists) (ap (λ c. directory_entry c 1) lists) (tree.dots m one (sym (file_beside m not_n not_d) ∙ h) is_dir))
 
   -- an entry of the directory is one of those before
   not_gone : (j : ℕ) → HasEntry dir.contents j → j ≢ i
@@ -153,14 +153,14 @@ module _ (g : Geometry) (files : ℕ → Option DiskFile) (tree : IsTree g files
   names_above j low has =
       let differ = not_gone j has in
       let w = subst HasNames was_above (tree.names d) j low (entry_back old.contents dir.contents i j change differ has) in
-      (w.0, ap name_field (change.beside j differ) ∙ w.1, w.2)
+      (w.0, ap entry_name_field (change.beside j differ) ∙ w.1, w.2)
 
   different_above : HasDifferentNames dir.contents
   different_above j k one other low low2 has has2 a b same =
       let differ = not_gone j has in
       let differ2 = not_gone k has2 in
       subst HasDifferentNames was_above (tree.different d) j k one other low low2 (entry_back old.contents dir.contents i j change differ has)
-      (entry_back old.contents dir.contents i k change differ2 has2) (ap name_field (sym (change.beside j differ)) ∙ a) (ap name_field (sym (change.beside k differ2)) ∙ b) same
+      (entry_back old.contents dir.contents i k change differ2 has2) (ap entry_name_field (sym (change.beside j differ)) ∙ a) (ap entry_name_field (sym (change.beside k differ2)) ∙ b) same
 
   -- the tree without the file
   pub tree_without_leaf : IsTree g (put_file (put_file files d (Some dir)) n None)

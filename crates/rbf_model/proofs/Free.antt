@@ -1,4 +1,5 @@
 -- The free clusters of a volume are the whole ones that the map does not mark.
+use Rattle.rbf_model.specs.Disk.{disk_of}
 use Rattle.std.proofs.Common.{◌≡◌, ℕ, suc, ◌≤◌, true, false, not, ◌&&◌, List, Option, Some, None, refl, sym, ap, ◌∙◌, arith}
 use Rattle.std.specs.Prelude.{filter}
 use Rattle.std.specs.List.{range_with_len}
@@ -21,7 +22,7 @@ pub not_in_file : (g : Geometry) (n : ℕ) (o : Option DiskFile) (c : ℕ) → (
 not_in_file g n None c h = refl
 not_in_file g n (Some file) c h = h file refl
 
-module _ (g : Geometry) (disk : ℕ → List ℕ) (v : DiskVolume) (sound : Sound g disk v) where
+module _ (g : Geometry) (disk : ℕ → List ℕ) (v : DiskVolume) (sound : Sound (disk_of g disk) v) where
   -- a descriptor number is below the total
   pub number_below : (n : ℕ) (file : DiskFile) → v.files n ≡ Some file → suc n ≤ g.total
   number_below n file h = (number_of_reached g _ sound.shape.header ((sound.tree.reached n).0 (some_is (v.files n) file h))).below

@@ -9,7 +9,7 @@ use Rattle.std.proofs.lemmas.List.FromFn.{length-range_with_len, get_or-range_wi
 use Rattle.std.proofs.lemmas.List.Folds.{list_any-append}
 use Rattle.std.proofs.lemmas.Grind.{flat_map-append}
 use Rattle.std.proofs.Math.Seq.{take-add}
-use Rattle.rbf_model.specs.Fields.{entry_at}
+use Rattle.rbf_model.specs.Fields.{directory_entry}
 use Rattle.rbf_model.specs.Geometry.{Geometry}
 use Rattle.rbf_model.specs.Segments.{AreDistinct, has, sectors_of}
 use Rattle.rbf_model.specs.File.{DiskFile}
@@ -134,7 +134,7 @@ shorter_contents disk xs rest size shorter falls fits =
 
 -- the contents of a directory whose new descriptor has one entry more, which stands in its place in the sectors
 pub contents_of_added : (disk : ℕ → List ℕ) (xs more : List ℕ) (i : ℕ) (entry : List ℕ) → ((x : ℕ) → has (xs ++ more) x ≡ true → length (disk x) ≡ 256) → 32 * i ≤ length (flat_map disk xs)
-    → i / 8 < length (xs ++ more) → entry_at (disk (get_or (xs ++ more) (i / 8) 0)) (i % 8) ≡ entry
+    → i / 8 < length (xs ++ more) → directory_entry (disk (get_or (xs ++ more) (i / 8) 0)) (i % 8) ≡ entry
     → take (32 * (i + 1)) (flat_map disk (xs ++ more)) ≡ take (32 * i) (flat_map disk xs) ++ entry
 contents_of_added disk xs more i entry full fits low there =
     let place : 256 * (i / 8) + 32 * (i % 8) ≡ 32 * i = omega arith in
@@ -144,5 +144,5 @@ contents_of_added disk xs more i entry full fits low there =
     (ap (λ k. take k (drop (32 * i) (flat_map disk (xs ++ more)))) one
     ∙ ap (λ k. take 32 (drop k (flat_map disk (xs ++ more)))) (sym place)
     ∙ sym (piece_of_piece (flat_map disk (xs ++ more)) 256 32 (i / 8) (i % 8) (omega arith))
-    ∙ ap (λ b. entry_at b (i % 8)) (sector_of_joined disk (xs ++ more) (i / 8) full low)
+    ∙ ap (λ b. directory_entry b (i % 8)) (sector_of_joined disk (xs ++ more) (i / 8) full low)
     ∙ there)

@@ -1,9 +1,12 @@
 -- Images: their sectors, and the rules over them.
+use Rattle.rbf_model.specs.Disk.{disk_of, IsDisk}
 use Rattle.std.proofs.Common.{◌≡◌, ℕ, ◌+◌, ◌*◌, ◌≤◌, List, length, drop, refl, ◌∙◌, arith, length-take, length-drop}
 use Rattle.std.proofs.Math.Nat.{mul-le-mul_left}
-use Rattle.rbf_model.specs.Geometry.{geometry, sector, HasHeader, IsDisk}
+use Rattle.rbf_model.specs.Geometry.{geometry, sector, HasHeader}
 use Rattle.rbf_model.specs.Volume.{DiskVolume, Vol}
-use Rattle.rbf_model.specs.Faults.{Keeps, IsFound, ImageBreaks, bad_header, breaks, image_volume}
+use Rattle.rbf_model.specs.Faults.{ImageBreaks, bad_header, breaks}
+use Rattle.rbf_model.specs.Keeps.{Keeps}
+use Rattle.rbf_model.specs.Search.{IsFound, image_volume}
 use Rattle.rbf_model.proofs.Keeps.{keeps_from_sound}
 use Rattle.rbf_model.proofs.Built.{sound_from_keeps}
 use Rattle.rbf_model.proofs.Breaks.{no_breach}
@@ -13,15 +16,15 @@ pub length-sector : (image : List ℕ) (n : ℕ) → 256 * (n + 1) ≤ length im
 length-sector image n fits = length-take 256 (drop (256 * n) image) ∙ omega (arith, length-drop (256 * n) image)
 
 -- an image with a header has every sector of its volume
-pub is_disk : (image : List ℕ) → HasHeader image → IsDisk (geometry (sector image 0)) (sector image)
+pub is_disk : (image : List ℕ) → HasHeader image → IsDisk (disk_of (geometry (sector image 0)) (sector image))
 is_disk image h n below =
     let fits = h.fits in
     let room : 256 * (n + 1) ≤ 256 * (geometry (sector image 0)).total = mul-le-mul_left 256 (omega arith) in
     length-sector image n (omega arith)
 
 -- where no rule is broken the image stands for a volume
-pub vol_from_keeps : (image : List ℕ) → HasHeader image → Keeps (geometry (sector image 0)) (sector image) → (numbers : List ℕ)
-    → IsFound (geometry (sector image 0)) (sector image) numbers → Vol image (image_volume image numbers)
+pub vol_from_keeps : (image : List ℕ) → HasHeader image → Keeps (disk_of (geometry (sector image 0)) (sector image)) → (numbers : List ℕ)
+    → IsFound (disk_of (geometry (sector image 0)) (sector image)) numbers → Vol image (image_volume image numbers)
 vol_from_keeps image h keeps numbers found = record {
   header = h;
   sound = sound_from_keeps (geometry (sector image 0)) (sector image) h.header (is_disk image h) keeps numbers found _;

@@ -1,12 +1,14 @@
 -- A disk that stands for a volume breaks no rule.
+use Rattle.rbf_model.specs.Disk.{disk_of}
 use Rattle.std.proofs.Common.{◌≡◌, ◌↔◌, ℕ, zero, suc, ◌/◌, true, List, [], length, Some, IsSome, refl, sym, ap, ◌∙◌, subst, ⊎_elim, arith}
 use Rattle.std.proofs.lemmas.Bool.{cond-false, cases_Bool}
-use Rattle.rbf_model.specs.Fields.{size_field, segments_field, entry_at, descriptor_field}
+use Rattle.rbf_model.specs.Fields.{size_field, segments_field, directory_entry, descriptor_field}
 use Rattle.rbf_model.specs.Geometry.{LieWithin, Geometry, IsHeader, IsNumber}
 use Rattle.rbf_model.specs.File.{DiskFile, file_at, is_directory, is_directory_size, has_room}
-use Rattle.rbf_model.specs.Tree.{HasEntry, NamesIn, Reached, root, named, Links, IsParent, of_root, of_other, HasDots, self_first, parent_first, HasNames, HasDifferentNames}
+use Rattle.rbf_model.specs.Tree.{HasEntry, EntryNames, Reached, root, named, Links, IsParent, of_root, of_other, HasDots, self_first, parent_first, HasNames, HasDifferentNames}
 use Rattle.rbf_model.specs.Volume.{DiskVolume, Sound, directories, listing}
-use Rattle.rbf_model.specs.Faults.{searched, Reaches, Keeps}
+use Rattle.rbf_model.specs.Search.{searchable_bytes, IsReachedOn}
+use Rattle.rbf_model.specs.Keeps.{Keeps}
 use Rattle.rbf_model.proofs.Lists.{some_of}
 use Rattle.rbf_model.proofs.Segments.{length-contents}
 use Rattle.rbf_model.proofs.Space.{cluster_from_owns}
@@ -25,7 +27,7 @@ number_of_parent g dirs header d p (of_other a link) = number_of_reached g dirs 
 
 -- the first two entries name numbers of the volume
 number_of_dots : (g : Geometry) (dirs : ℕ → List ℕ) → IsHeader g → (d : ℕ) → Reached g dirs d → HasDots g dirs d
-    → IsNumber g (descriptor_field (entry_at (dirs d) 0)) × IsNumber g (descriptor_field (entry_at (dirs d) 1))
+    → IsNumber g (descriptor_field (directory_entry (dirs d) 0)) × IsNumber g (descriptor_field (directory_entry (dirs d) 1))
 number_of_dots g dirs header d r (self_first {p = p} one two parent) =
     (subst (IsNumber g) (sym one.descriptor) (number_of_reached g dirs header r), subst (IsNumber g) (sym two.descriptor) (number_of_parent g dirs header d p parent))
 number_of_dots g dirs header d r (parent_first {p = p} one two parent) =
@@ -35,7 +37,7 @@ number_of_dots g dirs header d r (parent_first {p = p} one two parent) =
 pub no_entry : (contents : List ℕ) (i : ℕ) → contents ≡ [] → HasEntry contents i → ⊥
 no_entry contents i e h = let f : length contents ≡ 0 = ap length e in let w = h.within in omega arith
 
-module _ (g : Geometry) (disk : ℕ → List ℕ) (v : DiskVolume) (sound : Sound g disk v) where
+module _ (g : Geometry) (disk : ℕ → List ℕ) (v : DiskVolume) (sound : Sound (disk_of g disk) v) where
   -- a file of the volume is the one that its descriptor stands for
   pub file_is : (n : ℕ) (file : DiskFile) → v.files n ≡ Some file → v.files n ≡ Some (file_at disk n)
   file_is n file h = h ∙ ap Some (sound.shows.shown n file h)
@@ -55,49 +57,49 @@ module _ (g : Geometry) (disk : ℕ → List ℕ) (v : DiskVolume) (sound : Soun
       subst (λ size. is_directory_size size ≡ true) (size_is n file h) (sound.tree.sizes n (file_at disk n) (file_is n file h) is_dir)
 
   -- the directories are those that can be searched
-  pub searched_is : (n : ℕ) → IsSome (v.files n) → directories v.files n ≡ searched g disk n
+  pub searched_is : (n : ℕ) → IsSome (v.files n) → directories v.files n ≡ searchable_bytes (disk_of g disk) n
   searched_is n some =
       let w = some_of (v.files n) some in
       ap listing (file_is n w.0 w.1) ∙ listing_is g disk n (segments_are n w.0 w.1) (room_is n w.0 w.1) (directory_size n w.0 w.1)
 
-  pub reached_is : (n : ℕ) → Reached g (directories v.files) n → directories v.files n ≡ searched g disk n
+  pub reached_is : (n : ℕ) → Reached g (directories v.files) n → directories v.files n ≡ searchable_bytes (disk_of g disk) n
   reached_is n r = searched_is n ((sound.tree.reached n).1 r)
 
   -- the files are those that are reached on the disk
-  pub found : (n : ℕ) → IsSome (v.files n) ↔ Reaches g disk n
+  pub found : (n : ℕ) → IsSome (v.files n) ↔ IsReachedOn (disk_of g disk) n
   found n = (
-    λ some. reached_along g (directories v.files) (searched g disk) reached_is ((sound.tree.reached n).0 some),
-    λ r. (sound.tree.reached n).1 (reached_back g (searched g disk) (directories v.files) (λ d h. sym (reached_is d h)) r),
+    λ some. reached_along g (directories v.files) (searchable_bytes (disk_of g disk)) reached_is ((sound.tree.reached n).0 some),
+    λ r. (sound.tree.reached n).1 (reached_back g (searchable_bytes (disk_of g disk)) (directories v.files) (λ d h. sym (reached_is d h)) r),
   )
 
-  file_of : (n : ℕ) → Reaches g disk n → v.files n ≡ Some (file_at disk n)
+  file_of : (n : ℕ) → IsReachedOn (disk_of g disk) n → v.files n ≡ Some (file_at disk n)
   file_of n r = let w = some_of (v.files n) ((found n).1 r) in file_is n w.0 w.1
 
-  links_are : (d i n : ℕ) → Links g (searched g disk) d i n → NamesIn (directories v.files d) i n
-  links_are d i n link = subst (λ c. NamesIn c i n) (sym (searched_is d ((found d).1 link.from))) link.names
+  links_are : (d i n : ℕ) → Links g (searchable_bytes (disk_of g disk)) d i n → EntryNames (directories v.files d) i n
+  links_are d i n link = subst (λ c. EntryNames c i n) (sym (searched_is d ((found d).1 link.from))) link.names
 
-  dots_are : (n : ℕ) → Reaches g disk n → is_directory (file_at disk n) ≡ true → HasDots g (searched g disk) n
+  dots_are : (n : ℕ) → IsReachedOn (disk_of g disk) n → is_directory (file_at disk n) ≡ true → HasDots g (searchable_bytes (disk_of g disk)) n
   dots_are n r is_dir =
       let here = (found n).1 r in
-      dots_along g (directories v.files) (searched g disk) reached_is n ((sound.tree.reached n).0 here) (sound.tree.dots n (file_at disk n) (file_of n r) is_dir)
+      dots_along g (directories v.files) (searchable_bytes (disk_of g disk)) reached_is n ((sound.tree.reached n).0 here) (sound.tree.dots n (file_at disk n) (file_of n r) is_dir)
 
-  numbers_are : (d i : ℕ) → Reaches g disk d → HasEntry (searched g disk d) i → IsNumber g (descriptor_field (entry_at (searched g disk d) i))
+  numbers_are : (d i : ℕ) → IsReachedOn (disk_of g disk) d → HasEntry (searchable_bytes (disk_of g disk) d) i → IsNumber g (descriptor_field (directory_entry (searchable_bytes (disk_of g disk) d) i))
   numbers_are d i r entry =
-      ⊎_elim (λ is_dir. by_place i entry (number_of_dots g (searched g disk) sound.shape.header d r (dots_are d r is_dir)))
-      (λ not_dir. absurd (no_entry (searched g disk d) i (sym (searched_is d ((found d).1 r)) ∙ ap listing (file_of d r) ∙ cond-false (is_directory (file_at disk d)) (file_at disk d).contents [] not_dir) entry))
+      ⊎_elim (λ is_dir. by_place i entry (number_of_dots g (searchable_bytes (disk_of g disk)) sound.shape.header d r (dots_are d r is_dir)))
+      (λ not_dir. absurd (no_entry (searchable_bytes (disk_of g disk) d) i (sym (searched_is d ((found d).1 r)) ∙ ap listing (file_of d r) ∙ cond-false (is_directory (file_at disk d)) (file_at disk d).contents [] not_dir) entry))
       (cases_Bool (is_directory (file_at disk d)))
     where
-      by_place : (j : ℕ) → HasEntry (searched g disk d) j
-          → IsNumber g (descriptor_field (entry_at (searched g disk d) 0)) × IsNumber g (descriptor_field (entry_at (searched g disk d) 1))
-          → IsNumber g (descriptor_field (entry_at (searched g disk d) j))
+      by_place : (j : ℕ) → HasEntry (searchable_bytes (disk_of g disk) d) j
+          → IsNumber g (descriptor_field (directory_entry (searchable_bytes (disk_of g disk) d) 0)) × IsNumber g (descriptor_field (directory_entry (searchable_bytes (disk_of g disk) d) 1))
+          → IsNumber g (descriptor_field (directory_entry (searchable_bytes (disk_of g disk) d) j))
       by_place zero entry first = first.0
       by_place (suc zero) entry first = first.1
       by_place (suc (suc j)) entry first =
-          let names : NamesIn (searched g disk d) (suc (suc j)) (descriptor_field (entry_at (searched g disk d) (suc (suc j)))) =
+          let names : EntryNames (searchable_bytes (disk_of g disk) d) (suc (suc j)) (descriptor_field (directory_entry (searchable_bytes (disk_of g disk) d) (suc (suc j)))) =
           record { after = omega arith; entry = entry; descriptor = refl } in
           sound.tree.numbers d (suc (suc j)) _ (links_are d (suc (suc j)) _ (record { from = r; names = names }))
 
-  pub keeps_from_sound : Keeps g disk
+  pub keeps_from_sound : Keeps (disk_of g disk)
   keeps_from_sound = record {
     numbers = numbers_are;
     segments = λ n r. segments_are n (file_at disk n) (file_of n r);

@@ -5,7 +5,7 @@ use Rattle.std.proofs.lemmas.Bool.{cases_eq}
 use Rattle.std.proofs.lemmas.Option.{same_Some}
 use Rattle.rbf_model.specs.Geometry.{Geometry}
 use Rattle.rbf_model.specs.File.{DiskFile, is_directory, is_directory_size}
-use Rattle.rbf_model.specs.Tree.{NamesIn, Reached, HasDots, HasNames, HasDifferentNames}
+use Rattle.rbf_model.specs.Tree.{EntryNames, Reached, HasDots, HasNames, HasDifferentNames}
 use Rattle.rbf_model.specs.Volume.{IsTree, directories, listing}
 use Rattle.rbf_model.specs.Writes.{put_file}
 use Rattle.rbf_model.proofs.Lists.{some_is, some_of}
@@ -44,8 +44,8 @@ module _ (g : Geometry) (files : ℕ → Option DiskFile) (tree : IsTree g files
       ⊎_elim (λ here. some_is (news m) new (ap news here ∙ put_file_here files n (Some new)))
       (λ beside. subst IsSome (sym (put_file_beside files n (Some new) m beside)) some) (cases_eq m n)
 
-  back : (e j m : ℕ) → NamesIn (directories news e) j m → NamesIn (directories files e) j m
-  back e j m names = subst (λ (dirs : ℕ → List ℕ). NamesIn (dirs e) j m) lists names
+  back : (e j m : ℕ) → EntryNames (directories news e) j m → EntryNames (directories files e) j m
+  back e j m names = subst (λ (dirs : ℕ → List ℕ). EntryNames (dirs e) j m) lists names
 
   -- the tree is as it was
   pub tree_kept : IsTree g (put_file files n (Some new))

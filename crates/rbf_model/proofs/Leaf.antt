@@ -3,10 +3,10 @@ use Rattle.std.proofs.Common.{◌≡◌, ◌≢◌, ◌⊎◌, ℕ, ◌≤◌, t
 use Rattle.std.proofs.lemmas.Bool.{cases_eq, false≢true}
 use Rattle.std.proofs.lemmas.Option.{same_Some, none-some}
 use Rattle.os9_base.specs.Name.{SameName}
-use Rattle.rbf_model.specs.Fields.{entry_at, name_field, descriptor_field}
+use Rattle.rbf_model.specs.Fields.{directory_entry, entry_name_field, descriptor_field}
 use Rattle.rbf_model.specs.Geometry.{Geometry, IsNumber}
 use Rattle.rbf_model.specs.File.{DiskFile, is_directory, is_directory_size}
-use Rattle.rbf_model.specs.Tree.{dot, dot_dot, HasEntry, NamesIn, Reached, root, named, Links, IsEntry, IsParent, of_root, of_other, HasDots, self_first, parent_first, HasNames, HasDifferentNames}
+use Rattle.rbf_model.specs.Tree.{dot, dot_dot, HasEntry, EntryNames, Reached, root, named, Links, IsEntry, IsParent, of_root, of_other, HasDots, self_first, parent_first, HasNames, HasDifferentNames}
 use Rattle.rbf_model.specs.Volume.{IsTree, directories, listing}
 use Rattle.rbf_model.proofs.Pieces.{ChangesEntry}
 use Rattle.rbf_model.specs.Writes.{put_file, IsNewDirectory, IsNewEntry}
@@ -17,14 +17,14 @@ use Rattle.rbf_model.proofs.Change.{put_file_here, put_file_beside}
 use Rattle.rbf_model.proofs.Entries.{entry_back, names_kept, names_back, listing_directory, no_third_entry}
 
 -- every name that was there leads on
-pub reached_grows : (g : Geometry) (dirs news : ℕ → List ℕ) → ((d i n : ℕ) → NamesIn (dirs d) i n → NamesIn (news d) i n) → {n : ℕ} → Reached g dirs n → Reached g news n
+pub reached_grows : (g : Geometry) (dirs news : ℕ → List ℕ) → ((d i n : ℕ) → EntryNames (dirs d) i n → EntryNames (news d) i n) → {n : ℕ} → Reached g dirs n → Reached g news n
 reached_grows g dirs news keep root = root
 reached_grows g dirs news keep (named {d = d} {i = i} {n = n} r names number) = named (reached_grows g dirs news keep r) (keep d i n names) number
 
 module _ (g : Geometry) (files : ℕ → Option DiskFile) (tree : IsTree g files) (d i n : ℕ) (old dir file : DiskFile) (is : files d ≡ Some old)
     (old_dir : is_directory old ≡ true) (new_dir : is_directory dir ≡ true) (size : is_directory_size (length dir.contents) ≡ true) (after : 2 ≤ i)
     (change : ChangesEntry old.contents dir.contents i) (free : HasEntry old.contents i → ⊥) (entry : HasEntry dir.contents i)
-    (new : IsNewEntry old.contents i (entry_at dir.contents i) n) (absent : files n ≡ None) (number : IsNumber g n)
+    (new : IsNewEntry old.contents i (directory_entry dir.contents i) n) (absent : files n ≡ None) (number : IsNumber g n)
     (made : is_directory file ≡ true → IsNewDirectory file.contents n d) where
   news : ℕ → Option DiskFile
   news = put_file (put_file files d (Some dir)) n (Some file)
@@ -62,32 +62,32 @@ module _ (g : Geometry) (files : ℕ → Option DiskFile) (tree : IsTree g files
   is_beside m not_n not_d = ap listing (file_beside m not_n not_d)
 
   -- the names that were there are kept
-  keep : (e j m : ℕ) → NamesIn (directories files e) j m → NamesIn (directories news e) j m
+  keep : (e j m : ℕ) → EntryNames (directories files e) j m → EntryNames (directories news e) j m
   keep e j m names =
       by_place n d e
       (λ here. absurd (no_entry (directories files e) j (ap (directories files) here ∙ was_here) names.entry))
       (λ above.
-      let was = subst (λ c. NamesIn c j m) (ap (directories files) above ∙ was_above) names in
+      let was = subst (λ c. EntryNames c j m) (ap (directories files) above ∙ was_above) names in
       let differ : j ≢ i = λ same. free (subst (HasEntry old.contents) same was.entry) in
-      subst (λ c. NamesIn c j m) (sym (ap (directories news) above ∙ is_above)) (names_kept old.contents dir.contents i j m change differ was))
-      (λ not_n not_d. subst (λ c. NamesIn c j m) (sym (is_beside e not_n not_d)) names)
+      subst (λ c. EntryNames c j m) (sym (ap (directories news) above ∙ is_above)) (names_kept old.contents dir.contents i j m change differ was))
+      (λ not_n not_d. subst (λ c. EntryNames c j m) (sym (is_beside e not_n not_d)) names)
 
   -- there is one more
-  fresh : NamesIn (directories news d) i n
-  fresh = subst (λ c. NamesIn c i n) (sym is_above) (record { after = after; entry = entry; descriptor = new.is.descriptor })
+  fresh : EntryNames (directories news d) i n
+  fresh = subst (λ c. EntryNames c i n) (sym is_above) (record { after = after; entry = entry; descriptor = new.is.descriptor })
 
   -- and no other
-  only : (e j m : ℕ) → NamesIn (directories news e) j m → (NamesIn (directories files e) j m) ⊎ ((e ≡ d) × (j ≡ i) × (m ≡ n))
+  only : (e j m : ℕ) → EntryNames (directories news e) j m → (EntryNames (directories files e) j m) ⊎ ((e ≡ d) × (j ≡ i) × (m ≡ n))
   only e j m names =
       by_place n d e
       (λ here. absurd (no_third_entry file n d j made names.after (subst (λ c. HasEntry c j) (ap (directories news) here ∙ is_here) names.entry)))
       (λ above.
-      let now = subst (λ c. NamesIn c j m) (ap (directories news) above ∙ is_above) names in
+      let now = subst (λ c. EntryNames c j m) (ap (directories news) above ∙ is_above) names in
       ⊎_elim
-      (λ same. inr (above, same, sym now.descriptor ∙ ap (λ k. descriptor_field (entry_at dir.contents k)) same ∙ new.is.descriptor))
-      (λ differ. inl (subst (λ c. NamesIn c j m) (sym (ap (directories files) above ∙ was_above)) (names_back old.contents dir.contents i j m change differ now)))
+      (λ same. inr (above, same, sym now.descriptor ∙ ap (λ k. descriptor_field (directory_entry dir.contents k)) same ∙ new.is.descriptor))
+      (λ differ. inl (subst (λ c. EntryNames c j m) (sym (ap (directories files) above ∙ was_above)) (names_back old.contents dir.contents i j m change differ now)))
       (cases_eq j i))
-      (λ not_n not_d. inl (subst (λ c. NamesIn c j m) (is_beside e not_n not_d) names))
+      (λ not_n not_d. inl (subst (λ c. EntryNames c j m) (is_beside e not_n not_d) names))
 
   grows : {m : ℕ} → Reached g (directories files) m → Reached g (directories news) m
   grows r = reached_grows g (directories files) (directories news) keep r
@@ -122,7 +122,7 @@ module _ (g : Geometry) (files : ℕ → Option DiskFile) (tree : IsTree g files
   parent_grows m p (of_other {i = j} a link) = of_other a (link_grows p j m link)
 
   -- the first two entries of a directory that was there
-  dots_grow : (m : ℕ) → (entry_at (directories news m) 0 ≡ entry_at (directories files m) 0) → (entry_at (directories news m) 1 ≡ entry_at (directories files m) 1)
+  dots_grow : (m : ℕ) → (directory_entry (directories news m) 0 ≡ directory_entry (directories files m) 0) → (directory_entry (directories news m) 1 ≡ directory_entry (directories files m) 1)
       → HasDots g (directories files) m → HasDots g (directories news) m
   dots_grow m zeroth first (self_first {p = p} one two parent) =
       self_first (subst (λ e. IsEntry e dot m) (sym zeroth) one) (subst (λ e. IsEntry e dot_dot p) (sym first) two) (parent_grows m p parent)
@@ -139,13 +139,13 @@ module _ (g : Geometry) (files : ℕ → Option DiskFile) (tree : IsTree g files
       let lists : directories news n ≡ file.contents = is_here ∙ listing_directory file is_dir in
       let parent : IsParent g (directories news) n d = of_other root_not_n (record { from = above_reached; names = fresh }) in
       ⊎_elim
-      (λ e. parent_first (subst (λ c. IsEntry (entry_at c 0) dot_dot d) (sym lists) e.0) (subst (λ c. IsEntry (entry_at c 1) dot n) (sym lists) e.1) parent)
-      (λ e. self_first (subst (λ c. IsEntry (entry_at c 0) dot n) (sym lists) e.0) (subst (λ c. IsEntry (entry_at c 1) dot_dot d) (sym lists) e.1) parent)
+      (λ e. parent_first (subst (λ c. IsEntry (directory_entry c 0) dot_dot d) (sym lists) e.0) (subst (λ c. IsEntry (directory_entry c 1) dot n) (sym lists) e.1) parent)
+      (λ e. self_first (subst (λ c. IsEntry (directory_entry c 0) dot n) (sym lists) e.0) (subst (λ c. IsEntry (directory_entry c 1) dot_dot d) (sym lists) e.1) parent)
       new_dots.dots
 
-  beside_entry : (j : ℕ) → j ≢ i → entry_at (directories news d) j ≡ entry_at (directories files d) j
+  beside_entry : (j : ℕ) → j ≢ i → directory_entry (directories news d) j ≡ directory_entry (directories files d) j
   beside_entry j differ =
-      ap (λ c. entry_at c j) is_above ∙ change.beside j differ ∙ sym (ap (λ c. entry_at c j) was_above)
+      ap (λ c. directory_entry c j) is_above ∙ change.beside j differ ∙ sym (ap (λ c. directory_entry c j) was_above)
 
   dots_above : HasDots g (directories news) d
   dots_above = dots_grow d (beside_entry 0 (omega arith)) (beside_entry 1 (omega arith)) (tree.dots d old is old_dir)
@@ -157,15 +157,15 @@ module _ (g : Geometry) (files : ℕ → Option DiskFile) (tree : IsTree g files
       (λ above. subst (HasDots g (directories news)) (sym above) dots_above)
       (λ not_n not_d.
       let lists = is_beside m not_n not_d in
-      dots_grow m (ap (λ c. entry_at c 0) lists) (ap (λ c. entry_at c 1) lists) (tree.dots m one (sym (file_beside m not_n not_d) ∙ h) is_dir))
+      dots_grow m (ap (λ c. directory_entry c 0) lists) (ap (λ c. directory_entry c 1) lists) (tree.dots m one (sym (file_beside m not_n not_d) ∙ h) is_dir))
 
   names_above : HasNames dir.contents
   names_above j low has =
       ⊎_elim
-      (λ same. (new.name, ap (λ k. name_field (entry_at dir.contents k)) same ∙ new.is.name_is, new.proper))
+      (λ same. (new.name, ap (λ k. entry_name_field (directory_entry dir.contents k)) same ∙ new.is.name_is, new.proper))
       (λ differ.
       let w = subst HasNames was_above (tree.names d) j low (entry_back old.contents dir.contents i j change differ has) in
-      (w.0, ap name_field (change.beside j differ) ∙ w.1, w.2))
+      (w.0, ap entry_name_field (change.beside j differ) ∙ w.1, w.2))
       (cases_eq j i)
 
   names_after : (m : ℕ) → HasNames (directories news m)
@@ -175,10 +175,10 @@ module _ (g : Geometry) (files : ℕ → Option DiskFile) (tree : IsTree g files
       (λ above. subst HasNames (sym (ap (directories news) above ∙ is_above)) names_above)
       (λ not_n not_d. subst HasNames (sym (is_beside m not_n not_d)) (tree.names m))
 
-  fresh_differs : (k : ℕ) (one other : List ℕ) → k ≢ i → 2 ≤ k → HasEntry dir.contents k → name_field (entry_at dir.contents i) ≡ Some one → name_field (entry_at dir.contents k) ≡ Some other
+  fresh_differs : (k : ℕ) (one other : List ℕ) → k ≢ i → 2 ≤ k → HasEntry dir.contents k → entry_name_field (directory_entry dir.contents i) ≡ Some one → entry_name_field (directory_entry dir.contents k) ≡ Some other
       → SameName one other → ⊥
   fresh_differs k one other differ low has a b same =
-      new.differs k other differ low (entry_back old.contents dir.contents i k change differ has) (ap name_field (sym (change.beside k differ)) ∙ b)
+      new.differs k other differ low (entry_back old.contents dir.contents i k change differ has) (ap entry_name_field (sym (change.beside k differ)) ∙ b)
       (subst (λ x. SameName x other) (same_Some one new.name (sym a ∙ new.is.name_is)) same)
 
   different_above : HasDifferentNames dir.contents
@@ -186,12 +186,12 @@ module _ (g : Geometry) (files : ℕ → Option DiskFile) (tree : IsTree g files
       ⊎_elim
       (λ here. ⊎_elim
       (λ here2. here ∙ sym here2)
-      (λ differ. absurd (fresh_differs k one other differ low2 has2 (ap (λ x. name_field (entry_at dir.contents x)) (sym here) ∙ a) b same))
+      (λ differ. absurd (fresh_differs k one other differ low2 has2 (ap (λ x. entry_name_field (directory_entry dir.contents x)) (sym here) ∙ a) b same))
       (cases_eq k i))
       (λ differ. ⊎_elim
-      (λ here2. absurd (fresh_differs j other one differ low has (ap (λ x. name_field (entry_at dir.contents x)) (sym here2) ∙ b) a (sym same)))
+      (λ here2. absurd (fresh_differs j other one differ low has (ap (λ x. entry_name_field (directory_entry dir.contents x)) (sym here2) ∙ b) a (sym same)))
       (λ differ2. subst HasDifferentNames was_above (tree.different d) j k one other low low2 (entry_back old.contents dir.contents i j change differ has)
-      (entry_back old.contents dir.contents i k change differ2 has2) (ap name_field (sym (change.beside j differ)) ∙ a) (ap name_field (sym (change.beside k differ2)) ∙ b) same)
+      (entry_back old.contents dir.contents i k change differ2 has2) (ap entry_name_field (sym (change.beside j differ)) ∙ a) (ap entry_name_field (sym (change.beside k differ2)) ∙ b) same)
       (cases_eq k i))
       (cases_eq j i)
 
@@ -219,18 +219,18 @@ module _ (g : Geometry) (files : ℕ → Option DiskFile) (tree : IsTree g files
       (λ above. subst (λ f. is_directory f ≡ true) (sym (same_Some one dir (sym h ∙ ap news above ∙ file_above))) new_dir)
       (λ not_n not_d. tree.root one (sym (file_beside g.root not_n not_d) ∙ h))
 
-  not_named_before : (e j : ℕ) → NamesIn (directories files e) j n → ⊥
+  not_named_before : (e j : ℕ) → EntryNames (directories files e) j n → ⊥
   not_named_before e j names = false≢true (subst IsSome absent (names_to g files tree e j n names))
 
-  once_after : (e k j l m : ℕ) → NamesIn (directories news e) j m → NamesIn (directories news k) l m → (e ≡ k) × (j ≡ l)
+  once_after : (e k j l m : ℕ) → EntryNames (directories news e) j m → EntryNames (directories news k) l m → (e ≡ k) × (j ≡ l)
   once_after e k j l m one other =
       ⊎_elim
       (λ was. ⊎_elim
       (λ was2. tree.once e k j l m was was2)
-      (λ is_new. absurd (not_named_before e j (subst (NamesIn (directories files e) j) is_new.2 was)))
+      (λ is_new. absurd (not_named_before e j (subst (EntryNames (directories files e) j) is_new.2 was)))
       (only k l m other))
       (λ is_new. ⊎_elim
-      (λ was2. absurd (not_named_before k l (subst (NamesIn (directories files k) l) is_new.2 was2)))
+      (λ was2. absurd (not_named_before k l (subst (EntryNames (directories files k) l) is_new.2 was2)))
       (λ is_new2. (is_new.0 ∙ sym is_new2.0, is_new.1 ∙ sym is_new2.1))
       (only k l m other))
       (only e j m one)

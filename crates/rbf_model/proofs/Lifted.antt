@@ -1,4 +1,5 @@
 -- From disks to images: an image with other bytes in one sector.
+use Rattle.rbf_model.specs.Disk.{disk_of}
 use Rattle.std.proofs.Common.{◌≡◌, ◌≢◌, ℕ, ◌+◌, ◌*◌, ◌<◌, ◌≤◌, List, ◌++◌, length, take, drop, sym, ap, ◌∙◌, subst, ⊎_elim, arith}
 use mathlib.Core.Path.{fun_ext}
 use Rattle.std.proofs.Math.Nat.{mul-le-mul_left}
@@ -32,7 +33,7 @@ module _ (image : List ℕ) (s : ℕ) (bytes : List ℕ) (whole : length bytes �
 
 -- a write to a disk is one to its image
 pub vol_put : (image : List ℕ) (v now : DiskVolume) (s : ℕ) (bytes : List ℕ) → Vol image v → 1 ≤ s → s < (geometry (sector image 0)).total → length bytes ≡ 256
-    → Sound (geometry (sector image 0)) (put (sector image) s bytes) now → now.rest ≡ v.rest → Vol (put_sector image s bytes) now
+    → Sound (disk_of (geometry (sector image 0)) (put (sector image) s bytes)) now → now.rest ≡ v.rest → Vol (put_sector image s bytes) now
 vol_put image v now s bytes vol after below whole sound rest = record {
   header = record {
     ident = let was = vol.header.ident in let same = length_put_sector image s bytes whole fits in omega arith;
@@ -40,7 +41,7 @@ vol_put image v now s bytes vol after below whole sound rest = record {
     fits = subst (λ g. 256 * g.total ≤ length (put_sector image s bytes)) shape
         (let was = vol.header.fits in let same = length_put_sector image s bytes whole fits in omega arith);
   };
-  sound = subst (λ g. Sound g (sector (put_sector image s bytes)) now) shape (subst (λ d. Sound (geometry (sector image 0)) d now) (sym (sector_put image s bytes whole fits)) sound);
+  sound = subst (λ g. Sound (disk_of g (sector (put_sector image s bytes))) now) shape (subst (λ d. Sound (disk_of (geometry (sector image 0)) d) now) (sym (sector_put image s bytes whole fits)) sound);
   rest = rest ∙ vol.rest ∙ sym (rest_put image s bytes whole fits (geometry (sector image 0)).total below) ∙ ap (λ g. drop (256 * g.total) (put_sector image s bytes)) shape;
 }
   where

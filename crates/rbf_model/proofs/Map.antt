@@ -1,4 +1,5 @@
 -- Writes to the map: clusters are taken, and given back.
+use Rattle.rbf_model.specs.Disk.{disk_of}
 use Rattle.std.proofs.Common.{◌≡◌, ℕ, ◌+◌, Bool, false, not, ◌&&◌, ◌||◌, List, length, Some, sym, ◌∙◌, ⊎_elim, arith}
 use Rattle.std.proofs.lemmas.Bool.{both_ways, false_from_ne_true, or_cases, or_left, or_right, and_parts, and_from, not_from_false}
 use Rattle.rbf_model.specs.Geometry.{Geometry, map_sectors}
@@ -7,13 +8,13 @@ use Rattle.rbf_model.specs.File.{DiskFile}
 use Rattle.rbf_model.specs.Space.{is_marked, own_sectors, has_cluster, IsMapped}
 use Rattle.rbf_model.specs.Volume.{DiskVolume, Sound}
 use Rattle.rbf_model.specs.Writes.{put, with_lost}
-use Rattle.rbf_model.specs.Laws.{IsMapSector, Takes, Frees}
+use Rattle.rbf_model.specs.Laws.{IsMapSector, TakesClusters, FreesClusters}
 use Rattle.rbf_model.proofs.Segments.{has_range}
 use Rattle.rbf_model.proofs.Free.{free_parts}
 use Rattle.rbf_model.proofs.Owners.{own_not_system, file_cluster_below, whole_below}
 use Rattle.rbf_model.proofs.Shown.{IsShown, disk_put, shown_beside, ident_beside}
 
-module _ (g : Geometry) (disk : ℕ → List ℕ) (v : DiskVolume) (sound : Sound g disk v) (s : ℕ) (bytes : List ℕ) (whole : length bytes ≡ 256) where
+module _ (g : Geometry) (disk : ℕ → List ℕ) (v : DiskVolume) (sound : Sound (disk_of g disk) v) (s : ℕ) (bytes : List ℕ) (whole : length bytes ≡ 256) where
   -- the files are no part of the map
   map_shown : IsMapSector g s → (n : ℕ) (file : DiskFile) → v.files n ≡ Some file → IsShown (put disk s bytes) n file
   map_shown map n file is =
@@ -23,7 +24,7 @@ module _ (g : Geometry) (disk : ℕ → List ℕ) (v : DiskVolume) (sound : Soun
       own_not_system g disk v sound n file s is own (has_range 0 (1 + map_sectors g) s (omega arith) (omega arith))))
 
   -- only marks and lost clusters change
-  map_write : IsMapSector g s → (lost : ℕ → Bool) → IsMapped g (is_marked (put disk s bytes)) v.files lost → Sound g (put disk s bytes) (with_lost v lost)
+  map_write : IsMapSector g s → (lost : ℕ → Bool) → IsMapped g (is_marked (put disk s bytes)) v.files lost → Sound (disk_of g (put disk s bytes)) (with_lost v lost)
   map_write map lost mapped = record {
     shape = sound.shape;
     sectors = disk_put g disk s bytes sound.sectors whole;
@@ -37,7 +38,7 @@ module _ (g : Geometry) (disk : ℕ → List ℕ) (v : DiskVolume) (sound : Soun
   }
 
   -- free clusters that are marked are lost
-  pub takes_law : (taken : ℕ → Bool) → Takes g disk v s bytes taken → Sound g (put disk s bytes) (with_lost v (λ c. v.lost c || taken c))
+  pub takes_law : (taken : ℕ → Bool) → TakesClusters (disk_of g disk) v s bytes taken → Sound (disk_of g (put disk s bytes)) (with_lost v (λ c. v.lost c || taken c))
   takes_law taken takes = map_write takes.map (λ c. v.lost c || taken c) (record {
     within = sound.mapped.within;
     marks = λ n file c is used.
@@ -61,7 +62,7 @@ module _ (g : Geometry) (disk : ℕ → List ℕ) (v : DiskVolume) (sound : Soun
   })
 
   -- lost clusters whose marks are cleared are lost no more
-  pub frees_law : (freed : ℕ → Bool) → Frees g disk v s bytes freed → Sound g (put disk s bytes) (with_lost v (λ c. v.lost c && not (freed c)))
+  pub frees_law : (freed : ℕ → Bool) → FreesClusters (disk_of g disk) v s bytes freed → Sound (disk_of g (put disk s bytes)) (with_lost v (λ c. v.lost c && not (freed c)))
   frees_law freed frees = map_write frees.map (λ c. v.lost c && not (freed c)) (record {
     within = sound.mapped.within;
     marks = λ n file c is used.

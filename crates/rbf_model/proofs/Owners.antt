@@ -1,4 +1,5 @@
 -- The sectors and clusters of a volume's files, within it and apart.
+use Rattle.rbf_model.specs.Disk.{disk_of}
 use Rattle.std.proofs.Common.{not, ◌&&◌, false, ◌≡◌, ◌≢◌, ◌⊎◌, ℕ, zero, suc, ◌+◌, ◌*◌, ◌/◌, ◌<◌, ◌≤◌, ◌==◌, Bool, true, List, [], ◌++◌, Option, Some, refl, sym, ap, ◌∙◌, subst, inl, inr, ⊎_elim, arith, eqb-true, eq-eqb, leb-true}
 use Rattle.std.specs.Prelude.{if◌then◌else◌}
 use Rattle.std.proofs.Math.Nat.{lt-div-mul-add, lt_of_mul-lt-mul_right}
@@ -94,7 +95,7 @@ module _ (g : Geometry) (shape : IsGeometry g) where
       let place : c < 8 * g.map_bytes = lt_of_mul-lt-mul_right g.cluster enough in
       omega arith
 
-module _ (g : Geometry) (disk : ℕ → List ℕ) (v : DiskVolume) (sound : Sound g disk v) where
+module _ (g : Geometry) (disk : ℕ → List ℕ) (v : DiskVolume) (sound : Sound (disk_of g disk) v) where
   pub root_file : (file : DiskFile) × (v.files g.root ≡ Some file)
   root_file = some_of (v.files g.root) ((sound.tree.reached g.root).1 root)
 
@@ -175,7 +176,7 @@ clusters_of_own g n file P other each c h =
     subst P w.2 (⊎_elim (λ system. absurd (other system.0)) (λ own. each w.0 own) (owned_cases g n file w.0 w.1))
 
 -- the free clusters rest on the marks alone
-pub free_by_marks : (g : Geometry) (disk news : ℕ → List ℕ) (v w : DiskVolume) → Sound g disk v → Sound g news w → ((c : ℕ) → c * g.cluster < g.total → is_marked news c ≡ is_marked disk c) → (c : ℕ)
+pub free_by_marks : (g : Geometry) (disk news : ℕ → List ℕ) (v w : DiskVolume) → Sound (disk_of g disk) v → Sound (disk_of g news) w → ((c : ℕ) → c * g.cluster < g.total → is_marked news c ≡ is_marked disk c) → (c : ℕ)
     → is_free g w c ≡ is_free g v c
 free_by_marks g disk news v w before after same c =
     is_free_is g news w after c

@@ -4,12 +4,12 @@ use Rattle.std.proofs.lemmas.Bool.{cases_lt, cases_order}
 use Rattle.std.proofs.lemmas.List.{take-append-le, take_all, take-take, take_at, drop_at, drop_all, drop-take, drop-drop, drop-append-le, take-append-drop, length-take-le}
 use Rattle.std.proofs.Math.Nat.{mul-le-mul_left}
 use Rattle.std.proofs.Math.Seq.{take-append-add, drop-append-add}
-use Rattle.rbf_model.specs.Fields.{entry_at}
+use Rattle.rbf_model.specs.Fields.{directory_entry}
 use Rattle.rbf_model.specs.Writes.{put_at}
 
 -- a directory's bytes of which no entry but the one in place i has changed, come or gone
 pub record ChangesEntry (old new : List ℕ) (i : ℕ) : Type 0 where
-  pub beside : (j : ℕ) → j ≢ i → entry_at new j ≡ entry_at old j
+  pub beside : (j : ℕ) → j ≢ i → directory_entry new j ≡ directory_entry old j
   pub kept : (j : ℕ) → j ≢ i → 32 * (j + 1) ≤ length old → 32 * (j + 1) ≤ length new
   pub no_more : (j : ℕ) → j ≢ i → 32 * (j + 1) ≤ length new → 32 * (j + 1) ≤ length old
 
@@ -152,7 +152,7 @@ module _ (w : ℕ) (contents piece : List ℕ) (i : ℕ) (whole : length piece �
 
 module _ (contents entry : List ℕ) (i : ℕ) (whole : length entry ≡ 32) (fits : 32 * (i + 1) ≤ length contents) where
   -- the entry that was put
-  pub entry_put : entry_at (put_at contents (32 * i) entry) i ≡ entry
+  pub entry_put : directory_entry (put_at contents (32 * i) entry) i ≡ entry
   entry_put = piece_put 32 contents entry i whole fits
 
   -- no other entry has changed
@@ -165,7 +165,7 @@ module _ (contents entry : List ℕ) (i : ℕ) (whole : length entry ≡ 32) (fi
 
 module _ (contents entry : List ℕ) (i : ℕ) (whole : length entry ≡ 32) (end : length contents ≡ 32 * i) where
   -- the entry that was added at the end
-  pub entry_added : entry_at (contents ++ entry) i ≡ entry
+  pub entry_added : directory_entry (contents ++ entry) i ≡ entry
   entry_added = ap (take 32) (drop_at contents entry (32 * i) end) ∙ take_all 32 entry (omega arith)
 
   pub changes_added : ChangesEntry contents (contents ++ entry) i

@@ -1,13 +1,14 @@
 -- The sectors of a segment list, and the bytes in them.
+use Rattle.rbf_model.specs.Disk.{disk_of, IsDisk}
 use Rattle.std.proofs.Common.{◌≡◌, ◌≢◌, ◌⊎◌, ℕ, zero, suc, ◌+◌, ◌*◌, ◌<◌, ◌≤◌, true, ◌==◌, List, [], ◌∷◌, ◌++◌, length, take, refl, sym, ◌∙◌, ⊎_elim, arith, length-append, length-take, eqb-true, eq-eqb, leb-true}
 use Rattle.std.specs.Prelude.{flat_map}
 use Rattle.std.specs.List.{range_with_len}
 use Rattle.std.proofs.lemmas.Bool.{or_cases, or_left, or_right, false≢true, and_parts, cases_eq}
 use Rattle.std.proofs.lemmas.List.Folds.{list_any-append}
 use Rattle.std.proofs.lemmas.List.Elements.{All-head, All-tail}
-use Rattle.rbf_model.specs.Geometry.{LieWithin, Geometry, IsDisk, is_within}
-use Rattle.rbf_model.specs.Segments.{run, sectors_of, has}
-use Rattle.rbf_model.specs.File.{bytes_of, has_room}
+use Rattle.rbf_model.specs.Geometry.{LieWithin, Geometry, is_within}
+use Rattle.rbf_model.specs.Segments.{segment_sectors, sectors_of, has}
+use Rattle.rbf_model.specs.File.{segment_bytes, has_room}
 
 -- a number of two lists joined
 pub has_cases : (xs ys : List ℕ) (s : ℕ) → has (xs ++ ys) s ≡ true → (has xs s ≡ true) ⊎ (has ys s ≡ true)
@@ -48,7 +49,7 @@ sectors_within g (segment ∷ segments) all s h =
     let high : segment.0 + segment.1 ≤ g.total = leb-true (segment.0 + segment.1) g.total w.1 in
     (omega arith, omega arith))
     (λ later. sectors_within g segments (All-tail (λ x. is_within g x ≡ true) segment segments all) s later)
-    (has_cases (run segment) (sectors_of segments) s h)
+    (has_cases (segment_sectors segment) (sectors_of segments) s h)
 
 -- sectors of 256 bytes each, one after the other
 pub length-joined : (disk : ℕ → List ℕ) (xs : List ℕ) → ((s : ℕ) → has xs s ≡ true → length (disk s) ≡ 256) → length (flat_map disk xs) ≡ 256 * length xs
@@ -59,9 +60,9 @@ length-joined disk (x ∷ xs) full =
     length-append (disk x) (flat_map disk xs) ∙ omega (arith, first, others)
 
 -- a file's contents are as long as its size, which its sectors hold
-pub length-contents : (g : Geometry) (disk : ℕ → List ℕ) (segments : List (ℕ × ℕ)) (size : ℕ) → IsDisk g disk → LieWithin g segments
-    → has_room segments size ≡ true → length (take size (bytes_of disk segments)) ≡ size
+pub length-contents : (g : Geometry) (disk : ℕ → List ℕ) (segments : List (ℕ × ℕ)) (size : ℕ) → IsDisk (disk_of g disk) → LieWithin g segments
+    → has_room segments size ≡ true → length (take size (segment_bytes disk segments)) ≡ size
 length-contents g disk segments size sectors all room =
     let whole = length-joined disk (sectors_of segments) (λ s h. sectors s (sectors_within g segments all s h).1) in
     let fits : size ≤ 256 * length (sectors_of segments) = leb-true size (256 * length (sectors_of segments)) room in
-    length-take size (bytes_of disk segments) ∙ omega (arith, whole, fits)
+    length-take size (segment_bytes disk segments) ∙ omega (arith, whole, fits)

@@ -1,7 +1,8 @@
 -- What a write leaves of the files that it does not reach.
+use Rattle.rbf_model.specs.Disk.{disk_of, IsDisk}
 use Rattle.std.proofs.Common.{◌≡◌, ◌≢◌, ℕ, ◌≤◌, true, false, List, length, Some, sym, ◌∙◌, subst, arith}
 use Rattle.rbf_model.specs.Fields.{size_field, segments_field}
-use Rattle.rbf_model.specs.Geometry.{Geometry, IsDisk}
+use Rattle.rbf_model.specs.Geometry.{Geometry}
 use Rattle.rbf_model.specs.Segments.{has, sectors_of}
 use Rattle.rbf_model.specs.File.{DiskFile, file_at, has_room}
 use Rattle.rbf_model.specs.Space.{own_sectors}
@@ -10,7 +11,7 @@ use Rattle.rbf_model.specs.Writes.{put}
 use Rattle.rbf_model.proofs.Bytes.{put_beside, file_at_beside, not_has_first, length-put}
 
 -- a disk stays one
-pub disk_put : (g : Geometry) (disk : ℕ → List ℕ) (s : ℕ) (bytes : List ℕ) → IsDisk g disk → length bytes ≡ 256 → IsDisk g (put disk s bytes)
+pub disk_put : (g : Geometry) (disk : ℕ → List ℕ) (s : ℕ) (bytes : List ℕ) → IsDisk (disk_of g disk) → length bytes ≡ 256 → IsDisk (disk_of g (put disk s bytes))
 disk_put g disk s bytes sectors whole n low = length-put disk s bytes n whole (sectors n low)
 
 -- what a file shows, by its number
@@ -29,7 +30,7 @@ shown_at disk n file s bytes is none =
       room = subst (λ d. has_room file.segments (size_field d) ≡ true) (sym (put_beside disk s bytes n parts.0)) is.room;
     }
 
-module _ (g : Geometry) (disk : ℕ → List ℕ) (v : DiskVolume) (sound : Sound g disk v) where
+module _ (g : Geometry) (disk : ℕ → List ℕ) (v : DiskVolume) (sound : Sound (disk_of g disk) v) where
   pub shown_beside : (n : ℕ) (file : DiskFile) (s : ℕ) (bytes : List ℕ) → v.files n ≡ Some file → has (own_sectors n file) s ≡ false → IsShown (put disk s bytes) n file
   shown_beside n file s bytes is none =
       shown_at disk n file s bytes (record { same = sound.shows.shown n file is; room = sound.shows.room n file is }) none

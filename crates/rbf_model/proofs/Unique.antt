@@ -1,4 +1,5 @@
 -- An image stands for one volume at most.
+use Rattle.rbf_model.specs.Disk.{disk_of}
 use Rattle.std.proofs.Common.{◌≡◌, ◌↔◌, ℕ, List, Option, Some, None, IsSome, refl, sym, ap, ◌∙◌, subst, true}
 use Rattle.std.proofs.lemmas.Bool.{false≢true}
 use Rattle.std.proofs.lemmas.Bool.Decides.{same_from_decides}
@@ -20,7 +21,7 @@ same_option x (Some a) (Some b) there back one other = ap Some (one a refl ∙ s
 same_volume : (v w : DiskVolume) → v.ident ≡ w.ident → v.files ≡ w.files → v.lost ≡ w.lost → v.rest ≡ w.rest → v ≡ w
 same_volume v w p q r s = λ i. record { ident = p i; files = q i; lost = r i; rest = s i }
 
-module _ (g : Geometry) (disk : ℕ → List ℕ) (v w : DiskVolume) (one : Sound g disk v) (other : Sound g disk w) where
+module _ (g : Geometry) (disk : ℕ → List ℕ) (v w : DiskVolume) (one : Sound (disk_of g disk) v) (other : Sound (disk_of g disk) w) where
   same_files : v.files ≡ w.files
   same_files = fun_ext (λ n. same_option (file_at disk n) (v.files n) (w.files n)
       (λ h. (found g disk w other n).1 ((found g disk v one n).0 h)) (λ h. (found g disk v one n).1 ((found g disk w other n).0 h))

@@ -4,12 +4,12 @@ use Rattle.std.specs.Prelude.{find, option_map}
 use Rattle.std.proofs.lemmas.Bool.{cases_Bool, cond-true, cond-false, and_parts}
 use Rattle.std.proofs.lemmas.Option.{same_Some, none-some}
 use Rattle.std.proofs.lemmas.List.FromFn.{length-map-range_with_len, get_or-map-range_with_len}
-use Rattle.rbf_model.specs.Fields.{entry_at, is_used, descriptor_field}
+use Rattle.rbf_model.specs.Fields.{directory_entry, is_used, descriptor_field}
 use Rattle.rbf_model.specs.Geometry.{Geometry}
 use Rattle.rbf_model.specs.File.{DiskFile, is_directory}
 use Rattle.rbf_model.specs.Tree.{HasEntry, IsParent, of_root, of_other, HasDots, self_first, parent_first, root}
 use Rattle.rbf_model.specs.Volume.{IsTree, directories, listing}
-use Rattle.rbf_model.specs.Walk.{WalkEnd, arrives, not_allowed, not_found, found, step, go_on, walk, look_up, has_name, entries_of, may_search}
+use Rattle.rbf_model.specs.Walk.{WalkEnd, arrives, not_allowed, not_found, end_at, step, go_on, walk, look_up, entry_has_name, directory_entries, may_search}
 use Rattle.rbf_model.proofs.Lists.{some_is}
 use Rattle.rbf_model.proofs.Entries.{listing_directory}
 use Rattle.rbf_model.proofs.Named.{names_to}
@@ -32,18 +32,18 @@ map_some : {X : Type 0} (f : X → ℕ) (o : Option X) (n : ℕ) → option_map 
 map_some f None n h = absurd (none-some n h)
 map_some f (Some x) n h = (x, refl, same_Some (f x) n h)
 
-found_some : (o : Option ℕ) (n : ℕ) → found o ≡ arrives n → o ≡ Some n
+found_some : (o : Option ℕ) (n : ℕ) → end_at o ≡ arrives n → o ≡ Some n
 found_some None n h = cc
 found_some (Some m) n h = cc
 
 -- a name that is looked up is that of an entry
-look_up_entry : (contents name : List ℕ) (n : ℕ) → look_up contents name ≡ Some n → (i : ℕ) × HasEntry contents i × (descriptor_field (entry_at contents i) ≡ n)
+look_up_entry : (contents name : List ℕ) (n : ℕ) → look_up contents name ≡ Some n → (i : ℕ) × HasEntry contents i × (descriptor_field (directory_entry contents i) ≡ n)
 look_up_entry contents name n h =
-    let m = map_some descriptor_field (find (has_name name) (entries_of contents)) n h in
-    let w = find_some (has_name name) (entries_of contents) m.0 m.1 in
-    let low : w.0 < length contents / 32 = subst (λ k. w.0 < k) (length-map-range_with_len (entry_at contents) 0 (length contents / 32)) w.1 in
+    let m = map_some descriptor_field (find (entry_has_name name) (directory_entries contents)) n h in
+    let w = find_some (entry_has_name name) (directory_entries contents) m.0 m.1 in
+    let low : w.0 < length contents / 32 = subst (λ k. w.0 < k) (length-map-range_with_len (directory_entry contents) 0 (length contents / 32)) w.1 in
     let place : 0 + w.0 ≡ w.0 = omega arith in
-    let is : entry_at contents w.0 ≡ m.0 = sym (get_or-map-range_with_len (entry_at contents) 0 (length contents / 32) w.0 w.0 m.0 low place) ∙ w.2 in (
+    let is : directory_entry contents w.0 ≡ m.0 = sym (get_or-map-range_with_len (directory_entry contents) 0 (length contents / 32) w.0 w.0 m.0 low place) ∙ w.2 in (
       w.0,
       record { within = omega arith; used = subst (λ e. is_used e ≡ true) (sym is) (and_parts _ _ w.3).0 },
       ap descriptor_field is ∙ m.2,
@@ -55,29 +55,29 @@ module _ (g : Geometry) (files : ℕ → Option DiskFile) (tree : IsTree g files
   parent_file d p (of_other a link) = (tree.reached p).1 link.from
 
   dots_files : (d : ℕ) → IsSome (files d) → HasDots g (directories files) d
-      → IsSome (files (descriptor_field (entry_at (directories files d) 0))) × IsSome (files (descriptor_field (entry_at (directories files d) 1)))
+      → IsSome (files (descriptor_field (directory_entry (directories files d) 0))) × IsSome (files (descriptor_field (directory_entry (directories files d) 1)))
   dots_files d some (self_first {p = p} one two parent) =
       (subst (λ k. IsSome (files k)) (sym one.descriptor) some, subst (λ k. IsSome (files k)) (sym two.descriptor) (parent_file d p parent))
   dots_files d some (parent_first {p = p} one two parent) =
       (subst (λ k. IsSome (files k)) (sym one.descriptor) (parent_file d p parent), subst (λ k. IsSome (files k)) (sym two.descriptor) some)
 
   -- every entry of a directory names a file
-  pub entry_file : (d i : ℕ) (dir : DiskFile) → files d ≡ Some dir → is_directory dir ≡ true → HasEntry dir.contents i → IsSome (files (descriptor_field (entry_at dir.contents i)))
+  pub entry_file : (d i : ℕ) (dir : DiskFile) → files d ≡ Some dir → is_directory dir ≡ true → HasEntry dir.contents i → IsSome (files (descriptor_field (directory_entry dir.contents i)))
   entry_file d i dir is is_dir has =
-      subst (λ c. IsSome (files (descriptor_field (entry_at c i)))) lists
+      subst (λ c. IsSome (files (descriptor_field (directory_entry c i)))) lists
       (by_place i (subst (λ c. HasEntry c i) (sym lists) has) (dots_files d (some_is (files d) dir is) (tree.dots d dir is is_dir)))
     where
       lists : directories files d ≡ dir.contents
       lists = ap listing is ∙ listing_directory dir is_dir
 
       by_place : (j : ℕ) → HasEntry (directories files d) j
-          → IsSome (files (descriptor_field (entry_at (directories files d) 0))) × IsSome (files (descriptor_field (entry_at (directories files d) 1)))
-          → IsSome (files (descriptor_field (entry_at (directories files d) j)))
+          → IsSome (files (descriptor_field (directory_entry (directories files d) 0))) × IsSome (files (descriptor_field (directory_entry (directories files d) 1)))
+          → IsSome (files (descriptor_field (directory_entry (directories files d) j)))
       by_place zero entry first = first.0
       by_place (suc zero) entry first = first.1
       by_place (suc (suc j)) entry first =
           let after : 2 ≤ suc (suc j) = omega arith in
-          names_to g files tree d (suc (suc j)) (descriptor_field (entry_at (directories files d) (suc (suc j))))
+          names_to g files tree d (suc (suc j)) (descriptor_field (directory_entry (directories files d) (suc (suc j))))
           (record { after = after; entry = entry; descriptor = refl })
 
   step_file : (d n : ℕ) (user : ℕ) (execute : Bool) (name : List ℕ) (o : Option DiskFile) → files d ≡ o → step o user execute name ≡ arrives n → IsSome (files n)
@@ -85,10 +85,10 @@ module _ (g : Geometry) (files : ℕ → Option DiskFile) (tree : IsTree g files
   step_file d n user execute name (Some dir) is h =
       ⊎_elim
       (λ may.
-      let w = look_up_entry dir.contents name n (found_some _ n (sym (cond-true (may_search dir user execute) (found (look_up dir.contents name)) not_allowed may) ∙ h)) in
+      let w = look_up_entry dir.contents name n (found_some _ n (sym (cond-true (may_search dir user execute) (end_at (look_up dir.contents name)) not_allowed may) ∙ h)) in
       subst (λ k. IsSome (files k)) w.2 (entry_file d w.0 dir is (and_parts _ _ may).0 w.1))
       (λ may_not.
-      let end : not_allowed ≡ arrives n = sym (cond-false (may_search dir user execute) (found (look_up dir.contents name)) not_allowed may_not) ∙ h in
+      let end : not_allowed ≡ arrives n = sym (cond-false (may_search dir user execute) (end_at (look_up dir.contents name)) not_allowed may_not) ∙ h in
       absurd (cc))
       (cases_Bool (may_search dir user execute))
 

@@ -7,8 +7,10 @@ use Rattle.rbf_model.specs.Volume.{DiskVolume, file_numbers}
 
 -- the files that are no directories
 abbrev pub file_count : Geometry → DiskVolume → ℕ
-file_count g v = count_by (λ n. option_map_or (λ file. not (is_directory file)) (v.files n) false) (file_numbers g v)
+file_count g v =
+    count_by (λ n. option_map_or (λ file. not (is_directory file)) (v.files n) false) (file_numbers g v)
 
 -- and those that are, the root among them
 abbrev pub directory_count : Geometry → DiskVolume → ℕ
-directory_count g v = count_by (λ n. option_map_or is_directory (v.files n) false) (file_numbers g v)
+directory_count g v =
+    count_by (λ n. option_map_or is_directory (v.files n) false) (file_numbers g v)

@@ -1,4 +1,4 @@
--- Where the fields of RBF's sectors stand (OS-9 Technical Reference, Random Block File Manager).
+-- Where the fields of RBF's sectors stand (OS-9 Technical Reference, Random Block File Manager). Places are decimal.
 use Rattle.std.specs.Prelude.{ℕ, ◌+◌, ◌*◌, ◌==◌, Bool, not, List, map, take, drop, slice_index, take_while, Option}
 use Rattle.std.specs.List.{range_with_len}
 use Rattle.byteorder.specs.Endian.{big_from}
@@ -60,27 +60,27 @@ created_field descriptor = take 3 (drop 13 descriptor)
 abbrev pub segment_field : List ℕ → ℕ → ℕ × ℕ
 segment_field descriptor i = (big_from (16 + 5 * i) 3 descriptor, big_from (19 + 5 * i) 2 descriptor)
 
--- a pair that stands for sectors
-abbrev pub is_segment : ℕ × ℕ → Bool
-is_segment segment = not (segment.1 == 0)
+-- a pair that represents sectors
+abbrev pub has_sectors : ℕ × ℕ → Bool
+has_sectors segment = not (segment.1 == 0)
 
 -- the segments of a file: the pairs, of the 48 that there are, before the first with a zero count
 unfoldable pub segments_field : List ℕ → List (ℕ × ℕ)
-segments_field descriptor = take_while is_segment (map (segment_field descriptor) (range_with_len 0 48))
+segments_field descriptor = take_while has_sectors (map (segment_field descriptor) (range_with_len 0 48))
 
 -- Directory entry ("Directories").
 
 -- the entry in place i of a directory's bytes
-abbrev pub entry_at : List ℕ → ℕ → List ℕ
-entry_at contents i = take 32 (drop (32 * i) contents)
+abbrev pub directory_entry : List ℕ → ℕ → List ℕ
+directory_entry contents i = take 32 (drop (32 * i) contents)
 
 -- DIR.NM: an entry is used where its name does not begin with a zero
 abbrev pub is_used : List ℕ → Bool
 is_used entry = not (slice_index entry 0 == 0)
 
 -- DIR.NM: the name, in 29 bytes, the last character with bit 7
-abbrev pub name_field : List ℕ → Option (List ℕ)
-name_field entry = stored_name (take 29 entry)
+abbrev pub entry_name_field : List ℕ → Option (List ℕ)
+entry_name_field entry = stored_name (take 29 entry)
 
 -- DIR.FD: the descriptor that the entry names
 abbrev pub descriptor_field : List ℕ → ℕ

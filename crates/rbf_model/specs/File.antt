@@ -1,10 +1,8 @@
--- A file, and the file that a descriptor stands for.
+-- A file, and the file that a descriptor represents.
 use Rattle.std.specs.Prelude.{ℕ, ◌*◌, ◌%◌, ◌==◌, ◌&&◌, nat_le, Bool, List, take, length, flat_map}
-use Rattle.std.specs.List.{list_all}
 use Rattle.std.specs.Int.{bit_at}
 use Rattle.rbf_model.specs.Fields.{attributes_field, owner_field, modified_field, links_field, size_field, created_field, segments_field}
 use Rattle.rbf_model.specs.Segments.{sectors_of}
-use Rattle.rbf_model.specs.Geometry.{Geometry, is_within}
 
 -- a file or directory: what its descriptor says of it, where its sectors are, and its bytes
 pub record DiskFile : Type 0 where
@@ -21,10 +19,10 @@ abbrev pub is_directory : DiskFile → Bool
 is_directory file = bit_at file.attributes 7 == 1
 
 -- the bytes of the sectors of a segment list
-abbrev pub bytes_of : (ℕ → List ℕ) → List (ℕ × ℕ) → List ℕ
-bytes_of disk segments = flat_map disk (sectors_of segments)
+abbrev pub segment_bytes : (ℕ → List ℕ) → List (ℕ × ℕ) → List ℕ
+segment_bytes disk segments = flat_map disk (sectors_of segments)
 
--- the file that a descriptor stands for on a disk: its contents are the first bytes of its sectors, as many as its size
+-- the file that a descriptor represents on a disk: its contents are the first bytes of its sectors, as many as its size
 abbrev pub file_from : (ℕ → List ℕ) → List ℕ → DiskFile
 file_from disk descriptor = record {
   attributes = attributes_field descriptor;
@@ -33,7 +31,7 @@ file_from disk descriptor = record {
   links = links_field descriptor;
   created = created_field descriptor;
   segments = segments_field descriptor;
-  contents = take (size_field descriptor) (bytes_of disk (segments_field descriptor));
+  contents = take (size_field descriptor) (segment_bytes disk (segments_field descriptor));
 }
 
 -- the file whose descriptor is in sector n
@@ -47,9 +45,3 @@ has_room segments size = nat_le size (256 * length (sectors_of segments))
 -- a size that a directory may have: whole entries, and two of them at least
 abbrev pub is_directory_size : ℕ → Bool
 is_directory_size size = nat_le 64 size && (size % 32 == 0)
-
--- a directory that can be searched: its segments are within the volume and hold its size, which is a directory's
-abbrev pub is_searched : Geometry → (ℕ → List ℕ) → ℕ → Bool
-is_searched g disk n =
-    is_directory (file_at disk n) && list_all (is_within g) (segments_field (disk n))
-    && has_room (segments_field (disk n)) (size_field (disk n)) && is_directory_size (size_field (disk n))

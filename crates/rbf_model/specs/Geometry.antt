@@ -12,7 +12,12 @@ pub record Geometry : Type 0 where
 -- as the identification sector has it
 abbrev pub geometry : List ℕ → Geometry
 geometry ident =
-    record { total = total_field ident; map_bytes = map_bytes_field ident; cluster = cluster_field ident; root = root_field ident }
+    record {
+      total = total_field ident;
+      map_bytes = map_bytes_field ident;
+      cluster = cluster_field ident;
+      root = root_field ident;
+    }
 
 -- the sizes of clusters that this project takes: the powers of two up to 64 sectors
 abbrev pub is_cluster_size : ℕ → Bool
@@ -53,17 +58,13 @@ is_within g segment = nat_le 1 segment.0 && nat_le (segment.0 + segment.1) g.tot
 abbrev pub LieWithin : Geometry → List (ℕ × ℕ) → Type 0
 LieWithin g segments = All (λ segment. is_within g segment ≡ true) segments
 
--- A disk gives the 256 bytes of each sector by its number, the LSN. That of an image:
+-- the 256 bytes of an image's sector n, its LSN
 abbrev pub sector : List ℕ → ℕ → List ℕ
 sector image n = take 256 (drop (256 * n) image)
 
 -- what an image's sector 0 says
 abbrev pub image_geometry : List ℕ → Geometry
 image_geometry image = geometry (sector image 0)
-
--- every sector of the volume has 256 bytes
-abbrev pub IsDisk : Geometry → (ℕ → List ℕ) → Type 0
-IsDisk g disk = (n : ℕ) → n < g.total → length (disk n) ≡ 256
 
 -- an image that holds the volume that its sector 0 speaks of
 pub record HasHeader (image : List ℕ) : Type 0 where

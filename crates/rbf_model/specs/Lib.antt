@@ -1,12 +1,15 @@
 pub mod Fields
-pub mod Segments
 pub mod Geometry
+pub mod Disk
+pub mod Segments
 pub mod File
 pub mod Space
 pub mod Tree
 pub mod Volume
 pub mod Counts
+pub mod Search
 pub mod Faults
+pub mod Keeps
+pub mod Walk
 pub mod Writes
 pub mod Laws
-pub mod Walk

@@ -4,12 +4,12 @@ use Rattle.std.specs.Prelude.{ℕ, ◌+◌, ◌-◌, ◌==◌, ◌≢◌, ◌&&�
 use Rattle.std.specs.List.{range_with_len, list_any}
 
 -- the sectors of one segment: so many from the first on
-abbrev pub run : ℕ × ℕ → List ℕ
-run segment = range_with_len segment.0 segment.1
+abbrev pub segment_sectors : ℕ × ℕ → List ℕ
+segment_sectors segment = range_with_len segment.0 segment.1
 
 -- the sectors of a segment list, in order, those of each segment after those of the one before it
 abbrev pub sectors_of : List (ℕ × ℕ) → List ℕ
-sectors_of segments = flat_map run segments
+sectors_of segments = flat_map segment_sectors segments
 
 -- the sector is the next after the segment, which has room for this many more
 abbrev pub joins : ℕ × ℕ → ℕ → ℕ → Bool

@@ -6,7 +6,7 @@ use Rattle.rbf_model.specs.Geometry.{LieWithin, Geometry, map_sectors}
 use Rattle.rbf_model.specs.Segments.{AreDistinct, sectors_of, has}
 use Rattle.rbf_model.specs.File.{DiskFile}
 
--- Cluster c is the sectors from c k up to (c + 1) k. It is whole where they are all below the total.
+-- Cluster c is the sectors from c k up to (c + 1) k. It is whole if they are all below the total.
 abbrev pub is_whole : Geometry → ℕ → Bool
 is_whole g c = nat_le ((c + 1) * g.cluster) g.total
 
@@ -52,11 +52,16 @@ pub record IsLost (g : Geometry) (marked : ℕ → Bool) (files : ℕ → Option
   pub marked_in : marked c ≡ true
   pub unused : Unused g files c
 
--- The segments of each file are within the volume, and every cluster is used by one owner at most, and marked where it is used.
+-- The rules on sectors, for the files of a volume: the segments of each are within it, and every cluster is used by one
+-- owner at most, and marked if it is used.
 pub record IsMapped (g : Geometry) (marked : ℕ → Bool) (files : ℕ → Option DiskFile) (lost : ℕ → Bool) : Type 0 where
+  -- rule 1
   pub within : (n : ℕ) (file : DiskFile) → files n ≡ Some file → LieWithin g file.segments
+  -- rule 3
   pub marks : (n : ℕ) (file : DiskFile) (c : ℕ) → files n ≡ Some file → has_cluster g n file c ≡ true → marked c ≡ true
+  -- rule 4
   pub once : (n : ℕ) (file : DiskFile) → files n ≡ Some file → AreDistinct (owned g n file)
-  pub apart : (n m : ℕ) (one other : DiskFile) (c : ℕ) →
-      files n ≡ Some one → files m ≡ Some other → has_cluster g n one c ≡ true → has_cluster g m other c ≡ true → n ≡ m
+  pub apart : (n m : ℕ) (one other : DiskFile) (c : ℕ) → files n ≡ Some one → files m ≡ Some other
+      → has_cluster g n one c ≡ true → has_cluster g m other c ≡ true → n ≡ m
+  -- the lost clusters are those that are in use for nothing
   pub lost_are : (c : ℕ) → (lost c ≡ true) ↔ IsLost g marked files c

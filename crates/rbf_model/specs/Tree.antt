@@ -1,7 +1,8 @@
--- Directories, and the tree that their entries make. `dirs` gives the bytes of each directory by the number of its descriptor, and no bytes for a number that is no directory's.
+-- Directories, and the tree that their entries make. `dirs` gives the bytes of each directory by the number of its
+-- descriptor, and no bytes for a number that is no directory's.
 use Rattle.std.specs.Prelude.{◌≡◌, ◌≢◌, ℕ, ◌+◌, ◌*◌, ◌≤◌, true, List, [], ◌∷◌, length, Some}
 use Rattle.os9_base.specs.Name.{SameName}
-use Rattle.rbf_model.specs.Fields.{entry_at, is_used, name_field, descriptor_field}
+use Rattle.rbf_model.specs.Fields.{directory_entry, is_used, entry_name_field, descriptor_field}
 use Rattle.rbf_model.specs.Geometry.{Geometry, IsNumber}
 
 -- the names `.`, of the directory itself, and `..`, of its parent ("Directories")
@@ -14,31 +15,27 @@ dot_dot = 46 ∷ 46 ∷ []
 -- the directory has an entry in this place, and it is used
 pub record HasEntry (contents : List ℕ) (i : ℕ) : Type 0 where
   pub within : 32 * (i + 1) ≤ length contents
-  pub used : is_used (entry_at contents i) ≡ true
+  pub used : is_used (directory_entry contents i) ≡ true
 
 -- the directory names descriptor n in place i, after the first two
-pub record NamesIn (contents : List ℕ) (i n : ℕ) : Type 0 where
+pub record EntryNames (contents : List ℕ) (i n : ℕ) : Type 0 where
   pub after : 2 ≤ i
   pub entry : HasEntry contents i
-  pub descriptor : descriptor_field (entry_at contents i) ≡ n
-
--- directory d does
-abbrev pub Names : (ℕ → List ℕ) → ℕ → ℕ → ℕ → Type 0
-Names dirs d i n = NamesIn (dirs d) i n
+  pub descriptor : descriptor_field (directory_entry contents i) ≡ n
 
 -- the files that are reached: the root, and each number of the volume that a reached directory names
 pub data Reached (g : Geometry) (dirs : ℕ → List ℕ) : ℕ → Type 0 where
   root : Reached g dirs g.root
-  named : {d i n : ℕ} → Reached g dirs d → Names dirs d i n → IsNumber g n → Reached g dirs n
+  named : {d i n : ℕ} → Reached g dirs d → EntryNames (dirs d) i n → IsNumber g n → Reached g dirs n
 
 -- a reached directory names n
 pub record Links (g : Geometry) (dirs : ℕ → List ℕ) (d i n : ℕ) : Type 0 where
   pub from : Reached g dirs d
-  pub names : Names dirs d i n
+  pub names : EntryNames (dirs d) i n
 
 -- the entry has this name and this descriptor
 pub record IsEntry (entry name : List ℕ) (n : ℕ) : Type 0 where
-  pub name_is : name_field entry ≡ Some name
+  pub name_is : entry_name_field entry ≡ Some name
   pub descriptor : descriptor_field entry ≡ n
 
 -- p is the parent of directory d: a reached directory that names it; the root is its own
@@ -48,8 +45,12 @@ pub data IsParent (g : Geometry) (dirs : ℕ → List ℕ) (d p : ℕ) : Type 0 
 
 -- the first two entries of a directory are the directory itself and its parent, in either order
 pub data HasDots (g : Geometry) (dirs : ℕ → List ℕ) (d : ℕ) : Type 0 where
-  self_first : {p : ℕ} → IsEntry (entry_at (dirs d) 0) dot d → IsEntry (entry_at (dirs d) 1) dot_dot p → IsParent g dirs d p → HasDots g dirs d
-  parent_first : {p : ℕ} → IsEntry (entry_at (dirs d) 0) dot_dot p → IsEntry (entry_at (dirs d) 1) dot d → IsParent g dirs d p → HasDots g dirs d
+  self_first : {p : ℕ} → IsEntry (directory_entry (dirs d) 0) dot d → IsEntry (directory_entry (dirs d) 1) dot_dot p
+      → IsParent g dirs d p
+      → HasDots g dirs d
+  parent_first : {p : ℕ} → IsEntry (directory_entry (dirs d) 0) dot_dot p → IsEntry (directory_entry (dirs d) 1) dot d
+      → IsParent g dirs d p
+      → HasDots g dirs d
 
 -- a name that a file may have in a directory
 pub record IsProper (name : List ℕ) : Type 0 where
@@ -58,10 +59,13 @@ pub record IsProper (name : List ℕ) : Type 0 where
 
 -- every used entry after the first two has a name
 abbrev pub HasNames : List ℕ → Type 0
-HasNames contents = (i : ℕ) → 2 ≤ i → HasEntry contents i → (name : List ℕ) × (name_field (entry_at contents i) ≡ Some name) × IsProper name
+HasNames contents =
+    (i : ℕ) → 2 ≤ i → HasEntry contents i
+    → (name : List ℕ) × (entry_name_field (directory_entry contents i) ≡ Some name) × IsProper name
 
 -- and no two of them the same one
 abbrev pub HasDifferentNames : List ℕ → Type 0
 HasDifferentNames contents =
-    (i j : ℕ) (one other : List ℕ) → 2 ≤ i → 2 ≤ j → HasEntry contents i → HasEntry contents j → name_field (entry_at contents i) ≡ Some one
-    → name_field (entry_at contents j) ≡ Some other → SameName one other → i ≡ j
+    (i j : ℕ) (one other : List ℕ) → 2 ≤ i → 2 ≤ j → HasEntry contents i → HasEntry contents j
+    → entry_name_field (directory_entry contents i) ≡ Some one
+    → entry_name_field (directory_entry contents j) ≡ Some other → SameName one other → i ≡ j

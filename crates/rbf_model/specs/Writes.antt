@@ -1,7 +1,7 @@
 -- What the write of one sector makes of an image, and a change of one file of a volume.
 use Rattle.std.specs.Prelude.{◌≡◌, ◌≢◌, ◌⊎◌, ℕ, ◌+◌, ◌*◌, ◌≤◌, ◌==◌, Bool, true, false, List, ◌++◌, length, take, drop, Option, Some, if◌then◌else◌}
 use Rattle.os9_base.specs.Name.{SameName}
-use Rattle.rbf_model.specs.Fields.{entry_at, is_used, name_field}
+use Rattle.rbf_model.specs.Fields.{directory_entry, is_used, entry_name_field}
 use Rattle.rbf_model.specs.Geometry.{Geometry}
 use Rattle.rbf_model.specs.File.{DiskFile}
 use Rattle.rbf_model.specs.Space.{is_whole}
@@ -40,7 +40,8 @@ with_file g v n file = record {
 
 -- a volume whose file of number n is another in the same place: one with the same segments
 abbrev pub with_file_in_place : DiskVolume → ℕ → DiskFile → DiskVolume
-with_file_in_place v n file = record { ident = v.ident; files = put_file v.files n (Some file); lost = v.lost; rest = v.rest }
+with_file_in_place v n file =
+    record { ident = v.ident; files = put_file v.files n (Some file); lost = v.lost; rest = v.rest }
 
 -- a volume with other lost clusters
 abbrev pub with_lost : DiskVolume → (ℕ → Bool) → DiskVolume
@@ -49,7 +50,8 @@ with_lost v lost = record { ident = v.ident; files = v.files; lost = lost; rest 
 -- the bytes of a new directory n in directory d: itself and its parent, and no other entry
 pub record IsNewDirectory (contents : List ℕ) (n d : ℕ) : Type 0 where
   pub two : length contents ≡ 64
-  pub dots : (IsEntry (entry_at contents 0) dot_dot d × IsEntry (entry_at contents 1) dot n) ⊎ (IsEntry (entry_at contents 0) dot n × IsEntry (entry_at contents 1) dot_dot d)
+  pub dots : (IsEntry (directory_entry contents 0) dot_dot d × IsEntry (directory_entry contents 1) dot n)
+      ⊎ (IsEntry (directory_entry contents 0) dot n × IsEntry (directory_entry contents 1) dot_dot d)
 
 -- an entry that names n by a name that no other used entry of the directory has
 pub record IsNewEntry (contents : List ℕ) (i : ℕ) (entry : List ℕ) (n : ℕ) : Type 0 where
@@ -57,4 +59,5 @@ pub record IsNewEntry (contents : List ℕ) (i : ℕ) (entry : List ℕ) (n : �
   pub used : is_used entry ≡ true
   pub is : IsEntry entry name n
   pub proper : IsProper name
-  pub differs : (j : ℕ) (other : List ℕ) → j ≢ i → 2 ≤ j → HasEntry contents j → name_field (entry_at contents j) ≡ Some other → SameName name other → ⊥
+  pub differs : (j : ℕ) (other : List ℕ) → j ≢ i → 2 ≤ j → HasEntry contents j
+      → entry_name_field (directory_entry contents j) ≡ Some other → SameName name other → ⊥

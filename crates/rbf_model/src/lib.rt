@@ -1,4 +1,4 @@
-//! What RBF's disks are: the volume that an image stands for, and what one sector write makes of it.
+//! What RBF's disks are: the volume that an image represents, and what one sector write makes of it.
 #![tactic(auto)]
 
 pub mod volume;

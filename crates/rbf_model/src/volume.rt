@@ -1,29 +1,32 @@
 //! The volume of an image, as laws over all images.
 
+ghost use Rattle.rbf_model.specs.Disk.{image_disk};
 ghost use Rattle.std.specs.Prelude.{◌≡◌, ℕ, List, filter, not, ◌&&◌, Bool, IsSome};
 ghost use Rattle.std.specs.List.{range_with_len};
 ghost use Rattle.rbf_model.specs.Geometry.{image_geometry, sector, HasHeader};
 ghost use Rattle.rbf_model.specs.Space.{is_whole, is_marked, cluster_count};
 ghost use Rattle.rbf_model.specs.Volume.{DiskVolume, Vol, free_clusters};
 ghost use Rattle.rbf_model.specs.Walk.{arrives, walk};
-ghost use Rattle.rbf_model.specs.Faults.{Keeps, IsFound, ImageBreaks, image_volume};
+ghost use Rattle.rbf_model.specs.Faults.{ImageBreaks};
+ghost use Rattle.rbf_model.specs.Keeps.{Keeps};
+ghost use Rattle.rbf_model.specs.Search.{IsFound, image_volume};
 
-/// An image stands for one volume at most.
+/// An image represents one volume at most.
 pub fn one_volume()
     ensures { (image : List ℕ) (v w : DiskVolume) → Vol image v → Vol image w → v ≡ w }
 {}
 
-/// An image that stands for a volume breaks no rule.
+/// An image that represents a volume breaks no rule.
 pub fn no_rule_is_broken()
     ensures { (image : List ℕ) (v : DiskVolume) (rule lsn : ℕ) →
         Vol image v → ImageBreaks image rule lsn → ⊥ }
 {}
 
-/// An image on which no rule is broken stands for the volume of what is reached on it.
+/// An image on which no rule is broken represents the volume of what is reached on it.
 pub fn rules_suffice()
     ensures { (image numbers : List ℕ) → HasHeader image
-        → Keeps (image_geometry image) (sector image)
-        → IsFound (image_geometry image) (sector image) numbers
+        → Keeps (image_disk image)
+        → IsFound (image_disk image) numbers
         → Vol image (image_volume image numbers) }
 {}
 

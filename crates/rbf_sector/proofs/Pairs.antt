@@ -6,7 +6,7 @@ use Rattle.std.proofs.lemmas.Bool.Decides.{nat_tests}
 use Rattle.std.proofs.lemmas.List.{ext_get_or}
 use Rattle.std.proofs.lemmas.List.FromFn.{length-map-range_with_len, get_or-map-range_with_len}
 use Rattle.std.proofs.lemmas.List.Elements.{All-get_or}
-use Rattle.rbf_model.specs.Fields.{segment_field, is_segment, segments_field}
+use Rattle.rbf_model.specs.Fields.{segment_field, has_sectors, segments_field}
 use Rattle.rbf_segs.specs.Segments.{IsSegment, IsSegments}
 use Rattle.rbf_sector.specs.Parts.{KeepsBeside}
 use Rattle.rbf_sector.proofs.Written.{number_kept}
@@ -57,15 +57,15 @@ list_is f segs pairs =
     let counted = length-map-range_with_len f 0 (length segs) in
     ext_get_or (0, 0) (map f (range_with_len 0 (length segs))) segs counted (λ k below. get_or-map-range_with_len f 0 (length segs) k k (0, 0) (omega arith) (omega arith) ∙ pairs k (omega arith))
 
-segment_is : (pair : ℕ × ℕ) → IsSegment pair → is_segment pair ≡ true
+segment_is : (pair : ℕ × ℕ) → IsSegment pair → has_sectors pair ≡ true
 segment_is pair whole = not_zero pair.1 whole.some
   where
     not_zero : (n : ℕ) → 1 ≤ n → not (eqb n 0) ≡ true
     not_zero n some = grind (arith, nat_tests)
 
-pass : (old new : List ℕ) (segs : List (ℕ × ℕ)) → IsSegments segs → HasPairs old new segs (length segs) → (k : ℕ) → k < length segs → is_segment (segment_field new k) ≡ true
+pass : (old new : List ℕ) (segs : List (ℕ × ℕ)) → IsSegments segs → HasPairs old new segs (length segs) → (k : ℕ) → k < length segs → has_sectors (segment_field new k) ≡ true
 pass old new segs whole written k below =
-    ap is_segment (written.pairs k below) ∙ segment_is (get_or segs k (0, 0)) (All-get_or IsSegment segs k (0, 0) below whole.each)
+    ap has_sectors (written.pairs k below) ∙ segment_is (get_or segs k (0, 0)) (All-get_or IsSegment segs k (0, 0) below whole.each)
 
 -- a full list, and one that is ended by a pair of zeros
 pub all_pairs : (old new : List ℕ) (segs : List (ℕ × ℕ)) → IsSegments segs → HasPairs old new segs (length segs) → length segs ≡ 48 → segments_field new ≡ segs
@@ -77,7 +77,7 @@ ended_pairs old mid new segs whole written few end beside =
     let n = length segs in
     let same : (k : ℕ) → k < n → segment_field new k ≡ segment_field mid k = λ k below. pair_kept mid new (16 + 5 * n) 5 k beside (inl (omega arith)) in
     let P : ℕ → Type 0 = λ m. KeepsBeside old new 16 m in
-    (segments-stop new n few (λ k below. ap is_segment (same k below) ∙ pass old mid segs whole written k below) (ap is_segment end) ∙ list_is (segment_field new) segs (λ k below. same k below ∙ written.pairs k below), subst P (let more : 5 * n + 5 ≡ 5 * (n + 1) = omega arith in more) (keeps_then written.beside beside refl))
+    (segments-stop new n few (λ k below. ap has_sectors (same k below) ∙ pass old mid segs whole written k below) (ap has_sectors end) ∙ list_is (segment_field new) segs (λ k below. same k below ∙ written.pairs k below), subst P (let more : 5 * n + 5 ≡ 5 * (n + 1) = omega arith in more) (keeps_then written.beside beside refl))
 
 -- the same with the counts as the code has them
 pub ended_at : (old mid new : List ℕ) (segs : List (ℕ × ℕ)) (i n : ℕ) → IsSegments segs → HasPairs old mid segs i → i ≡ length segs → n ≡ length segs → n < 48 → segment_field new n ≡ (0, 0) → KeepsBeside mid new (16 + 5 * n) 5 → segments_field new ≡ segs

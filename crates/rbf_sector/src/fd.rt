@@ -3,7 +3,7 @@ ghost use Rattle.rbf_model.specs.Fields.{attributes_field, owner_field, modified
 ghost use Rattle.rbf_sector.specs.Parts.{KeepsBeside};
 
 use crate::parts::{put_bytes, put_u16, put_u24, put_u32, u16_at, u24_at, u32_at};
-use rbf_segs::{MAX_RUNS, Segs};
+use rbf_segs::{MAX_SEGMENTS, Segs};
 
 /// A file descriptor (OS-9 Technical Reference, Random Block File Manager, "File Descriptors").
 ///
@@ -74,7 +74,7 @@ fn write_segs(segs: &Segs, b: &mut [u8; 256])
         let (lsn, count) = segs.run(i);
         put_pair(b, usize::from(i), lsn, count);
     }
-    if usize::from(runs) < MAX_RUNS {
+    if usize::from(runs) < MAX_SEGMENTS {
         put_pair(b, usize::from(runs), 0, 0);
     }
 }
@@ -96,7 +96,7 @@ fn read_segs(b: &[u8; 256]) -> Segs
     ensures { result ≡ segments_field b.now }
 {
     let mut segs = Segs::empty();
-    for i in 0..MAX_RUNS {
+    for i in 0..MAX_SEGMENTS {
         let at = 16 + 5 * i;
         let count = u16_at(b, at + 3);
         if count == 0 {

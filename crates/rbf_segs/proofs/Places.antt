@@ -5,15 +5,15 @@ use Rattle.rbf_segs.specs.declared.segs.Segs.TheInside.{Inside}
 use Rattle.std.proofs.lemmas.List.Elements.{All-push, All-take}
 use Rattle.rbf_model.specs.Segments.{sectors_of, shortened_segments}
 use Rattle.rbf_segs.specs.Segments.{IsSegment}
-use Rattle.rbf_segs.specs.Places.{in_places, IsInside}
+use Rattle.rbf_segs.specs.Places.{in_places, HoldsSegments}
 use Rattle.rbf_segs.proofs.Runs.{shortened-append, length-shortened, All-shortened}
 
 -- places that hold this list, under its length
-pub record Hold (segments : List (ℕ × ℕ)) (inside : Inside) : Type 0 where
+pub record HoldsList (segments : List (ℕ × ℕ)) (inside : Inside) : Type 0 where
   pub list : take inside.len inside.places ≡ segments
-  pub kept : IsInside inside
+  pub kept : HoldsSegments inside
 
-pub hold : (segments places : List (ℕ × ℕ)) (len : ℕ) → length segments ≤ 48 → All IsSegment segments → places ≡ in_places segments → len ≡ length segments → Hold segments (record { places = places; len = len })
+pub hold : (segments places : List (ℕ × ℕ)) (len : ℕ) → length segments ≤ 48 → All IsSegment segments → places ≡ in_places segments → len ≡ length segments → HoldsList segments (record { places = places; len = len })
 hold segments places len few each zeros counted =
     let list : take len places ≡ segments = rw (zeros, counted) (take_at segments (replicate (48 - length segments) (0, 0)) (length segments) (λ _. length segments)) in
     record {
@@ -48,8 +48,8 @@ in_places-last segments run some =
     set-append_left segments zeros n run in_list ∙ ap (λ front. front ++ zeros) again ∙ ap (λ m. (take n segments ++ run ∷ []) ++ replicate (48 - m) zero) same
 
 -- what the writes of a `Segs` leave
-module _ (inside : Inside) (fits : IsInside inside) (run : ℕ × ℕ) (whole : IsSegment run) (place : ℕ) where
-  pub pushed : place ≡ inside.len → inside.len < 48 → Hold (take inside.len inside.places ++ run ∷ []) (record { places = set inside.places place run; len = inside.len + 1 })
+module _ (inside : Inside) (fits : HoldsSegments inside) (run : ℕ × ℕ) (whole : IsSegment run) (place : ℕ) where
+  pub pushed : place ≡ inside.len → inside.len < 48 → HoldsList (take inside.len inside.places ++ run ∷ []) (record { places = set inside.places place run; len = inside.len + 1 })
   pushed behind room =
       let segments = take inside.len inside.places in
       let counted = fits.counted in
@@ -57,7 +57,7 @@ module _ (inside : Inside) (fits : IsInside inside) (run : ℕ × ℕ) (whole : 
       let place_is : place ≡ length segments = omega arith in
       hold (segments ++ run ∷ []) (set inside.places place run) (inside.len + 1) (omega arith) (All-push IsSegment segments run fits.each whole) (ap (λ p. set p place run) fits.zeros ∙ ap (λ n. set (in_places segments) n run) place_is ∙ in_places-push segments run (omega arith)) (omega arith)
 
-  pub replaced : place ≡ inside.len - 1 → 1 ≤ inside.len → Hold (take (length (take inside.len inside.places) - 1) (take inside.len inside.places) ++ run ∷ []) (record { places = set inside.places place run; len = inside.len })
+  pub replaced : place ≡ inside.len - 1 → 1 ≤ inside.len → HoldsList (take (length (take inside.len inside.places) - 1) (take inside.len inside.places) ++ run ∷ []) (record { places = set inside.places place run; len = inside.len })
   replaced last some =
       let segments = take inside.len inside.places in
       let counted = fits.counted in
@@ -67,7 +67,7 @@ module _ (inside : Inside) (fits : IsInside inside) (run : ℕ × ℕ) (whole : 
       let place_is : place ≡ length segments - 1 = omega arith in
       hold (front ++ run ∷ []) (set inside.places place run) inside.len (omega arith) (All-push IsSegment front run (All-take IsSegment (length segments - 1) segments fits.each) whole) (ap (λ p. set p place run) fits.zeros ∙ ap (λ n. set (in_places segments) n run) place_is ∙ in_places-last segments run (omega arith)) (omega arith)
 
-pub cut_short : (inside : Inside) (fits : IsInside inside) (sectors : ℕ) (places : List (ℕ × ℕ)) (len : ℕ) → sectors ≤ length (sectors_of (take inside.len inside.places)) → places ≡ shortened_segments sectors inside.places ++ replicate (length inside.places - len) (0, 0) → len ≡ length (shortened_segments sectors inside.places) → Hold (shortened_segments sectors (take inside.len inside.places)) (record { places = places; len = len })
+pub cut_short : (inside : Inside) (fits : HoldsSegments inside) (sectors : ℕ) (places : List (ℕ × ℕ)) (len : ℕ) → sectors ≤ length (sectors_of (take inside.len inside.places)) → places ≡ shortened_segments sectors inside.places ++ replicate (length inside.places - len) (0, 0) → len ≡ length (shortened_segments sectors inside.places) → HoldsList (shortened_segments sectors (take inside.len inside.places)) (record { places = places; len = len })
 cut_short inside fits sectors places len within cut counted =
     let segments = take inside.len inside.places in
     let zero : ℕ × ℕ = (0, 0) in

@@ -8,25 +8,25 @@ use Rattle.std.proofs.lemmas.List.{get_or-append-add, take_more, drop_more, take
 use Rattle.std.proofs.lemmas.List.Concat.{flat_map-append}
 use Rattle.std.proofs.lemmas.Bool.Decides.{nat_tests}
 use Rattle.std.proofs.lemmas.Grind.{drop_more_same}
-use Rattle.rbf_model.specs.Segments.{run, sectors_of, joins, appended_segments, shortened_segments}
+use Rattle.rbf_model.specs.Segments.{segment_sectors, sectors_of, joins, appended_segments, shortened_segments}
 use Rattle.rbf_segs.specs.Segments.{IsSegment, Lengthens}
 
 -- a run has as many sectors as its count says
-pub length-run : (segment : ℕ × ℕ) → length (run segment) ≡ segment.1
+pub length-run : (segment : ℕ × ℕ) → length (segment_sectors segment) ≡ segment.1
 length-run segment = length-range_with_len segment.0 segment.1
 
 pub append_nil : {A : Type 0} (xs : List A) → xs ++ [] ≡ xs
 append_nil xs = search rules
 
 -- one run more
-pub sectors_of-push : (runs : List (ℕ × ℕ)) (segment : ℕ × ℕ) → sectors_of (runs ++ segment ∷ []) ≡ sectors_of runs ++ run segment
+pub sectors_of-push : (runs : List (ℕ × ℕ)) (segment : ℕ × ℕ) → sectors_of (runs ++ segment ∷ []) ≡ sectors_of runs ++ segment_sectors segment
 sectors_of-push runs segment =
-    flat_map-append run runs (segment ∷ []) ∙ ap (λ s. sectors_of runs ++ s) (append_nil (run segment))
+    flat_map-append segment_sectors runs (segment ∷ []) ∙ ap (λ s. sectors_of runs ++ s) (append_nil (segment_sectors segment))
 
 -- the count of sectors, one run further
 pub length-sectors_of_more : (runs : List (ℕ × ℕ)) (i : ℕ) (d : ℕ × ℕ) → i < length runs → length (sectors_of (take (i + 1) runs)) ≡ length (sectors_of (take i runs)) + (get_or runs i d).1
 length-sectors_of_more runs i d within =
-    ap (λ s. length (sectors_of s)) (take_more runs i d within) ∙ ap length (sectors_of-push (take i runs) (get_or runs i d)) ∙ length-append (sectors_of (take i runs)) (run (get_or runs i d)) ∙ ap (λ n. length (sectors_of (take i runs)) + n) (length-run (get_or runs i d))
+    ap (λ s. length (sectors_of s)) (take_more runs i d within) ∙ ap length (sectors_of-push (take i runs) (get_or runs i d)) ∙ length-append (sectors_of (take i runs)) (segment_sectors (get_or runs i d)) ∙ ap (λ n. length (sectors_of (take i runs)) + n) (length-run (get_or runs i d))
 
 -- a place in the first run, and one behind it
 pub slice_get-in_run : (lsn count place : ℕ) (rest : List ℕ) → place < count → slice_get (range_with_len lsn count ++ rest) place ≡ Some (lsn + place)
@@ -169,10 +169,10 @@ last_sector_is runs d some has =
     let segment = get_or runs n d in
     let front = sectors_of (take n runs) in
     let k = segment.1 - 1 in
-    let all : sectors_of runs ≡ front ++ run segment = ap sectors_of (front_and_last runs d some) ∙ sectors_of-push (take n runs) segment in
-    let len : length (front ++ run segment) ≡ length front + segment.1 = omega (arith, length-append front (run segment), length-run segment) in
-    let place : length (front ++ run segment) - 1 ≡ length front + k = omega arith in
-    ap (λ xs. slice_get xs (length xs - 1)) all ∙ ap (slice_get (front ++ run segment)) place ∙ slice_get-get_or (front ++ run segment) (length front + k) 0 (omega arith) ∙ ap Some (get_or-append-add front (run segment) k 0 ∙ get_or-range_with_len segment.0 segment.1 k 0 (omega arith))
+    let all : sectors_of runs ≡ front ++ segment_sectors segment = ap sectors_of (front_and_last runs d some) ∙ sectors_of-push (take n runs) segment in
+    let len : length (front ++ segment_sectors segment) ≡ length front + segment.1 = omega (arith, length-append front (segment_sectors segment), length-run segment) in
+    let place : length (front ++ segment_sectors segment) - 1 ≡ length front + k = omega arith in
+    ap (λ xs. slice_get xs (length xs - 1)) all ∙ ap (slice_get (front ++ segment_sectors segment)) place ∙ slice_get-get_or (front ++ segment_sectors segment) (length front + k) 0 (omega arith) ∙ ap Some (get_or-append-add front (segment_sectors segment) k 0 ∙ get_or-range_with_len segment.0 segment.1 k 0 (omega arith))
 
 module _ (lsn count : ℕ) where
   joined_to : ℕ × ℕ → ℕ × ℕ
@@ -253,11 +253,11 @@ take-run (suc n) a (suc count) rest =
 joins-follows : (segment : ℕ × ℕ) (lsn count : ℕ) → joins segment lsn count ≡ true → segment.0 + segment.1 ≡ lsn
 joins-follows segment lsn count joined = grind (arith, nat_tests)
 
-sectors_of-joined : (segment : ℕ × ℕ) (lsn count : ℕ) (test : Bool) → joins segment lsn count ≡ test → sectors_of (cond test ((segment.0, segment.1 + count) ∷ []) (segment ∷ (lsn, count) ∷ [])) ≡ sectors_of (segment ∷ []) ++ run (lsn, count)
+sectors_of-joined : (segment : ℕ × ℕ) (lsn count : ℕ) (test : Bool) → joins segment lsn count ≡ test → sectors_of (cond test ((segment.0, segment.1 + count) ∷ []) (segment ∷ (lsn, count) ∷ [])) ≡ sectors_of (segment ∷ []) ++ segment_sectors (lsn, count)
 sectors_of-joined segment lsn count true joined =
-    append_nil _ ∙ range_with_len-append segment.0 segment.1 count ∙ ap (λ b. run segment ++ range_with_len b count) (joins-follows segment lsn count joined) ∙ ap (λ front. front ++ run (lsn, count)) (sym (append_nil (run segment)))
+    append_nil _ ∙ range_with_len-append segment.0 segment.1 count ∙ ap (λ b. segment_sectors segment ++ range_with_len b count) (joins-follows segment lsn count joined) ∙ ap (λ front. front ++ segment_sectors (lsn, count)) (sym (append_nil (segment_sectors segment)))
 sectors_of-joined segment lsn count false apart =
-    ap (λ rest. run segment ++ rest) (append_nil (run (lsn, count))) ∙ ap (λ front. front ++ run (lsn, count)) (sym (append_nil (run segment)))
+    ap (λ rest. segment_sectors segment ++ rest) (append_nil (segment_sectors (lsn, count))) ∙ ap (λ front. front ++ segment_sectors (lsn, count)) (sym (append_nil (segment_sectors segment)))
 
 pub last_sector_found : (runs : List (ℕ × ℕ)) (segment : ℕ × ℕ) → IsLast runs segment → All IsSegment runs → Some (segment.0 + segment.1 - 1) ≡ slice_get (sectors_of runs) (length (sectors_of runs) - 1)
 last_sector_found runs segment found each =
@@ -276,12 +276,12 @@ pub joins-no_room : (segment : ℕ × ℕ) (lsn count : ℕ) → (segment.1 + co
 joins-no_room segment lsn count full = grind (arith, nat_tests)
 
 -- the sectors of the list with more sectors behind it
-pub sectors_of-appended : (runs : List (ℕ × ℕ)) (lsn count : ℕ) → sectors_of (appended_segments runs lsn count) ≡ sectors_of runs ++ run (lsn, count)
-sectors_of-appended [] lsn count = append_nil (run (lsn, count))
+pub sectors_of-appended : (runs : List (ℕ × ℕ)) (lsn count : ℕ) → sectors_of (appended_segments runs lsn count) ≡ sectors_of runs ++ segment_sectors (lsn, count)
+sectors_of-appended [] lsn count = append_nil (segment_sectors (lsn, count))
 sectors_of-appended (segment ∷ []) lsn count =
     sectors_of-joined segment lsn count (joins segment lsn count) refl
 sectors_of-appended (segment ∷ next ∷ runs) lsn count =
-    ap (λ rest. run segment ++ rest) (sectors_of-appended (next ∷ runs) lsn count) ∙ sym (append_assoc (run segment) (sectors_of (next ∷ runs)) (run (lsn, count)))
+    ap (λ rest. segment_sectors segment ++ rest) (sectors_of-appended (next ∷ runs) lsn count) ∙ sym (append_assoc (segment_sectors segment) (sectors_of (next ∷ runs)) (segment_sectors (lsn, count)))
 
 -- the sectors of the list cut off
 pub sectors_of-shortened : (n : ℕ) (runs : List (ℕ × ℕ)) → sectors_of (shortened_segments n runs) ≡ take n (sectors_of runs)
@@ -291,7 +291,7 @@ sectors_of-shortened (suc n) (segment ∷ runs) =
     let left = suc n - segment.1 in
     let front : ℕ × ℕ = (segment.0, min (suc n) segment.1) in
     let some : 0 < suc n = omega arith in
-    ap sectors_of (at_some (suc n) [] (front ∷ shortened_segments left runs) some) ∙ ap (λ rest. run front ++ rest) (sectors_of-shortened left runs) ∙ sym (take-run (suc n) segment.0 segment.1 (sectors_of runs))
+    ap sectors_of (at_some (suc n) [] (front ∷ shortened_segments left runs) some) ∙ ap (λ rest. segment_sectors front ++ rest) (sectors_of-shortened left runs) ∙ sym (take-run (suc n) segment.0 segment.1 (sectors_of runs))
 
 -- no more of a list is seen than the sectors that are kept
 pub shortened-append : (n : ℕ) (runs more : List (ℕ × ℕ)) → n ≤ length (sectors_of runs) → shortened_segments n (runs ++ more) ≡ shortened_segments n runs
@@ -303,7 +303,7 @@ shortened-append (suc n) (segment ∷ runs) more within =
     let left = suc n - segment.1 in
     let front : ℕ × ℕ = (segment.0, min (suc n) segment.1) in
     let some : 0 < suc n = omega arith in
-    let fits : left ≤ length (sectors_of runs) = omega (arith, length-append (run segment) (sectors_of runs), length-run segment) in
+    let fits : left ≤ length (sectors_of runs) = omega (arith, length-append (segment_sectors segment) (sectors_of runs), length-run segment) in
     at_some (suc n) [] (front ∷ shortened_segments left (runs ++ more)) some ∙ ap (λ rest. front ∷ rest) (shortened-append left runs more fits) ∙ sym (at_some (suc n) [] (front ∷ shortened_segments left runs) some)
 
 -- runs cut off are runs

@@ -9,13 +9,13 @@ abbrev pub in_places : List (ℕ × ℕ) → List (ℕ × ℕ)
 in_places segments = segments ++ replicate (48 - length segments) (0, 0)
 
 -- the places hold the segments, and zeros behind them
-pub record IsInside (inside : Inside) : Type 0 where
+pub record HoldsSegments (inside : Inside) : Type 0 where
   pub few : inside.len ≤ 48
   pub counted : length (take inside.len inside.places) ≡ inside.len
   pub zeros : inside.places ≡ in_places (take inside.len inside.places)
   pub each : All IsSegment (take inside.len inside.places)
 
 -- the list of segments gives the places back
-pub inside_again : (s : Inside) → IsInside s → record { places = in_places (take s.len s.places); len = length (take s.len s.places) } ≡ s
+pub inside_again : (s : Inside) → HoldsSegments s → record { places = in_places (take s.len s.places); len = length (take s.len s.places) } ≡ s
 inside_again s inside =
     ap₂ (λ places len. record { places = places; len = len }) (sym inside.zeros) inside.counted

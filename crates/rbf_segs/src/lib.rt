@@ -1,7 +1,7 @@
-//! Segment lists: which sectors a file has, in order, as at most 48 runs of sectors.
+//! Segment lists: which sectors a file has, in order, as at most 48 segments.
 #![tactic(auto)]
 
-pub use segs::{MAX_RUNS, Segs, SegsFull};
+pub use segs::{MAX_SEGMENTS, Segs, SegsFull};
 
-mod run_list;
+mod segment_list;
 mod segs;

@@ -1,21 +1,22 @@
 ghost use Rattle.std.specs.Prelude.{◌≡◌, ◌+◌, ◌-◌, ◌*◌, ◌^◌, ◌<◌, ◌≤◌, ◌↔◌, [], ◌∷◌, ◌++◌, length, take, OnOk, OnErr, IsErr, slice_get};
-ghost use Rattle.rbf_model.specs.Segments.{run, sectors_of, appended_segments, shortened_segments};
+ghost use Rattle.rbf_model.specs.Segments.{segment_sectors, sectors_of, appended_segments, shortened_segments};
 ghost use Rattle.rbf_segs.specs.Segments.{IsSegment, IsSegments};
 
-use crate::run_list::{last_sector, lengthened, sector_at, shorten, total};
+use crate::segment_list::{last_sector, lengthened, sector_at, shorten, total};
 use std::marker::Model;
 use thiserror::Error;
 
-/// The most runs that a file descriptor has room for (System Programmer's Manual, FD.SEG).
-pub const MAX_RUNS: usize = 48;
+/// The most segments that a file descriptor has room for (OS-9 Technical Reference, Random Block
+/// File Manager, FD.SEG).
+pub const MAX_SEGMENTS: usize = 48;
 
-/// No run can be added: the list has [`MAX_RUNS`].
+/// No segment can be added: the list has [`MAX_SEGMENTS`].
 #[derive(Clone, Copy, Debug, PartialEq, Eq, Error)]
 #[error("segment list full")]
 pub struct SegsFull;
 
-/// The sectors of a file in order, as at most [`MAX_RUNS`] runs: pairs of a first sector, below
-/// 16,777,216, and a count of sectors, at least 1. A run here is a segment of the file descriptor.
+/// The sectors of a file in order, as at most [`MAX_SEGMENTS`] segments: pairs of a first sector,
+/// below 16,777,216, and a count of sectors, at least 1.
 ///
 /// Clauses see the list of the pairs.
 #[derive(Clone, Copy, Debug, PartialEq, Eq)]
@@ -29,11 +30,11 @@ impl Model for Segs {
 
     ghost Value = { List (ℕ × ℕ) };
 
-    ghost use Rattle.rbf_segs.specs.Places.{IsInside, in_places, inside_again};
+    ghost use Rattle.rbf_segs.specs.Places.{HoldsSegments, in_places, inside_again};
 
     ghost view = { λ s. take s.len s.places };
 
-    ghost invariant = { IsInside };
+    ghost invariant = { HoldsSegments };
 
     ghost inverse = { λ v. record { places = in_places v; len = length v } };
 
@@ -41,7 +42,7 @@ impl Model for Segs {
 }
 
 impl Segs {
-    /// The list without runs.
+    /// The list without segments.
     pub fn empty() -> Segs
         ensures { result ≡ [] }
     {
@@ -59,7 +60,7 @@ impl Segs {
         total(&self.places[..usize::from(self.len)])
     }
 
-    /// How many runs there are.
+    /// How many segments there are.
     pub fn runs(&self) -> u8
         ensures count { result ≡ length self.now }
         ensures segments { IsSegments self.now }
@@ -67,7 +68,7 @@ impl Segs {
         self.len
     }
 
-    /// The run at a place: its first sector and its count of sectors.
+    /// The segment at a place: its first sector and its count of sectors.
     pub fn run(&self, i: u8) -> (u32, u16)
         requires { i < length self.now }
         ensures pair { slice_get self.now i ≡ Some result }
@@ -76,8 +77,8 @@ impl Segs {
         self.places[usize::from(i)]
     }
 
-    /// Adds a run of its own, joined with no other; refused exactly where there are
-    /// [`MAX_RUNS`].
+    /// Adds a segment of its own, joined with no other; refused exactly if there are
+    /// [`MAX_SEGMENTS`].
     pub fn add_run(&mut self, lsn: u32, count: u16) -> Result<(), SegsFull>
         requires lsn_fits { lsn < 16777216 }
         requires some { 1 ≤ count }
@@ -85,7 +86,7 @@ impl Segs {
         ensures full { IsErr result ↔ (length self.old ≡ 48) }
         ensures err { OnErr result (self.new ≡ self.old) }
     {
-        if usize::from(self.len) == MAX_RUNS {
+        if usize::from(self.len) == MAX_SEGMENTS {
             return Err(SegsFull);
         }
         self.places[usize::from(self.len)] = (lsn, count);
@@ -93,7 +94,7 @@ impl Segs {
         Ok(())
     }
 
-    /// The sector at this place of all sectors of the list, counted from 0. None where the list has
+    /// The sector at this place of all sectors of the list, counted from 0. None if the list has
     /// no such place.
     pub fn lsn_of(&self, sector: u32) -> Option<u32>
         ensures { result ≡ slice_get (sectors_of self.now) sector }
@@ -101,20 +102,20 @@ impl Segs {
         sector_at(&self.places[..usize::from(self.len)], sector)
     }
 
-    /// The last sector of all. None where there is no sector.
+    /// The last sector of all. None if there is no sector.
     pub fn last(&self) -> Option<u32>
         ensures { result ≡ slice_get (sectors_of self.now) (length (sectors_of self.now) - 1) }
     {
         last_sector(&self.places[..usize::from(self.len)])
     }
 
-    /// Adds `n` sectors from `lsn` on: they lengthen the last run where they follow it and its
-    /// count stays below 65,536, and are a run of their own elsewhere. Refused exactly where they
-    /// would be one run too many.
+    /// Adds `n` sectors from `lsn` on: they lengthen the last segment if they follow it and its
+    /// count stays below 65,536, and are a segment of their own otherwise. Refused exactly if they
+    /// would be one segment too many.
     pub fn append(&mut self, lsn: u32, n: u16) -> Result<(), SegsFull>
         requires lsn_fits { lsn < 16777216 }
         requires some { 1 ≤ n }
-        ensures sectors { OnOk result (sectors_of self.new ≡ sectors_of self.old ++ run (lsn, n)) }
+        ensures sectors { OnOk result (sectors_of self.new ≡ sectors_of self.old ++ segment_sectors (lsn, n)) }
         ensures segments { OnOk result (self.new ≡ appended_segments self.old lsn n) }
         ensures full { IsErr result ↔ (48 < length (appended_segments self.old lsn n)) }
         ensures err { OnErr result (self.new ≡ self.old) }
@@ -129,7 +130,7 @@ impl Segs {
         }
     }
 
-    /// Leaves the first `sectors` sectors, and of the runs those that still have a sector.
+    /// Leaves the first `sectors` sectors, and of the segments those that still have a sector.
     pub fn cut(&mut self, sectors: u32)
         requires { sectors ≤ length (sectors_of self.old) }
         ensures sectors { sectors_of self.new ≡ take sectors (sectors_of self.old) }

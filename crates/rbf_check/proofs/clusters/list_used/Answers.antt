@@ -3,7 +3,6 @@ use Rattle.rbf_model.specs.Geometry.{sector}
 use Rattle.rbf_model.specs.File.{file_at}
 use Rattle.rbf_model.specs.Space.{owned}
 use Rattle.rbf_sector.specs.Ident.{geometry_of}
-use Rattle.rbf_sector.specs.Ident.{geometry_of}
 use Rattle.rbf_check.specs.Clusters.{NotesClusters}
 use Rattle.rbf_check.proofs.Noted.{used_more}
 use Rattle.rbf_check.proofs.clusters.list_used.Goals as goal

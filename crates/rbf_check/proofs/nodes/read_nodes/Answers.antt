@@ -2,7 +2,7 @@ use Rattle.std.proofs.Common.{◌≡◌, ℕ, ◌+◌, List, Vec, Global, subst,
 use Rattle.rbf_model.specs.Geometry.{sector}
 use Rattle.rbf_model.specs.File.{file_at}
 use Rattle.rbf_check.specs.declared.tree.Node.{Node}
-use Rattle.rbf_check.specs.Surveyed.{AreNodesBelow}
+use Rattle.rbf_check.specs.VolumeNodes.{AreNodesBelow}
 use Rattle.rbf_check.proofs.Surveys.{header_is, segments_fit}
 use Rattle.rbf_check.proofs.Told.{links_below, file_reached, nodes_past, nodes_more, nodes_few, node_tells}
 use Rattle.rbf_check.proofs.nodes.read_nodes.Goals as goal

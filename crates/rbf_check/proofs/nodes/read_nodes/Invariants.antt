@@ -1,4 +1,4 @@
-use Rattle.rbf_check.specs.Surveyed.{AreNodesBelow}
+use Rattle.rbf_check.specs.VolumeNodes.{AreNodesBelow}
 use Rattle.rbf_check.proofs.nodes.read_nodes.Given as goal
 
 abbrev pub invariant-loop-n : goal.invariant-loop-n

@@ -4,8 +4,7 @@ use Rattle.std.specs.List.{range_with_len}
 use Rattle.rbf_model.specs.Geometry.{sector}
 use Rattle.rbf_model.specs.Space.{is_whole, is_marked}
 use Rattle.rbf_sector.specs.Ident.{geometry_of}
-use Rattle.rbf_sector.specs.Ident.{geometry_of}
-use Rattle.rbf_check.specs.Surveyed.{volume_from}
+use Rattle.rbf_check.specs.VolumeNodes.{volume_from}
 use Rattle.rbf_check.proofs.space.count_clusters.Given as goal
 
 abbrev pub invariant-loop-c : goal.invariant-loop-c

@@ -1,0 +1,84 @@
+ghost use Rattle.rbf_model.specs.Disk.{disk_of};
+ghost use Rattle.std.specs.Prelude.{◌≡◌, ◌⊎◌, ◌+◌, ◌<◌, ◌≤◌, ℕ, All, IfOk, MatchBool, Some, None, length, slice_index_or};
+ghost use Rattle.rbf_model.specs.Geometry.{sector as sector_of};
+ghost use Rattle.rbf_sector.specs.Ident.{geometry_of};
+ghost use Rattle.rbf_reach.specs.Reading.{IsIdent};
+ghost use Rattle.rbf_reach.specs.Linked.{AreLinks};
+ghost use Rattle.rbf_reach.specs.Least.{IsLeast, IsLeastBreach};
+ghost use Rattle.rbf_reach.specs.Given.{IsGiven};
+ghost use Rattle.rbf_name_rules.specs.Named.{AreSame, AreFirsts, IsNamedAgain};
+
+use rbf_reach::{Link, least_of};
+use rbf_sector::Ident;
+use std::alloc::{AllocError, Global};
+
+// Does the link name the root's descriptor, or is it another entry than the first of its
+// descriptor?
+fn is_again(root: u32, first: &Link, link: &Link) -> bool
+    ensures { MatchBool result ((link.now.descriptor ≡ root) ⊎ (AreSame first.now link.now → ⊥)) ((link.now.descriptor ≡ root → ⊥) × AreSame first.now link.now) }
+{
+    let same = first.directory == link.directory && first.entry == link.entry;
+    link.descriptor == root || !same
+}
+
+// The first link that names the descriptor: this one, which is then noted, where there is none.
+fn first_of(firsts: &mut Vec<Option<usize>>, n: u32, k: usize) -> usize
+    requires { n < length firsts.old.items }
+    ensures noted { IsGiven firsts.old.items firsts.new.items k n }
+    ensures first { slice_index_or firsts.new.items n None ≡ Some result }
+{
+    match firsts[n as usize] {
+        None => {
+            firsts[n as usize] = Some(k);
+            k
+        }
+        Some(first) => first,
+    }
+}
+
+// The descriptor of the link in place `k`, if it is the root's or another link names it before.
+fn named_again(
+    links: &[Link],
+    firsts: &mut Vec<Option<usize>>,
+    ident: &Ident,
+    k: usize,
+) -> Option<u32>
+    requires place { k < length links.now }
+    requires numbers { All (λ link. link.descriptor < length firsts.old.items) links.now }
+    requires firsts { AreFirsts links.now firsts.old.items k }
+    ensures size { length firsts.new.items ≡ length firsts.old.items }
+    ensures firsts { AreFirsts links.now firsts.new.items (k + 1) }
+    ensures again { IsLeast (IsNamedAgain links.now ident.now.root k) result }
+{
+    let link = links[k];
+    let first = links[first_of(firsts, link.descriptor, k)];
+    if is_again(ident.root, &first, &link) {
+        Some(link.descriptor)
+    } else {
+        None
+    }
+}
+
+/// The least descriptor that breaks rule 9: two entries name it, or it is the root's and one does.
+/// None if the rule is kept.
+///
+/// # Errors
+///
+/// Out of memory.
+pub fn least_named_again(
+    alloc: Global,
+    image: &[u8],
+    ident: &Ident,
+    links: &[Link],
+) -> Result<Option<u32>, AllocError>
+    requires ident { IsIdent image.now ident.now }
+    requires links { AreLinks (disk_of (geometry_of ident.now) (sector_of image.now)) links.now }
+    ensures { IfOk result (IsLeastBreach (disk_of (geometry_of ident.now) (sector_of image.now)) 9) }
+{
+    let mut firsts = vec![in alloc; None; ident.total as usize]?;
+    let mut least = None;
+    for k in 0..links.len() {
+        least = least_of(least, named_again(links, &mut firsts, ident, k));
+    }
+    Ok(least)
+}

@@ -1,0 +1,15 @@
+pub mod Cases
+pub mod FoundNumbers
+pub mod Headers
+pub mod Leasts
+pub mod Led
+pub mod Linking
+pub mod Options
+pub mod Runs
+pub mod Searched
+pub mod Searching
+pub mod PositionsRead
+pub mod Positioned
+pub mod Tables
+pub mod Visits
+pub mod Walked

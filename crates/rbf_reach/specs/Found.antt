@@ -1,0 +1,35 @@
+-- The descriptors that are found on a search from the root.
+use Rattle.rbf_model.specs.Disk.{Disk}
+use Rattle.std.specs.Prelude.{◌≡◌, ◌⊎◌, ℕ, ◌<◌, ◌≤◌, Bool, true, false, List, [], ◌∷◌, ◌++◌, length, get_or, count_by, if◌then◌else◌}
+use Rattle.rbf_model.specs.Geometry.{Geometry, IsNumber}
+use Rattle.rbf_model.specs.Segments.{has, AreDistinct}
+use Rattle.rbf_model.specs.Tree.{EntryNames}
+use Rattle.rbf_reach.specs.Positions.{PositionNames}
+
+-- the marks say which numbers are in the list, and each of them is there once
+pub record IsSearch (seen : List Bool) (found : List ℕ) : Type 0 where
+  pub same : (n : ℕ) → n < length seen → get_or seen n false ≡ has found n
+  pub numbers : (n : ℕ) → has found n ≡ true → n < length seen
+  pub once : AreDistinct found
+  pub counted : length found ≡ count_by (λ mark. mark) seen
+
+-- the list with a number behind it, if it does not have it
+abbrev pub added : List ℕ → ℕ → List ℕ
+added found n = if has found n then found else found ++ n ∷ []
+
+-- the list has grown at its end
+pub record Extends (old new : List ℕ) : Type 0 where
+  pub more : List ℕ
+  pub is : new ≡ old ++ more
+
+-- what the entries in the positions from one up to another name has been found, and nothing else
+pub record AreFound (disk : Disk) (first end : ℕ) (old new : List ℕ) : Type 0 where
+  pub extends : Extends old new
+  pub named : (e n : ℕ) → first ≤ e → e < end → PositionNames disk.sectors e n → IsNumber disk.geometry n → has new n ≡ true
+  pub only : (n : ℕ) → has new n ≡ true → (has old n ≡ true) ⊎ ((e : ℕ) × (first ≤ e) × (e < end) × PositionNames disk.sectors e n × IsNumber disk.geometry n)
+
+-- what a directory's entries name has been found, and nothing else
+pub record IsVisited (g : Geometry) (contents old new : List ℕ) : Type 0 where
+  pub extends : Extends old new
+  pub named : (k n : ℕ) → EntryNames contents k n → IsNumber g n → has new n ≡ true
+  pub only : (n : ℕ) → has new n ≡ true → (has old n ≡ true) ⊎ ((k : ℕ) × EntryNames contents k n × IsNumber g n)

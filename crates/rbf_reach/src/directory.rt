@@ -1,0 +1,88 @@
+ghost use Rattle.std.specs.Prelude.{◌≡◌, ◌+◌, ◌*◌, ◌<◌, length, if◌then◌else◌};
+ghost use Rattle.std.specs.List.{list_all};
+ghost use Rattle.rbf_model.specs.Fields.{directory_entry};
+ghost use Rattle.rbf_model.specs.Geometry.{is_within};
+ghost use Rattle.rbf_sector.specs.Ident.{geometry_of};
+ghost use Rattle.rbf_reach.specs.Reading.{is_searchable_descriptor, IsIdent, IsDirectory, listed};
+
+use crate::header::sector;
+use rbf_sector::{Fd, Ident, read_fd};
+use rbf_segs::Segs;
+
+/// A descriptor as far as a search needs it: its number, its segments, and how many entries it
+/// has, which are none if it is no directory that can be searched.
+#[derive(Clone, Copy, Debug)]
+pub struct Directory {
+    pub number: u32,
+    pub segs: Segs,
+    pub entries: u32,
+}
+
+/// Reads a descriptor as far as a search needs it.
+pub fn read_directory(image: &[u8], ident: &Ident, n: u32) -> Directory
+    requires ident { IsIdent image.now ident.now }
+    requires number { n < ident.now.total }
+    ensures number { result.number ≡ n }
+    ensures directory { IsDirectory image.now ident.now result }
+{
+    let fd = read_fd(&sector(image, n));
+    Directory {
+        number: n,
+        segs: fd.segs,
+        entries: entry_count(&fd, ident),
+    }
+}
+
+// How many entries a search of this file finds.
+fn entry_count(fd: &Fd, ident: &Ident) -> u32
+    ensures { 32 * result ≡ (if is_searchable_descriptor (geometry_of ident.now) fd.now then fd.now.size else 0) }
+{
+    if is_searchable(fd, ident) {
+        fd.size / 32
+    } else {
+        0
+    }
+}
+
+// Can this file be searched as a directory?
+fn is_searchable(fd: &Fd, ident: &Ident) -> bool
+    ensures { result ≡ is_searchable_descriptor (geometry_of ident.now) fd.now }
+{
+    let held = 256 * u64::from(fd.segs.sectors());
+    let size = fd.size >= 64 && fd.size % 32 == 0;
+    fd.attr >> 7 == 1 && lie_within(&fd.segs, ident) && u64::from(fd.size) <= held && size
+}
+
+/// Do the segments begin behind the identification sector and end within the volume?
+pub fn lie_within(segs: &Segs, ident: &Ident) -> bool
+    ensures { result ≡ list_all (is_within (geometry_of ident.now)) segs.now }
+{
+    for i in 0..segs.runs() {
+        let run = segs.run(i);
+        if !is_segment_within(run, ident) {
+            return false;
+        }
+    }
+    true
+}
+
+fn is_segment_within(run: (u32, u16), ident: &Ident) -> bool
+    requires { run.0 < 16777216 }
+    ensures { result ≡ is_within (geometry_of ident.now) run }
+{
+    run.0 >= 1 && run.0 + u32::from(run.1) <= ident.total
+}
+
+/// The 32 bytes of entry `i` of a directory.
+pub fn entry_bytes(image: &[u8], ident: &Ident, dir: &Directory, i: u32) -> [u8; 32]
+    requires ident { IsIdent image.now ident.now }
+    requires directory { IsDirectory image.now ident.now dir.now }
+    requires within { i < dir.now.entries }
+    ensures { result ≡ directory_entry (listed image.now ident.now dir.now.number) i }
+{
+    let lsn = dir.segs.lsn_of(i / 8).unwrap();
+    let at = 256 * lsn as usize + 32 * (i % 8) as usize;
+    let mut entry = [0; 32];
+    entry.copy_from_slice(&image[at..at + 32]);
+    entry
+}

@@ -1,0 +1,169 @@
+ghost use Rattle.rbf_model.specs.Disk.{disk_of};
+ghost use Rattle.std.specs.Prelude.{◌≡◌, ◌≢◌, ℕ, ◌+◌, ◌*◌, ◌<◌, ◌≤◌, true, length, MatchOption, OnOk, IfOk};
+ghost use Rattle.rbf_model.specs.Fields.{is_used, descriptor_field};
+ghost use Rattle.rbf_model.specs.Geometry.{IsNumber, sector as sector_of};
+ghost use Rattle.rbf_model.specs.Segments.{AreDistinct};
+ghost use Rattle.rbf_model.specs.Tree.{EntryNames};
+ghost use Rattle.rbf_model.specs.Search.{IsFound};
+ghost use Rattle.rbf_reach.specs.Found.{IsSearch, IsVisited, AreFound, added};
+ghost use Rattle.rbf_sector.specs.Ident.{geometry_of};
+ghost use Rattle.rbf_reach.specs.Reading.{IsIdent, IsDirectory, listed};
+
+use crate::directory::{Directory, entry_bytes, read_directory};
+use crate::positions::{list_positions, position_bytes};
+use crate::unread::Unread;
+use rbf_sector::{Ident, read_entry};
+use std::alloc::{AllocError, Global};
+
+// The descriptors that are found so far, a mark for each number of the volume that says whether it
+// is one of them, and the positions whose entries are still to be read.
+#[derive(Drop)]
+struct Search {
+    seen: Vec<bool>,
+    found: Vec<u32>,
+    unread: Unread,
+}
+
+// The descriptor of the volume that an entry names, if it is used.
+fn used_descriptor(bytes: &[u8; 32], ident: &Ident) -> Option<u32>
+    ensures { MatchOption result (is_used bytes.now ≡ true → ¬ IsNumber (geometry_of ident.now) (descriptor_field bytes.now)) (λ m. (is_used bytes.now ≡ true) × (descriptor_field bytes.now ≡ m) × IsNumber (geometry_of ident.now) m) }
+{
+    let entry = read_entry(bytes);
+    if entry.name[0] == 0 || entry.lsn == 0 || entry.lsn >= ident.total {
+        return None;
+    }
+    Some(entry.lsn)
+}
+
+// The descriptor that an entry after the first two names, if it is used and the number is one of
+// the volume.
+pub fn named(image: &[u8], ident: &Ident, dir: &Directory, i: u32) -> Option<u32>
+    requires ident { IsIdent image.now ident.now }
+    requires directory { IsDirectory image.now ident.now dir.now }
+    requires after { 2 ≤ i }
+    requires within { i < dir.now.entries }
+    ensures { MatchOption result ((m : ℕ) → EntryNames (listed image.now ident.now dir.now.number) i m → ¬ IsNumber (geometry_of ident.now) m) (λ m. EntryNames (listed image.now ident.now dir.now.number) i m × IsNumber (geometry_of ident.now) m) }
+{
+    used_descriptor(&entry_bytes(image, ident, dir, i), ident)
+}
+
+impl Search {
+    ghost use Rattle.rbf_reach.specs.Walk.{IsSearching};
+
+    // Finds a descriptor, if it is new.
+    fn find(&mut self, n: u32) -> Result<(), AllocError>
+        requires marks { IsSearch self.old.seen.items self.old.found.items }
+        requires number { n < length self.old.seen.items }
+        ensures marks { OnOk result (IsSearch self.new.seen.items self.new.found.items) }
+        ensures size { length self.new.seen.items ≡ length self.old.seen.items }
+        ensures found { OnOk result (self.new.found.items ≡ added self.old.found.items n) }
+        ensures unread { self.new.unread ≡ self.old.unread }
+    {
+        if self.seen[n as usize] {
+            return Ok(());
+        }
+        self.found.push(n)?;
+        self.seen[n as usize] = true;
+        Ok(())
+    }
+
+    // Finds the descriptor that the entry in a position names.
+    fn read_position(&mut self, image: &[u8], ident: &Ident, e: u32) -> Result<(), AllocError>
+        requires ident { IsIdent image.now ident.now }
+        requires position { e < 8 * ident.now.total }
+        requires marks { IsSearch self.old.seen.items self.old.found.items }
+        requires size { length self.old.seen.items ≡ ident.now.total }
+        ensures marks { OnOk result (IsSearch self.new.seen.items self.new.found.items) }
+        ensures size { length self.new.seen.items ≡ length self.old.seen.items }
+        ensures found { OnOk result (AreFound (disk_of (geometry_of ident.now) (sector_of image.now)) e (e + 1) self.old.found.items self.new.found.items) }
+        ensures unread { self.new.unread ≡ self.old.unread }
+    {
+        if let Some(n) = used_descriptor(&position_bytes(image, e), ident) {
+            self.find(n)?;
+        }
+        Ok(())
+    }
+
+    // Finds what the entries in the positions from one up to another name. Those that were read before
+    // are passed over, so that each is read once, however many directories have it.
+    fn read_range(
+        &mut self,
+        image: &[u8],
+        ident: &Ident,
+        first: u32,
+        end: u32,
+    ) -> Result<(), AllocError>
+        requires ident { IsIdent image.now ident.now }
+        requires order { first ≤ end }
+        requires within { end ≤ 8 * ident.now.total }
+        requires searching { IsSearching (disk_of (geometry_of ident.now) (sector_of image.now)) self.old }
+        ensures searching { OnOk result (IsSearching (disk_of (geometry_of ident.now) (sector_of image.now)) self.new) }
+        ensures found { OnOk result (AreFound (disk_of (geometry_of ident.now) (sector_of image.now)) first end self.old.found.items self.new.found.items) }
+    {
+        let mut e = self.unread.first(first);
+        while e < end {
+            self.read_position(image, ident, e)?;
+            self.unread.pass(e);
+            e = self.unread.first(e + 1);
+        }
+        Ok(())
+    }
+
+    // Finds what a directory names.
+    fn visit(
+        &mut self,
+        image: &[u8],
+        ident: &Ident,
+        dir: &Directory,
+        ranges: &mut Vec<(u32, u32)>,
+    ) -> Result<(), AllocError>
+        requires ident { IsIdent image.now ident.now }
+        requires directory { IsDirectory image.now ident.now dir.now }
+        requires searching { IsSearching (disk_of (geometry_of ident.now) (sector_of image.now)) self.old }
+        ensures searching { OnOk result (IsSearching (disk_of (geometry_of ident.now) (sector_of image.now)) self.new) }
+        ensures visited { OnOk result (IsVisited (geometry_of ident.now) (listed image.now ident.now dir.now.number) self.old.found.items self.new.found.items) }
+    {
+        list_positions(dir, ranges)?;
+        let mut skipped = 2;
+        for &(first, count) in ranges.iter() {
+            let passed = count.min(skipped);
+            self.read_range(image, ident, first + passed, first + count)?;
+            skipped -= passed;
+        }
+        Ok(())
+    }
+}
+
+/// The descriptors that are reached from the root of a volume, each once: the root, and what a
+/// directory that is reached and can be searched names by a used entry after its first two (this
+/// project's own rule of which files an image has).
+///
+/// # Errors
+///
+/// Out of memory.
+pub fn find_descriptors(alloc: Global, image: &[u8], ident: &Ident) -> Result<Vec<u32>, AllocError>
+    requires { IsIdent image.now ident.now }
+    ensures found { IfOk result (λ found. IsFound (disk_of (geometry_of ident.now) (sector_of image.now)) found.items) }
+    ensures once { IfOk result (λ found. AreDistinct found.items) }
+    ensures few { IfOk result (λ found. length found.items ≤ ident.now.total) }
+{
+    let mut search = Search {
+        seen: vec![in alloc; false; ident.total as usize]?,
+        found: Vec::new(alloc),
+        unread: Unread::new(alloc, 8 * ident.total)?,
+    };
+    search.find(ident.root)?;
+    let mut ranges = Vec::new(alloc);
+    let mut next = 0;
+    while next < search.found.len() {
+        let dir = read_directory(image, ident, search.found[next]);
+        search.visit(image, ident, &dir, &mut ranges)?;
+        next += 1;
+    }
+    let Search {
+        seen: _,
+        found,
+        unread: _,
+    } = search;
+    Ok(found)
+}

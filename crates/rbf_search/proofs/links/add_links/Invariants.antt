@@ -1,8 +1,0 @@
-use Rattle.rbf_search.specs.Linked.{AreAdded}
-use Rattle.rbf_sector.specs.Ident.{geometry_of}
-use Rattle.rbf_search.specs.Reading.{listed}
-use Rattle.rbf_search.proofs.links.add_links.Given as goal
-
-abbrev pub invariant-loop-i : goal.invariant-loop-i
-invariant-loop-i l =
-    AreAdded (geometry_of l.ident) (listed l.image l.ident l.dir.number) l.dir.number l.fn.links.items l.links.items l.i

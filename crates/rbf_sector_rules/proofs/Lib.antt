@@ -1,0 +1,11 @@
+pub mod Again
+pub mod BadPositions
+pub mod Listed
+pub mod MapRule
+pub mod NextTables
+pub mod Noted
+pub mod NotedSegments
+pub mod Numbered
+pub mod Own
+pub mod Owned
+pub mod Unmarked

@@ -1,9 +1,0 @@
-use Rattle.rbf_model.specs.Geometry.{sector}
-use Rattle.rbf_sector.specs.Ident.{geometry_of}
-use Rattle.rbf_sector.specs.Ident.{geometry_of}
-use Rattle.rbf_space.proofs.Again.{AreSearched}
-use Rattle.rbf_space.proofs.shares.least_used_again.Given as goal
-
-abbrev pub invariant-loop-place : goal.invariant-loop-place
-invariant-loop-place l =
-    AreSearched (geometry_of l.ident) (sector l.image) l.found l.uses l.place

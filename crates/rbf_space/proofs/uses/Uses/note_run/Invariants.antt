@@ -1,8 +1,0 @@
-use Rattle.std.proofs.Common.{◌-◌}
-use Rattle.std.specs.List.{range_with_len}
-use Rattle.rbf_space.specs.Noted.{IsNoted}
-use Rattle.rbf_space.proofs.uses.Uses.note_run.Given as goal
-
-abbrev pub invariant-loop-s : goal.invariant-loop-s
-invariant-loop-s l =
-    IsNoted l.cluster l.owner (range_with_len l.fn.run.0 (l.s - l.fn.run.0)) l.fn.self l.self
