@@ -19,10 +19,12 @@ pub record TellsFile (node : Node) (file : DiskFile) : Type 0 where
   pub links : node.links ≡ file.links
   pub contents : node.bytes ≡ file.contents
 
--- where a file stands: the root in itself, under the name `.`; any other in the directory that names it by an entry after the first two, under the name of that entry
+-- where a file stands: the root in itself, under the name `.`; any other in the directory that names it by an entry
+-- after the first two, under the name of that entry
 pub data IsPlaced (g : Geometry) (v : DiskVolume) (n parent : ℕ) (name : List ℕ) : Type 0 where
   root : n ≡ g.root → parent ≡ g.root → name ≡ dot → IsPlaced g v n parent name
-  named : {i : ℕ} → EntryNames (directories v.files parent) i n → entry_name_field (directory_entry (directories v.files parent) i) ≡ Some name → IsPlaced g v n parent name
+  named : {i : ℕ} → EntryNames (directories v.files parent) i n
+      → entry_name_field (directory_entry (directories v.files parent) i) ≡ Some name → IsPlaced g v n parent name
 
 -- the node is that of a file of the volume
 pub record TellsNode (g : Geometry) (v : DiskVolume) (node : Node) : Type 0 where
@@ -31,7 +33,8 @@ pub record TellsNode (g : Geometry) (v : DiskVolume) (node : Node) : Type 0 wher
   pub tells : TellsFile node file
   pub place : IsPlaced g v node.fd node.parent node.name
 
--- the tree tells the volume: it has a node for each file, by rising descriptor number, and the counts of the free and of the lost clusters
+-- the tree tells the volume: it has a node for each file, by rising descriptor number, and the counts of the free and
+-- of the lost clusters
 pub record TellsVolume (g : Geometry) (v : DiskVolume) (tree : Tree) : Type 0 where
   pub numbers : map (λ node. node.fd) tree.nodes ≡ file_numbers g v
   pub each : All (TellsNode g v) tree.nodes

@@ -1,5 +1,5 @@
 -- The volume of an image that was surveyed.
-use Rattle.rbf_model.specs.Disk.{disk_of}
+use Rattle.rbf_reach.specs.Reading.{disk_on}
 use Rattle.std.specs.Prelude.{◌≡◌, ℕ, ◌*◌, List, drop, map, filter, is_some, All}
 use Rattle.std.specs.List.{range_with_len}
 use Rattle.rbf_model.specs.Geometry.{sector}
@@ -13,9 +13,10 @@ use Rattle.rbf_check.specs.Tree.{TellsNode}
 -- the volume of what was found
 abbrev pub volume_from : List ℕ → Survey → DiskVolume
 volume_from image survey =
-    volume_of (disk_of (geometry_of survey.ident) (sector image)) survey.found.items (drop (256 * survey.ident.total) image)
+    volume_of (disk_on image survey.ident) survey.found.items (drop (256 * survey.ident.total) image)
 
 -- the nodes are those of the volume's files below a number, in order
 pub record AreNodesBelow (image : List ℕ) (survey : Survey) (nodes : List Node) (n : ℕ) : Type 0 where
-  pub numbers : map (λ node. node.fd) nodes ≡ filter (λ m. is_some ((volume_from image survey).files m)) (range_with_len 0 n)
+  pub numbers : map (λ node. node.fd) nodes
+      ≡ filter (λ m. is_some ((volume_from image survey).files m)) (range_with_len 0 n)
   pub each : All (TellsNode (geometry_of survey.ident) (volume_from image survey)) nodes

@@ -1,4 +1,4 @@
-ghost use Rattle.rbf_model.specs.Disk.{disk_of};
+ghost use Rattle.rbf_reach.specs.Reading.{disk_on};
 ghost use Rattle.std.specs.Prelude.{◌≡◌, ◌+◌, ◌<◌, ◌≤◌, ◌==◌, All, IfOk, length, if◌then◌else◌};
 ghost use Rattle.std.specs.List.{range_with_len};
 ghost use Rattle.rbf_model.specs.Geometry.{map_sectors, sector as sector_of};
@@ -8,7 +8,7 @@ ghost use Rattle.rbf_model.specs.Space.{owned};
 ghost use Rattle.rbf_model.specs.Search.{IsReachedOn};
 ghost use Rattle.rbf_sector.specs.Ident.{geometry_of};
 ghost use Rattle.rbf_check.specs.Survey.{IsSurvey};
-ghost use Rattle.rbf_check.specs.Clusters.{NotesClusters, AreUsed};
+ghost use Rattle.rbf_check.specs.Clusters.{NotesClusters, AreUsed, system_count as system_count_of};
 
 use crate::survey::Survey;
 use rbf_reach::sector;
@@ -42,7 +42,7 @@ fn note_segments(used: &mut Vec<bool>, cluster: u32, segs: &Segs)
 
 // How many of the system's sectors, which begin at LSN 0, are this file's: the root's has them.
 fn system_count(ident: &Ident, n: u32) -> u32
-    ensures count { result ≡ (if n == ident.now.root then 1 + map_sectors (geometry_of ident.now) else 0) }
+    ensures count { result ≡ system_count_of (geometry_of ident.now) n }
     ensures few { result < 1000 }
 {
     if n == ident.root {
@@ -55,9 +55,11 @@ fn system_count(ident: &Ident, n: u32) -> u32
 // Notes the clusters of a file, and with the root's those of the system.
 fn note_file(used: &mut Vec<bool>, image: &[u8], survey: &Survey, n: u32)
     requires survey { IsSurvey image.now survey.now }
-    requires reached { IsReachedOn (disk_of (geometry_of survey.now.ident) (sector_of image.now)) n }
+    requires reached { IsReachedOn (disk_on image.now survey.now.ident) n }
     requires size { length used.old.items ≡ survey.now.ident.total }
-    ensures { NotesClusters survey.now.ident.cluster (owned (geometry_of survey.now.ident) n (file_at (sector_of image.now) n)) used.old.items used.new.items }
+    ensures { NotesClusters survey.now.ident.cluster
+        (owned (geometry_of survey.now.ident) n (file_at (sector_of image.now) n)) used.old.items
+        used.new.items }
 {
     let cluster = u32::from(survey.ident.cluster);
     let fd = read_fd(&sector(image, n));
@@ -70,7 +72,8 @@ fn note_file(used: &mut Vec<bool>, image: &[u8], survey: &Survey, n: u32)
 /// sectors.
 pub fn list_used(alloc: Global, image: &[u8], survey: &Survey) -> Result<Vec<bool>, AllocError>
     requires { IsSurvey image.now survey.now }
-    ensures { IfOk result (λ used. AreUsed (disk_of (geometry_of survey.now.ident) (sector_of image.now)) survey.now.found.items used.items) }
+    ensures { IfOk result
+        (λ used. AreUsed (disk_on image.now survey.now.ident) survey.now.found.items used.items) }
 {
     let mut used = vec![in alloc; false; survey.ident.total as usize]?;
     for n in &survey.found {

@@ -14,7 +14,8 @@ pub fn read_contents(
     size: u32,
 ) -> Result<FileBytes, AllocError>
     requires { All (λ segment. 256 * (segment.0 + segment.1) ≤ length image.now) segs.now }
-    ensures { IfOk result (λ bytes. bytes ≡ take size (segment_bytes (sector_of image.now) segs.now)) }
+    ensures { IfOk result
+        (λ bytes. bytes ≡ take size (segment_bytes (sector_of image.now) segs.now)) }
 {
     let size = size as usize;
     let mut bytes = Vec::with_capacity(alloc, size)?;

@@ -1,10 +1,7 @@
-ghost use Rattle.rbf_model.specs.Disk.{disk_of};
 ghost use Rattle.std.specs.Prelude.{◌≡◌, None, IfErr, IfOk, OnOk, MatchOption, MatchResult};
-ghost use Rattle.rbf_model.specs.Geometry.{sector as sector_of};
 ghost use Rattle.rbf_model.specs.Search.{IsFound};
 ghost use Rattle.rbf_model.specs.Keeps.{Keeps};
-ghost use Rattle.rbf_sector.specs.Ident.{geometry_of};
-ghost use Rattle.rbf_reach.specs.Reading.{IsIdent};
+ghost use Rattle.rbf_reach.specs.Reading.{disk_on, IsIdent};
 ghost use Rattle.rbf_reach.specs.Linked.{AreLinks};
 ghost use Rattle.rbf_check.specs.Verdict.{IsLeastError, KeepsBefore};
 ghost use Rattle.rbf_check.specs.declared.faults.CheckError.TheVariants.{OutOfMemory};
@@ -47,7 +44,9 @@ impl From<AllocError> for CheckError {
 
 // Goes on where there is no breach of the rule.
 fn pass(rule: u8, breach: Option<u32>) -> Result<(), CheckError>
-    ensures { MatchResult result (λ _. breach ≡ None) (λ error. MatchOption breach ⊥ (λ lsn. error ≡ CheckError.Fault (record { rule = rule; lsn = lsn }))) }
+    ensures { MatchResult result (λ _. breach ≡ None)
+        (λ error. MatchOption breach ⊥
+        (λ lsn. error ≡ CheckError.Fault (record { rule = rule; lsn = lsn }))) }
 {
     match breach {
         None => Ok(()),
@@ -58,9 +57,9 @@ fn pass(rule: u8, breach: Option<u32>) -> Result<(), CheckError>
 // Tests the rules on numbers, the map and each file's sectors and size, 1 to 6.
 fn test_files(alloc: Global, image: &[u8], ident: &Ident, found: &[u32]) -> Result<(), CheckError>
     requires ident { IsIdent image.now ident.now }
-    requires found { IsFound (disk_of (geometry_of ident.now) (sector_of image.now)) found.now }
-    ensures kept { OnOk result (KeepsBefore (disk_of (geometry_of ident.now) (sector_of image.now)) 7) }
-    ensures broken { IfErr result (IsLeastError (disk_of (geometry_of ident.now) (sector_of image.now))) }
+    requires found { IsFound (disk_on image.now ident.now) found.now }
+    ensures kept { OnOk result (KeepsBefore (disk_on image.now ident.now) 7) }
+    ensures broken { IfErr result (IsLeastError (disk_on image.now ident.now)) }
 {
     pass(1, least_bad_number(alloc, image, ident, found)?)?;
     pass(2, map_breach(image, ident))?;
@@ -80,11 +79,11 @@ fn test_tree(
     links: &[Link],
 ) -> Result<(), CheckError>
     requires ident { IsIdent image.now ident.now }
-    requires found { IsFound (disk_of (geometry_of ident.now) (sector_of image.now)) found.now }
-    requires links { AreLinks (disk_of (geometry_of ident.now) (sector_of image.now)) links.now }
-    requires before { KeepsBefore (disk_of (geometry_of ident.now) (sector_of image.now)) 7 }
-    ensures kept { OnOk result (Keeps (disk_of (geometry_of ident.now) (sector_of image.now))) }
-    ensures broken { IfErr result (IsLeastError (disk_of (geometry_of ident.now) (sector_of image.now))) }
+    requires found { IsFound (disk_on image.now ident.now) found.now }
+    requires links { AreLinks (disk_on image.now ident.now) links.now }
+    requires before { KeepsBefore (disk_on image.now ident.now) 7 }
+    ensures kept { OnOk result (Keeps (disk_on image.now ident.now)) }
+    ensures broken { IfErr result (IsLeastError (disk_on image.now ident.now)) }
 {
     pass(7, least_without_dots(alloc, image, ident, found, links)?)?;
     pass(8, least_badly_named(alloc, image, ident, found)?)?;
@@ -104,10 +103,10 @@ pub fn test_rules(
     found: &[u32],
 ) -> Result<Vec<Link>, CheckError>
     requires ident { IsIdent image.now ident.now }
-    requires found { IsFound (disk_of (geometry_of ident.now) (sector_of image.now)) found.now }
-    ensures links { IfOk result (λ links. AreLinks (disk_of (geometry_of ident.now) (sector_of image.now)) links.items) }
-    ensures kept { OnOk result (Keeps (disk_of (geometry_of ident.now) (sector_of image.now))) }
-    ensures broken { IfErr result (IsLeastError (disk_of (geometry_of ident.now) (sector_of image.now))) }
+    requires found { IsFound (disk_on image.now ident.now) found.now }
+    ensures links { IfOk result (λ links. AreLinks (disk_on image.now ident.now) links.items) }
+    ensures kept { OnOk result (Keeps (disk_on image.now ident.now)) }
+    ensures broken { IfErr result (IsLeastError (disk_on image.now ident.now)) }
 {
     test_files(alloc, image, ident, found)?;
     let links = list_links(alloc, image, ident, found)?;

@@ -17,7 +17,8 @@ use std::alloc::{AllocError, Global};
 // The node of a descriptor that has this place.
 fn read_node(alloc: Global, image: &[u8], n: u32, place: Place) -> Result<Node, AllocError>
     requires descriptor { 256 * (n + 1) ≤ length image.now }
-    requires segments { All (λ segment. 256 * (segment.0 + segment.1) ≤ length image.now) (segments_field (sector_of image.now n)) }
+    requires segments { All (λ segment. 256 * (segment.0 + segment.1) ≤ length image.now)
+        (segments_field (sector_of image.now n)) }
     ensures number { IfOk result (λ node. node.fd ≡ n) }
     ensures parent { IfOk result (λ node. node.parent ≡ place.parent) }
     ensures name { IfOk result (λ node. node.name ≡ place.name) }
@@ -41,7 +42,8 @@ fn read_node(alloc: Global, image: &[u8], n: u32, place: Place) -> Result<Node, 
 /// The nodes of all files of an image that was surveyed.
 pub fn read_nodes(alloc: Global, image: &[u8], survey: &Survey) -> Result<Nodes, AllocError>
     requires { IsSurvey image.now survey.now }
-    ensures { IfOk result (λ nodes. AreNodesBelow image.now survey.now nodes survey.now.ident.total) }
+    ensures { IfOk result
+        (λ nodes. AreNodesBelow image.now survey.now nodes survey.now.ident.total) }
 {
     let places = list_places(alloc, survey.ident.total, &survey.links)?;
     let mut nodes = Vec::with_capacity(alloc, survey.found.len())?;

@@ -1,4 +1,4 @@
-ghost use Rattle.rbf_model.specs.Disk.{disk_of};
+ghost use Rattle.rbf_reach.specs.Linked.{IsLinkOn, linked_entry};
 ghost use Rattle.std.specs.Prelude.{◌≡◌, ◌<◌, All, IfOk, IfSome, None, Some};
 ghost use Rattle.rbf_model.specs.Fields.{directory_entry, entry_name_field};
 ghost use Rattle.rbf_model.specs.Geometry.{sector as sector_of};
@@ -6,7 +6,7 @@ ghost use Rattle.rbf_model.specs.File.{file_at};
 ghost use Rattle.rbf_model.specs.Search.{searchable_bytes};
 ghost use Rattle.rbf_model.specs.Tree.{dot, Links};
 ghost use Rattle.rbf_sector.specs.Ident.{geometry_of};
-ghost use Rattle.rbf_reach.specs.Reading.{listed};
+ghost use Rattle.rbf_reach.specs.Reading.{disk_on, listed};
 ghost use Rattle.rbf_check.specs.Survey.{IsSurvey};
 ghost use Rattle.rbf_check.specs.Places.{ArePlaces};
 ghost use Rattle.rbf_check.specs.VolumeNodes.{volume_from};
@@ -50,8 +50,9 @@ fn root_name() -> Name
 // The name that a link gives.
 fn link_name(image: &[u8], survey: &Survey, link: &Link) -> Name
     requires survey { IsSurvey image.now survey.now }
-    requires link { Links (geometry_of survey.now.ident) (searchable_bytes (disk_of (geometry_of survey.now.ident) (sector_of image.now))) link.now.directory link.now.entry link.now.descriptor }
-    ensures { entry_name_field (directory_entry (listed image.now survey.now.ident link.now.directory) link.now.entry) ≡ Some result }
+    requires link { IsLinkOn (disk_on image.now survey.now.ident) link.now }
+    ensures { entry_name_field (linked_entry (disk_on image.now survey.now.ident) link.now)
+        ≡ Some result }
 {
     let entry = link_entry(image, &survey.ident, link);
     header_name(&entry.name).unwrap()
@@ -63,8 +64,12 @@ pub fn place_of(image: &[u8], survey: &Survey, places: &[Option<Link>], n: u32) 
     requires places { ArePlaces survey.now.links.items survey.now.ident.total places.now }
     requires number { n < survey.now.ident.total }
     ensures none { result ≡ None → (volume_from image.now survey.now).files n ≡ None }
-    ensures file { IfSome result (λ place. (volume_from image.now survey.now).files n ≡ Some (file_at (sector_of image.now) n)) }
-    ensures place { IfSome result (λ place. IsPlaced (geometry_of survey.now.ident) (volume_from image.now survey.now) n place.parent place.name) }
+    ensures file { IfSome result
+        (λ place. (volume_from image.now survey.now).files n
+        ≡ Some (file_at (sector_of image.now) n)) }
+    ensures place { IfSome result
+        (λ place. IsPlaced (geometry_of survey.now.ident)
+        (volume_from image.now survey.now) n place.parent place.name) }
 {
     if n == survey.ident.root {
         return Some(Place {

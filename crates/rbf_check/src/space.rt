@@ -1,4 +1,4 @@
-ghost use Rattle.rbf_model.specs.Disk.{disk_of};
+ghost use Rattle.rbf_reach.specs.Reading.{disk_on};
 ghost use Rattle.std.specs.Prelude.{◌≡◌, ◌+◌, ◌/◌, ◌<◌, ◌&&◌, not, IfOk, length};
 ghost use Rattle.rbf_model.specs.Geometry.{sector as sector_of};
 ghost use Rattle.rbf_model.specs.Space.{is_marked as is_marked_lem, is_whole as is_whole_lem};
@@ -30,14 +30,16 @@ fn is_whole(ident: &Ident, c: u32) -> bool
 
 fn is_free(image: &[u8], survey: &Survey, c: u32) -> bool
     requires { IsSurvey image.now survey.now }
-    ensures { result ≡ (is_whole_lem (geometry_of survey.now.ident) c && not (is_marked_lem (sector_of image.now) c)) }
+    ensures { result
+        ≡ (is_whole_lem (geometry_of survey.now.ident) c && not
+        (is_marked_lem (sector_of image.now) c)) }
 {
     is_whole(&survey.ident, c) && !is_marked(image, c)
 }
 
 fn is_lost(image: &[u8], survey: &Survey, used: &[bool], c: u32) -> bool
     requires survey { IsSurvey image.now survey.now }
-    requires used { AreUsed (disk_of (geometry_of survey.now.ident) (sector_of image.now)) survey.now.found.items used.now }
+    requires used { AreUsed (disk_on image.now survey.now.ident) survey.now.found.items used.now }
     ensures { result ≡ (volume_from image.now survey.now).lost c }
 {
     is_whole(&survey.ident, c) && is_marked(image, c) && !used[c as usize]
@@ -46,9 +48,11 @@ fn is_lost(image: &[u8], survey: &Survey, used: &[bool], c: u32) -> bool
 // Counts the clusters that are free, and those that are lost.
 fn count_clusters(image: &[u8], survey: &Survey, used: &[bool]) -> Space
     requires survey { IsSurvey image.now survey.now }
-    requires used { AreUsed (disk_of (geometry_of survey.now.ident) (sector_of image.now)) survey.now.found.items used.now }
-    ensures free { result.free ≡ length (free_clusters (geometry_of survey.now.ident) (volume_from image.now survey.now)) }
-    ensures lost { result.lost ≡ length (lost_clusters (geometry_of survey.now.ident) (volume_from image.now survey.now)) }
+    requires used { AreUsed (disk_on image.now survey.now.ident) survey.now.found.items used.now }
+    ensures free { result.free
+        ≡ length (free_clusters (geometry_of survey.now.ident) (volume_from image.now survey.now)) }
+    ensures lost { result.lost
+        ≡ length (lost_clusters (geometry_of survey.now.ident) (volume_from image.now survey.now)) }
 {
     let clusters = survey.ident.total.div_ceil(u32::from(survey.ident.cluster));
     let mut space = Space { free: 0, lost: 0 };
@@ -62,8 +66,14 @@ fn count_clusters(image: &[u8], survey: &Survey, used: &[bool]) -> Space
 /// How many clusters of an image that was surveyed are free, and how many are lost.
 pub fn measure_space(alloc: Global, image: &[u8], survey: &Survey) -> Result<Space, AllocError>
     requires { IsSurvey image.now survey.now }
-    ensures free { IfOk result (λ space. space.free ≡ length (free_clusters (geometry_of survey.now.ident) (volume_from image.now survey.now))) }
-    ensures lost { IfOk result (λ space. space.lost ≡ length (lost_clusters (geometry_of survey.now.ident) (volume_from image.now survey.now))) }
+    ensures free { IfOk result
+        (λ space. space.free
+        ≡ length (free_clusters (geometry_of survey.now.ident)
+        (volume_from image.now survey.now))) }
+    ensures lost { IfOk result
+        (λ space. space.lost
+        ≡ length (lost_clusters (geometry_of survey.now.ident)
+        (volume_from image.now survey.now))) }
 {
     let used = list_used(alloc, image, survey)?;
     Ok(count_clusters(image, survey, &used))

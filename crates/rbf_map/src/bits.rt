@@ -28,7 +28,8 @@ pub fn clear_mark(bytes: &mut Vec<u8>, cluster: u32)
 // The first cluster from `first` on and below `end` that is not in use.
 pub fn first_clear(bytes: &[u8], first: u32, end: u32) -> Option<u32>
     requires { end ≤ 8 * length bytes.now }
-    ensures { MatchOption result (MarkedFrom bytes.now first end) (IsFirstClear bytes.now first end) }
+    ensures { MatchOption result (MarkedFrom bytes.now first end)
+        (IsFirstClear bytes.now first end) }
 {
     for cluster in first..end {
         if !is_marked(bytes, cluster) {

@@ -1,3 +1,4 @@
+pub mod Decides
 pub mod Fields
 pub mod Geometry
 pub mod Disk

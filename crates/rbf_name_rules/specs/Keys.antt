@@ -6,6 +6,7 @@ use Rattle.std.specs.Cmp.Lexicographic.{slice_cmp}
 use Rattle.std.specs.BTreeSet.{BTreeSet, contains}
 use Rattle.os9_base.specs.Name.{lower, SameName}
 use Rattle.rbf_model.specs.Fields.{directory_entry, entry_name_field}
+use Rattle.rbf_model.specs.Geometry.{Geometry}
 use Rattle.rbf_model.specs.Search.{searchable_bytes}
 use Rattle.rbf_model.specs.Tree.{HasEntry, IsProper, HasNames, HasDifferentNames}
 
@@ -50,7 +51,8 @@ pub record AreNamed (contents : List ℕ) (keys : BTreeSet (List ℕ)) (i : ℕ)
   pub named : (k : ℕ) → 2 ≤ k → k < i → HasEntry contents k → IsNamedSo contents keys k
   pub from : (q : List ℕ) → HasKey keys q → IsKeyOf contents i q
   pub apart : (j k : ℕ) (one other : List ℕ) → 2 ≤ j → 2 ≤ k → j < i → k < i → HasEntry contents j → HasEntry contents k
-      → entry_name_field (directory_entry contents j) ≡ Some one → entry_name_field (directory_entry contents k) ≡ Some other → SameName one other → j ≡ k
+      → entry_name_field (directory_entry contents j) ≡ Some one
+      → entry_name_field (directory_entry contents k) ≡ Some other → SameName one other → j ≡ k
 
 -- an entry has no proper name, or two have the same
 abbrev pub IsBadlyNamed : List ℕ → Type 0

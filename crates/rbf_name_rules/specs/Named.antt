@@ -24,4 +24,6 @@ pub record AreFirsts (links : List Link) (firsts : List (Option ℕ)) (k : ℕ) 
 abbrev pub IsNamedAgain : List Link → ℕ → ℕ → ℕ → Type 0
 IsNamedAgain links root k n =
     (n ≡ (link_at links k).descriptor)
-    × (((link_at links k).descriptor ≡ root) ⊎ ((j : ℕ) × (j ≤ k) × IsFirst links (link_at links k).descriptor j × (AreSame (link_at links j) (link_at links k) → ⊥)))
+    × (((link_at links k).descriptor ≡ root)
+    ⊎ ((j : ℕ) × (j ≤ k) × IsFirst links (link_at links k).descriptor j
+    × (AreSame (link_at links j) (link_at links k) → ⊥)))

@@ -1,10 +1,9 @@
-ghost use Rattle.rbf_model.specs.Disk.{disk_of};
-ghost use Rattle.std.specs.Prelude.{◌≡◌, ◌<◌, ℕ, ◌+◌, ◌*◌, ◌≤◌, IfOk, MatchBool, length};
+ghost use Rattle.rbf_model.specs.Decides.{Decides};
+ghost use Rattle.std.specs.Prelude.{◌≡◌, ◌<◌, ℕ, ◌+◌, ◌*◌, ◌≤◌, IfOk, length};
 ghost use Rattle.rbf_model.specs.Geometry.{sector as sector_of};
 ghost use Rattle.rbf_model.specs.File.{file_at, is_directory as is_directory_lem};
 ghost use Rattle.rbf_model.specs.Search.{IsFound};
-ghost use Rattle.rbf_sector.specs.Ident.{geometry_of};
-ghost use Rattle.rbf_reach.specs.Reading.{IsIdent, IsDirectory, listed};
+ghost use Rattle.rbf_reach.specs.Reading.{disk_on, IsIdent, IsDirectory, listed};
 ghost use Rattle.rbf_reach.specs.Linked.{AreLinks};
 ghost use Rattle.rbf_reach.specs.Least.{IsLeast, IsLeastBreach};
 ghost use Rattle.rbf_name_rules.specs.Dots.{AreDots, BeginsWithDots, MarksDots, AreDotted, IsWithoutDots, AreDotsDecided};
@@ -16,7 +15,7 @@ use std::alloc::{AllocError, Global};
 
 // Is the one entry `.` of this directory, and the other `..` for this parent?
 fn are_dots(own: &Entry, parent: &Entry, d: u32, p: u32) -> bool
-    ensures { MatchBool result (AreDots own.now parent.now d p) (AreDots own.now parent.now d p → ⊥) }
+    ensures { Decides result (AreDots own.now parent.now d p) }
 {
     if own.lsn != d {
         return false;
@@ -34,7 +33,8 @@ fn are_dots(own: &Entry, parent: &Entry, d: u32, p: u32) -> bool
 fn begins_with_dots(image: &[u8], ident: &Ident, dir: &Directory, p: u32) -> bool
     requires ident { IsIdent image.now ident.now }
     requires directory { IsDirectory image.now ident.now dir.now }
-    ensures { MatchBool result (BeginsWithDots (listed image.now ident.now dir.now.number) dir.now.number p) (BeginsWithDots (listed image.now ident.now dir.now.number) dir.now.number p → ⊥) }
+    ensures { Decides result
+        (BeginsWithDots (listed image.now ident.now dir.now.number) dir.now.number p) }
 {
     if dir.entries < 2 {
         return false;
@@ -52,7 +52,9 @@ fn mark_dots(image: &[u8], ident: &Ident, dotted: &mut Vec<bool>, link: &Link)
     requires ident { IsIdent image.now ident.now }
     requires number { link.now.descriptor < ident.now.total }
     requires size { length dotted.old.items ≡ ident.now.total }
-    ensures { MarksDots (listed image.now ident.now link.now.descriptor) ident.now.root link.now dotted.old.items dotted.new.items }
+    ensures { MarksDots
+        (listed image.now ident.now link.now.descriptor) ident.now.root link.now dotted.old.items
+        dotted.new.items }
 {
     if link.descriptor == ident.root {
         return;
@@ -72,8 +74,8 @@ fn list_dotted(
     links: &[Link],
 ) -> Result<Vec<bool>, AllocError>
     requires ident { IsIdent image.now ident.now }
-    requires links { AreLinks (disk_of (geometry_of ident.now) (sector_of image.now)) links.now }
-    ensures { IfOk result (λ dotted. AreDotted (disk_of (geometry_of ident.now) (sector_of image.now)) dotted.items) }
+    requires links { AreLinks (disk_on image.now ident.now) links.now }
+    ensures { IfOk result (λ dotted. AreDotted (disk_on image.now ident.now) dotted.items) }
 {
     let mut dotted = vec![in alloc; false; ident.total as usize]?;
     let root = read_directory(image, ident, ident.root);
@@ -96,8 +98,8 @@ fn without_dots(image: &[u8], ident: &Ident, dotted: &[bool], n: u32) -> Option<
     requires ident { IsIdent image.now ident.now }
     requires number { n < ident.now.total }
     requires after { 1 ≤ n }
-    requires dotted { AreDotted (disk_of (geometry_of ident.now) (sector_of image.now)) dotted.now }
-    ensures { IsLeast (IsWithoutDots (disk_of (geometry_of ident.now) (sector_of image.now)) n) result }
+    requires dotted { AreDotted (disk_on image.now ident.now) dotted.now }
+    ensures { IsLeast (IsWithoutDots (disk_on image.now ident.now) n) result }
 {
     if dotted[n as usize] {
         return None;
@@ -122,10 +124,10 @@ pub fn least_without_dots(
     links: &[Link],
 ) -> Result<Option<u32>, AllocError>
     requires ident { IsIdent image.now ident.now }
-    requires found { IsFound (disk_of (geometry_of ident.now) (sector_of image.now)) found.now }
-    requires links { AreLinks (disk_of (geometry_of ident.now) (sector_of image.now)) links.now }
-    ensures least { IfOk result (IsLeastBreach (disk_of (geometry_of ident.now) (sector_of image.now)) 7) }
-    ensures decided { IfOk result (λ least. AreDotsDecided (disk_of (geometry_of ident.now) (sector_of image.now))) }
+    requires found { IsFound (disk_on image.now ident.now) found.now }
+    requires links { AreLinks (disk_on image.now ident.now) links.now }
+    ensures least { IfOk result (IsLeastBreach (disk_on image.now ident.now) 7) }
+    ensures decided { IfOk result (λ least. AreDotsDecided (disk_on image.now ident.now)) }
 {
     let dotted = list_dotted(alloc, image, ident, links)?;
     let mut least = None;

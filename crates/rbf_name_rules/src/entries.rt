@@ -1,10 +1,7 @@
-ghost use Rattle.rbf_model.specs.Disk.{disk_of};
 ghost use Rattle.std.specs.Prelude.{◌≡◌, ◌+◌, ◌<◌, ◌≤◌, IfOk, MatchBool};
-ghost use Rattle.rbf_model.specs.Geometry.{sector as sector_of};
 ghost use Rattle.rbf_model.specs.Tree.{HasNames, HasDifferentNames};
 ghost use Rattle.rbf_model.specs.Search.{IsFound};
-ghost use Rattle.rbf_sector.specs.Ident.{geometry_of};
-ghost use Rattle.rbf_reach.specs.Reading.{IsIdent, IsDirectory, listed};
+ghost use Rattle.rbf_reach.specs.Reading.{disk_on, IsIdent, IsDirectory, listed};
 ghost use Rattle.rbf_reach.specs.Least.{IsLeast, IsLeastBreach};
 ghost use Rattle.rbf_name_rules.specs.Keys.{AreNamed, IsBadlyNamed, IsBadlyNamedAt};
 
@@ -29,7 +26,10 @@ fn add_name(
     requires after { 2 ≤ i }
     requires within { i < dir.now.entries }
     requires named { AreNamed (listed image.now ident.now dir.now.number) keys.old i }
-    ensures { IfOk result (λ good. MatchBool good (AreNamed (listed image.now ident.now dir.now.number) keys.new (i + 1)) (IsBadlyNamed (listed image.now ident.now dir.now.number))) }
+    ensures { IfOk result
+        (λ good. MatchBool good
+        (AreNamed (listed image.now ident.now dir.now.number) keys.new (i + 1))
+        (IsBadlyNamed (listed image.now ident.now dir.now.number))) }
 {
     let entry = read_entry(&entry_bytes(image, ident, dir, i));
     if entry.name[0] == 0 {
@@ -57,7 +57,11 @@ fn is_well_named(
 ) -> Result<bool, AllocError>
     requires ident { IsIdent image.now ident.now }
     requires directory { IsDirectory image.now ident.now dir.now }
-    ensures { IfOk result (λ good. MatchBool good (HasNames (listed image.now ident.now dir.now.number) × HasDifferentNames (listed image.now ident.now dir.now.number)) (IsBadlyNamed (listed image.now ident.now dir.now.number))) }
+    ensures { IfOk result
+        (λ good. MatchBool good
+        (HasNames (listed image.now ident.now dir.now.number)
+        × HasDifferentNames (listed image.now ident.now dir.now.number))
+        (IsBadlyNamed (listed image.now ident.now dir.now.number))) }
 {
     let mut keys = BTreeSet::new(alloc);
     for i in 2..dir.entries {
@@ -78,7 +82,7 @@ fn badly_named(
 ) -> Result<Option<u32>, AllocError>
     requires ident { IsIdent image.now ident.now }
     requires number { n < ident.now.total }
-    ensures { IfOk result (IsLeast (IsBadlyNamedAt (disk_of (geometry_of ident.now) (sector_of image.now)) n)) }
+    ensures { IfOk result (IsLeast (IsBadlyNamedAt (disk_on image.now ident.now) n)) }
 {
     let dir = read_directory(image, ident, n);
     let good = is_well_named(alloc, image, ident, &dir)?;
@@ -101,8 +105,8 @@ pub fn least_badly_named(
     found: &[u32],
 ) -> Result<Option<u32>, AllocError>
     requires ident { IsIdent image.now ident.now }
-    requires found { IsFound (disk_of (geometry_of ident.now) (sector_of image.now)) found.now }
-    ensures { IfOk result (IsLeastBreach (disk_of (geometry_of ident.now) (sector_of image.now)) 8) }
+    requires found { IsFound (disk_on image.now ident.now) found.now }
+    ensures { IfOk result (IsLeastBreach (disk_on image.now ident.now) 8) }
 {
     let mut least = None;
     for n in found {

@@ -31,7 +31,8 @@ pub fn key_of(name: &Name) -> [u8; 29]
 // Adds a key, and answers whether it is new.
 pub fn add_key(keys: &mut BTreeSet<[u8; 29]>, key: [u8; 29]) -> Result<bool, AllocError>
     ensures added { OnOk result (IsKeyAdded keys.old keys.new key) }
-    ensures fresh { IfOk result (λ fresh. MatchBool fresh (HasKey keys.old key → ⊥) (HasKey keys.old key)) }
+    ensures fresh { IfOk result
+        (λ fresh. MatchBool fresh (HasKey keys.old key → ⊥) (HasKey keys.old key)) }
 {
     let fresh = keys.insert(key)?;
     Ok(fresh)

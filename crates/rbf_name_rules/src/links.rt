@@ -1,8 +1,5 @@
-ghost use Rattle.rbf_model.specs.Disk.{disk_of};
 ghost use Rattle.std.specs.Prelude.{◌≡◌, ◌⊎◌, ◌+◌, ◌<◌, ◌≤◌, ℕ, All, IfOk, MatchBool, Some, None, length, slice_index_or};
-ghost use Rattle.rbf_model.specs.Geometry.{sector as sector_of};
-ghost use Rattle.rbf_sector.specs.Ident.{geometry_of};
-ghost use Rattle.rbf_reach.specs.Reading.{IsIdent};
+ghost use Rattle.rbf_reach.specs.Reading.{disk_on, IsIdent};
 ghost use Rattle.rbf_reach.specs.Linked.{AreLinks};
 ghost use Rattle.rbf_reach.specs.Least.{IsLeast, IsLeastBreach};
 ghost use Rattle.rbf_reach.specs.Given.{IsGiven};
@@ -15,7 +12,8 @@ use std::alloc::{AllocError, Global};
 // Does the link name the root's descriptor, or is it another entry than the first of its
 // descriptor?
 fn is_again(root: u32, first: &Link, link: &Link) -> bool
-    ensures { MatchBool result ((link.now.descriptor ≡ root) ⊎ (AreSame first.now link.now → ⊥)) ((link.now.descriptor ≡ root → ⊥) × AreSame first.now link.now) }
+    ensures { MatchBool result ((link.now.descriptor ≡ root) ⊎ (AreSame first.now link.now → ⊥))
+        ((link.now.descriptor ≡ root → ⊥) × AreSame first.now link.now) }
 {
     let same = first.directory == link.directory && first.entry == link.entry;
     link.descriptor == root || !same
@@ -72,8 +70,8 @@ pub fn least_named_again(
     links: &[Link],
 ) -> Result<Option<u32>, AllocError>
     requires ident { IsIdent image.now ident.now }
-    requires links { AreLinks (disk_of (geometry_of ident.now) (sector_of image.now)) links.now }
-    ensures { IfOk result (IsLeastBreach (disk_of (geometry_of ident.now) (sector_of image.now)) 9) }
+    requires links { AreLinks (disk_on image.now ident.now) links.now }
+    ensures { IfOk result (IsLeastBreach (disk_on image.now ident.now) 9) }
 {
     let mut firsts = vec![in alloc; None; ident.total as usize]?;
     let mut least = None;

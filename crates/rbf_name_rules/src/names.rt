@@ -1,11 +1,12 @@
-ghost use Rattle.std.specs.Prelude.{◌≡◌, MatchBool, Some};
+ghost use Rattle.rbf_model.specs.Decides.{Decides};
+ghost use Rattle.std.specs.Prelude.{◌≡◌, Some};
 ghost use Rattle.os9_base.specs.Name.{stored_name};
 
 use os9_base::name::{Name, header_name};
 
 // Is the name this text?
 pub fn is_text(name: &Name, text: &[u8]) -> bool
-    ensures { MatchBool result (name.now ≡ text.now) (name.now ≡ text.now → ⊥) }
+    ensures { Decides result (name.now ≡ text.now) }
 {
     if usize::from(name.len()) != text.len() {
         return false;
@@ -20,7 +21,7 @@ pub fn is_text(name: &Name, text: &[u8]) -> bool
 
 // Does the name of an entry spell this text?
 pub fn spells(bytes: &[u8; 29], text: &[u8]) -> bool
-    ensures { MatchBool result (stored_name bytes.now ≡ Some text.now) (stored_name bytes.now ≡ Some text.now → ⊥) }
+    ensures { Decides result (stored_name bytes.now ≡ Some text.now) }
 {
     match header_name(bytes) {
         Err(_) => false,

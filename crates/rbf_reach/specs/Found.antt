@@ -1,6 +1,7 @@
 -- The descriptors that are found on a search from the root.
 use Rattle.rbf_model.specs.Disk.{Disk}
 use Rattle.std.specs.Prelude.{◌≡◌, ◌⊎◌, ℕ, ◌<◌, ◌≤◌, Bool, true, false, List, [], ◌∷◌, ◌++◌, length, get_or, count_by, if◌then◌else◌}
+use Rattle.rbf_model.specs.Fields.{is_used, descriptor_field}
 use Rattle.rbf_model.specs.Geometry.{Geometry, IsNumber}
 use Rattle.rbf_model.specs.Segments.{has, AreDistinct}
 use Rattle.rbf_model.specs.Tree.{EntryNames}
@@ -12,6 +13,22 @@ pub record IsSearch (seen : List Bool) (found : List ℕ) : Type 0 where
   pub numbers : (n : ℕ) → has found n ≡ true → n < length seen
   pub once : AreDistinct found
   pub counted : length found ≡ count_by (λ mark. mark) seen
+
+-- the entry is free or names no number of the volume
+abbrev pub NamesNoNumber : Geometry → List ℕ → Type 0
+NamesNoNumber g entry = is_used entry ≡ true → ¬ IsNumber g (descriptor_field entry)
+
+-- the entry is used and names number n of the volume
+abbrev pub NamesNumber : Geometry → List ℕ → ℕ → Type 0
+NamesNumber g entry n = (is_used entry ≡ true) × (descriptor_field entry ≡ n) × IsNumber g n
+
+-- the entry in place i of a directory links to no number of the volume
+abbrev pub LinksNowhere : Geometry → List ℕ → ℕ → Type 0
+LinksNowhere g contents i = (n : ℕ) → EntryNames contents i n → ¬ IsNumber g n
+
+-- the entry in place i of a directory links to number n of the volume
+abbrev pub LinksTo : Geometry → List ℕ → ℕ → ℕ → Type 0
+LinksTo g contents i n = EntryNames contents i n × IsNumber g n
 
 -- the list with a number behind it, if it does not have it
 abbrev pub added : List ℕ → ℕ → List ℕ
@@ -25,8 +42,11 @@ pub record Extends (old new : List ℕ) : Type 0 where
 -- what the entries in the positions from one up to another name has been found, and nothing else
 pub record AreFound (disk : Disk) (first end : ℕ) (old new : List ℕ) : Type 0 where
   pub extends : Extends old new
-  pub named : (e n : ℕ) → first ≤ e → e < end → PositionNames disk.sectors e n → IsNumber disk.geometry n → has new n ≡ true
-  pub only : (n : ℕ) → has new n ≡ true → (has old n ≡ true) ⊎ ((e : ℕ) × (first ≤ e) × (e < end) × PositionNames disk.sectors e n × IsNumber disk.geometry n)
+  pub named : (e n : ℕ) → first ≤ e → e < end → PositionNames disk.sectors e n → IsNumber disk.geometry n
+      → has new n ≡ true
+  pub only : (n : ℕ) → has new n ≡ true
+      → (has old n ≡ true)
+      ⊎ ((e : ℕ) × (first ≤ e) × (e < end) × PositionNames disk.sectors e n × IsNumber disk.geometry n)
 
 -- what a directory's entries name has been found, and nothing else
 pub record IsVisited (g : Geometry) (contents old new : List ℕ) : Type 0 where

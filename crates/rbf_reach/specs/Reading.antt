@@ -1,5 +1,5 @@
 -- What is read of an image: its identification, its descriptors and its directories.
-use Rattle.rbf_model.specs.Disk.{disk_of}
+use Rattle.rbf_model.specs.Disk.{Disk, disk_of}
 use Rattle.std.specs.Prelude.{◌≡◌, ℕ, ◌*◌, ◌<◌, ◌==◌, ◌&&◌, Bool, List, length}
 use Rattle.std.specs.List.{list_all}
 use Rattle.std.specs.Int.{bit_at}
@@ -17,9 +17,13 @@ pub record IsIdent (image : List ℕ) (ident : Ident) : Type 0 where
   pub header : HasHeader image
   pub geometry : geometry (sector image 0) ≡ geometry_of ident
 
+-- the disk of an image with this identification
+abbrev pub disk_on : List ℕ → Ident → Disk
+disk_on image ident = disk_of (geometry_of ident) (sector image)
+
 -- the bytes of a directory that can be searched, and no bytes for any other descriptor
 abbrev pub listed : List ℕ → Ident → ℕ → List ℕ
-listed image ident n = searchable_bytes (disk_of (geometry_of ident) (sector image)) n
+listed image ident n = searchable_bytes (disk_on image ident) n
 
 -- a descriptor's segments, and how many entries it has for the rules
 pub record IsDirectory (image : List ℕ) (ident : Ident) (dir : Directory) : Type 0 where

@@ -8,10 +8,12 @@ use Rattle.rbf_reach.specs.Found.{IsSearch}
 use Rattle.rbf_reach.specs.Positions.{PositionNames}
 use Rattle.rbf_reach.specs.Unread.{IsOrdered, IsRead}
 
--- the marks are those of what is found, and what the entries in all positions that are not still to be read name is found
+-- the marks are those of what is found, and what the entries in all positions that are not still to be read name is
+-- found
 pub record IsSearching (disk : Disk) (search : Search) : Type 0 where
   pub marks : IsSearch search.seen.items search.found.items
   pub size : length search.seen.items ≡ disk.geometry.total
   pub positions : length search.unread.next.items ≡ 8 * disk.geometry.total + 1
   pub ordered : IsOrdered search.unread
-  pub read : (e n : ℕ) → IsRead search.unread e → PositionNames disk.sectors e n → IsNumber disk.geometry n → has search.found.items n ≡ true
+  pub read : (e n : ℕ) → IsRead search.unread e → PositionNames disk.sectors e n → IsNumber disk.geometry n
+      → has search.found.items n ≡ true

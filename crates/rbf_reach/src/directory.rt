@@ -35,7 +35,8 @@ pub fn read_directory(image: &[u8], ident: &Ident, n: u32) -> Directory
 
 // How many entries a search of this file finds.
 fn entry_count(fd: &Fd, ident: &Ident) -> u32
-    ensures { 32 * result ≡ (if is_searchable_descriptor (geometry_of ident.now) fd.now then fd.now.size else 0) }
+    ensures { 32 * result
+        ≡ (if is_searchable_descriptor (geometry_of ident.now) fd.now then fd.now.size else 0) }
 {
     if is_searchable(fd, ident) {
         fd.size / 32

@@ -22,7 +22,8 @@ pub fn sector(image: &[u8], n: u32) -> [u8; 256]
 pub fn read_header(image: &[u8]) -> Option<Ident>
     ensures header { MatchOption result (¬ HasHeader image.now) (IsIdent image.now) }
     ensures boot { IfSome result (λ ident. ident.boot ≡ boot_field (sector_of image.now 0)) }
-    ensures boot_size { IfSome result (λ ident. ident.boot_size ≡ boot_size_field (sector_of image.now 0)) }
+    ensures boot_size { IfSome result (λ ident. ident.boot_size
+        ≡ boot_size_field (sector_of image.now 0)) }
 {
     if image.len() < 256 {
         return None;

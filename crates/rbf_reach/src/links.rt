@@ -1,12 +1,10 @@
-ghost use Rattle.rbf_model.specs.Disk.{disk_of};
 ghost use Rattle.std.specs.Prelude.{◌≡◌, take, OnOk, IfOk};
 ghost use Rattle.rbf_model.specs.Fields.{directory_entry, descriptor_field};
-ghost use Rattle.rbf_model.specs.Geometry.{sector as sector_of};
 ghost use Rattle.rbf_model.specs.Tree.{Links};
 ghost use Rattle.rbf_model.specs.Search.{IsFound, searchable_bytes};
 ghost use Rattle.rbf_sector.specs.Ident.{geometry_of};
-ghost use Rattle.rbf_reach.specs.Reading.{IsIdent, IsDirectory, listed};
-ghost use Rattle.rbf_reach.specs.Linked.{AreAdded, AreLinks};
+ghost use Rattle.rbf_reach.specs.Reading.{disk_on, IsIdent, IsDirectory, listed};
+ghost use Rattle.rbf_reach.specs.Linked.{AreAdded, AreLinks, IsLinkOn, linked_entry};
 
 use crate::directory::{Directory, entry_bytes, read_directory};
 use crate::walk::named;
@@ -30,7 +28,10 @@ fn add_links(
 ) -> Result<(), AllocError>
     requires ident { IsIdent image.now ident.now }
     requires directory { IsDirectory image.now ident.now dir.now }
-    ensures { OnOk result (AreAdded (geometry_of ident.now) (listed image.now ident.now dir.now.number) dir.now.number links.old.items links.new.items dir.now.entries) }
+    ensures { OnOk result
+        (AreAdded (geometry_of ident.now)
+        (listed image.now ident.now dir.now.number) dir.now.number links.old.items links.new.items
+        dir.now.entries) }
 {
     for i in 2..dir.entries {
         if let Some(n) = named(image, ident, dir, i) {
@@ -56,8 +57,8 @@ pub fn list_links(
     found: &[u32],
 ) -> Result<Vec<Link>, AllocError>
     requires ident { IsIdent image.now ident.now }
-    requires found { IsFound (disk_of (geometry_of ident.now) (sector_of image.now)) found.now }
-    ensures { IfOk result (λ links. AreLinks (disk_of (geometry_of ident.now) (sector_of image.now)) links.items) }
+    requires found { IsFound (disk_on image.now ident.now) found.now }
+    ensures { IfOk result (λ links. AreLinks (disk_on image.now ident.now) links.items) }
 {
     let mut links = Vec::new(alloc);
     for n in found {
@@ -70,9 +71,10 @@ pub fn list_links(
 /// The entry of a link of the image.
 pub fn link_entry(image: &[u8], ident: &Ident, link: &Link) -> Entry
     requires ident { IsIdent image.now ident.now }
-    requires link { Links (geometry_of ident.now) (searchable_bytes (disk_of (geometry_of ident.now) (sector_of image.now))) link.now.directory link.now.entry link.now.descriptor }
-    ensures name { result.name ≡ take 29 (directory_entry (listed image.now ident.now link.now.directory) link.now.entry) }
-    ensures lsn { result.lsn ≡ descriptor_field (directory_entry (listed image.now ident.now link.now.directory) link.now.entry) }
+    requires link { IsLinkOn (disk_on image.now ident.now) link.now }
+    ensures name { result.name ≡ take 29 (linked_entry (disk_on image.now ident.now) link.now) }
+    ensures lsn { result.lsn
+        ≡ descriptor_field (linked_entry (disk_on image.now ident.now) link.now) }
 {
     let dir = read_directory(image, ident, link.directory);
     read_entry(&entry_bytes(image, ident, &dir, link.entry))

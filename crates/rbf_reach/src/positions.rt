@@ -23,7 +23,8 @@ pub fn position_bytes(image: &[u8], e: u32) -> [u8; 32]
 ///
 /// Out of memory.
 pub fn list_positions(dir: &Directory, ranges: &mut Vec<(u32, u32)>) -> Result<(), AllocError>
-    ensures positions { OnOk result (positions_in ranges.new.items ≡ take dir.now.entries (segment_positions dir.now.segs)) }
+    ensures positions { OnOk result (positions_in ranges.new.items
+        ≡ take dir.now.entries (segment_positions dir.now.segs)) }
     ensures some { OnOk result (All (λ run. 1 ≤ run.1) ranges.new.items) }
 {
     ranges.clear();

@@ -1,13 +1,12 @@
-ghost use Rattle.rbf_model.specs.Disk.{disk_of};
 ghost use Rattle.std.specs.Prelude.{◌≡◌, ◌≢◌, ℕ, ◌+◌, ◌*◌, ◌<◌, ◌≤◌, true, length, MatchOption, OnOk, IfOk};
 ghost use Rattle.rbf_model.specs.Fields.{is_used, descriptor_field};
-ghost use Rattle.rbf_model.specs.Geometry.{IsNumber, sector as sector_of};
+ghost use Rattle.rbf_model.specs.Geometry.{IsNumber};
 ghost use Rattle.rbf_model.specs.Segments.{AreDistinct};
 ghost use Rattle.rbf_model.specs.Tree.{EntryNames};
 ghost use Rattle.rbf_model.specs.Search.{IsFound};
-ghost use Rattle.rbf_reach.specs.Found.{IsSearch, IsVisited, AreFound, added};
+ghost use Rattle.rbf_reach.specs.Found.{IsSearch, IsVisited, AreFound, added, NamesNoNumber, NamesNumber, LinksNowhere, LinksTo};
 ghost use Rattle.rbf_sector.specs.Ident.{geometry_of};
-ghost use Rattle.rbf_reach.specs.Reading.{IsIdent, IsDirectory, listed};
+ghost use Rattle.rbf_reach.specs.Reading.{disk_on, IsIdent, IsDirectory, listed};
 
 use crate::directory::{Directory, entry_bytes, read_directory};
 use crate::positions::{list_positions, position_bytes};
@@ -26,7 +25,8 @@ struct Search {
 
 // The descriptor of the volume that an entry names, if it is used.
 fn used_descriptor(bytes: &[u8; 32], ident: &Ident) -> Option<u32>
-    ensures { MatchOption result (is_used bytes.now ≡ true → ¬ IsNumber (geometry_of ident.now) (descriptor_field bytes.now)) (λ m. (is_used bytes.now ≡ true) × (descriptor_field bytes.now ≡ m) × IsNumber (geometry_of ident.now) m) }
+    ensures { MatchOption result (NamesNoNumber (geometry_of ident.now) bytes.now)
+        (NamesNumber (geometry_of ident.now) bytes.now) }
 {
     let entry = read_entry(bytes);
     if entry.name[0] == 0 || entry.lsn == 0 || entry.lsn >= ident.total {
@@ -42,7 +42,9 @@ pub fn named(image: &[u8], ident: &Ident, dir: &Directory, i: u32) -> Option<u32
     requires directory { IsDirectory image.now ident.now dir.now }
     requires after { 2 ≤ i }
     requires within { i < dir.now.entries }
-    ensures { MatchOption result ((m : ℕ) → EntryNames (listed image.now ident.now dir.now.number) i m → ¬ IsNumber (geometry_of ident.now) m) (λ m. EntryNames (listed image.now ident.now dir.now.number) i m × IsNumber (geometry_of ident.now) m) }
+    ensures { let contents = listed image.now ident.now dir.now.number in
+        MatchOption result (LinksNowhere (geometry_of ident.now) contents i)
+        (LinksTo (geometry_of ident.now) contents i) }
 {
     used_descriptor(&entry_bytes(image, ident, dir, i), ident)
 }
@@ -75,7 +77,9 @@ impl Search {
         requires size { length self.old.seen.items ≡ ident.now.total }
         ensures marks { OnOk result (IsSearch self.new.seen.items self.new.found.items) }
         ensures size { length self.new.seen.items ≡ length self.old.seen.items }
-        ensures found { OnOk result (AreFound (disk_of (geometry_of ident.now) (sector_of image.now)) e (e + 1) self.old.found.items self.new.found.items) }
+        ensures found { OnOk result
+            (AreFound (disk_on image.now ident.now) e
+            (e + 1) self.old.found.items self.new.found.items) }
         ensures unread { self.new.unread ≡ self.old.unread }
     {
         if let Some(n) = used_descriptor(&position_bytes(image, e), ident) {
@@ -96,9 +100,11 @@ impl Search {
         requires ident { IsIdent image.now ident.now }
         requires order { first ≤ end }
         requires within { end ≤ 8 * ident.now.total }
-        requires searching { IsSearching (disk_of (geometry_of ident.now) (sector_of image.now)) self.old }
-        ensures searching { OnOk result (IsSearching (disk_of (geometry_of ident.now) (sector_of image.now)) self.new) }
-        ensures found { OnOk result (AreFound (disk_of (geometry_of ident.now) (sector_of image.now)) first end self.old.found.items self.new.found.items) }
+        requires searching { IsSearching (disk_on image.now ident.now) self.old }
+        ensures searching { OnOk result (IsSearching (disk_on image.now ident.now) self.new) }
+        ensures found { OnOk result
+            (AreFound (disk_on image.now ident.now) first end self.old.found.items
+            self.new.found.items) }
     {
         let mut e = self.unread.first(first);
         while e < end {
@@ -119,9 +125,10 @@ impl Search {
     ) -> Result<(), AllocError>
         requires ident { IsIdent image.now ident.now }
         requires directory { IsDirectory image.now ident.now dir.now }
-        requires searching { IsSearching (disk_of (geometry_of ident.now) (sector_of image.now)) self.old }
-        ensures searching { OnOk result (IsSearching (disk_of (geometry_of ident.now) (sector_of image.now)) self.new) }
-        ensures visited { OnOk result (IsVisited (geometry_of ident.now) (listed image.now ident.now dir.now.number) self.old.found.items self.new.found.items) }
+        requires searching { IsSearching (disk_on image.now ident.now) self.old }
+        ensures searching { OnOk result (IsSearching (disk_on image.now ident.now) self.new) }
+        ensures visited { OnOk result (IsVisited (geometry_of ident.now)
+            (listed image.now ident.now dir.now.number) self.old.found.items self.new.found.items) }
     {
         list_positions(dir, ranges)?;
         let mut skipped = 2;
@@ -143,7 +150,7 @@ impl Search {
 /// Out of memory.
 pub fn find_descriptors(alloc: Global, image: &[u8], ident: &Ident) -> Result<Vec<u32>, AllocError>
     requires { IsIdent image.now ident.now }
-    ensures found { IfOk result (λ found. IsFound (disk_of (geometry_of ident.now) (sector_of image.now)) found.items) }
+    ensures found { IfOk result (λ found. IsFound (disk_on image.now ident.now) found.items) }
     ensures once { IfOk result (λ found. AreDistinct found.items) }
     ensures few { IfOk result (λ found. length found.items ≤ ident.now.total) }
 {

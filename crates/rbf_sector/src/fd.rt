@@ -52,7 +52,8 @@ pub fn write_fd(f: &Fd, b: &mut [u8; 256])
     ensures created { created_field b.new ≡ f.now.created }
     ensures segs { segments_field b.new ≡ f.now.segs }
     ensures ended { length f.now.segs < 48 → segment_field b.new (length f.now.segs) ≡ (0, 0) }
-    ensures behind { (i : ℕ) → 16 + 5 * (length f.now.segs + 1) ≤ i → slice_index b.new i ≡ slice_index b.old i }
+    ensures behind { (i : ℕ) → 16 + 5 * (length f.now.segs + 1) ≤ i
+        → slice_index b.new i ≡ slice_index b.old i }
 {
     b[0] = f.attr;
     put_u16(b, 1, f.owner);

@@ -1,4 +1,5 @@
-ghost use Rattle.std.specs.Prelude.{◌≡◌, ◌+◌, ◌≤◌, MatchBool};
+ghost use Rattle.rbf_model.specs.Decides.{Decides};
+ghost use Rattle.std.specs.Prelude.{◌≡◌, ◌+◌, ◌≤◌};
 ghost use Rattle.rbf_model.specs.Fields.{total_field, map_bytes_field, cluster_field, root_field, boot_field, boot_size_field};
 ghost use Rattle.rbf_model.specs.Geometry.{IsHeader, HasMap, map_sectors};
 ghost use Rattle.rbf_sector.specs.Ident.{geometry_of};
@@ -42,7 +43,7 @@ pub fn read_ident(b: &[u8; 256]) -> Ident
 /// Does this project take a volume of this size, with these clusters and this root? It has from 4
 /// to 524,280 sectors, and 1, 2, 4, 8, 16, 32 or 64 sectors per cluster.
 pub fn is_header(ident: &Ident) -> bool
-    ensures { MatchBool result (IsHeader (geometry_of ident.now)) (¬ IsHeader (geometry_of ident.now)) }
+    ensures { Decides result (IsHeader (geometry_of ident.now)) }
 {
     let size = 4 <= ident.total && ident.total <= 524_280;
     let clusters = matches!(ident.cluster, 1 | 2 | 4 | 8 | 16 | 32 | 64);
@@ -52,7 +53,7 @@ pub fn is_header(ident: &Ident) -> bool
 
 /// Has the map a bit for each cluster, and does it end within the volume?
 pub fn has_map(ident: &Ident) -> bool
-    ensures { MatchBool result (HasMap (geometry_of ident.now)) (¬ HasMap (geometry_of ident.now)) }
+    ensures { Decides result (HasMap (geometry_of ident.now)) }
 {
     let bits = 8 * u64::from(ident.map_bytes) * u64::from(ident.cluster);
     u64::from(ident.total) <= bits && u32::from(system_sectors(ident)) <= ident.total

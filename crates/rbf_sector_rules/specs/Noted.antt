@@ -29,7 +29,8 @@ pub data IsUsedAgain (k : ℕ) (owner : Owner) (sectors : List ℕ) (uses : Uses
   -- the owner was noted before to use it
   again : has sectors s ≡ true → HasUser uses s owner.place → IsUsedAgain k owner sectors uses s
   -- it is the first of the cluster of one of them, and another owner has that
-  shared : (t n : ℕ) → has sectors t ≡ true → s ≡ cluster_begin k t → HasOwner uses (t / k) n → n ≢ owner.descriptor → IsUsedAgain k owner sectors uses s
+  shared : (t n : ℕ) → has sectors t ≡ true → s ≡ cluster_begin k t → HasOwner uses (t / k) n → n ≢ owner.descriptor
+      → IsUsedAgain k owner sectors uses s
 
 -- these sectors of an owner have been gone over
 pub record IsNoted (k : ℕ) (owner : Owner) (sectors : List ℕ) (old new : Uses) : Type 0 where
@@ -39,7 +40,8 @@ pub record IsNoted (k : ℕ) (owner : Owner) (sectors : List ℕ) (old new : Use
   pub user_stays : (s : ℕ) → HasUser old s owner.place → HasUser new s owner.place
   pub owner_stays : (c n : ℕ) → HasOwner old c n → HasOwner new c n
   pub user_from : (s p : ℕ) → HasUser new s p → HasUser old s p ⊎ ((p ≡ owner.place) × (has sectors s ≡ true))
-  pub owner_from : (c n : ℕ) → HasOwner new c n → HasOwner old c n ⊎ ((n ≡ owner.descriptor) × ((s : ℕ) × (has sectors s ≡ true) × (s / k ≡ c)))
+  pub owner_from : (c n : ℕ) → HasOwner new c n
+      → HasOwner old c n ⊎ ((n ≡ owner.descriptor) × ((s : ℕ) × (has sectors s ≡ true) × (s / k ≡ c)))
   -- it is noted at those that come below the least breach
   pub used : (s : ℕ) → has sectors s ≡ true → s < new.least → HasUser new s owner.place
   pub owned : (s : ℕ) → has sectors s ≡ true → cluster_begin k s < new.least → HasOwner new (s / k) owner.descriptor

@@ -13,16 +13,19 @@ use Rattle.rbf_sector_rules.specs.declared.descriptors.OwnRule.TheVariants.{Room
 
 -- a used entry names no descriptor of the volume
 abbrev pub HasBadNumber : Geometry → List ℕ → Type 0
-HasBadNumber g contents = (i : ℕ) × HasEntry contents i × (IsNumber g (descriptor_field (directory_entry contents i)) → ⊥)
+HasBadNumber g contents = (i : ℕ) × HasEntry contents i
+    × (IsNumber g (descriptor_field (directory_entry contents i)) → ⊥)
 
 -- position e has such an entry
 pub record IsBadPosition (disk : Disk) (e : ℕ) : Type 0 where
   pub used : is_used (entry_at_position disk.sectors e) ≡ true
   pub number : IsNumber disk.geometry (descriptor_field (entry_at_position disk.sectors e)) → ⊥
 
--- the descriptor breaks rule 1: it has a segment that is not within the volume, or a used entry that names no descriptor of the volume
+-- the descriptor breaks rule 1: it has a segment that is not within the volume, or a used entry that names no
+-- descriptor of the volume
 abbrev pub BreaksNumbers : Disk → ℕ → Type 0
-BreaksNumbers disk n = (list_all (is_within disk.geometry) (segments_field (disk.sectors n)) ≡ false) ⊎ HasBadNumber disk.geometry (searchable_bytes disk n)
+BreaksNumbers disk n = (list_all (is_within disk.geometry) (segments_field (disk.sectors n)) ≡ false)
+    ⊎ HasBadNumber disk.geometry (searchable_bytes disk n)
 
 -- the descriptor is this one, which breaks rule 1
 abbrev pub BreaksNumbersAt : Disk → ℕ → ℕ → Type 0
@@ -32,7 +35,8 @@ BreaksNumbersAt disk n s = (s ≡ n) × BreaksNumbers disk n
 abbrev pub BreaksOwn : OwnRule → Disk → ℕ → Type 0
 BreaksOwn Room disk n = has_room (segments_field (disk.sectors n)) (size_field (disk.sectors n)) ≡ false
 BreaksOwn Size disk n =
-    ((n ≡ disk.geometry.root) × (is_directory (file_at disk.sectors n) ≡ false)) ⊎ ((is_directory (file_at disk.sectors n) ≡ true) × (is_directory_size (size_field (disk.sectors n)) ≡ false))
+    ((n ≡ disk.geometry.root) × (is_directory (file_at disk.sectors n) ≡ false))
+    ⊎ ((is_directory (file_at disk.sectors n) ≡ true) × (is_directory_size (size_field (disk.sectors n)) ≡ false))
 
 -- the descriptor is this one, which breaks the rule
 abbrev pub BreaksOwnAt : OwnRule → Disk → ℕ → ℕ → Type 0

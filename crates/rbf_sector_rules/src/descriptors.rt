@@ -1,12 +1,11 @@
-ghost use Rattle.rbf_model.specs.Disk.{disk_of};
-ghost use Rattle.std.specs.Prelude.{◌≡◌, ℕ, ◌⊎◌, ◌+◌, ◌*◌, ◌<◌, ◌≤◌, length, min, not, MatchBool, MatchOption};
+ghost use Rattle.rbf_model.specs.Decides.{Decides};
+ghost use Rattle.std.specs.Prelude.{◌≡◌, ℕ, ◌⊎◌, ◌+◌, ◌*◌, ◌<◌, ◌≤◌, length, min, not, MatchOption};
 ghost use Rattle.rbf_model.specs.Fields.{directory_entry, descriptor_field, segments_field, size_field};
 ghost use Rattle.rbf_model.specs.File.{has_room};
 ghost use Rattle.rbf_model.specs.Geometry.{IsNumber, sector as sector_of};
 ghost use Rattle.rbf_model.specs.Tree.{HasEntry};
 ghost use Rattle.rbf_model.specs.Search.{IsFound};
-ghost use Rattle.rbf_sector.specs.Ident.{geometry_of};
-ghost use Rattle.rbf_reach.specs.Reading.{IsIdent, IsDirectory, listed};
+ghost use Rattle.rbf_reach.specs.Reading.{disk_on, IsIdent, IsDirectory, listed};
 ghost use Rattle.rbf_sector_rules.specs.Rules.{BreaksOwn, BreaksOwnAt, rule_number};
 ghost use Rattle.rbf_reach.specs.Least.{IsLeast, IsLeastBreach};
 
@@ -26,7 +25,7 @@ pub enum OwnRule {
 fn breaks(image: &[u8], ident: &Ident, rule: OwnRule, n: u32) -> bool
     requires ident { IsIdent image.now ident.now }
     requires number { n < ident.now.total }
-    ensures { MatchBool result (BreaksOwn rule (disk_of (geometry_of ident.now) (sector_of image.now)) n) (¬ BreaksOwn rule (disk_of (geometry_of ident.now) (sector_of image.now)) n) }
+    ensures { Decides result (BreaksOwn rule (disk_on image.now ident.now) n) }
 {
     match rule {
         OwnRule::Room => breaks_room(image, n),
@@ -36,7 +35,9 @@ fn breaks(image: &[u8], ident: &Ident, rule: OwnRule, n: u32) -> bool
 
 fn breaks_room(image: &[u8], n: u32) -> bool
     requires { 256 * (n + 1) ≤ length image.now }
-    ensures { result ≡ not (has_room (segments_field (sector_of image.now n)) (size_field (sector_of image.now n))) }
+    ensures { result
+        ≡ not (has_room (segments_field (sector_of image.now n))
+        (size_field (sector_of image.now n))) }
 {
     let fd = read_fd(&sector(image, n));
     u64::from(fd.size) > 256 * u64::from(fd.segs.sectors())
@@ -44,7 +45,7 @@ fn breaks_room(image: &[u8], n: u32) -> bool
 
 fn breaks_size(image: &[u8], ident: &Ident, n: u32) -> bool
     requires { 256 * (n + 1) ≤ length image.now }
-    ensures { MatchBool result (BreaksOwn OwnRule.Size (disk_of (geometry_of ident.now) (sector_of image.now)) n) (¬ BreaksOwn OwnRule.Size (disk_of (geometry_of ident.now) (sector_of image.now)) n) }
+    ensures { Decides result (BreaksOwn OwnRule.Size (disk_on image.now ident.now) n) }
 {
     let fd = read_fd(&sector(image, n));
     if fd.attr >> 7 != 1 {
@@ -57,7 +58,7 @@ fn breaks_size(image: &[u8], ident: &Ident, n: u32) -> bool
 fn breach_of(image: &[u8], ident: &Ident, rule: OwnRule, n: u32) -> Option<u32>
     requires ident { IsIdent image.now ident.now }
     requires number { n < ident.now.total }
-    ensures { IsLeast (BreaksOwnAt rule (disk_of (geometry_of ident.now) (sector_of image.now)) n) result }
+    ensures { IsLeast (BreaksOwnAt rule (disk_on image.now ident.now) n) result }
 {
     if breaks(image, ident, rule, n) {
         Some(n)
@@ -69,8 +70,8 @@ fn breach_of(image: &[u8], ident: &Ident, rule: OwnRule, n: u32) -> Option<u32>
 /// The least descriptor of those found that breaks the rule. None if the rule is kept.
 pub fn least_breach(image: &[u8], ident: &Ident, found: &[u32], rule: OwnRule) -> Option<u32>
     requires ident { IsIdent image.now ident.now }
-    requires found { IsFound (disk_of (geometry_of ident.now) (sector_of image.now)) found.now }
-    ensures { IsLeastBreach (disk_of (geometry_of ident.now) (sector_of image.now)) (rule_number rule) result }
+    requires found { IsFound (disk_on image.now ident.now) found.now }
+    ensures { IsLeastBreach (disk_on image.now ident.now) (rule_number rule) result }
 {
     let mut least = None;
     for n in found {

@@ -1,11 +1,10 @@
-ghost use Rattle.rbf_model.specs.Disk.{disk_of};
 ghost use Rattle.std.specs.Prelude.{◌≡◌, ℕ, ◌+◌, ◌/◌, ◌<◌, ◌≤◌, IfOk, MatchOption, length, slice_index};
 ghost use Rattle.rbf_model.specs.Geometry.{HasMap, sector as sector_of};
 ghost use Rattle.rbf_model.specs.Space.{is_marked as is_marked_lem};
 ghost use Rattle.rbf_model.specs.Faults.{Breaks};
 ghost use Rattle.rbf_model.specs.Search.{IsFound, IsReachedOn};
 ghost use Rattle.rbf_sector.specs.Ident.{geometry_of};
-ghost use Rattle.rbf_reach.specs.Reading.{IsIdent};
+ghost use Rattle.rbf_reach.specs.Reading.{disk_on, IsIdent};
 ghost use Rattle.rbf_reach.specs.Least.{IsLeastBreach, IsLeast};
 ghost use Rattle.rbf_sector_rules.specs.Nexts.{AreNexts};
 ghost use Rattle.rbf_sector_rules.specs.Used.{used_by, IsUnmarked, IsUnmarkedIn};
@@ -30,7 +29,8 @@ fn is_sector_marked(image: &[u8], ident: &Ident, s: u32) -> bool
 fn list_next_unmarked(alloc: Global, image: &[u8], ident: &Ident) -> Result<Vec<u32>, AllocError>
     requires ident { IsIdent image.now ident.now }
     requires map { HasMap (geometry_of ident.now) }
-    ensures { IfOk result (λ nexts. AreNexts (IsUnmarked (disk_of (geometry_of ident.now) (sector_of image.now))) ident.now.total nexts.items) }
+    ensures { IfOk result
+        (λ nexts. AreNexts (IsUnmarked (disk_on image.now ident.now)) ident.now.total nexts.items) }
 {
     let mut nexts = vec![in alloc; ident.total; ident.total as usize]?;
     let mut next = ident.total;
@@ -52,12 +52,14 @@ fn least_unmarked_of(
     segments: &mut Vec<(u32, u16)>,
 ) -> Result<Option<u32>, AllocError>
     requires ident { IsIdent image.now ident.now }
-    requires segments { (lsn : ℕ) → ¬ Breaks (disk_of (geometry_of ident.now) (sector_of image.now)) 1 lsn }
+    requires segments { (lsn : ℕ) → ¬ Breaks (disk_on image.now ident.now) 1 lsn }
     requires map { HasMap (geometry_of ident.now) }
-    requires nexts { AreNexts (IsUnmarked (disk_of (geometry_of ident.now) (sector_of image.now))) ident.now.total nexts.now }
-    requires reached { IsReachedOn (disk_of (geometry_of ident.now) (sector_of image.now)) n }
+    requires nexts { AreNexts (IsUnmarked (disk_on image.now ident.now)) ident.now.total nexts.now }
+    requires reached { IsReachedOn (disk_on image.now ident.now) n }
     requires number { n < ident.now.total }
-    ensures { IfOk result (IsLeast (IsUnmarkedIn (disk_of (geometry_of ident.now) (sector_of image.now)) (used_by (disk_of (geometry_of ident.now) (sector_of image.now)) n))) }
+    ensures { IfOk result
+        (IsLeast (IsUnmarkedIn (disk_on image.now ident.now)
+        (used_by (disk_on image.now ident.now) n))) }
 {
     list_segments(image, ident, n, segments)?;
     let mut least = None;
@@ -80,10 +82,10 @@ pub fn least_unmarked(
     found: &[u32],
 ) -> Result<Option<u32>, AllocError>
     requires ident { IsIdent image.now ident.now }
-    requires found { IsFound (disk_of (geometry_of ident.now) (sector_of image.now)) found.now }
-    requires segments { (lsn : ℕ) → ¬ Breaks (disk_of (geometry_of ident.now) (sector_of image.now)) 1 lsn }
+    requires found { IsFound (disk_on image.now ident.now) found.now }
+    requires segments { (lsn : ℕ) → ¬ Breaks (disk_on image.now ident.now) 1 lsn }
     requires map { HasMap (geometry_of ident.now) }
-    ensures { IfOk result (IsLeastBreach (disk_of (geometry_of ident.now) (sector_of image.now)) 3) }
+    ensures { IfOk result (IsLeastBreach (disk_on image.now ident.now) 3) }
 {
     let nexts = list_next_unmarked(alloc, image, ident)?;
     let mut segments = Vec::new(alloc);

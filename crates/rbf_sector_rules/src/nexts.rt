@@ -5,7 +5,8 @@ pub fn next_in_range(nexts: &[u32], first: u32, count: u32) -> Option<u32>
     requires some { 1 ≤ count }
     requires within { first + count ≤ length nexts.now }
     requires fits { first + count < 4294967296 }
-    ensures { MatchOption result (first + count ≤ slice_index nexts.now first) (λ next. (next ≡ slice_index nexts.now first) × (next < first + count)) }
+    ensures { MatchOption result (first + count ≤ slice_index nexts.now first)
+        (λ next. (next ≡ slice_index nexts.now first) × (next < first + count)) }
 {
     let next = nexts[first as usize];
     if next < first + count {

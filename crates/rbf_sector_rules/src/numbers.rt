@@ -1,9 +1,8 @@
-ghost use Rattle.rbf_model.specs.Disk.{disk_of};
-ghost use Rattle.std.specs.Prelude.{◌≡◌, ℕ, ◌+◌, ◌*◌, ◌<◌, ◌≤◌, IfOk, MatchBool, length};
-ghost use Rattle.rbf_model.specs.Geometry.{sector as sector_of};
+ghost use Rattle.rbf_model.specs.Decides.{Decides};
+ghost use Rattle.std.specs.Prelude.{◌≡◌, ℕ, ◌+◌, ◌*◌, ◌<◌, ◌≤◌, IfOk, length};
 ghost use Rattle.rbf_model.specs.Search.{IsFound};
 ghost use Rattle.rbf_sector.specs.Ident.{geometry_of};
-ghost use Rattle.rbf_reach.specs.Reading.{IsIdent, IsDirectory, listed};
+ghost use Rattle.rbf_reach.specs.Reading.{disk_on, IsIdent, IsDirectory, listed};
 ghost use Rattle.rbf_sector_rules.specs.Rules.{BreaksNumbersAt, HasBadNumber, IsBadPosition};
 ghost use Rattle.rbf_reach.specs.Least.{IsLeastBreach, IsLeast};
 ghost use Rattle.rbf_sector_rules.specs.Nexts.{AreNexts};
@@ -17,7 +16,7 @@ use std::alloc::{AllocError, Global};
 fn is_bad_position(image: &[u8], ident: &Ident, e: u32) -> bool
     requires ident { IsIdent image.now ident.now }
     requires position { e < 8 * ident.now.total }
-    ensures { MatchBool result (IsBadPosition (disk_of (geometry_of ident.now) (sector_of image.now)) e) (¬ IsBadPosition (disk_of (geometry_of ident.now) (sector_of image.now)) e) }
+    ensures { Decides result (IsBadPosition (disk_on image.now ident.now) e) }
 {
     let entry = read_entry(&position_bytes(image, e));
     if entry.name[0] == 0 {
@@ -29,7 +28,9 @@ fn is_bad_position(image: &[u8], ident: &Ident, e: u32) -> bool
 // For each position the first such position from it on, or how many positions there are.
 fn list_next_bad(alloc: Global, image: &[u8], ident: &Ident) -> Result<Vec<u32>, AllocError>
     requires { IsIdent image.now ident.now }
-    ensures { IfOk result (λ nexts. AreNexts (IsBadPosition (disk_of (geometry_of ident.now) (sector_of image.now))) (8 * ident.now.total) nexts.items) }
+    ensures { IfOk result
+        (λ nexts. AreNexts (IsBadPosition (disk_on image.now ident.now))
+        (8 * ident.now.total) nexts.items) }
 {
     let positions = 8 * ident.total;
     let mut nexts = vec![in alloc; positions; positions as usize]?;
@@ -53,8 +54,11 @@ fn has_bad_number(
 ) -> Result<bool, AllocError>
     requires ident { IsIdent image.now ident.now }
     requires directory { IsDirectory image.now ident.now dir.now }
-    requires nexts { AreNexts (IsBadPosition (disk_of (geometry_of ident.now) (sector_of image.now))) (8 * ident.now.total) nexts.now }
-    ensures { IfOk result (λ bad. MatchBool bad (HasBadNumber (geometry_of ident.now) (listed image.now ident.now dir.now.number)) (¬ HasBadNumber (geometry_of ident.now) (listed image.now ident.now dir.now.number))) }
+    requires nexts { AreNexts (IsBadPosition (disk_on image.now ident.now))
+        (8 * ident.now.total) nexts.now }
+    ensures { IfOk result
+        (λ bad. Decides bad
+        (HasBadNumber (geometry_of ident.now) (listed image.now ident.now dir.now.number))) }
 {
     list_positions(dir, ranges)?;
     for &(first, count) in ranges.iter() {
@@ -74,9 +78,10 @@ fn badly_numbered(
     ranges: &mut Vec<(u32, u32)>,
 ) -> Result<Option<u32>, AllocError>
     requires ident { IsIdent image.now ident.now }
-    requires nexts { AreNexts (IsBadPosition (disk_of (geometry_of ident.now) (sector_of image.now))) (8 * ident.now.total) nexts.now }
+    requires nexts { AreNexts (IsBadPosition (disk_on image.now ident.now))
+        (8 * ident.now.total) nexts.now }
     requires number { n < ident.now.total }
-    ensures { IfOk result (IsLeast (BreaksNumbersAt (disk_of (geometry_of ident.now) (sector_of image.now)) n)) }
+    ensures { IfOk result (IsLeast (BreaksNumbersAt (disk_on image.now ident.now) n)) }
 {
     let dir = read_directory(image, ident, n);
     if !lie_within(&dir.segs, ident) {
@@ -102,8 +107,8 @@ pub fn least_bad_number(
     found: &[u32],
 ) -> Result<Option<u32>, AllocError>
     requires ident { IsIdent image.now ident.now }
-    requires found { IsFound (disk_of (geometry_of ident.now) (sector_of image.now)) found.now }
-    ensures { IfOk result (IsLeastBreach (disk_of (geometry_of ident.now) (sector_of image.now)) 1) }
+    requires found { IsFound (disk_on image.now ident.now) found.now }
+    ensures { IfOk result (IsLeastBreach (disk_on image.now ident.now) 1) }
 {
     let nexts = list_next_bad(alloc, image, ident)?;
     let mut ranges = Vec::new(alloc);

@@ -1,10 +1,7 @@
-ghost use Rattle.rbf_model.specs.Disk.{disk_of};
 ghost use Rattle.std.specs.Prelude.{◌≡◌, ℕ, ◌+◌, ◌<◌, ◌++◌, All, OnOk, IfOk, Some, None, length, slice_index_or};
-ghost use Rattle.rbf_model.specs.Geometry.{sector as sector_of};
 ghost use Rattle.rbf_model.specs.Segments.{sectors_of};
 ghost use Rattle.rbf_segs.specs.Segments.{IsSegment};
-ghost use Rattle.rbf_sector.specs.Ident.{geometry_of};
-ghost use Rattle.rbf_reach.specs.Reading.{IsIdent};
+ghost use Rattle.rbf_reach.specs.Reading.{disk_on, IsIdent};
 ghost use Rattle.rbf_sector_rules.specs.Used.{used_by};
 
 use rbf_reach::sector;
@@ -36,7 +33,8 @@ pub fn list_segments(
 ) -> Result<(), AllocError>
     requires ident { IsIdent image.now ident.now }
     requires number { n < ident.now.total }
-    ensures sectors { OnOk result (sectors_of segments.new.items ≡ used_by (disk_of (geometry_of ident.now) (sector_of image.now)) n) }
+    ensures sectors { OnOk result (sectors_of segments.new.items
+        ≡ used_by (disk_on image.now ident.now) n) }
     ensures segments { OnOk result (All IsSegment segments.new.items) }
 {
     let fd = read_fd(&sector(image, n));

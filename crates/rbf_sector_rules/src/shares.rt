@@ -1,10 +1,9 @@
-ghost use Rattle.rbf_model.specs.Disk.{disk_of};
 ghost use Rattle.std.specs.Prelude.{ℕ, IfOk};
-ghost use Rattle.rbf_model.specs.Geometry.{HasMap, sector as sector_of};
+ghost use Rattle.rbf_model.specs.Geometry.{HasMap};
 ghost use Rattle.rbf_model.specs.Faults.{Breaks};
 ghost use Rattle.rbf_model.specs.Search.{IsFound};
 ghost use Rattle.rbf_sector.specs.Ident.{geometry_of};
-ghost use Rattle.rbf_reach.specs.Reading.{IsIdent};
+ghost use Rattle.rbf_reach.specs.Reading.{disk_on, IsIdent};
 ghost use Rattle.rbf_reach.specs.Least.{IsLeastBreach};
 
 use crate::owners::list_segments;
@@ -25,10 +24,10 @@ pub fn least_used_again(
     found: &[u32],
 ) -> Result<Option<u32>, AllocError>
     requires ident { IsIdent image.now ident.now }
-    requires found { IsFound (disk_of (geometry_of ident.now) (sector_of image.now)) found.now }
-    requires segments { (lsn : ℕ) → ¬ Breaks (disk_of (geometry_of ident.now) (sector_of image.now)) 1 lsn }
+    requires found { IsFound (disk_on image.now ident.now) found.now }
+    requires segments { (lsn : ℕ) → ¬ Breaks (disk_on image.now ident.now) 1 lsn }
     requires map { HasMap (geometry_of ident.now) }
-    ensures { IfOk result (IsLeastBreach (disk_of (geometry_of ident.now) (sector_of image.now)) 4) }
+    ensures { IfOk result (IsLeastBreach (disk_on image.now ident.now) 4) }
 {
     let mut uses = Uses::new(alloc, ident.total)?;
     let mut segments = Vec::new(alloc);

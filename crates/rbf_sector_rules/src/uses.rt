@@ -1,3 +1,4 @@
+ghost use Rattle.rbf_model.specs.Decides.{Decides};
 ghost use Rattle.std.specs.Prelude.{◌≡◌, ◌≢◌, ℕ, ◌+◌, ◌*◌, ◌/◌, ◌<◌, ◌≤◌, [], ◌∷◌, All, IfOk, MatchBool, Some, None, length, slice_index_or, slice_set};
 ghost use Rattle.std.specs.List.{range_with_len};
 ghost use Rattle.rbf_model.specs.Segments.{sectors_of};
@@ -28,7 +29,9 @@ pub struct Uses {
 fn give(owners: &mut Vec<Option<u32>>, n: u32, c: u32) -> bool
     requires { c < length owners.old.items }
     ensures given { IsGiven owners.old.items owners.new.items n c }
-    ensures another { MatchBool result ((m : ℕ) × (slice_index_or owners.old.items c None ≡ Some m) × (m ≢ n)) ((m : ℕ) → slice_index_or owners.old.items c None ≡ Some m → m ≡ n) }
+    ensures another { MatchBool result ((m : ℕ) × (slice_index_or owners.old.items c None
+        ≡ Some m) × (m ≢ n))
+        ((m : ℕ) → slice_index_or owners.old.items c None ≡ Some m → m ≡ n) }
 {
     match owners[c as usize] {
         None => {
@@ -40,7 +43,7 @@ fn give(owners: &mut Vec<Option<u32>>, n: u32, c: u32) -> bool
 }
 
 fn is_user(user: Option<usize>, place: usize) -> bool
-    ensures { MatchBool result (user ≡ Some place) (user ≡ Some place → ⊥) }
+    ensures { Decides result (user ≡ Some place) }
 {
     match user {
         None => false,
@@ -52,7 +55,7 @@ fn is_user(user: Option<usize>, place: usize) -> bool
 fn note_user(users: &mut Vec<Option<usize>>, place: usize, s: u32) -> bool
     requires { s < length users.old.items }
     ensures noted { users.new.items ≡ slice_set users.old.items s (Some place) }
-    ensures before { MatchBool result (slice_index_or users.old.items s None ≡ Some place) (slice_index_or users.old.items s None ≡ Some place → ⊥) }
+    ensures before { Decides result (slice_index_or users.old.items s None ≡ Some place) }
 {
     let before = users[s as usize];
     users[s as usize] = Some(place);
@@ -125,8 +128,10 @@ impl Uses {
     pub fn note_segments(&mut self, cluster: u32, owner: Owner, segments: &[(u32, u16)])
         requires cluster { 0 < cluster }
         requires segments { All IsSegment segments.now }
-        requires users { All (λ segment. segment.0 + segment.1 ≤ length self.old.users.items) segments.now }
-        requires owners { All (λ segment. segment.0 + segment.1 ≤ length self.old.owners.items) segments.now }
+        requires users { All
+            (λ segment. segment.0 + segment.1 ≤ length self.old.users.items) segments.now }
+        requires owners { All
+            (λ segment. segment.0 + segment.1 ≤ length self.old.owners.items) segments.now }
         ensures { IsNoted cluster owner (sectors_of segments.now) self.old self.new }
     {
         for segment in segments {

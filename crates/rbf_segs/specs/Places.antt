@@ -16,6 +16,7 @@ pub record HoldsSegments (inside : Inside) : Type 0 where
   pub each : All IsSegment (take inside.len inside.places)
 
 -- the list of segments gives the places back
-pub inside_again : (s : Inside) → HoldsSegments s → record { places = in_places (take s.len s.places); len = length (take s.len s.places) } ≡ s
+pub inside_again : (s : Inside) → HoldsSegments s
+    → record { places = in_places (take s.len s.places); len = length (take s.len s.places) } ≡ s
 inside_again s inside =
     ap₂ (λ places len. record { places = places; len = len }) (sym inside.zeros) inside.counted

@@ -42,7 +42,9 @@ pub fn last_sector(runs: &[(u32, u16)]) -> Option<u32>
 // The last segment with `count` more sectors, if `lsn` follows it and it has room for them.
 pub fn lengthened(runs: &[(u32, u16)], lsn: u32, count: u16) -> Option<(u32, u16)>
     requires { All IsSegment runs.now }
-    ensures { MatchOption result (appended_segments runs.now lsn count ≡ runs.now ++ (lsn, count) ∷ []) (Lengthens runs.now lsn count) }
+    ensures { MatchOption result
+        (appended_segments runs.now lsn count ≡ runs.now ++ (lsn, count) ∷ [])
+        (Lengthens runs.now lsn count) }
 {
     let &(first, had) = runs.last()?;
     if first + u32::from(had) != lsn {
@@ -54,7 +56,8 @@ pub fn lengthened(runs: &[(u32, u16)], lsn: u32, count: u16) -> Option<(u32, u16
 // Leaves the first `sectors` sectors, with zeros in the places behind their segments, and answers how
 // many segments they are.
 pub fn shorten(places: &mut [(u32, u16)], sectors: u32) -> usize
-    ensures places { places.new ≡ shortened_segments sectors places.old ++ replicate (length places.old - result) (0, 0) }
+    ensures places { places.new ≡ shortened_segments sectors places.old
+        ++ replicate (length places.old - result) (0, 0) }
     ensures runs { result ≡ length (shortened_segments sectors places.old) }
 {
     let mut left = sectors;

@@ -115,7 +115,8 @@ impl Segs {
     pub fn append(&mut self, lsn: u32, n: u16) -> Result<(), SegsFull>
         requires lsn_fits { lsn < 16777216 }
         requires some { 1 ≤ n }
-        ensures sectors { OnOk result (sectors_of self.new ≡ sectors_of self.old ++ segment_sectors (lsn, n)) }
+        ensures sectors { OnOk result (sectors_of self.new
+            ≡ sectors_of self.old ++ segment_sectors (lsn, n)) }
         ensures segments { OnOk result (self.new ≡ appended_segments self.old lsn n) }
         ensures full { IsErr result ↔ (48 < length (appended_segments self.old lsn n)) }
         ensures err { OnErr result (self.new ≡ self.old) }
