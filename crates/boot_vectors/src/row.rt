@@ -48,7 +48,7 @@ pub(crate) fn parse(alloc: Global, line: &str) -> Result<Option<Row>, AllocError
     }))
 }
 
-/// The field, where `-` stands for what is empty.
+/// The field, where `-` is what is empty.
 fn text(field: &str) -> &str {
     if field == "-" { "" } else { field }
 }

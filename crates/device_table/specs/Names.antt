@@ -7,7 +7,9 @@ use Rattle.device_table.specs.declared.devices.Dev.TheVariants.{Drive, Term, Pip
 -- each name, and the device that it names
 abbrev pub device_names : List (List ℕ × Dev)
 device_names =
-    (codes "D0", Drive 0) ∷ (codes "D1", Drive 1) ∷ (codes "D2", Drive 2) ∷ (codes "D3", Drive 3) ∷ (codes "TERM", Term 0) ∷ (codes "T1", Term 1) ∷ (codes "T2", Term 2) ∷ (codes "T3", Term 3) ∷ (codes "PIPE", Pipe) ∷ []
+    (codes "D0", Drive 0) ∷ (codes "D1", Drive 1) ∷ (codes "D2", Drive 2) ∷ (codes "D3", Drive 3)
+    ∷ (codes "TERM", Term 0) ∷ (codes "T1", Term 1) ∷ (codes "T2", Term 2) ∷ (codes "T3", Term 3)
+    ∷ (codes "PIPE", Pipe) ∷ []
 
 -- the names agree with the case of letters ignored
 abbrev pub is_called : List ℕ → List ℕ → Bool

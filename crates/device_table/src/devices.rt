@@ -99,8 +99,10 @@ fn is_name(name: &Name, word: &[u8]) -> bool
 mod tests {
     use super::*;
     use crate::put::put_on;
+    use os9_outer::script_tty::ScriptTty;
     use os9_outer::sure_drive::SureDrive;
     use os9_outer::sure_tty::SureTty;
+    use os9_outer::terminal::PutFault;
     use std::test::Fail;
 
     #[test]
@@ -123,6 +125,23 @@ mod tests {
             let name = parse_name(text).ok().ok_or("no name")?;
             assert_eq!(rt; devices.find(&name), device);
         }
+        Ok(())
+    }
+
+    #[test]
+    fn terminal_that_fails(rt: HostRuntime) -> Result<(), Fail> {
+        let alloc = rt.alloc();
+        let mut devices = Devices {
+            drives: Vec::new(alloc),
+            terms: Vec::new(alloc),
+        };
+        let plan = vec![in alloc; 3]?;
+        devices.terms.push(Box::new(alloc, ScriptTty::new(alloc, plan))?)?;
+        assert_eq!(rt; devices.terms.len(), 1);
+        assert_eq!(rt; put_on(&mut devices, 0, b"hello"), Err(PutFault::Fault));
+        assert_eq!(rt; devices.terms.len(), 1);
+        let bytes = devices.term(0).take();
+        assert_eq!(rt; bytes.as_slice(), b"he".as_slice());
         Ok(())
     }
 

@@ -1,3 +1,4 @@
 pub mod ObjectLemmas
 pub mod StartLaws
 pub mod StepLemmas
+pub mod TerminalLaws

@@ -1,8 +1,8 @@
 -- System calls: what each answers, and what it changes.
-use Rattle.std.specs.Prelude.{◌≡◌, ℕ, zero, suc, ◌+◌, ◌-◌, ◌%◌, ◌<◌, ◌==◌, nat_lt, Bool, Option, Some, None, option_map, unwrap_or, ◌⊎◌, List, [], ◌∷◌, ◌++◌, length, slice_get, slice_set, if◌then◌else◌, MatchBool, MatchOption}
+use Rattle.std.specs.Prelude.{◌≡◌, ℕ, zero, suc, ◌+◌, ◌-◌, ◌%◌, ◌<◌, ◌≤◌, ◌==◌, nat_lt, Bool, Option, Some, None, option_map, unwrap_or, ◌⊎◌, List, [], ◌∷◌, ◌++◌, length, slice_get, slice_set, if◌then◌else◌, MatchBool, MatchOption}
 use Rattle.os9_base.specs.declared.registers.Regs.{Regs}
 use Rattle.os9_base.specs.Count.{Rose}
-use Rattle.os9_outer.specs.Stream.{stream_with, GainsPrefix}
+use Rattle.os9_outer.specs.Stream.{stream_with, GainsPart}
 use Rattle.proc_model.specs.Slots.{no_slots}
 use Rattle.proc_model.specs.ModuleList.{without_link}
 use Rattle.os9_outer.specs.TerminalState.{TerminalState}
@@ -44,7 +44,9 @@ answered s number process regs = with_inner s (with_process s.inner number (goes
 -- the state after the process has ended: it has given up its whole map and one link to its primary module
 abbrev pub ended : State → ℕ → Process → ℕ → State
 ended s number process status =
-    with_inner s (record (with_process s.inner number (finished process status)) { modules = without_link s.inner.modules process.primary })
+    with_inner s (record (with_process s.inner number (finished process status)) {
+      modules = without_link s.inner.modules process.primary;
+    })
 
 -- ---- I$WritLn
 
@@ -78,10 +80,27 @@ is_standard_path path = nat_lt path 3
 abbrev pub with_term : State → TerminalState → State
 with_term s terminal = record s { terms = slice_set s.terms 0 terminal }
 
--- the line is put on TERM: then Y is its length; or it has a byte, and TERM fails at one: error E$Write
+-- the terminal was given all of these bytes
+pub record IsGiven (bytes : List ℕ) (old new : TerminalState) : Type 0 where
+  pub put : new.put ≡ stream_with old.put bytes
+  pub faults : new.faults ≡ old.faults
+  pub keys : new.keys ≡ old.keys
+
+-- the terminal failed at one of these bytes, and was given those before it
+pub record FailsAtByte (bytes : List ℕ) (old new : TerminalState) : Type 0 where
+  pub put : GainsPart old.put bytes new.put
+  pub rose : Rose old.faults new.faults
+  pub never_falls : old.faults ≤ new.faults
+  pub keys : new.keys ≡ old.keys
+
+-- the line is put on TERM, and Y is its length; or TERM fails at a byte of it: error E$Write
 abbrev pub PutsLine : State → ℕ → Process → List ℕ → TerminalState → State → Type 0
 PutsLine s number process line old t =
-    (terminal : TerminalState) × (terminal.keys ≡ old.keys) × (((terminal.put ≡ stream_with old.put (shown line)) × (terminal.faults ≡ old.faults) × (t ≡ with_term (answered s number process (done (record process.regs { y = length line }))) terminal)) ⊎ ((0 < length line) × GainsPrefix old.put (shown line) terminal.put × Rose old.faults terminal.faults × (t ≡ with_term (answered s number process (refused process.regs E_WRITE)) terminal)))
+    (terminal : TerminalState) × (
+    IsGiven (shown line) old terminal
+    × (t ≡ with_term (answered s number process (done (record process.regs { y = length line }))) terminal)
+    ⊎ FailsAtByte (shown line) old terminal
+    × (t ≡ with_term (answered s number process (refused process.regs E_WRITE)) terminal))
 
 -- I$WritLn (System Programmer's Manual): path A, the line at X of at most Y bytes
 abbrev pub WritesLine : State → ℕ → Process → EventEnd → State → Type 0

@@ -13,9 +13,12 @@ use Rattle.machine_model.specs.Call.{Attempt, ended}
 -- ends by it with a status
 abbrev pub Executes : Outcome → State → ℕ → Process → EventEnd → State → Type 0
 Executes (Done effect) s number process end t =
-    (end ≡ Ran) × (t ≡ with_inner s (record (with_process s.inner number (record process { regs = effect.regs })) { objects = with_writes s.inner.objects process.map.places effect.writes }))
+    (end ≡ Ran) × (t ≡ with_inner s (record (with_process s.inner number (record process { regs = effect.regs })) {
+      objects = with_writes s.inner.objects process.map.places effect.writes;
+    }))
 Executes (Calls code regs) s number process end t =
-    (end ≡ Ran) × (t ≡ with_inner s (with_process s.inner number (record process { regs = regs; activity = Calling code })))
+    (end ≡ Ran)
+    × (t ≡ with_inner s (with_process s.inner number (record process { regs = regs; activity = Calling code })))
 Executes (Aborts status) s number process end t = (end ≡ Ended) × (t ≡ ended s number process status)
 
 -- what the process does next: an attempt of its call, else an instruction
@@ -28,4 +31,5 @@ Acts (Finished _) s number process end t = ⊥
 -- one event of the chosen process
 abbrev pub Event : State → EventEnd → State → Type 0
 Event s end t =
-    (number : ℕ) × (process : Process) × (s.inner.chosen ≡ Some number) × (process_at s.inner number ≡ Some process) × Acts process.activity s number process end t
+    (number : ℕ) × (process : Process) × (s.inner.chosen ≡ Some number)
+    × (process_at s.inner number ≡ Some process) × Acts process.activity s number process end t

@@ -4,3 +4,4 @@ pub mod Objects
 pub mod Run
 pub mod Start
 pub mod State
+pub mod Terminals

@@ -47,7 +47,20 @@ Steps left s (m ∷ ms) t = (is_over left s ≡ false) × (end : EventEnd) × Ev
 -- one slice of so many instructions; nobody is ready where no process was chosen
 abbrev pub Slice : ℕ → State → SliceEnd → State → Type 0
 Slice n s end t =
-    (ticked : State) × (chosen : State) × (states : List State) × Tick s ticked × Choose ticked chosen × (end ≡ (if is_some chosen.inner.chosen then Ran else Idle)) × Steps n chosen states t
+    (ticked : State) × (chosen : State) × (states : List State) × Tick s ticked × Choose ticked chosen
+    × (end ≡ (if is_some chosen.inner.chosen then Ran else Idle)) × Steps n chosen states t
+
+-- from s through these states, the first ones of a slice that is not over
+abbrev pub FirstSteps : ℕ → State → List State → State → Type 0
+FirstSteps left s [] t = (is_over left s ≡ false) × (t ≡ s)
+FirstSteps left s (m ∷ ms) t =
+    (is_over left s ≡ false) × (end : EventEnd) × Event s end m × FirstSteps (left - cost s) m ms t
+
+-- a slice of so many instructions was begun, had its first events, and is not over
+abbrev pub BeginsSlice : ℕ → State → State → Type 0
+BeginsSlice n s t =
+    (ticked : State) × (chosen : State) × (states : List State)
+    × Tick s ticked × Choose ticked chosen × FirstSteps n chosen states t
 
 -- the bytes that a terminal was given
 abbrev pub put_bytes : TerminalState → List ℕ
@@ -71,7 +84,8 @@ abbrev pub Run : List ℕ → State → List ℕ → State → Type 0
 Run [] s written t = (written ≡ []) × (t ≡ s)
 Run (n ∷ ns) s written t =
     MatchBool (has_living s)
-    ((end : SliceEnd) × (m : State) × (rest : List ℕ) × Slice n s end m × (written ≡ console_bytes m.terms ++ rest) × Run ns (record m { terms = terminals_emptied m.terms }) rest t)
+    ((end : SliceEnd) × (m : State) × (rest : List ℕ) × Slice n s end m
+    × (written ≡ console_bytes m.terms ++ rest) × Run ns (record m { terms = terminals_emptied m.terms }) rest t)
     ((written ≡ []) × (t ≡ s))
 
 -- the status of a run that ended so: 0 where no process lives, else 5

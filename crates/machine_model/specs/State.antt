@@ -26,7 +26,7 @@ pub record Inner : Type 0 where
 
 pub record State : Type 0 where
   pub inner : Inner
-  pub terms : List TerminalState  -- what TERM, T1, T2, T3 tell
+  pub terms : List TerminalState  -- TERM, T1, T2, T3
 
 -- the process of a number, if there is one
 abbrev pub process_at : Inner → ℕ → Option Process

@@ -13,7 +13,7 @@ pub enum EventEnd {
     Waits,
     /// The process has ended.
     Ended,
-    /// Memory is wanting, and the run ends.
+    /// Out of memory, and the run ends.
     NoMemory,
 }
 
@@ -24,14 +24,14 @@ pub enum SliceEnd {
     Idle,
     /// A process was chosen and had its events.
     Ran,
-    /// Memory is wanting, and the run ends.
+    /// Out of memory, and the run ends.
     NoMemory,
 }
 
 /// Why a boot file does not start.
 #[derive(Clone, Copy, Debug, PartialEq, Eq, Error)]
 pub enum BootFault {
-    /// Memory is wanting.
+    /// Out of memory.
     #[error("no memory")]
     OutOfMemory,
     /// A module of the file is refused: where it begins, and the number of the error.

@@ -3,4 +3,5 @@
 
 pub mod activity;
 pub mod ends;
+pub mod run;
 pub mod start;

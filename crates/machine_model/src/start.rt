@@ -16,5 +16,6 @@ pub fn a_boot_file_comes_to_one_end()
     ensures never_both { (file : List ℕ) (blocks : ℕ) (terms : List TerminalState) (s : State) (fault : BootFault)
         → Starts file blocks terms s → Refuses file blocks fault → ⊥ }
     ensures some_end { (file : List ℕ) (blocks : ℕ) (terms : List TerminalState)
-        → ((s : State) × Starts file blocks terms s) ⊎ ((fault : BootFault) × Refuses file blocks fault) }
+        → ((s : State) × Starts file blocks terms s)
+        ⊎ ((fault : BootFault) × Refuses file blocks fault) }
 {}

@@ -8,7 +8,7 @@ use os9_outer::real_host::RealHost;
 use os9_outer::sure_drive::SureDrive;
 use os9_outer::sure_tty::SureTty;
 use os9_outer::terminal::CharDriver;
-use os9_words::lines::tell_words;
+use os9_words::message::{Message, report};
 use std::env;
 use std::io::{self, ErrorKind};
 use std::process::ExitCode;
@@ -49,8 +49,8 @@ fn run(rt: HostRuntime) -> io::Result<u8> {
     Ok(os9_main(alloc, words.as_slice(), &mut host, &mut devices))
 }
 
-/// Tells that the words are no command line.
+/// Reports that the words are no command line.
 fn refuse_words(rt: HostRuntime) -> u8 {
-    let _ = tell_words(&mut RealHost::new(rt));
+    let _ = report(&mut RealHost::new(rt), &Message::Words);
     NO_COMMAND
 }

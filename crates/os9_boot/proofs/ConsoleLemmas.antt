@@ -1,5 +1,5 @@
 -- The bytes of the terminals, one terminal after another.
-use Rattle.std.proofs.Common.{◌≡◌, ℕ, ◌+◌, ◌<◌, Option, Some, None, List, [], ◌++◌, length, map, take, drop, slice_set, get_or, sym, ap, ◌∙◌, append-nil, get_or-drop, length-take, All, arith}
+use Rattle.std.proofs.Common.{◌≡◌, ℕ, ◌+◌, ◌<◌, false, Option, Some, None, List, [], ◌∷◌, ◌++◌, zero, suc, refl, length, map, take, drop, slice_set, get_or, sym, ap, ◌∙◌, append-nil, get_or-drop, length-take, All, arith}
 use Rattle.std.specs.Prelude.{IfSome, IsSome, OnErr, Result, Ok, Err, unwrap_or}
 use Rattle.std.proofs.lemmas.List.{take-append-drop, take_more, get_or-append_right, length-map}
 use Rattle.std.proofs.lemmas.List.Concat.{flat_map-append}
@@ -9,9 +9,14 @@ use Rattle.std.proofs.lemmas.Option.{get_or_from_slice_get}
 use Rattle.os9_words.proofs.Prefixes.{GainsPrefix-front, GainsPrefix-then}
 use Rattle.os9_outer.specs.Stream.{stream_with, emptied, GainsPrefix}
 use Rattle.device_table.proofs.StreamLemmas.{appended-twice}
-use Rattle.os9_outer.specs.TerminalState.{TerminalState, ChangesOneTerminal}
-use Rattle.machine_model.specs.Run.{put_bytes, console_bytes, without_bytes}
+use Rattle.os9_outer.specs.TerminalState.{TerminalState, ChangesOneTerminal, fault_counts}
+use Rattle.machine_model.specs.Run.{put_bytes, console_bytes, terminals_emptied, without_bytes}
+use Rattle.os9_base.specs.Count.{Rose}
+use Rattle.os9_outer.specs.Host.{OnFailed, UnlessFailed}
+use Rattle.os9_outer.specs.declared.host.HostFault.{HostFault}
+use Rattle.os9_outer.specs.declared.host.HostFault.TheVariants.{Failed, OutOfMemory}
 use Rattle.os9_boot.specs.Console.{TakesBytes, IsObserved}
+use Rattle.os9_boot.specs.World.{World, HasNoFault, FailsToWrite}
 
 -- what was taken from a terminal's driver was taken from the terminal
 pub Takes-from : (bytes : List ℕ) (old new : TerminalState) → IfSome old.put (λ put. bytes ≡ put) → new.put ≡ emptied old.put → new.keys ≡ old.keys → new.faults ≡ old.faults → TakesBytes bytes old new
@@ -65,3 +70,26 @@ prefix-here n bytes screens now first before after passed so_far gained told =
 pub prefix-on_error : {Value Fault : Type 0} (answer : Result Value Fault) (n : ℕ) (bytes : List ℕ) (screens now : List TerminalState) (first before after : Option (List ℕ)) → Passed n bytes screens now → (All IsObserved screens → before ≡ stream_with first (console_bytes (take n screens))) → GainsPrefix before bytes after → OnErr answer (All IsObserved screens → GainsPrefix first (console_bytes screens) after)
 prefix-on_error (Ok value) n bytes screens now first before after passed so_far gained = tt
 prefix-on_error (Err fault) n bytes screens now first before after passed so_far gained = prefix-here n bytes screens now first before after passed so_far gained
+
+-- ---- no terminal fails where its bytes are taken
+
+pub faults-emptied : (terms : List TerminalState) → fault_counts (terminals_emptied terms) ≡ fault_counts terms
+faults-emptied [] = refl
+faults-emptied (terminal ∷ terms) = ap (λ rest. terminal.faults ∷ rest) (faults-emptied terms)
+
+pub faults-front : (n : ℕ) (terms : List TerminalState) → fault_counts (emptied_front n terms) ≡ fault_counts terms
+faults-front zero terms = refl
+faults-front (suc n) [] = refl
+faults-front (suc n) (terminal ∷ terms) = ap (λ rest. terminal.faults ∷ rest) (faults-front n terms)
+
+-- ---- what a write to the output says of a longer call
+
+pub failed-then : {Value : Type 0} (answer : Result Value HostFault) (first between after : World) → HasNoFault first between → OnFailed answer (Rose between.faults after.faults) → OnFailed answer (after.failed_name ≡ None) → OnFailed answer (after.failed_in_read ≡ false) → OnFailed answer (FailsToWrite first after)
+failed-then (Ok value) first between after kept rose name in_read = tt
+failed-then (Err Failed) first between after kept rose name in_read = (rw (← kept.0) rose, name, in_read)
+failed-then (Err OutOfMemory) first between after kept rose name in_read = tt
+
+pub kept-then : {Value : Type 0} (answer : Result Value HostFault) (first between after : World) → HasNoFault first between → UnlessFailed answer (after.faults ≡ between.faults) → UnlessFailed answer (after.failed_name ≡ between.failed_name) → UnlessFailed answer (after.failed_in_read ≡ between.failed_in_read) → UnlessFailed answer (HasNoFault first after)
+kept-then (Ok value) first between after kept faults name in_read = (faults ∙ kept.0, name ∙ kept.1, in_read ∙ kept.2)
+kept-then (Err Failed) first between after kept faults name in_read = tt
+kept-then (Err OutOfMemory) first between after kept faults name in_read = (faults ∙ kept.0, name ∙ kept.1, in_read ∙ kept.2)

@@ -1,3 +1,3 @@
 pub mod ConsoleLemmas
 pub mod RunLemmas
-pub mod TopLemmas
+pub mod CallLemmas

@@ -1,97 +1,41 @@
 -- Slices, one after another, make a run.
-use Rattle.std.proofs.Common.{◌≡◌, ◌≢◌, ℕ, ◌+◌, ◌-◌, ◌||◌, Bool, true, false, Option, Some, None, List, [], ◌∷◌, ◌++◌, get_or, slice_get, eqb, refl, sym, ap, ◌∙◌, ◌<◌, take, length, append_assoc, append-nil, All, inl, inr, arith}
-use Rattle.std.specs.Prelude.{IsSome, MatchBool, MatchOption, count_by, if◌then◌else◌}
+use Rattle.std.proofs.Common.{◌≡◌, ◌≢◌, ℕ, ◌+◌, ◌||◌, Bool, true, false, Option, Some, List, [], ◌∷◌, ◌++◌, get_or, slice_get, refl, sym, ap, ◌∙◌, ◌<◌, take, length, append_assoc, append-nil, All, inl, inr, arith}
+use Rattle.std.specs.Prelude.{MatchBool, count_by, if◌then◌else◌}
 use Rattle.std.specs.List.{list_any}
-use Rattle.std.proofs.lemmas.List.Elements.{All-set, All-map, All-get_or}
+use Rattle.std.proofs.lemmas.List.Elements.{All-cons, All-head, All-tail}
 use Rattle.std.proofs.lemmas.List.Sums.{sum_by-cons}
-use Rattle.std.proofs.lemmas.Option.{slice_get_within, get_or_from_slice_get}
-use Rattle.cpu_model.specs.Step.{Outcome, Done, Calls, Aborts, step_of}
-use Rattle.os9_outer.specs.Stream.{stream_with, emptied, GainsPrefix}
+use Rattle.os9_outer.specs.Stream.{stream_with, GainsPrefix}
 use Rattle.os9_words.proofs.PieceLemmas.{GainsPrefix-whole}
 use Rattle.os9_words.proofs.Prefixes.{GainsPrefix-then}
 use Rattle.std.proofs.lemmas.List.{take_more}
 use Rattle.device_table.proofs.StreamLemmas.{appended-twice, appended-nothing}
-use Rattle.os9_outer.specs.TerminalState.{TerminalState}
-use Rattle.machine_model.specs.declared.activity.Activity.{Activity}
-use Rattle.machine_model.specs.declared.activity.Activity.TheVariants.{Running, Calling, Finished}
-use Rattle.machine_model.specs.declared.ends.EventEnd.{EventEnd}
-use Rattle.machine_model.specs.declared.ends.EventEnd.TheVariants.{Ran as Went}
+use Rattle.os9_outer.specs.TerminalState.{TerminalState, fault_counts}
 use Rattle.machine_model.specs.declared.ends.SliceEnd.{SliceEnd}
-use Rattle.machine_model.specs.Objects.{object_cells}
 use Rattle.machine_model.specs.State.{State, Process, is_living, has_living}
-use Rattle.machine_model.specs.Call.{Attempt, PutsLine, WritesLine, Exits, answered, refused, line_at, is_standard_path}
-use Rattle.machine_model.specs.Event.{Acts, Executes}
-use Rattle.machine_model.specs.Run.{Steps, cost, Slice, Run, terminals_emptied, console_bytes, without_bytes}
+use Rattle.machine_model.specs.Run.{BeginsSlice, Slice, Run, terminals_emptied, console_bytes}
+use Rattle.machine_model.specs.Terminals.{TerminalsOnlyGain}
+use Rattle.machine_model.proofs.TerminalLaws.{gain-emptied, gains-slice}
 use Rattle.os9_kernel.specs.declared.kernel.Kernel.{Kernel}
 use Rattle.os9_kernel.specs.Tie.{Represents}
 use Rattle.os9_boot.specs.Console.{IsObserved}
-use Rattle.os9_boot.specs.Partly.{RunsPartly}
+use Rattle.os9_boot.specs.Slices.{RunsPartly}
+use Rattle.os9_boot.specs.World.{World}
+use Rattle.os9_boot.proofs.ConsoleLemmas.{faults-emptied}
 
--- ---- what is told stays told
+-- ---- what is observed stays observed
 
-told-appended : (put now : Option (List ℕ)) (bytes : List ℕ) → now ≡ stream_with put bytes → IsSome put → IsSome now
-told-appended None now bytes is told = cc
-told-appended (Some before) now bytes is told = rw is refl
+observed-later : (before now : List TerminalState) → TerminalsOnlyGain before now → All IsObserved before → All IsObserved now
+observed-later [] [] gain observed = observed
+observed-later [] (y ∷ now) gain observed = absurd gain
+observed-later (x ∷ before) [] gain observed = absurd gain
+observed-later (x ∷ before) (y ∷ now) gain observed =
+    All-cons IsObserved y now (gain.0.observed ∙ All-head IsObserved x before observed) (observed-later before now gain.1 (All-tail IsObserved x before observed))
 
-told-here : (screens : List TerminalState) (old : TerminalState) → slice_get screens 0 ≡ Some old → All IsObserved screens → IsSome old.put
-told-here screens old first told =
-    rw (sym (get_or_from_slice_get screens 0 old old first)) (All-get_or IsObserved screens 0 old (slice_get_within screens 0 old first) told)
+observed-slice : (n : ℕ) (s : State) (end : SliceEnd) (t : State) → Slice n s end t → All IsObserved s.terms → All IsObserved t.terms
+observed-slice n s end t slice = observed-later s.terms t.terms (gains-slice n s t end slice)
 
-told-line : (s : State) (number : ℕ) (process : Process) (line : List ℕ) (old : TerminalState) (t : State) → slice_get s.terms 0 ≡ Some old → PutsLine s number process line old t → All IsObserved s.terms → All IsObserved t.terms
-told-line s number process line old t first (screen, keys, inl (put, faults, is)) told =
-    rw is (All-set IsObserved s.terms 0 screen (told-appended old.put screen.put _ put (told-here s.terms old first told)) told)
-told-line s number process line old t first (screen, keys, inr (some, gained, rose, is)) told =
-    rw is (All-set IsObserved s.terms 0 screen (told-appended old.put screen.put _ gained.1 (told-here s.terms old first told)) told)
-
-module _ (s : State) (number : ℕ) (process : Process) (end : EventEnd) (t : State) (told : All IsObserved s.terms) where
-  told-executes : (outcome : Outcome) → Executes outcome s number process end t → All IsObserved t.terms
-  told-executes (Done effect) (ran, is) = rw is told
-  told-executes (Calls code regs) (ran, is) = rw is told
-  told-executes (Aborts status) (ended, is) = rw is told
-
-  told-writes : (line : Option (List ℕ)) → MatchOption line (t ≡ answered s number process (refused process.regs 210)) (λ line. MatchBool (is_standard_path process.regs.a) (MatchOption (slice_get s.terms 0) ⊥ (λ old. PutsLine s number process line old t)) (t ≡ answered s number process (refused process.regs 201))) → All IsObserved t.terms
-  told-writes None is = rw is told
-  told-writes (Some line) answer = by_path (is_standard_path process.regs.a) answer
-    where
-      by_screen : (first : Option TerminalState) → slice_get s.terms 0 ≡ first → MatchOption first ⊥ (λ old. PutsLine s number process line old t) → All IsObserved t.terms
-      by_screen None is answer = absurd answer
-      by_screen (Some old) is answer = told-line s number process line old t is answer told
-
-      by_path : (standard : Bool) → MatchBool standard (MatchOption (slice_get s.terms 0) ⊥ (λ old. PutsLine s number process line old t)) (t ≡ answered s number process (refused process.regs 201)) → All IsObserved t.terms
-      by_path true answer = by_screen (slice_get s.terms 0) refl answer
-      by_path false is = rw is told
-
-  told-attempt : (code : ℕ) → Attempt code s number process end t → All IsObserved t.terms
-  told-attempt code attempt = by_exit (eqb code 0x06) attempt
-    where
-      by_line : (is_line : Bool) → MatchBool is_line (WritesLine s number process end t) ((end ≡ Went) × (t ≡ answered s number process (refused process.regs 208))) → All IsObserved t.terms
-      by_line true (ran, answer) = told-writes (line_at (object_cells s.inner.objects process.map.places) process.regs.x process.regs.y) answer
-      by_line false (ran, is) = rw is told
-
-      by_exit : (is_exit : Bool) → MatchBool is_exit (Exits s number process end t) (MatchBool (eqb code 0x8C) (WritesLine s number process end t) ((end ≡ Went) × (t ≡ answered s number process (refused process.regs 208)))) → All IsObserved t.terms
-      by_exit true (ended, is) = rw is told
-      by_exit false attempt = by_line (eqb code 0x8C) attempt
-
-  told-acts : (activity : Activity) → Acts activity s number process end t → All IsObserved t.terms
-  told-acts Running acts = told-executes (step_of (object_cells s.inner.objects process.map.places) process.regs) acts
-  told-acts (Calling code) acts = told-attempt code acts
-  told-acts (Finished status) acts = absurd acts
-
-told-goes : (left : ℕ) (s : State) (states : List State) (t : State) → Steps left s states t → All IsObserved s.terms → All IsObserved t.terms
-told-goes left s [] t (over, is) told = rw is told
-told-goes left s (m ∷ ms) t (going, end, event, goes) told =
-    told-goes (left - cost s) m ms t goes (told-acts s event.0 event.1 end m told event.1.activity event.4)
-
-told-slice : (n : ℕ) (s : State) (end : SliceEnd) (t : State) → Slice n s end t → All IsObserved s.terms → All IsObserved t.terms
-told-slice n s end t (ticked, chosen, states, ticks, chooses, how, goes) told =
-    told-goes n chosen states t goes (rw chooses (rw ticks told))
-
-told-taken : (screens : List TerminalState) → All IsObserved screens → All IsObserved (terminals_emptied screens)
-told-taken screens told = All-map IsObserved without_bytes screens (λ k d within. told-emptied (get_or screens k d).put (told k d within))
-  where
-    told-emptied : (put : Option (List ℕ)) → IsSome put → IsSome (emptied put)
-    told-emptied None tells = tells
-    told-emptied (Some bytes) tells = refl
+observed-emptied : (terms : List TerminalState) → All IsObserved terms → All IsObserved (terminals_emptied terms)
+observed-emptied terms = observed-later terms (terminals_emptied terms) (gain-emptied terms)
 
 -- ---- a kernel with other terminals
 
@@ -180,10 +124,10 @@ reaches-more ran s n kernel after screens mid now first out next end (m, written
     let t : State = step.0 in
     let here : m.terms ≡ screens = ap (λ s. s.terms) tied.is in
     let there : t.terms ≡ mid = ap (λ s. s.terms) step.2.is in
-    let told_mid : All IsObserved mid = rw (← there) (told-slice n m end t step.1 (rw here told)) in (
+    let told_mid : All IsObserved mid = rw (← there) (observed-slice n m end t step.1 (rw here told)) in (
       record t { terms = terminals_emptied t.terms },
       written ++ console_bytes t.terms,
-      rw emptied (told-taken mid told_mid),
+      rw emptied (observed-emptied mid told_mid),
       rw (emptied, ← there) (tied-terms after mid (terminals_emptied t.terms) t step.2),
       gained told_mid ∙ ap (λ stream. stream_with stream (console_bytes mid)) is ∙ appended-twice first written (console_bytes mid) ∙ rw there refl,
       run-append ran (n ∷ []) s m (record t { terms = terminals_emptied t.terms }) written (console_bytes t.terms) so_far (run-slice n m t end (any-some m.inner.processes (some m tied)) step.1),
@@ -197,24 +141,38 @@ reaches-idle first out slices ran rest s kernel screens all (m, written, told, t
 pub reaches-all : (first out : Option (List ℕ)) (slices : List ℕ) (s : State) (kernel : Kernel) (screens : List TerminalState) → Reaches first slices s kernel screens out → (written : List ℕ) × (t : State) × Run slices s written t × Represents kernel screens t × (out ≡ stream_with first written)
 reaches-all first out slices s kernel screens (m, written, told, tied, is, so_far) = (written, m, so_far, tied, is)
 
--- where no memory was left for a slice, the output holds all that the slices before it wrote
-pub partly-before : (slices : List ℕ) (count : ℕ) (s : State) (kernel : Kernel) (screens : List TerminalState) (first out : Option (List ℕ)) → Reaches first (take count slices) s kernel screens out → RunsPartly slices s first out
-partly-before slices count s kernel screens first out (m, written, told, tied, is, so_far) =
-    (count, written, m, so_far, GainsPrefix-whole first written out is)
+-- if memory was out in a slice, the output holds all that the slices before it wrote
+pub partly-before : (slices : List ℕ) (count n : ℕ) (s : State) (kernel : Kernel) (screens : List TerminalState) (before after : World) → slice_get slices count ≡ Some n → Reaches before.out (take count slices) s kernel screens after.out → ((m : State) → Represents kernel screens m → (t : State) × BeginsSlice n m t × (fault_counts t.terms ≡ fault_counts after.terms)) → RunsPartly slices s before after
+partly-before slices count n s kernel screens before after here (m, written, told, tied, is, so_far) begins =
+    let begun = begins m tied in
+    record {
+      count = count;
+      written = written;
+      reached = m;
+      last = begun.0;
+      run = so_far;
+      stopped = inr (n, here, begun.1);
+      output = GainsPrefix-whole before.out written after.out is;
+      terminals = sym begun.2;
+    }
 
--- where a slice was run and its bytes were not all passed on, the output holds a prefix
-pub partly-after : (slices : List ℕ) (count : ℕ) (s : State) (kernel after : Kernel) (screens mid : List TerminalState) (first out next : Option (List ℕ)) (end : SliceEnd) → count < length slices → Reaches first (take count slices) s kernel screens out → ((m : State) → Represents kernel screens m → count_by is_living m.inner.processes ≢ 0) → ((m : State) → Represents kernel screens m → (t : State) × Slice (get_or slices count 0) m end t × Represents after mid t) → (All IsObserved mid → GainsPrefix out (console_bytes mid) next) → RunsPartly slices s first next
-partly-after slices count s kernel after screens mid first out next end within (m, written, told, tied, is, so_far) some steps gained =
+-- if a slice was run and its bytes were not all passed on, the output holds a prefix
+pub partly-after : (slices : List ℕ) (count : ℕ) (s : State) (kernel later : Kernel) (screens mid : List TerminalState) (before after : World) (out : Option (List ℕ)) (end : SliceEnd) → count < length slices → Reaches before.out (take count slices) s kernel screens out → ((m : State) → Represents kernel screens m → count_by is_living m.inner.processes ≢ 0) → ((m : State) → Represents kernel screens m → (t : State) × Slice (get_or slices count 0) m end t × Represents later mid t) → (All IsObserved mid → GainsPrefix out (console_bytes mid) after.out) → fault_counts after.terms ≡ fault_counts mid → RunsPartly slices s before after
+partly-after slices count s kernel later screens mid before after out end within (m, written, told, tied, is, so_far) some steps gained failed =
     let step = steps m tied in
     let t : State = step.0 in
     let n = get_or slices count 0 in
     let here : m.terms ≡ screens = ap (λ s. s.terms) tied.is in
     let there : t.terms ≡ mid = ap (λ s. s.terms) step.2.is in
-    let told_mid : All IsObserved mid = rw (← there) (told-slice n m end t step.1 (rw here told)) in
-    let last : State = record t { terms = terminals_emptied t.terms } in (
-      count + 1,
-      written ++ console_bytes t.terms,
-      last,
-      rw (take_more slices count 0 within) (run-append (take count slices) (n ∷ []) s m last written (console_bytes t.terms) so_far (run-slice n m t end (any-some m.inner.processes (some m tied)) step.1)),
-      GainsPrefix-then first written (console_bytes t.terms) out next is (rw there (gained told_mid)),
-    )
+    let told_mid : All IsObserved mid = rw (← there) (observed-slice n m end t step.1 (rw here told)) in
+    let last : State = record t { terms = terminals_emptied t.terms } in
+    record {
+      count = count + 1;
+      written = written ++ console_bytes t.terms;
+      reached = last;
+      last = last;
+      run = rw (take_more slices count 0 within) (run-append (take count slices) (n ∷ []) s m last written (console_bytes t.terms) so_far (run-slice n m t end (any-some m.inner.processes (some m tied)) step.1));
+      stopped = inl refl;
+      output = GainsPrefix-then before.out written (console_bytes t.terms) out after.out is (rw there (gained told_mid));
+      terminals = failed ∙ ap fault_counts (sym there) ∙ sym (faults-emptied t.terms);
+    }

@@ -3,9 +3,9 @@ use Rattle.std.specs.Prelude.{◌≡◌, ℕ, IsSome, IfSome, List}
 use Rattle.os9_outer.specs.TerminalState.{TerminalState}
 use Rattle.machine_model.specs.Run.{without_bytes}
 
--- the terminal tells the bytes that were put on it
+-- the bytes that were put on the terminal are observed
 abbrev pub IsObserved : TerminalState → Type 0
-IsObserved screen = IsSome screen.put
+IsObserved terminal = IsSome terminal.put
 
 -- these bytes were taken from the terminal, which has none any more
 pub record TakesBytes (bytes : List ℕ) (old new : TerminalState) : Type 0 where

@@ -1,8 +1,9 @@
 -- How a command ended.
-use Rattle.std.specs.Prelude.{ℕ, List, [], slice_index_or}
+use Rattle.std.specs.Prelude.{ℕ, Option, Some, None, List, [], slice_index_or}
 use Rattle.os9_words.specs.declared.command.Command.{Command}
 use Rattle.os9_words.specs.declared.command.Command.TheVariants.{Run, Check}
-use Rattle.os9_words.specs.Lines.{cannot_read_line, cannot_write_output_line, no_memory_line, image_fault_line, boot_module_line, boot_too_large_line, no_first_line}
+use Rattle.os9_words.specs.declared.message.Message.{Message}
+use Rattle.os9_words.specs.Lines.{message_line, cannot_read_line, cannot_write_output_line, no_memory_line, image_fault_line, boot_module_line, boot_too_large_line, no_first_line}
 use Rattle.os9_boot.specs.declared.status.Input.{Input}
 use Rattle.os9_boot.specs.declared.status.Input.TheVariants.{Slices, Modules, Image}
 use Rattle.os9_boot.specs.declared.status.End.{End}
@@ -28,15 +29,20 @@ file_name (Run run) Slices = run.slices
 file_name (Run run) Modules = slice_index_or run.files 0 []
 file_name (Run run) Image = slice_index_or run.files 0 []
 
--- the line that tells why a command ended; none where no line does
+-- the line that says why a command ended; no bytes if none does
 abbrev pub end_line : Command → End → List ℕ
 end_line command (CannotRead input) = cannot_read_line (file_name command input)
 end_line command CannotWrite = cannot_write_output_line
 end_line command NoMemory = no_memory_line
 end_line command (BadImage fault) = image_fault_line (file_name command Image) fault.rule fault.lsn
-end_line command (BadModule at error) = boot_module_line error at
+end_line command (BadModule at error) = boot_module_line at error
 end_line command NoFirst = no_first_line
 end_line command TooLarge = boot_too_large_line
 end_line command Ended = []
 end_line command Living = []
 end_line command BadText = []
+
+-- the line of a message, if there is one
+abbrev pub text_of : Option Message → List ℕ
+text_of None = []
+text_of (Some message) = message_line message

@@ -1,5 +1,10 @@
 pub mod Console
-pub mod Stop
+pub mod RunFault
 pub mod End
-pub mod TopCall
+pub mod World
+pub mod ReadFile
+pub mod PassedBytes
+pub mod Slices
+pub mod Commands
 pub mod Partly
+pub mod TopCall

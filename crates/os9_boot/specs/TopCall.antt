@@ -1,89 +1,94 @@
--- What the top call answers.
-use Rattle.std.specs.Prelude.{◌≡◌, ◌≢◌, ℕ, ◌⊎◌, not, Option, List, length, count_by, slice_get, MatchOption, MatchResult}
-use Rattle.std.specs.declared.alloc.Global.{Global}
-use Rattle.std.specs.declared.dyn_box.DynBox.{DynBox}
-use Rattle.os9_outer.specs.Host.{file_contents}
-use Rattle.os9_outer.specs.Stream.{stream_with}
-use Rattle.os9_outer.specs.declared.terminal.CharDriver.{Ghosts}
-use Rattle.os9_outer.specs.TerminalState.{TerminalState, terminal_states}
-use Rattle.script_text.specs.Slices.{slices_of}
+-- What the top call leaves, and what its parts do.
+use Rattle.std.specs.Prelude.{◌≡◌, ◌≢◌, ℕ, ◌⊎◌, Some, None, List, All}
+use Rattle.os9_base.specs.Count.{Rose}
+use Rattle.os9_outer.specs.Stream.{stream_with, GainsPrefix}
 use Rattle.os9_words.specs.declared.command.Command.{Command}
-use Rattle.os9_words.specs.declared.command.Command.TheVariants.{Run as RunCommand, Check as CheckCommand}
-use Rattle.os9_words.specs.declared.command.RunWords.{RunWords}
+use Rattle.os9_words.specs.declared.command.Command.TheVariants.{Check as CheckCommand}
 use Rattle.os9_words.specs.Command.{command_of}
-use Rattle.os9_words.specs.Lines.{counts_line}
-use Rattle.rbf_model.specs.Geometry.{Geometry, image_geometry}
-use Rattle.rbf_model.specs.Volume.{DiskVolume, Vol, free_clusters, lost_clusters}
-use Rattle.rbf_model.specs.Counts.{file_count, directory_count}
-use Rattle.rbf_model.specs.Faults.{IsFault}
-use Rattle.rbf_check.specs.declared.tree.Tree.{Tree}
-use Rattle.rbf_check.specs.Tree.{is_directory_node}
-use Rattle.machine_model.specs.State.{State}
-use Rattle.machine_model.specs.declared.ends.BootFault.{BootFault}
-use Rattle.machine_model.specs.Start.{Starts, Refuses}
-use Rattle.machine_model.specs.Run.{Run, status_of}
+use Rattle.os9_boot.specs.Commands.{Answers, Boots, IsAnswered, IsSilent, IsStopped, PerformsCommand}
+use Rattle.os9_boot.specs.Console.{IsObserved}
+use Rattle.os9_boot.specs.Partly.{AnswersPartly, BootsPartly, PerformsPartly}
+use Rattle.os9_boot.specs.World.{World, FailsToRead, FailsToWrite, HasNoFault, IfAllObserved}
 
--- what the outside tells: the bytes of the output stream, and the terminals
-pub record Outside : Type 0 where
-  pub out : Option (List ℕ)
-  pub terms : List TerminalState
+pub record TopCall (words : List (List ℕ)) (before after : World) (status : ℕ) : Type 0 where
+  -- The headline: if nothing failed, the output has gained the bytes of a run of the abstract machine, which ends
+  -- with the terminals as they are now, and the status is that run's; or those of the check of an image.
+  pub run_headline : IsAnswered status → IfAllObserved before (λ files. Answers files words before after status)
+  -- if no count of faults rose, this is so at every status but 4
+  pub complete : ¬ Rose before.faults after.faults → status ≢ 4
+      → IfAllObserved before (λ files. Answers files words before after status)
+  -- at 3 and 4 the output has gained nothing, or the beginning of what the command writes, and the terminals have
+  -- failed as often as in the run that was begun
+  pub partial : IsStopped status → IfAllObserved before (λ files. AnswersPartly files words before after)
+  -- 1 comes only for words that are no command
+  pub refused_words : status ≡ 1 → command_of words ≡ None
+  -- and for these always, unless memory is out
+  pub words_refused : command_of words ≡ None → (status ≡ 1) ⊎ (status ≡ 4)
+  -- at 2 the host failed, and last at the read of a file that the words name
+  pub read_fault : status ≡ 2
+      → (command : Command) × (command_of words ≡ Some command) × FailsToRead command before after
+  -- at 3 it failed, and last at a write to the output
+  pub output_fault : status ≡ 3 → FailsToWrite before after
+  -- at every other status it did not fail
+  pub count_kept : status ≢ 2 → status ≢ 3 → HasNoFault before after
+  -- at 1, 2, 6, 7 and 8 the output has gained nothing, and the terminals are as they were
+  pub silent : IsSilent status → after.out ≡ before.out
+  pub terminals_kept : IsSilent status → after.terms ≡ before.terms
+  -- a check leaves the terminals as they were at every status
+  pub check_keeps : (image : List ℕ) → command_of words ≡ Some (CheckCommand image) → after.terms ≡ before.terms
+  -- no file is changed
+  pub files_kept : after.files ≡ before.files
 
--- the same of an output stream and of terminals in their boxes, as `outside ⟦<dyn CharDriver as CharDriver>⟧ (H.bytes_out host.now) devices.now.terms.items`
-abbrev pub outside : {Table : Type 0} {Driver : Table → Type 0} → ((table : Table) → Ghosts (Driver table)) → Option (List ℕ) → List (DynBox Table Global Driver) → Outside
-outside members out terminals = record { out = out; terms = terminal_states members terminals }
+pub record CommandCall (command : Command) (before after : World) (status : ℕ) : Type 0 where
+  -- if nothing failed, what the command does is done
+  pub performed : IsAnswered status → IfAllObserved before (λ files. PerformsCommand files before after status command)
+  -- at 3 and 4 a part of it
+  pub partial : IsStopped status → IfAllObserved before (λ files. PerformsPartly files before after command)
+  -- the words were a command
+  pub not_refused : status ≢ 1
+  -- at 2 the host failed, and last at the read of a file that the command names
+  pub read_fault : status ≡ 2 → FailsToRead command before after
+  -- at 3 it failed, and last at a write to the output
+  pub output_fault : status ≡ 3 → FailsToWrite before after
+  -- at every other status it did not fail
+  pub count_kept : status ≢ 2 → status ≢ 3 → HasNoFault before after
+  -- at 2, 6, 7 and 8 the output has gained nothing, and the terminals are as they were
+  pub silent : IsSilent status → after.out ≡ before.out
+  pub terminals_kept : IsSilent status → after.terms ≡ before.terms
+  -- a check leaves them so at every status
+  pub check_keeps : (image : List ℕ) → command ≡ CheckCommand image → after.terms ≡ before.terms
+  -- no file is changed
+  pub files_kept : after.files ≡ before.files
 
--- the machine goes on from this state over these slices: the output gains what the run writes, the terminals are those at its end, and the status is the run's
-abbrev pub Runs : State → List ℕ → Outside → Outside → ℕ → Type 0
-Runs s slices before after status =
-    (written : List ℕ) × (t : State) × Run slices s written t × (status ≡ status_of t) × (after.out ≡ stream_with before.out written) × (after.terms ≡ t.terms)
+pub record BootCall (file : List ℕ) (blocks : ℕ) (slices : List ℕ) (before after : World) (status : ℕ) : Type 0 where
+  -- if nothing failed, the file is run or refused
+  pub booted : IsAnswered status → All IsObserved before.terms → Boots file blocks slices before after status
+  -- at 3 and 4 it is run in part, or not at all
+  pub partial : IsStopped status → All IsObserved before.terms → BootsPartly file blocks slices before after
+  -- nothing is read, and the words were a command
+  pub not_refused : status ≢ 1
+  pub no_read : status ≢ 2
+  -- at 3 the host failed, and last at a write to the output
+  pub output_fault : status ≡ 3 → FailsToWrite before after
+  -- at every other status it did not fail
+  pub count_kept : status ≢ 3 → HasNoFault before after
+  -- at 8 the output has gained nothing, and the terminals are as they were
+  pub silent : IsSilent status → after.out ≡ before.out
+  pub terminals_kept : IsSilent status → after.terms ≡ before.terms
+  -- no file is changed
+  pub files_kept : after.files ≡ before.files
 
--- the boot file starts a machine with so many blocks, which is run; or it is refused with 8
-abbrev pub Boots : List ℕ → ℕ → List ℕ → Outside → Outside → ℕ → Type 0
-Boots file blocks slices before after status =
-    ((s : State) × Starts file blocks before.terms s × Runs s slices before after status) ⊎ ((fault : BootFault) × Refuses file blocks fault × (status ≡ 8) × (after ≡ before))
-
--- the slice text gives slices, or is refused with 7
-abbrev pub Slices : List ℕ → List ℕ → ℕ → Outside → Outside → ℕ → Type 0
-Slices text file blocks before after status =
-    MatchResult (slices_of text)
-    (λ slices. Boots file blocks slices before after status)
-    (λ line. (status ≡ 7) × (after ≡ before))
-
--- the files that the words name are those of the host
-abbrev pub Performs : (List ℕ → Option (List ℕ)) → RunWords → Outside → Outside → ℕ → Type 0
-Performs files run before after status =
-    MatchOption (slice_get run.files 0) ⊥
-    (λ modules. Slices (file_contents files run.slices) (file_contents files modules) run.blocks before after status)
-
--- the line of the counts of a volume
-abbrev pub counts_of : Geometry → DiskVolume → List ℕ
-counts_of g v = counts_line (file_count g v) (directory_count g v) (length (free_clusters g v)) (length (lost_clusters g v))
-
--- the line of the counts of a tree
-abbrev pub tree_line : Tree → List ℕ
-tree_line tree =
-    counts_line (count_by (λ node. not (is_directory_node node)) tree.nodes) (count_by is_directory_node tree.nodes) tree.free tree.lost
-
--- the image stands for a volume, whose counts are printed; or it is refused with 6
-abbrev pub Checks : List ℕ → Option (List ℕ) → Option (List ℕ) → ℕ → Type 0
-Checks image before now status =
-    ((v : DiskVolume) × Vol image v × (status ≡ 0) × (now ≡ stream_with before (counts_of (image_geometry image) v))) ⊎ ((rule : ℕ) × (lsn : ℕ) × IsFault image rule lsn × (status ≡ 6) × (now ≡ before))
-
--- what a command does with the files; a check leaves the terminals as they are
-abbrev pub PerformsCommand : (List ℕ → Option (List ℕ)) → Outside → Outside → ℕ → Command → Type 0
-PerformsCommand files before after status (RunCommand run) = Performs files run before after status
-PerformsCommand files before after status (CheckCommand image) =
-    Checks (file_contents files image) before.out after.out status × (after.terms ≡ before.terms)
-
--- the words spell a command, or are refused with 1
-abbrev pub Answers : (List ℕ → Option (List ℕ)) → List (List ℕ) → Outside → Outside → ℕ → Type 0
-Answers files words before after status =
-    MatchOption (command_of words) ((status ≡ 1) × (after ≡ before)) (PerformsCommand files before after status)
-
--- no file or stream failed, and no memory was wanting
-abbrev pub IsAnswered : ℕ → Type 0
-IsAnswered status = (status ≢ 2) × (status ≢ 3) × (status ≢ 4)
-
--- the command ended before anything ran
-abbrev pub IsSilent : ℕ → Type 0
-IsSilent status = (status ≡ 1) ⊎ (status ≡ 2) ⊎ (status ≡ 6) ⊎ (status ≡ 7) ⊎ (status ≡ 8)
+pub record PrintCall (line : List ℕ) (before after : World) (status : ℕ) : Type 0 where
+  -- if nothing failed, the output has gained the line
+  pub printed : IsAnswered status → (status ≡ 0) × (after.out ≡ stream_with before.out line)
+  -- at 3 and 4 the beginning of it
+  pub partial : IsStopped status → GainsPrefix before.out line after.out
+  -- nothing is refused, and nothing is read
+  pub not_silent : ¬ IsSilent status
+  -- at 3 the host failed, and last at a write to the output
+  pub output_fault : status ≡ 3 → FailsToWrite before after
+  -- at every other status it did not fail
+  pub count_kept : status ≢ 3 → HasNoFault before after
+  -- no file and no terminal is changed
+  pub files_kept : after.files ≡ before.files
+  pub terms_kept : after.terms ≡ before.terms

@@ -3,6 +3,7 @@
 
 mod check;
 mod console;
+mod input;
 mod run;
 mod status;
 #[cfg(test)]

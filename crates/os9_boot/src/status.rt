@@ -1,17 +1,11 @@
-ghost use Rattle.std.specs.Prelude.{◌≡◌, OnOk};
-ghost use Rattle.os9_base.specs.Count.{Rose};
-ghost use Rattle.os9_outer.specs.Host.{OnFailed, UnlessFailed};
-ghost use Rattle.os9_outer.specs.Stream.{stream_with, GainsPrefix};
+ghost use Rattle.std.specs.Prelude.{◌≡◌};
 ghost use Rattle.os9_words.specs.Command.{HasOneFile};
-ghost use Rattle.os9_words.specs.Lines.{ChangesErrOnly};
-ghost use Rattle.os9_boot.specs.End.{status_number, file_name, end_line};
+ghost use Rattle.os9_words.specs.Streams.{WritesErr};
+ghost use Rattle.os9_boot.specs.End.{status_number, file_name, end_line, text_of};
 
 use os9_outer::host::{Host, HostFault};
 use os9_words::command::Command;
-use os9_words::lines::{
-    tell_boot_module, tell_boot_too_large, tell_cannot_read, tell_cannot_write_output,
-    tell_image_fault, tell_no_first, tell_no_memory,
-};
+use os9_words::message::{Message, report};
 use rbf_check::CheckFault;
 
 /// A file that the words of a command give to be read.
@@ -36,7 +30,7 @@ pub enum End {
     CannotRead(Input),
     /// The output stream could not be written.
     CannotWrite,
-    /// Memory is wanting.
+    /// Out of memory.
     NoMemory,
     /// The image is not well formed.
     BadImage(CheckFault),
@@ -68,34 +62,38 @@ impl End {
     }
 }
 
-/// Tells on the error stream why the command ended, where a line says so.
+/// Writes to the error stream why the command ended, if a message says so.
 ///
 /// # Errors
 ///
 /// The line is not whole on the error stream: of its bytes the first ones are there, or none.
-pub fn tell<H: Host>(host: &mut H, end: End, command: &Command) -> Result<(), HostFault>
+pub fn report_end<H: Host>(host: &mut H, end: End, command: &Command) -> Result<(), HostFault>
     requires { HasOneFile command.now }
-    ensures told { OnOk result (H.bytes_err host.new
-        ≡ stream_with (H.bytes_err host.old) (end_line command.now end)) }
-    ensures prefix { GainsPrefix (H.bytes_err host.old) (end_line command.now end)
-        (H.bytes_err host.new) }
-    ensures fault_counted { OnFailed result
-        (Rose (H.err_stream_faults host.old) (H.err_stream_faults host.new)) }
-    ensures err_count_kept { UnlessFailed result
-        (H.err_stream_faults host.new ≡ H.err_stream_faults host.old) }
-    ensures others { ChangesErrOnly ⟦<H as Host>⟧ host.old host.new }
+    ensures { WritesErr H.Host (end_line command.now end) result host.old host.new }
+{
+    match message_of(end, command) {
+        Some(message) => report(host, &message),
+        None => Ok(()),
+    }
+}
+
+/// The message that says why the command ended, if there is one.
+fn message_of<'a>(end: End, command: &'a Command) -> Option<Message<'a>>
+    requires { HasOneFile command.now }
+    ensures { text_of result ≡ end_line command.now end }
 {
     match end {
-        End::CannotRead(input) => tell_cannot_read(host, name_of(command, input)),
-        End::CannotWrite => tell_cannot_write_output(host),
-        End::NoMemory => tell_no_memory(host),
+        End::CannotRead(input) => Some(Message::CannotRead(name_of(command, input))),
+        End::CannotWrite => Some(Message::CannotWrite),
+        End::NoMemory => Some(Message::NoMemory),
         End::BadImage(fault) => {
-            tell_image_fault(host, name_of(command, Input::Image), fault.rule, fault.lsn)
+            let name = name_of(command, Input::Image);
+            Some(Message::BadImage(name, fault.rule, fault.lsn))
         }
-        End::BadModule(at, error) => tell_boot_module(host, error, at),
-        End::NoFirst => tell_no_first(host),
-        End::TooLarge => tell_boot_too_large(host),
-        End::Ended | End::Living | End::BadText => Ok(()),
+        End::BadModule(at, error) => Some(Message::BadModule(at, error)),
+        End::NoFirst => Some(Message::NoFirst),
+        End::TooLarge => Some(Message::TooLarge),
+        End::Ended | End::Living | End::BadText => None,
     }
 }
 

@@ -2,6 +2,7 @@ use crate::os9_main;
 use device_table::devices::Devices;
 use os9_outer::host_file::HostFile;
 use os9_outer::mem_host::MemHost;
+use os9_outer::script_tty::ScriptTty;
 use os9_outer::sure_tty::SureTty;
 use os9_outer::terminal::CharDriver;
 use std::alloc::{AllocError, Global};
@@ -37,6 +38,19 @@ fn call(
     slices: &[u8],
     plan: &[u64],
 ) -> Result<Shown, AllocError> {
+    let term = Box::new(alloc, SureTty::new(alloc))?;
+    call_on(alloc, term, words, module, slices, plan)
+}
+
+/// The same, with this one as TERM.
+fn call_on(
+    alloc: Global,
+    term: Box<dyn CharDriver>,
+    words: &[&str],
+    module: &[u8],
+    slices: &[u8],
+    plan: &[u64],
+) -> Result<Shown, AllocError> {
     let mut files = Vec::new(alloc);
     files.push(file(alloc, "h", module)?)?;
     files.push(file(alloc, "s", slices)?)?;
@@ -45,7 +59,7 @@ fn call(
         given.push(String::from_str(alloc, word)?)?;
     }
     let mut terms: Vec<Box<dyn CharDriver>> = Vec::new(alloc);
-    terms.push(Box::new(alloc, SureTty::new(alloc))?)?;
+    terms.push(term)?;
     let mut devices = Devices {
         drives: Vec::new(alloc),
         terms,
@@ -93,6 +107,34 @@ fn host_faults(rt: HostRuntime) -> Result<(), Fail> {
     assert_eq!(rt; unwritten.status, 3);
     assert!(rt; unwritten.err.as_slice() == b"os9: cannot write output\n".as_slice());
     assert!(rt; unwritten.out.is_empty());
+    Ok(())
+}
+
+// Of the first cause that applies: the reading of the modules (2), the slice text (7), the modules (8).
+#[test]
+fn order_of_causes(rt: HostRuntime) -> Result<(), Fail> {
+    let unread = call(rt.alloc(), &RUN, &changed(&[(0, 0x86)]), b"0", &[2])?;
+    assert_eq!(rt; unread.status, 2);
+    assert!(rt; unread.err.as_slice() == b"os9: cannot read h\n".as_slice());
+    let bad_text = call(rt.alloc(), &RUN, &changed(&[(0, 0x86)]), b"0", &[])?;
+    assert_eq!(rt; bad_text.status, 7);
+    assert!(rt; bad_text.err.is_empty());
+    Ok(())
+}
+
+// The bytes of the line before the one at which TERM fails are out: of the last one the line feed
+// alone is missing.
+#[test]
+fn terminal_that_fails(rt: HostRuntime) -> Result<(), Fail> {
+    let rows: [(u64, &[u8]); 4] = [(1, b""), (4, b"Hel"), (6, b"Hello"), (7, b"Hello\r")];
+    for (put, out) in rows {
+        let alloc = rt.alloc();
+        let term = Box::new(alloc, ScriptTty::new(alloc, vec![in alloc; put]?))?;
+        let shown = call_on(alloc, term, &RUN, &HELLO, b"100", &[])?;
+        assert_eq!(rt; shown.status, 0);
+        assert!(rt; shown.out.as_slice() == out);
+        assert!(rt; shown.err.is_empty());
+    }
     Ok(())
 }
 

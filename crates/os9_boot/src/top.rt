@@ -1,22 +1,22 @@
-ghost use Rattle.std.specs.Prelude.{◌≡◌, ◌≢◌, ◌<◌, ◌≤◌, ◌⊎◌, All, IfSome, None, map, string_bytes, length, vec_len};
-ghost use Rattle.os9_base.specs.Count.{Rose};
-ghost use Rattle.os9_words.specs.Command.{command_of, HasOneFile, HasBlocks};
+ghost use Rattle.std.specs.Prelude.{◌≡◌, ◌≢◌, ◌<◌, ◌≤◌, map, string_bytes, length, vec_len};
+ghost use Rattle.os9_words.specs.Command.{HasOneFile, HasBlocks};
 ghost use Rattle.os9_outer.specs.TerminalState.{terminal_states};
-ghost use Rattle.os9_boot.specs.Console.{IsObserved};
+ghost use Rattle.os9_boot.specs.Commands.{IsAnswered, IsSilent, IsStopped};
 ghost use Rattle.os9_boot.specs.End.{status_number};
-ghost use Rattle.os9_boot.specs.Partly.{AnswersPartly, BootsPartly, IsStopped, OnRun, PerformsPartly};
-ghost use Rattle.os9_boot.specs.TopCall.{Answers, Performs, PerformsCommand, Boots, IsAnswered, IsSilent, outside};
+ghost use Rattle.os9_boot.specs.TopCall.{BootCall, CommandCall, TopCall};
+ghost use Rattle.os9_boot.specs.World.{world_of};
 
-use os9_base::limits::LAST_TICK;
 use crate::check::check_image;
-use crate::run::{Stop, run_slices};
-use crate::status::{End, Input, tell};
+use crate::input::read_input;
+use crate::run::{RunFault, run_slices};
+use crate::status::{End, Input, report_end};
 use device_table::devices::Devices;
+use os9_base::limits::LAST_TICK;
 use os9_kernel::{BootFault, Config, Kernel};
 use os9_outer::host::{Host, HostFault};
 use os9_outer::terminal::CharDriver;
 use os9_words::command::{Command, RunWords, WordsFault, read_words};
-use os9_words::lines::{tell_no_memory, tell_words};
+use os9_words::message::{Message, report};
 use script_text::fault::LineFault;
 use script_text::slices::read_slices;
 use std::alloc::Global;
@@ -30,101 +30,74 @@ use std::alloc::Global;
 ///
 /// Statuses: 0 the command is done, and no process lives; 5 the slices are used up and a process
 /// lives; 1 the words are no command line; 2 a file could not be read; 3 the output stream could
-/// not be written; 4 memory is wanting; 6 the image is not well formed; 7 the slice text is
+/// not be written; 4 out of memory; 6 the image is not well formed; 7 the slice text is
 /// refused; 8 the file of modules is refused.
 ///
 /// A run begins with the terminals as they are when the call is made, and ends with them as they
 /// are when it returns: a terminal fails in the run only where its count of faults rose in this
-/// call. Where nothing runs, at 1, 2, 6, 7 and 8 and in a `check` that is done, the terminals are
+/// call. If nothing runs, at 1, 2, 6, 7 and 8 and in a `check` that is done, the terminals are
 /// as they were. No drive is touched.
 ///
 /// At 3 and 4 a `run` has written nothing, or a prefix of what the machine writes over some first
-/// slices.
+/// slices, and a `check` a prefix of its line.
 pub fn os9_main<H: Host>(alloc: Global, words: &[String], host: &mut H, devices: &mut Devices) -> u8
     requires { 0 < vec_len devices.old.terms }
-    // The headline: where nothing failed and the host and the terminals tell what they hold, the
-    // output has gained the bytes of a run of the abstract machine, which ends with the terminals
-    // as they are now, and the status is that run's.
-    ensures run_headline { IsAnswered result → IfSome (H.file_map host.old) (λ files.
-        All IsObserved (terminal_states ⟦<dyn CharDriver as CharDriver>⟧ devices.old.terms.items)
-        → Answers files (map string_bytes words.now)
-        (outside ⟦<dyn CharDriver as CharDriver>⟧ (H.bytes_out host.old) devices.old.terms.items)
-        (outside ⟦<dyn CharDriver as CharDriver>⟧ (H.bytes_out host.new) devices.new.terms.items)
-        result) }
-    ensures refused_words { result ≡ 1 → command_of (map string_bytes words.now) ≡ None }
-    ensures words_refused { command_of (map string_bytes words.now) ≡ None
-        → (result ≡ 1) ⊎ (result ≡ 4) }
-    ensures read_fault { result ≡ 2 → Rose (H.host_faults host.old) (H.host_faults host.new) }
-    ensures output_fault { result ≡ 3 → Rose (H.host_faults host.old) (H.host_faults host.new) }
-    ensures count_kept { result ≢ 2 → result ≢ 3 → H.host_faults host.new ≡ H.host_faults host.old }
-    // Where no count of faults rose, the status is as the machine or the disk says, or 4.
-    ensures complete { ¬ Rose (H.host_faults host.old) (H.host_faults host.new) → result ≢ 4
-        → IfSome (H.file_map host.old) (λ files.
-        All IsObserved (terminal_states ⟦<dyn CharDriver as CharDriver>⟧ devices.old.terms.items)
-        → Answers files (map string_bytes words.now)
-        (outside ⟦<dyn CharDriver as CharDriver>⟧ (H.bytes_out host.old) devices.old.terms.items)
-        (outside ⟦<dyn CharDriver as CharDriver>⟧ (H.bytes_out host.new) devices.new.terms.items)
-        result) }
-    // Where the output could not be written or memory was wanting, the output has gained nothing,
-    // or a prefix of what the machine writes over some first slices.
-    ensures partial { IsStopped result → IfSome (H.file_map host.old) (λ files.
-        All IsObserved (terminal_states ⟦<dyn CharDriver as CharDriver>⟧ devices.old.terms.items)
-        → AnswersPartly files (map string_bytes words.now)
-        (outside ⟦<dyn CharDriver as CharDriver>⟧ (H.bytes_out host.old) devices.old.terms.items)
-        (H.bytes_out host.new)) }
-    ensures silent { IsSilent result → H.bytes_out host.new ≡ H.bytes_out host.old }
-    ensures terminals_kept { IsSilent result
-        → terminal_states ⟦<dyn CharDriver as CharDriver>⟧ devices.new.terms.items
-        ≡ terminal_states ⟦<dyn CharDriver as CharDriver>⟧ devices.old.terms.items }
-    ensures files_kept { H.file_map host.new ≡ H.file_map host.old }
+    ensures call { TopCall (map string_bytes words.now)
+        (world_of H.Host host.old
+        (terminal_states ⟦<dyn CharDriver as CharDriver>⟧ devices.old.terms.items))
+        (world_of H.Host host.new
+        (terminal_states ⟦<dyn CharDriver as CharDriver>⟧ devices.new.terms.items))
+        result }
     ensures drives_kept { devices.new.drives ≡ devices.old.drives }
 {
     match read_words(alloc, words) {
         Ok(command) => do_command(alloc, &command, host, devices),
         Err(WordsFault::Refused) => {
-            let _ = tell_words(host);
+            let _ = report(host, &Message::Words);
             1
         }
         Err(WordsFault::OutOfMemory) => {
-            let _ = tell_no_memory(host);
+            let _ = report(host, &Message::NoMemory);
             4
         }
     }
 }
 
-/// Does a command, and tells why it ended.
+/// Does a command, and reports why it ended.
 fn do_command<H: Host>(alloc: Global, command: &Command, host: &mut H, devices: &mut Devices) -> u8
     requires terminals { 0 < vec_len devices.old.terms }
     requires files { HasOneFile command.now }
     requires blocks { HasBlocks command.now }
-    ensures performed { IsAnswered result → IfSome (H.file_map host.old) (λ files.
-        All IsObserved (terminal_states ⟦<dyn CharDriver as CharDriver>⟧ devices.old.terms.items)
-        → PerformsCommand files
-        (outside ⟦<dyn CharDriver as CharDriver>⟧ (H.bytes_out host.old) devices.old.terms.items)
-        (outside ⟦<dyn CharDriver as CharDriver>⟧ (H.bytes_out host.new) devices.new.terms.items)
-        result command.now) }
-    ensures words { result ≢ 1 }
-    ensures read_fault { result ≡ 2 → Rose (H.host_faults host.old) (H.host_faults host.new) }
-    ensures output_fault { result ≡ 3 → Rose (H.host_faults host.old) (H.host_faults host.new) }
-    ensures count_kept { result ≢ 2 → result ≢ 3 → H.host_faults host.new ≡ H.host_faults host.old }
-    ensures partial { IsStopped result → IfSome (H.file_map host.old) (λ files.
-        All IsObserved (terminal_states ⟦<dyn CharDriver as CharDriver>⟧ devices.old.terms.items)
-        → OnRun command.now (λ run. PerformsPartly files run
-        (outside ⟦<dyn CharDriver as CharDriver>⟧ (H.bytes_out host.old) devices.old.terms.items)
-        (H.bytes_out host.new))) }
-    ensures silent { IsSilent result → H.bytes_out host.new ≡ H.bytes_out host.old }
-    ensures terminals_kept { IsSilent result
-        → terminal_states ⟦<dyn CharDriver as CharDriver>⟧ devices.new.terms.items
-        ≡ terminal_states ⟦<dyn CharDriver as CharDriver>⟧ devices.old.terms.items }
-    ensures files_kept { H.file_map host.new ≡ H.file_map host.old }
+    ensures call { CommandCall command.now
+        (world_of H.Host host.old
+        (terminal_states ⟦<dyn CharDriver as CharDriver>⟧ devices.old.terms.items))
+        (world_of H.Host host.new
+        (terminal_states ⟦<dyn CharDriver as CharDriver>⟧ devices.new.terms.items))
+        result }
     ensures drives_kept { devices.new.drives ≡ devices.old.drives }
 {
-    let end = match command {
+    let end = perform(alloc, command, host, devices);
+    let _ = report_end(host, end, command);
+    end.number()
+}
+
+/// Does a command.
+fn perform<H: Host>(alloc: Global, command: &Command, host: &mut H, devices: &mut Devices) -> End
+    requires terminals { 0 < vec_len devices.old.terms }
+    requires files { HasOneFile command.now }
+    requires blocks { HasBlocks command.now }
+    ensures call { CommandCall command.now
+        (world_of H.Host host.old
+        (terminal_states ⟦<dyn CharDriver as CharDriver>⟧ devices.old.terms.items))
+        (world_of H.Host host.new
+        (terminal_states ⟦<dyn CharDriver as CharDriver>⟧ devices.new.terms.items))
+        (status_number result) }
+    ensures drives_kept { devices.new.drives ≡ devices.old.drives }
+{
+    match command {
         Command::Run(run) => run_modules(alloc, run, host, devices),
         Command::Check(image) => check_image(alloc, image, host),
-    };
-    let _ = tell(host, end, command);
-    end.number()
+    }
 }
 
 /// `run MODULES --slices SLICES`: reads the two files and runs the program.
@@ -133,34 +106,20 @@ fn run_modules<H: Host>(alloc: Global, run: &RunWords, host: &mut H, devices: &m
     requires files { length run.now.files ≡ 1 }
     requires least { 8 ≤ run.now.blocks }
     requires most { run.now.blocks ≤ 256 }
-    ensures performed { IsAnswered (status_number result) → IfSome (H.file_map host.old) (λ files.
-        All IsObserved (terminal_states ⟦<dyn CharDriver as CharDriver>⟧ devices.old.terms.items)
-        → Performs files run.now
-        (outside ⟦<dyn CharDriver as CharDriver>⟧ (H.bytes_out host.old) devices.old.terms.items)
-        (outside ⟦<dyn CharDriver as CharDriver>⟧ (H.bytes_out host.new) devices.new.terms.items)
-        (status_number result)) }
-    ensures read_fault { status_number result ≡ 2 → Rose (H.host_faults host.old) (H.host_faults host.new) }
-    ensures output_fault { status_number result ≡ 3 → Rose (H.host_faults host.old) (H.host_faults host.new) }
-    ensures count_kept { status_number result ≢ 2 → status_number result ≢ 3
-        → H.host_faults host.new ≡ H.host_faults host.old }
-    ensures partial { IsStopped (status_number result) → IfSome (H.file_map host.old) (λ files.
-        All IsObserved (terminal_states ⟦<dyn CharDriver as CharDriver>⟧ devices.old.terms.items)
-        → PerformsPartly files run.now
-        (outside ⟦<dyn CharDriver as CharDriver>⟧ (H.bytes_out host.old) devices.old.terms.items)
-        (H.bytes_out host.new)) }
-    ensures silent { IsSilent (status_number result) → H.bytes_out host.new ≡ H.bytes_out host.old }
-    ensures terminals_kept { IsSilent (status_number result)
-        → terminal_states ⟦<dyn CharDriver as CharDriver>⟧ devices.new.terms.items
-        ≡ terminal_states ⟦<dyn CharDriver as CharDriver>⟧ devices.old.terms.items }
-    ensures files_kept { H.file_map host.new ≡ H.file_map host.old }
+    ensures call { CommandCall (Command.Run run.now)
+        (world_of H.Host host.old
+        (terminal_states ⟦<dyn CharDriver as CharDriver>⟧ devices.old.terms.items))
+        (world_of H.Host host.new
+        (terminal_states ⟦<dyn CharDriver as CharDriver>⟧ devices.new.terms.items))
+        (status_number result) }
     ensures drives_kept { devices.new.drives ≡ devices.old.drives }
 {
-    let text = match host.read_file(run.slices.text()) {
+    let text = match read_input(host, &run.slices) {
         Ok(text) => text,
         Err(HostFault::Failed) => return End::CannotRead(Input::Slices),
         Err(HostFault::OutOfMemory) => return End::NoMemory,
     };
-    let file = match host.read_file(run.files.word(0).text()) {
+    let file = match read_input(host, run.files.word(0)) {
         Ok(file) => file,
         Err(HostFault::Failed) => return End::CannotRead(Input::Modules),
         Err(HostFault::OutOfMemory) => return End::NoMemory,
@@ -194,25 +153,12 @@ fn boot<H: Host>(
     requires least { 8 ≤ config.blocks }
     requires most { config.blocks ≤ 256 }
     requires few { length slices.now < LAST_TICK }
-    ensures booted { IsAnswered (status_number result)
-        → All IsObserved (terminal_states ⟦<dyn CharDriver as CharDriver>⟧ devices.old.terms.items)
-        → Boots file.now config.blocks slices.now
-        (outside ⟦<dyn CharDriver as CharDriver>⟧ (H.bytes_out host.old) devices.old.terms.items)
-        (outside ⟦<dyn CharDriver as CharDriver>⟧ (H.bytes_out host.new) devices.new.terms.items)
+    ensures call { BootCall file.now config.blocks slices.now
+        (world_of H.Host host.old
+        (terminal_states ⟦<dyn CharDriver as CharDriver>⟧ devices.old.terms.items))
+        (world_of H.Host host.new
+        (terminal_states ⟦<dyn CharDriver as CharDriver>⟧ devices.new.terms.items))
         (status_number result) }
-    ensures no_read { status_number result ≢ 2 }
-    ensures output_fault { status_number result ≡ 3 → Rose (H.host_faults host.old) (H.host_faults host.new) }
-    ensures count_kept { status_number result ≢ 3 → H.host_faults host.new ≡ H.host_faults host.old }
-    ensures partial { IsStopped (status_number result)
-        → All IsObserved (terminal_states ⟦<dyn CharDriver as CharDriver>⟧ devices.old.terms.items)
-        → BootsPartly file.now config.blocks slices.now
-        (outside ⟦<dyn CharDriver as CharDriver>⟧ (H.bytes_out host.old) devices.old.terms.items)
-        (H.bytes_out host.new) }
-    ensures silent { IsSilent (status_number result) → H.bytes_out host.new ≡ H.bytes_out host.old }
-    ensures terminals_kept { IsSilent (status_number result)
-        → terminal_states ⟦<dyn CharDriver as CharDriver>⟧ devices.new.terms.items
-        ≡ terminal_states ⟦<dyn CharDriver as CharDriver>⟧ devices.old.terms.items }
-    ensures files_kept { H.file_map host.new ≡ H.file_map host.old }
     ensures drives_kept { devices.new.drives ≡ devices.old.drives }
 {
     let mut kernel = match Kernel::new(alloc, config, file) {
@@ -224,8 +170,8 @@ fn boot<H: Host>(
     };
     match run_slices(&mut kernel, slices, host, devices) {
         Ok(()) => end_of(kernel.living()),
-        Err(Stop::Output) => End::CannotWrite,
-        Err(Stop::NoMemory) => End::NoMemory,
+        Err(RunFault::Output) => End::CannotWrite,
+        Err(RunFault::NoMemory) => End::NoMemory,
     }
 }
 

@@ -1,43 +1,47 @@
 -- What is put on a terminal in pieces.
-use Rattle.std.proofs.Common.{◌≡◌, ℕ, ◌+◌, Bool, true, false, Option, Result, Ok, Err, List, [], ◌∷◌, ◌++◌, length, take, refl, ◌∙◌, inl, inr, arith}
-use Rattle.std.proofs.lemmas.List.{take_all, take-append-le, set-set}
+use Rattle.std.proofs.Common.{◌≡◌, ℕ, zero, suc, ◌+◌, Bool, true, false, Option, Some, Result, Ok, Err, List, [], ◌∷◌, ◌++◌, length, map, take, slice_get, slice_set, refl, ap, ◌∙◌, arith}
+use Rattle.std.proofs.lemmas.List.{length-append, map-set, take-append-le, set-set}
 use Rattle.std.proofs.lemmas.Option.{slice_get_within}
-use Rattle.std.proofs.lemmas.Bool.{cases_lt}
 use Rattle.std.proofs.Math.Seq.{take-append-add}
-use Rattle.std.specs.Prelude.{OnOk, if◌then◌else◌}
+use Rattle.std.specs.Prelude.{OnErr, OnOk, if◌then◌else◌}
 use Rattle.os9_base.specs.Count.{Rose}
-use Rattle.os9_outer.specs.Stream.{stream_with, GainsPrefix}
+use Rattle.os9_outer.specs.Stream.{stream_with, GainsPart}
 use Rattle.os9_outer.specs.declared.terminal.PutFault.{PutFault}
 use Rattle.os9_outer.specs.declared.terminal.PutFault.TheVariants.{Fault, OutOfMemory}
 use Rattle.os9_outer.specs.Terminal.{OnFault, UnlessFault}
 use Rattle.device_table.proofs.StreamLemmas.{appended-twice}
-use Rattle.os9_outer.specs.TerminalState.{TerminalState, ChangesOneTerminal, Puts}
-use Rattle.machine_model.specs.Call.{shown, ends_in_return}
+use Rattle.os9_outer.specs.TerminalState.{TerminalState, ChangesOneTerminal, Puts, fault_counts}
+use Rattle.machine_model.specs.Call.{IsGiven, FailsAtByte, shown, ends_in_return}
 use Rattle.machine_model.proofs.ObjectLemmas.{slice_get-set_same}
 
--- the first bytes of a list are first bytes of a longer one
-GainsPrefix-longer : (before now : Option (List ℕ)) (bytes more : List ℕ) → GainsPrefix before bytes now → GainsPrefix before (bytes ++ more) now
-GainsPrefix-longer before now bytes more gained =
-    elim (cases_lt gained.0 (length bytes)) [
-      | inl part ↦ (gained.0, rw (take-append-le gained.0 bytes more (omega arith)) gained.1)
-      | inr all ↦
-          (length bytes, rw (take-append-le (length bytes) bytes more (omega arith), take_all (length bytes) bytes (omega arith)) (gained.1 ∙ rw (take_all gained.0 bytes all) refl))
-    ]
-
--- and so are those of the list that follows what was given before
-GainsPrefix-then : (before mid now : Option (List ℕ)) (first next : List ℕ) → mid ≡ stream_with before first → GainsPrefix mid next now → GainsPrefix before (first ++ next) now
-GainsPrefix-then before mid now first next given gained = (
-  length first + gained.0,
-  rw (take-append-add first next gained.0) (gained.1 ∙ rw (given, appended-twice before first (take gained.0 next)) refl),
+-- a part of a list is a part of a longer one
+GainsPart-longer : (before now : Option (List ℕ)) (bytes more : List ℕ) → GainsPart before bytes now → GainsPart before (bytes ++ more) now
+GainsPart-longer before now bytes more gained = (
+  gained.0,
+  rw length-append (omega (arith, gained.1)),
+  rw (take-append-le gained.0 bytes more (omega (arith, gained.1))) gained.2,
 )
+
+-- and so is a part of the list that follows what was given before
+GainsPart-then : (before mid now : Option (List ℕ)) (first next : List ℕ) → mid ≡ stream_with before first → GainsPart mid next now → GainsPart before (first ++ next) now
+GainsPart-then before mid now first next given gained = (
+  length first + gained.0,
+  rw length-append (omega (arith, gained.1)),
+  rw (take-append-add first next gained.0) (gained.2 ∙ rw (given, appended-twice before first (take gained.0 next)) refl),
+)
+
+on_error : {Value : Type 0} (answer : Result Value PutFault) (before mid now : Option (List ℕ)) (first next : List ℕ) → mid ≡ stream_with before first → OnErr answer (GainsPart mid next now) → OnErr answer (GainsPart before (first ++ next) now)
+on_error (Ok value) before mid now first next given fact = fact
+on_error (Err refusal) before mid now first next given fact = GainsPart-then before mid now first next given fact
 
 -- a terminal that refused a byte of a line refused it in a longer line too
 Puts-longer : {Value : Type 0} (refusal : PutFault) (line more : List ℕ) (old new : TerminalState) → Puts {Value = Value} (Err refusal) line old new → Puts {Value = Value} (Err refusal) (line ++ more) old new
 Puts-longer {Value} refusal line more old new put = record {
   all = put.all;
-  prefix = GainsPrefix-longer old.put new.put line more put.prefix;
+  part = GainsPart-longer old.put new.put line more put.part;
   fault_counted = put.fault_counted;
   faults_kept = put.faults_kept;
+  never_falls = put.never_falls;
   keys_kept = put.keys_kept;
 }
 
@@ -59,9 +63,10 @@ on_ok (Err refusal) old mid new first next given fact = fact
 Puts-then : {Value Other : Type 0} (value : Value) (answer : Result Other PutFault) (line more : List ℕ) (old mid new : TerminalState) → Puts {Value = Value} (Ok value) line old mid → Puts answer more mid new → Puts answer (line ++ more) old new
 Puts-then value answer line more old mid new first next = record {
   all = on_ok answer old.put mid.put new.put line more first.all next.all;
-  prefix = GainsPrefix-then old.put mid.put new.put line more first.all next.prefix;
+  part = on_error answer old.put mid.put new.put line more first.all next.part;
   fault_counted = on_fault answer old.faults mid.faults new.faults first.faults_kept next.fault_counted;
   faults_kept = unless_fault answer old.faults mid.faults new.faults first.faults_kept next.faults_kept;
+  never_falls = omega (arith, first.faults_kept, next.never_falls);
   keys_kept = next.keys_kept ∙ first.keys_kept;
 }
 
@@ -93,3 +98,24 @@ shown-refused {Value} refusal line n before now changed = by_end (ends_in_return
 
 pub shown-ended : (line : List ℕ) → true ≡ ends_in_return line → shown line ≡ line ++ 10 ∷ []
 shown-ended line is = rw (← is) refl
+
+-- ---- what a line comes to
+
+pub given-line : {Value : Type 0} (value : Value) (bytes : List ℕ) (old new : TerminalState) → Puts {Value = Value} (Ok value) bytes old new → IsGiven bytes old new
+given-line value bytes old new put = record { put = put.all; faults = put.faults_kept; keys = put.keys_kept }
+
+pub failed-line : {Value : Type 0} (bytes : List ℕ) (old new : TerminalState) → Puts {Value = Value} (Err Fault) bytes old new → FailsAtByte bytes old new
+failed-line bytes old new put =
+    record { put = put.part; rose = put.fault_counted; never_falls = put.never_falls; keys = put.keys_kept }
+
+set-same : (terms : List TerminalState) (n : ℕ) (old new : TerminalState) → slice_get terms n ≡ Some old → new.faults ≡ old.faults → fault_counts (slice_set terms n new) ≡ fault_counts terms
+set-same [] n old new is same = cc
+set-same (terminal ∷ terms) zero old new is same =
+    let here : terminal ≡ old = cc in rw (same, here) refl
+set-same (terminal ∷ terms) (suc n) old new is same =
+    ap (λ rest. terminal.faults ∷ rest) (set-same terms n old new is same)
+
+-- where memory was out no terminal failed
+pub ChangesOne-unfaulted : {Value : Type 0} (bytes : List ℕ) (n : ℕ) (before now : List TerminalState) → ChangesOneTerminal (Puts {Value = Value} (Err OutOfMemory) bytes) n before now → fault_counts now ≡ fault_counts before
+ChangesOne-unfaulted bytes n before now (old, new, is, set, put) =
+    rw set (set-same before n old new is put.faults_kept)

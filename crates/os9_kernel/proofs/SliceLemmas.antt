@@ -7,10 +7,10 @@ use Rattle.machine_model.specs.declared.ends.EventEnd.{EventEnd}
 use Rattle.machine_model.specs.declared.ends.SliceEnd.TheVariants.{Idle, Ran}
 use Rattle.machine_model.specs.State.{State, process_at, is_living}
 use Rattle.machine_model.specs.Event.{Event}
-use Rattle.machine_model.specs.Run.{Tick, Choose, Slice, Steps, cost, is_over, is_going}
+use Rattle.machine_model.specs.Run.{Tick, Choose, FirstSteps, Slice, Steps, cost, is_over, is_going}
 use Rattle.os9_kernel.specs.declared.kernel.Kernel.{Kernel}
 use Rattle.os9_kernel.specs.Tie.{Represents, IsGoing, HasFinished, state_of}
-use Rattle.os9_kernel.specs.Slice.{ContinuesFrom}
+use Rattle.os9_kernel.specs.Slice.{BeginsFrom, ContinuesFrom}
 
 or_true : (b : Bool) → (b || true) ≡ true
 or_true true = refl
@@ -37,6 +37,16 @@ over-finished left kernel terms s tied finished = rw tied.is (by_choice kernel.c
 pub goes_on-event : (kernel : Kernel) (terms : List TerminalState) (n left : ℕ) (s m t : State) (end : EventEnd) → Represents kernel terms m → IsGoing kernel → 0 < left → ContinuesFrom n s left m → Event m end t → ContinuesFrom n s (left - cost m) t
 goes_on-event kernel terms n left s m t end tied going some so_far event states last goes =
     so_far (t ∷ states) last (not_over left m some (still_going kernel terms m tied going), end, event, goes)
+
+-- of the first events too
+pub begins-event : (kernel : Kernel) (terms : List TerminalState) (n left : ℕ) (s m t : State) (end : EventEnd) → Represents kernel terms m → IsGoing kernel → 0 < left → BeginsFrom n s left m → Event m end t → BeginsFrom n s (left - cost m) t
+begins-event kernel terms n left s m t end tied going some so_far event states last first =
+    so_far (t ∷ states) last (not_over left m some (still_going kernel terms m tied going), end, event, first)
+
+-- the slice is not over where its process still goes on
+pub begun-here : (kernel : Kernel) (terms : List TerminalState) (n left : ℕ) (s m : State) → Represents kernel terms m → IsGoing kernel → 0 < left → BeginsFrom n s left m → (all : List State) × FirstSteps n s all m
+begun-here kernel terms n left s m tied going some so_far =
+    so_far [] m (not_over left m some (still_going kernel terms m tied going), refl)
 
 -- the slice is over where its instructions are used up
 pub over-used_up : (n : ℕ) (s m : State) → ContinuesFrom n s 0 m → (all : List State) × Steps n s all m

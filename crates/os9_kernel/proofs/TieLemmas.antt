@@ -219,12 +219,12 @@ module _ (old : Kernel) (terms : List TerminalState) (s : State) (stood : Repres
       where
         by_screen : (line : List ℕ) → the_line ≡ Some line → is_standard_path old.regs.a ≡ true → (screen : Option TerminalState) → slice_get terms 0 ≡ screen → MatchOption screen ⊥ (IsPut line (Written count) terms now) → Goes_on_now
         by_screen line is standard None first answer = absurd answer
-        by_screen line is standard (Some before) first (screen, keys, set, inr (end, some, gained, rose)) = cc end
-        by_screen line is standard (Some before) first (screen, keys, set, inl (end, put, faults)) =
+        by_screen line is standard (Some before) first (screen, set, inr (end, failed)) = cc end
+        by_screen line is standard (Some before) first (screen, set, inl (end, given)) =
             let size : count ≡ length line = cc end in
             let regs : Regs = done (record old.regs { y = length line }) in
             let t : State = with_term (answered here 2 (process_of old number) regs) screen in
-            (t, answers (Some line) is t (rw (standard, first) (screen, keys, inl (put, faults, refl))), goes_on_tied new regs (subst (λ n. IsAnswered old new (done (record old.regs { y = n }))) size has) now (slice_set terms 0 screen) set)
+            (t, answers (Some line) is t (rw (standard, first) (screen, inl (given, refl))), goes_on_tied new regs (subst (λ n. IsAnswered old new (done (record old.regs { y = n }))) size has) now (slice_set terms 0 screen) set)
 
         by_path : (line : List ℕ) → the_line ≡ Some line → (standard : Bool) → is_standard_path old.regs.a ≡ standard → MatchBool standard (MatchOption (slice_get terms 0) ⊥ (IsPut line (Written count) terms now)) ((Written count ≡ Refused 201) × (now ≡ terms)) → Goes_on_now
         by_path line is true standard answer = by_screen line is standard (slice_get terms 0) refl answer
@@ -242,10 +242,10 @@ module _ (old : Kernel) (terms : List TerminalState) (s : State) (stood : Repres
 
         by_screen : (line : List ℕ) → the_line ≡ Some line → is_standard_path old.regs.a ≡ true → (screen : Option TerminalState) → slice_get terms 0 ≡ screen → MatchOption screen ⊥ (IsPut line (Refused error) terms now) → Goes_on_now
         by_screen line is standard None first answer = absurd answer
-        by_screen line is standard (Some before) first (screen, keys, set, inl (end, put, faults)) = cc end
-        by_screen line is standard (Some before) first (screen, keys, set, inr (end, some, gained, rose)) =
+        by_screen line is standard (Some before) first (screen, set, inl (end, given)) = cc end
+        by_screen line is standard (Some before) first (screen, set, inr (end, failed)) =
             let t : State = with_term (answered here 2 (process_of old number) (refused old.regs 245)) screen in
-            (t, answers (Some line) is t (rw (standard, first) (screen, keys, inr (some, gained, rose, refl))), refused_with 245 (cc end) (slice_set terms 0 screen) set)
+            (t, answers (Some line) is t (rw (standard, first) (screen, inr (failed, refl))), refused_with 245 (cc end) (slice_set terms 0 screen) set)
 
         by_path : (line : List ℕ) → the_line ≡ Some line → (standard : Bool) → is_standard_path old.regs.a ≡ standard → MatchBool standard (MatchOption (slice_get terms 0) ⊥ (IsPut line (Refused error) terms now)) ((Refused error ≡ Refused 201) × (now ≡ terms)) → Goes_on_now
         by_path line is true standard answer = by_screen line is standard (slice_get terms 0) refl answer

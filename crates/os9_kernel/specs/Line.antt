@@ -1,17 +1,17 @@
 -- What an attempt of I$WritLn came to.
 use Rattle.std.specs.Prelude.{◌≡◌, ℕ, ◌<◌, ◌⊎◌, true, Option, List, length, slice_get, slice_set, MatchBool, MatchOption}
-use Rattle.os9_base.specs.Count.{Rose}
-use Rattle.os9_outer.specs.Stream.{stream_with, GainsPrefix}
 use Rattle.os9_outer.specs.TerminalState.{TerminalState}
-use Rattle.machine_model.specs.Call.{shown, is_standard_path}
+use Rattle.machine_model.specs.Call.{IsGiven, FailsAtByte, shown, is_standard_path}
 use Rattle.os9_kernel.specs.declared.line.LineEnd.{LineEnd}
 use Rattle.os9_kernel.specs.declared.line.LineEnd.TheVariants.{Written, Refused}
 use Rattle.os9_base.specs.declared.errors.TheConstants.{E_BPNUM, E_BPADDR, E_WRITE}
 
--- the whole line was put on TERM, or it has a byte, and a part of it was put where TERM failed
+-- the whole line was put on TERM; or TERM failed at a byte of it
 abbrev pub IsPut : List ℕ → LineEnd → List TerminalState → List TerminalState → TerminalState → Type 0
 IsPut line end before now old =
-    (terminal : TerminalState) × (terminal.keys ≡ old.keys) × (now ≡ slice_set before 0 terminal) × (((end ≡ Written (length line)) × (terminal.put ≡ stream_with old.put (shown line)) × (terminal.faults ≡ old.faults)) ⊎ ((end ≡ Refused E_WRITE) × (0 < length line) × GainsPrefix old.put (shown line) terminal.put × Rose old.faults terminal.faults))
+    (terminal : TerminalState) × (now ≡ slice_set before 0 terminal) × (
+    (end ≡ Written (length line)) × IsGiven (shown line) old terminal
+    ⊎ (end ≡ Refused E_WRITE) × FailsAtByte (shown line) old terminal)
 
 -- the answer for this line, if it can be read, on this path; the terminals before and now
 abbrev pub IsLineAnswer : Option (List ℕ) → ℕ → LineEnd → List TerminalState → List TerminalState → Type 0

@@ -16,12 +16,13 @@ use Rattle.os9_kernel.specs.Line.{HasByteToPut}
 use Rattle.os9_kernel.specs.declared.kernel.Kernel.{Kernel}
 use Rattle.os9_base.specs.declared.calls.TheConstants.{F_EXIT, I_WRITLN}
 
--- Live blocks stand for objects by their numbers: each has the object's bytes, and different blocks stand for different objects.
+-- Live blocks represent objects by their numbers: each has the object's bytes, and different blocks represent
+-- different objects.
 pub record RepresentObjects (number : ℕ → ℕ) (pool : Blocks) (objects : List (List ℕ)) : Type 0 where
   pub same_bytes : (block : ℕ) → IsLive pool block → slice_get objects (number block) ≡ Some (block_bytes pool block)
   pub apart : (one other : ℕ) → IsLive pool one → IsLive pool other → number one ≡ number other → one ≡ other
 
--- a map of blocks as a map of the objects that they stand for
+-- a map of blocks as a map of the objects that they represent
 abbrev pub renamed_map : (ℕ → ℕ) → Slots BlockId → Slots ℕ
 renamed_map number slots =
     record { places = map (option_map (λ (id : BlockId). number id.0)) slots.places; low = slots.low; groups = slots.groups }
@@ -43,7 +44,7 @@ process_of kernel number = record {
   activity = kernel.activity;
 }
 
--- the state of a kernel, where these are the objects, and these the numbers of those that blocks stand for
+-- the state of a kernel, where these are the objects, and these the numbers of those that blocks represent
 abbrev pub state_of : Kernel → (ℕ → ℕ) → List (List ℕ) → List TerminalState → State
 state_of kernel number objects terms = record {
   inner = record {
@@ -56,7 +57,8 @@ state_of kernel number objects terms = record {
   terms = terms;
 }
 
--- A kernel and its terminals stand for a state: its live blocks stand for objects, and all else is equal but for the numbers of these.
+-- A kernel and its terminals represent a state: its live blocks represent objects, and all else is equal but for the
+-- numbers of these.
 pub record Represents (kernel : Kernel) (terms : List TerminalState) (s : State) : Type 0 where
   pub number : ℕ → ℕ
   pub objects : List (List ℕ)

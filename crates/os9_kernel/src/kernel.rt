@@ -4,15 +4,12 @@ ghost use Rattle.block_pool.specs.Blocks.{IsPool};
 ghost use Rattle.proc_model.specs.ModuleList.{module_entry_at, without_link};
 ghost use Rattle.proc_model.specs.Slots.{IsMap};
 ghost use Rattle.os9_kernel.specs.References.{AreReferenceCounts, AreBoot};
-ghost use Rattle.os9_outer.specs.TerminalState.{TerminalState, terminal_states};
+ghost use Rattle.os9_outer.specs.TerminalState.{TerminalState, fault_counts, terminal_states};
 ghost use Rattle.machine_model.specs.State.{State, is_living, lives};
 ghost use Rattle.machine_model.specs.Call.{done, ended, refused, carry_clear as carry_clear_lem};
 ghost use Rattle.machine_model.specs.Event.{Event};
-ghost use Rattle.machine_model.specs.Run.{Tick, Choose, Slice, Steps, cost as cost_lem};
+ghost use Rattle.machine_model.specs.Run.{BeginsSlice, Choose, FirstSteps, Slice, Steps, Tick, cost as cost_lem};
 
-use os9_base::calls::{F_EXIT, I_WRITLN};
-use os9_base::errors::E_UNKSVC;
-use os9_base::limits::LAST_TICK;
 use crate::line::{LineEnd, write_line};
 use block_map::map::Map;
 use block_pool::pool::Pool;
@@ -22,6 +19,9 @@ use device_table::devices::Devices;
 use machine_model::activity::Activity;
 use machine_model::ends::{EventEnd, SliceEnd};
 use module_dir::{Dir, ModId};
+use os9_base::calls::{F_EXIT, I_WRITLN};
+use os9_base::errors::E_UNKSVC;
+use os9_base::limits::LAST_TICK;
 use os9_base::registers::{Pid, Regs};
 use os9_outer::terminal::CharDriver;
 
@@ -83,8 +83,8 @@ impl Kernel {
 
     /// One event of the process that was chosen, which has to live: an attempt of its call, else an
     /// instruction. There has to be a terminal. The process goes on where the answer is `Ran`.
-    /// `NoMemory` comes only where the process has a byte to put on a terminal, and is then still in
-    /// its call; the kernel is used no more.
+    /// `NoMemory` comes only if the process has a byte to put on a terminal, and is then still in its
+    /// call; no terminal failed in such an event, and the kernel is used no more.
     pub fn event(&mut self, devices: &mut Devices) -> EventEnd
         requires going { IsGoing self.old }
         requires terminal { 0 < vec_len devices.old.terms }
@@ -98,6 +98,9 @@ impl Kernel {
         ensures never_waits { result ≢ EventEnd.Waits }
         ensures memory { result ≡ EventEnd.NoMemory → PutsByte self.old }
         ensures stopped { result ≡ EventEnd.NoMemory → PutsByte self.new }
+        ensures unfaulted { result ≡ EventEnd.NoMemory
+            → fault_counts (terminal_states ⟦<dyn CharDriver as CharDriver>⟧ devices.new.terms.items)
+            ≡ fault_counts (terminal_states ⟦<dyn CharDriver as CharDriver>⟧ devices.old.terms.items) }
         ensures terminals { vec_len devices.new.terms ≡ vec_len devices.old.terms }
         ensures count { ticks self.new ≡ ticks self.old }
         ensures drives_kept { devices.new.drives ≡ devices.old.drives }
@@ -113,8 +116,9 @@ impl Kernel {
 
     /// A slice: the tick rises, the process that lives is chosen, and it has its events until it has
     /// executed `n` instructions or has ended. There has to be a terminal. `Idle` comes exactly where
-    /// no process lives. `NoMemory` comes only where the process has a byte to put on a terminal; the
-    /// kernel is then used no more.
+    /// no process lives. `NoMemory` comes only if the process has a byte to put on a terminal: after
+    /// the first events of the slice, in an event in which no terminal failed; the kernel is then used
+    /// no more.
     pub fn slice(&mut self, n: u32, devices: &mut Devices) -> SliceEnd
         requires tick { ticks self.old < LAST_TICK }
         requires terminal { 0 < vec_len devices.old.terms }
@@ -122,6 +126,10 @@ impl Kernel {
             → Represents self.old (terminal_states ⟦<dyn CharDriver as CharDriver>⟧ devices.old.terms.items) s
             → (t : State) × Slice n s result t
             × Represents self.new (terminal_states ⟦<dyn CharDriver as CharDriver>⟧ devices.new.terms.items) t }
+        ensures part { result ≡ SliceEnd.NoMemory → (s : State)
+            → Represents self.old (terminal_states ⟦<dyn CharDriver as CharDriver>⟧ devices.old.terms.items) s
+            → (t : State) × BeginsSlice n s t × (fault_counts t.terms
+            ≡ fault_counts (terminal_states ⟦<dyn CharDriver as CharDriver>⟧ devices.new.terms.items)) }
         ensures memory { result ≡ SliceEnd.NoMemory → PutsByte self.new }
         ensures count { ticks self.new ≡ ticks self.old + 1 }
         ensures terminals { vec_len devices.new.terms ≡ vec_len devices.old.terms }
@@ -142,6 +150,10 @@ impl Kernel {
             → Represents self.old (terminal_states ⟦<dyn CharDriver as CharDriver>⟧ devices.old.terms.items) s
             → (states : List State) × (t : State) × Steps n s states t
             × Represents self.new (terminal_states ⟦<dyn CharDriver as CharDriver>⟧ devices.new.terms.items) t }
+        ensures part { result ≡ SliceEnd.NoMemory → (s : State)
+            → Represents self.old (terminal_states ⟦<dyn CharDriver as CharDriver>⟧ devices.old.terms.items) s
+            → (states : List State) × (t : State) × FirstSteps n s states t × (fault_counts t.terms
+            ≡ fault_counts (terminal_states ⟦<dyn CharDriver as CharDriver>⟧ devices.new.terms.items)) }
         ensures memory { result ≡ SliceEnd.NoMemory → PutsByte self.new }
         ensures ran { result ≢ SliceEnd.NoMemory → result ≡ SliceEnd.Ran }
         ensures count { ticks self.new ≡ ticks self.old }
@@ -235,6 +247,9 @@ impl Kernel {
             × Represents self.new (terminal_states ⟦<dyn CharDriver as CharDriver>⟧ devices.new.terms.items) t }
         ensures memory { result ≡ EventEnd.NoMemory → PutsByte self.old }
         ensures stopped { result ≡ EventEnd.NoMemory → PutsByte self.new }
+        ensures unfaulted { result ≡ EventEnd.NoMemory
+            → fault_counts (terminal_states ⟦<dyn CharDriver as CharDriver>⟧ devices.new.terms.items)
+            ≡ fault_counts (terminal_states ⟦<dyn CharDriver as CharDriver>⟧ devices.old.terms.items) }
         ensures ran { result ≢ EventEnd.NoMemory → result ≡ EventEnd.Ran }
         ensures going { result ≡ EventEnd.Ran → IsGoing self.new }
         ensures running { result ≡ EventEnd.Ran → pending self.new ≡ 0 }

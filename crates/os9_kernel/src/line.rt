@@ -1,13 +1,13 @@
 ghost use Rattle.std.specs.Prelude.{◌≡◌, ◌≢◌, ◌<◌, ◌≤◌, None, Some, IfNone, IfSome, OnOk, OnErr, length, take, vec_len};
 ghost use Rattle.os9_base.specs.declared.registers.Regs.{Regs};
-ghost use Rattle.os9_outer.specs.TerminalState.{terminal_states, ChangesOneTerminal, Puts};
+ghost use Rattle.os9_outer.specs.TerminalState.{fault_counts, terminal_states, ChangesOneTerminal, Puts};
 ghost use Rattle.machine_model.specs.Call.{line_at, shown, ends_in_return as ends_in_return_lem};
 ghost use Rattle.std.specs.Bool.{OnTrue};
 ghost use Rattle.os9_kernel.specs.Line.{IsLineAnswer, HasByteToPut};
 
-use os9_base::errors::{E_BPADDR, E_BPNUM, E_WRITE};
 use device_table::devices::Devices;
 use device_table::put::put_on;
+use os9_base::errors::{E_BPADDR, E_BPNUM, E_WRITE};
 use os9_base::memory::Bus;
 use os9_base::registers::Regs;
 use os9_outer::terminal::{CharDriver, PutFault};
@@ -22,7 +22,7 @@ pub enum LineEnd {
     Written(u16),
     /// The call is refused with this number.
     Refused(u8),
-    /// Memory is wanting.
+    /// Out of memory.
     NoMemory,
 }
 
@@ -79,8 +79,8 @@ fn ends_in_return(line: &[u8]) -> bool
 
 /// I$WritLn by the registers of a process with this memory (System Programmer's Manual): the line
 /// at X of at most Y bytes is put on path A, which has to be one of the standard paths. The line
-/// passes through a buffer, which has room for the longest one. `NoMemory` comes only where there is
-/// a byte to put.
+/// passes through a buffer, which has room for the longest one. `NoMemory` comes only if there is a
+/// byte to put, and in such a call no terminal failed.
 pub fn write_line<B: Bus>(
     memory: &B,
     regs: &Regs,
@@ -96,6 +96,9 @@ pub fn write_line<B: Bus>(
         (terminal_states ⟦<dyn CharDriver as CharDriver>⟧ devices.new.terms.items) }
     ensures memory { result ≡ LineEnd.NoMemory → HasByteToPut
         (line_at (B.cells memory.now) regs.now.x regs.now.y) regs.now.a }
+    ensures unfaulted { result ≡ LineEnd.NoMemory
+        → fault_counts (terminal_states ⟦<dyn CharDriver as CharDriver>⟧ devices.new.terms.items)
+        ≡ fault_counts (terminal_states ⟦<dyn CharDriver as CharDriver>⟧ devices.old.terms.items) }
     ensures terminals { vec_len devices.new.terms ≡ vec_len devices.old.terms }
     ensures drives_kept { devices.new.drives ≡ devices.old.drives }
 {

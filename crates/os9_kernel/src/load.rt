@@ -10,12 +10,12 @@ ghost use Rattle.proc_model.specs.Module.{step_from};
 ghost use Rattle.proc_model.specs.declared.module.ModuleFault.{ModuleFault};
 ghost use Rattle.os9_kernel.specs.Load.{GainsBlocks, IsLoaded};
 
-use os9_base::errors::{E_BMCRC, E_BMHP, E_BMID, E_DIRFUL, E_KWNMOD};
-use os9_base::limits::MOST_GROUP_BYTES;
 use block_pool::pool::{BLOCK_LEN, Pool};
 use machine_model::ends::BootFault;
 use module_dir::{Dir, DirFault};
 use module_format::next_module;
+use os9_base::errors::{E_BMCRC, E_BMHP, E_BMID, E_DIRFUL, E_KWNMOD};
+use os9_base::limits::MOST_GROUP_BYTES;
 use proc_model::group::{BlockId, Group};
 use proc_model::module::{ModuleFault, ModuleInfo, ModuleStep};
 use thiserror::Error;
@@ -120,8 +120,14 @@ fn enter_module(dir: &mut Dir, info: ModuleInfo, group: Group) -> Result<(), Ref
     let at = info.at;
     match dir.enter(info, group, true) {
         Ok(_) => Ok(()),
-        Err(DirFault::Known) => Err(Refusal { at, error: E_KWNMOD }),
-        Err(DirFault::DirFull) => Err(Refusal { at, error: E_DIRFUL }),
+        Err(DirFault::Known) => Err(Refusal {
+            at,
+            error: E_KWNMOD,
+        }),
+        Err(DirFault::DirFull) => Err(Refusal {
+            at,
+            error: E_DIRFUL,
+        }),
     }
 }
 

@@ -44,7 +44,7 @@ impl Kernel {
     ghost use Rattle.os9_kernel.specs.Tie.{Represents, ticks};
 
     /// A kernel that starts the first program of a boot file, `SysGo` (Level Two manual,
-    /// "Booting"). Only this call takes memory for the kernel; a terminal may want some for the
+    /// "Booting"). Only this call takes memory for the kernel; a terminal may take some for the
     /// bytes that are put on it.
     ///
     /// # Errors

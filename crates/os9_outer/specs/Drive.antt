@@ -4,7 +4,8 @@ use Rattle.os9_outer.specs.declared.drive.DriveFault.{DriveFault}
 use Rattle.os9_outer.specs.declared.drive.DriveFault.TheVariants.{WriteProtect, ReadFault, WriteFault, NotReady, SeekFault}
 use Rattle.os9_base.specs.declared.errors.TheConstants.{E_WP, E_READ, E_WRITE, E_NOTRDY, E_SEEK}
 
--- the error number of a drive's fault (System Programmer's Manual, error codes: E$WP, E$Read, E$Write, E$NotRdy, E$Seek)
+-- the error number of a drive's fault (System Programmer's Manual, error codes: E$WP, E$Read, E$Write,
+-- E$NotRdy, E$Seek)
 abbrev pub drive_error : DriveFault → ℕ
 drive_error WriteProtect = E_WP
 drive_error ReadFault = E_READ

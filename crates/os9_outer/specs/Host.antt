@@ -1,30 +1,30 @@
--- Files and output streams, as a host tells of them.
+-- Files and output streams, as they can be observed of a host.
 use Rattle.std.specs.Prelude.{◌≡◌, ℕ, ◌⊎◌, ⊤, Option, Some, None, unwrap_or, Result, Ok, Err, List, [], take}
 use Rattle.os9_outer.specs.declared.host.HostFault.{HostFault}
 use Rattle.os9_outer.specs.declared.host.HostFault.TheVariants.{Failed, OutOfMemory}
 
--- the bytes under each name, or nothing where there is no file of that name
+-- the bytes under each name, or nothing if there is no file of that name
 abbrev pub Files : Type 0
 Files = List ℕ → Option (List ℕ)
 
--- what is read under a name: its bytes, or none where there is no such file
-abbrev pub file_contents : (List ℕ → Option (List ℕ)) → List ℕ → List ℕ
+-- what is read under a name: its bytes, or none if there is no such file
+abbrev pub file_contents : Files → List ℕ → List ℕ
 file_contents files name = unwrap_or (files name) []
 
--- the fact holds where the call answered `Failed`
+-- the fact holds if the call answered `Failed`
 abbrev pub OnFailed : {T : Type 0} → Result T HostFault → Type 0 → Type 0
 OnFailed (Ok _) fact = ⊤
 OnFailed (Err Failed) fact = fact
 OnFailed (Err OutOfMemory) fact = ⊤
 
--- the fact holds where the call answered anything but `Failed`
+-- the fact holds if the call answered anything but `Failed`
 abbrev pub UnlessFailed : {T : Type 0} → Result T HostFault → Type 0 → Type 0
 UnlessFailed (Ok _) fact = fact
 UnlessFailed (Err Failed) fact = ⊤
 UnlessFailed (Err OutOfMemory) fact = fact
 
--- the fact holds of the files before and after, where they are told; what is not told stays untold
-abbrev pub IfObserved : ((List ℕ → Option (List ℕ)) → (List ℕ → Option (List ℕ)) → Type 0) → Option (List ℕ → Option (List ℕ)) → Option (List ℕ → Option (List ℕ)) → Type 0
+-- the fact holds of the files before and after, if they are observed; what is not observed stays so
+abbrev pub IfObserved : (Files → Files → Type 0) → Option Files → Option Files → Type 0
 IfObserved fact None now = now ≡ None
 IfObserved fact (Some before) None = ⊥
 IfObserved fact (Some before) (Some now) = fact before now

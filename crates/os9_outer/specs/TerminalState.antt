@@ -1,9 +1,9 @@
 -- What can be observed of the terminals of a machine, as lists that do not depend on how their drivers are made.
-use Rattle.std.specs.Prelude.{◌≡◌, ℕ, Option, Some, Result, List, map, slice_get, slice_set, OnOk}
+use Rattle.std.specs.Prelude.{◌≡◌, ℕ, ◌≤◌, Option, Some, Result, List, map, slice_get, slice_set, OnOk, OnErr}
 use Rattle.std.specs.declared.alloc.Global.{Global}
 use Rattle.std.specs.declared.dyn_box.DynBox.{DynBox}
 use Rattle.os9_base.specs.Count.{Rose}
-use Rattle.os9_outer.specs.Stream.{stream_with, GainsPrefix}
+use Rattle.os9_outer.specs.Stream.{stream_with, GainsPart}
 use Rattle.os9_outer.specs.Terminal.{OnFault, UnlessFault}
 use Rattle.os9_outer.specs.declared.terminal.CharDriver.{Ghosts}
 use Rattle.os9_outer.specs.declared.terminal.Key.{Key}
@@ -30,16 +30,23 @@ abbrev pub terminal_states : {Table : Type 0} {Driver : Table → Type 0} → ((
     → List (DynBox Table Global Driver) → List TerminalState
 terminal_states members terminals = map (boxed_terminal_state members) terminals
 
+-- how often each terminal failed
+abbrev pub fault_counts : List TerminalState → List ℕ
+fault_counts terminals = map (λ terminal. terminal.faults) terminals
+
 -- the terminal of this number changed in this way, and no other terminal changed
-abbrev pub ChangesOneTerminal : (TerminalState → TerminalState → Type 0) → ℕ → List TerminalState → List TerminalState → Type 0
+abbrev pub ChangesOneTerminal : (TerminalState → TerminalState → Type 0) → ℕ → List TerminalState → List TerminalState
+    → Type 0
 ChangesOneTerminal change n before now =
     (old : TerminalState) × (new : TerminalState) × (slice_get before n ≡ Some old) × (now ≡ slice_set before n new)
     × change old new
 
 -- these bytes were put on the terminal, as far as the answer says
-pub record Puts {Value : Type 0} (answer : Result Value PutFault) (bytes : List ℕ) (old new : TerminalState) : Type 0 where
+pub record Puts {Value : Type 0} (answer : Result Value PutFault) (bytes : List ℕ) (old new : TerminalState)
+    : Type 0 where
   pub all : OnOk answer (new.put ≡ stream_with old.put bytes)
-  pub prefix : GainsPrefix old.put bytes new.put
+  pub part : OnErr answer (GainsPart old.put bytes new.put)
   pub fault_counted : OnFault answer (Rose old.faults new.faults)
   pub faults_kept : UnlessFault answer (new.faults ≡ old.faults)
+  pub never_falls : old.faults ≤ new.faults
   pub keys_kept : new.keys ≡ old.keys

@@ -79,7 +79,8 @@ pub trait BlockDriver: Drop {
         ensures filled { OnOk result (into.new ≡ sector_at (media self.old) lsn) }
         ensures buffer_kept { OnErr result (into.new ≡ into.old) }
         ensures media_kept { media self.new ≡ media self.old }
-        ensures fault_counted { OnErr result (Rose (drive_faults self.old) (drive_faults self.new)) }
+        ensures fault_counted { OnErr result
+            (Rose (drive_faults self.old) (drive_faults self.new)) }
         ensures fault_is_last { IfErr result (λ fault. last_fault self.new ≡ Some fault) }
         ensures faults_kept { OnOk result (drive_faults self.new ≡ drive_faults self.old) }
         ensures last_kept { OnOk result (last_fault self.new ≡ last_fault self.old) }
@@ -91,7 +92,8 @@ pub trait BlockDriver: Drop {
         requires { lsn < sector_count (media self.old) }
         ensures written { OnOk result (media self.new ≡ with_sector (media self.old) lsn from.now) }
         ensures media_kept { OnErr result (media self.new ≡ media self.old) }
-        ensures fault_counted { OnErr result (Rose (drive_faults self.old) (drive_faults self.new)) }
+        ensures fault_counted { OnErr result
+            (Rose (drive_faults self.old) (drive_faults self.new)) }
         ensures fault_is_last { IfErr result (λ fault. last_fault self.new ≡ Some fault) }
         ensures faults_kept { OnOk result (drive_faults self.new ≡ drive_faults self.old) }
         ensures last_kept { OnOk result (last_fault self.new ≡ last_fault self.old) }

@@ -11,17 +11,17 @@ pub enum HostFault {
     /// The file or the stream failed. The host counts it.
     #[error("the host failed")]
     Failed,
-    /// Memory is wanting.
+    /// Out of memory.
     #[error("no memory")]
     OutOfMemory,
 }
 
 /// Files by name, an output stream and an error stream (this project's own).
 ///
-/// A host may tell what its files hold (`file_map`) and what its streams were given (`bytes_out`,
-/// `bytes_err`), or leave them untold, as a real one does. It always counts its faults, those of
-/// the error stream apart, and tells the name of the last failed call, which is none where that
-/// was a write to the output stream, and whether that call read a file.
+/// What its files hold (`file_map`) and what its streams were given (`bytes_out`, `bytes_err`) may
+/// be observed, or not, as of a real one. Always observed are its counts of faults, that of the
+/// error stream apart, the name of the last failed call, which is none if that was a write to the
+/// output stream, and whether that call read a file.
 pub trait Host {
     ghost file_map: { Self → Option (List ℕ → Option (List ℕ)) };
 
@@ -39,18 +39,20 @@ pub trait Host {
 
     /// The bytes of the file of this name.
     ///
-    /// `Failed` comes only with a count. A host that tells its files may answer the empty list
+    /// `Failed` comes only with a count. A host whose files are observed may answer the empty list
     /// for a name that it does not hold.
     fn read_file(&mut self, name: &str) -> Result<Vec<u8>, HostFault>
         ensures contents { IfOk result (λ bytes.
             IfSome (file_map self.old) (λ files. bytes.items ≡ file_contents files name.now)) }
 
-        ensures fault_counted { OnFailed result (Rose (host_faults self.old) (host_faults self.new)) }
+        ensures fault_counted { OnFailed result
+            (Rose (host_faults self.old) (host_faults self.new)) }
         ensures fault_named { OnFailed result (failed_name self.new ≡ Some name.now) }
         ensures fault_in_read { OnFailed result (failed_in_read self.new ≡ true) }
         ensures count_kept { UnlessFailed result (host_faults self.new ≡ host_faults self.old) }
         ensures name_kept { UnlessFailed result (failed_name self.new ≡ failed_name self.old) }
-        ensures read_kept { UnlessFailed result (failed_in_read self.new ≡ failed_in_read self.old) }
+        ensures read_kept { UnlessFailed result
+            (failed_in_read self.new ≡ failed_in_read self.old) }
         ensures never_falls { host_faults self.old ≤ host_faults self.new }
         ensures err_count_kept { err_stream_faults self.new ≡ err_stream_faults self.old }
 
@@ -72,12 +74,14 @@ pub trait Host {
             (other : List ℕ) → other ≢ name.now → now other ≡ before other)
             (file_map self.old) (file_map self.new) }
 
-        ensures fault_counted { OnFailed result (Rose (host_faults self.old) (host_faults self.new)) }
+        ensures fault_counted { OnFailed result
+            (Rose (host_faults self.old) (host_faults self.new)) }
         ensures fault_named { OnFailed result (failed_name self.new ≡ Some name.now) }
         ensures fault_in_write { OnFailed result (failed_in_read self.new ≡ false) }
         ensures count_kept { UnlessFailed result (host_faults self.new ≡ host_faults self.old) }
         ensures name_kept { UnlessFailed result (failed_name self.new ≡ failed_name self.old) }
-        ensures read_kept { UnlessFailed result (failed_in_read self.new ≡ failed_in_read self.old) }
+        ensures read_kept { UnlessFailed result
+            (failed_in_read self.new ≡ failed_in_read self.old) }
         ensures never_falls { host_faults self.old ≤ host_faults self.new }
         ensures err_count_kept { err_stream_faults self.new ≡ err_stream_faults self.old }
 
@@ -92,12 +96,14 @@ pub trait Host {
             (bytes_out self.new ≡ stream_with (bytes_out self.old) bytes.now) }
         ensures prefix_gained { GainsPrefix (bytes_out self.old) bytes.now (bytes_out self.new) }
 
-        ensures fault_counted { OnFailed result (Rose (host_faults self.old) (host_faults self.new)) }
+        ensures fault_counted { OnFailed result
+            (Rose (host_faults self.old) (host_faults self.new)) }
         ensures fault_unnamed { OnFailed result (failed_name self.new ≡ None) }
         ensures fault_in_out { OnFailed result (failed_in_read self.new ≡ false) }
         ensures count_kept { UnlessFailed result (host_faults self.new ≡ host_faults self.old) }
         ensures name_kept { UnlessFailed result (failed_name self.new ≡ failed_name self.old) }
-        ensures read_kept { UnlessFailed result (failed_in_read self.new ≡ failed_in_read self.old) }
+        ensures read_kept { UnlessFailed result
+            (failed_in_read self.new ≡ failed_in_read self.old) }
         ensures never_falls { host_faults self.old ≤ host_faults self.new }
         ensures err_count_kept { err_stream_faults self.new ≡ err_stream_faults self.old }
 
@@ -106,7 +112,7 @@ pub trait Host {
 
     /// Writes these bytes to the error stream.
     ///
-    /// `Failed` comes only with a count of the error stream's own, and leaves what is told of the
+    /// `Failed` comes only with a count of the error stream's own, and leaves what is observed of the
     /// last failed call. After a refusal a part of the bytes may be out.
     fn err(&mut self, bytes: &[u8]) -> Result<(), HostFault>
         ensures gained { OnOk result

@@ -7,7 +7,7 @@ use crate::host::{Host, HostFault};
 use crate::host_file::{HostFile, bytes_of, copied, put_file};
 use std::alloc::Global;
 
-/// A host in memory for tests, whose calls fail as it was planned. It tells all that it has.
+/// A host in memory for tests, whose calls fail as it was planned. All that it has is observed.
 ///
 /// `calls` counts the calls of all four kinds together, and `plan` lists the numbers, from 1, of
 /// those that fail. A call that fails has no other effect than its count. Of two files of one name
@@ -54,13 +54,15 @@ impl MemHost {
     // Counts a call, and says whether it is to fail.
     fn fails_next(&mut self) -> bool
         ensures planned { result ≡ is_planned self.old.plan.items self.new.calls }
-        ensures call_counted { self.new ≡ record self.old { calls = min (self.old.calls + 1) (2 ^ 64 - 1) } }
+        ensures call_counted { self.new ≡ record self.old {
+          calls = min (self.old.calls + 1) (2 ^ 64 - 1);
+        } }
     {
         self.calls = self.calls.saturating_add(1);
         self.plan.contains(&self.calls)
     }
 
-    // Counts a fault, and keeps what is told of it.
+    // Counts a fault, and keeps what is observed of it.
     fn fail(&mut self, failure: Failure) -> HostFault
         ensures kept { self.new ≡ record self.old {
           faults = min (self.old.faults + 1) (2 ^ 64 - 1);

@@ -110,7 +110,8 @@ impl RamDrive {
         ensures plan_kept { self.new.plan ≡ self.old.plan }
         ensures slot_kept { self.new.slot ≡ self.old.slot }
         ensures call_counted { self.new.calls ≡ min (self.old.calls + 1) (2 ^ 64 - 1) }
-        ensures fault_counted { OnErr result (self.new.faults ≡ min (self.old.faults + 1) (2 ^ 64 - 1)) }
+        ensures fault_counted { OnErr result
+            (self.new.faults ≡ min (self.old.faults + 1) (2 ^ 64 - 1)) }
         ensures fault_is_last { IfErr result (λ fault. self.new.last ≡ Some fault) }
         ensures faults_kept { OnOk result (self.new.faults ≡ self.old.faults) }
         ensures last_kept { OnOk result (self.new.last ≡ self.old.last) }

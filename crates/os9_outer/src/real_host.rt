@@ -11,7 +11,7 @@ const LONGEST_FILE: u64 = 536_870_912;
 
 /// The host of the running program: its files, its standard output and its standard error.
 ///
-/// It tells no contents. A file that is missing or too long is a fault, a write that takes nothing
+/// No contents are observed of it. A file that is missing or too long is a fault, a write that takes nothing
 /// is one, and bytes that are no text are one of the error stream.
 #[derive(Drop)]
 pub struct RealHost<R> {
@@ -37,7 +37,7 @@ impl<R: Runtime + AllocGlobal> RealHost<R> {
         }
     }
 
-    // Counts a fault, and keeps what is told of it.
+    // Counts a fault, and keeps what is observed of it.
     fn fail(&mut self, failure: Failure) -> HostFault
         ensures counted { self.new.faults ≡ min (self.old.faults + 1) (2 ^ 64 - 1) }
         ensures never_falls { self.old.faults ≤ self.new.faults }

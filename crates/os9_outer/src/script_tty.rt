@@ -8,7 +8,7 @@ use std::alloc::Global;
 use std::mem;
 
 /// A terminal over memory for tests, whose calls of `key` and `put`, counted together from 1, fail
-/// as it was planned. It tells its bytes.
+/// as it was planned. Its bytes are observed.
 #[derive(Debug, Drop)]
 pub struct ScriptTty {
     pending: Pending,
@@ -42,7 +42,8 @@ impl ScriptTty {
         ensures call_counted { self.new.calls ≡ min (self.old.calls + 1) (2 ^ 64 - 1) }
         ensures keys_kept { self.new.pending ≡ self.old.pending }
         ensures bytes_kept { self.new.bytes.items ≡ self.old.bytes.items }
-        ensures fault_counted { OnTrue result (self.new.faults ≡ min (self.old.faults + 1) (2 ^ 64 - 1)) }
+        ensures fault_counted { OnTrue result
+            (self.new.faults ≡ min (self.old.faults + 1) (2 ^ 64 - 1)) }
         ensures faults_kept { OnFalse result (self.new.faults ≡ self.old.faults) }
         ensures never_falls { self.old.faults ≤ self.new.faults }
     {

@@ -5,7 +5,7 @@ use crate::host::{Host, HostFault};
 use crate::host_file::{HostFile, bytes_of, copied, put_file};
 use std::alloc::Global;
 
-/// A host in memory that never fails: its counts of faults are always 0. It tells all that it has,
+/// A host in memory that never fails: its counts of faults are always 0. All that it has is observed,
 /// and reads a name that it does not hold as the empty list.
 #[derive(Debug, Drop)]
 pub struct SureHost {

@@ -5,7 +5,7 @@ use crate::terminal::{CharDriver, Key, PutFault, TermFault};
 use std::alloc::Global;
 use std::mem;
 
-/// A terminal over memory that never fails: its count of faults is always 0. It tells its bytes.
+/// A terminal over memory that never fails: its count of faults is always 0. Its bytes are observed.
 #[derive(Debug, Drop)]
 pub struct SureTty {
     pending: Pending,

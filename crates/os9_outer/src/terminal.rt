@@ -24,7 +24,7 @@ pub enum PutFault {
     /// The terminal failed. It counts it.
     #[error("the terminal failed")]
     Fault,
-    /// Memory is wanting.
+    /// Out of memory.
     #[error("no memory")]
     OutOfMemory,
 }
@@ -32,7 +32,7 @@ pub enum PutFault {
 /// A terminal: keys to come, and bytes that are put on it (this project's own).
 ///
 /// `keys_left` are the keys to come, in their order. `bytes_put` are the bytes put since the last
-/// `take`, where the terminal tells them. `term_faults` counts the faults and never falls.
+/// `take`, if they are observed. `term_faults` counts the faults and never falls.
 pub trait CharDriver: Drop {
     ghost keys_left: { Self → List Key };
 
@@ -66,7 +66,8 @@ pub trait CharDriver: Drop {
         ensures put_last { OnOk result
             (bytes_put self.new ≡ stream_with (bytes_put self.old) (byte ∷ [])) }
         ensures put_kept { OnErr result (bytes_put self.new ≡ bytes_put self.old) }
-        ensures fault_counted { OnFault result (Rose (term_faults self.old) (term_faults self.new)) }
+        ensures fault_counted { OnFault result
+            (Rose (term_faults self.old) (term_faults self.new)) }
         ensures faults_kept { UnlessFault result (term_faults self.new ≡ term_faults self.old) }
         ensures never_falls { term_faults self.old ≤ term_faults self.new }
         ensures keys_kept { keys_left self.new ≡ keys_left self.old };

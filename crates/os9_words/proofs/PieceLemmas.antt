@@ -5,7 +5,7 @@ use Rattle.std.proofs.lemmas.Grind.{flat_map-append}
 use Rattle.std.specs.List.{flat_map}
 use Rattle.os9_outer.specs.Stream.{stream_with, GainsPrefix}
 use Rattle.os9_outer.specs.declared.host.Host.{Ghosts}
-use Rattle.os9_words.specs.Lines.{ChangesErrOnly}
+use Rattle.os9_words.specs.Streams.{ChangesErrOnly}
 use Rattle.os9_words.proofs.Prefixes.{GainsPrefix-front, GainsPrefix-then}
 
 -- the text of the pieces
@@ -13,13 +13,13 @@ abbrev pub text_of : List (Bor (List ℕ)) → List ℕ
 text_of pieces = flat_map (λ piece. piece.now) pieces
 
 -- the error stream gained these pieces, its faults stand still, and nothing else changed
-pub record Told {Host : Type 0} (members : Ghosts Host) (pieces : List (Bor (List ℕ))) (before now : Host) : Type 0 where
+pub record WroteErr {Host : Type 0} (members : Ghosts Host) (pieces : List (Bor (List ℕ))) (before now : Host) : Type 0 where
   pub gained : members.bytes_err now ≡ stream_with (members.bytes_err before) (text_of pieces)
   pub count_kept : members.err_stream_faults now ≡ members.err_stream_faults before
   pub others : ChangesErrOnly members before now
 
 -- the output stream gained these pieces, and nothing else changed
-pub record Put {Host : Type 0} (members : Ghosts Host) (pieces : List (Bor (List ℕ))) (before now : Host) : Type 0 where
+pub record WroteOut {Host : Type 0} (members : Ghosts Host) (pieces : List (Bor (List ℕ))) (before now : Host) : Type 0 where
   pub gained : members.bytes_out now ≡ stream_with (members.bytes_out before) (text_of pieces)
   pub count_kept : members.host_faults now ≡ members.host_faults before
   pub name_kept : members.failed_name now ≡ members.failed_name before

@@ -33,7 +33,7 @@ pub enum WordsFault {
     /// The words are no command line.
     #[error("words")]
     Refused,
-    /// Memory is wanting.
+    /// Out of memory.
     #[error("no memory")]
     OutOfMemory,
 }

@@ -1,8 +1,5 @@
-ghost use Rattle.std.specs.Prelude.{◌≡◌, None, false, OnOk};
-ghost use Rattle.os9_base.specs.Count.{Rose};
-ghost use Rattle.os9_outer.specs.Host.{OnFailed, UnlessFailed};
-ghost use Rattle.os9_outer.specs.Stream.{stream_with, GainsPrefix};
 ghost use Rattle.os9_words.specs.Lines.{counts_line};
+ghost use Rattle.os9_words.specs.Streams.{WritesOut};
 
 use crate::pieces::put_pieces;
 use itoa::Buffer;
@@ -26,22 +23,9 @@ pub struct Counts {
 ///
 /// `Failed` comes only with a count. After a refusal a part of the line may be out.
 pub fn put_counts<H: Host>(host: &mut H, counts: &Counts) -> Result<(), HostFault>
-    ensures written { OnOk result (H.bytes_out host.new ≡ stream_with (H.bytes_out host.old)
-        (counts_line counts.now.files counts.now.directories counts.now.free counts.now.lost)) }
-    ensures prefix { GainsPrefix (H.bytes_out host.old)
+    ensures { WritesOut H.Host
         (counts_line counts.now.files counts.now.directories counts.now.free counts.now.lost)
-        (H.bytes_out host.new) }
-
-    ensures fault_counted { OnFailed result (Rose (H.host_faults host.old) (H.host_faults host.new)) }
-    ensures fault_unnamed { OnFailed result (H.failed_name host.new ≡ None) }
-    ensures fault_in_out { OnFailed result (H.failed_in_read host.new ≡ false) }
-    ensures count_kept { UnlessFailed result (H.host_faults host.new ≡ H.host_faults host.old) }
-    ensures name_kept { UnlessFailed result (H.failed_name host.new ≡ H.failed_name host.old) }
-    ensures read_kept { UnlessFailed result (H.failed_in_read host.new ≡ H.failed_in_read host.old) }
-
-    ensures files_kept { H.file_map host.new ≡ H.file_map host.old }
-    ensures err_kept { H.bytes_err host.new ≡ H.bytes_err host.old }
-    ensures err_count_kept { H.err_stream_faults host.new ≡ H.err_stream_faults host.old }
+        result host.old host.new }
 {
     let mut files_text = Buffer::new();
     let mut directories_text = Buffer::new();

@@ -8,8 +8,9 @@ returns-clause-terminal g c =
     let put = c.put_in_box.ensures in
     ChangesOne-set _ _ c.args.devices.now.terms.items c.args.n c.index_mut.result.now c.put_in_box.new.term (omega (arith, c.args.devices.now.terms.ok.0)) c.index_mut.ensures.value (record {
       all = put.put_all;
-      prefix = put.put_prefix;
+      part = put.put_part;
       fault_counted = put.fault_counted;
       faults_kept = put.faults_kept;
+      never_falls = put.never_falls;
       keys_kept = put.keys_kept;
     })

@@ -1,8 +1,28 @@
-use Rattle.std.proofs.Common.{subst}
+use Rattle.std.proofs.Common.{subst, refl}
+use Rattle.rbf_model.specs.Faults.{IsFault}
 use Rattle.rbf_check.specs.Tree.{IsTreeOf}
-use Rattle.os9_boot.proofs.TopLemmas.{checks}
+use Rattle.os9_words.specs.declared.command.Command.TheVariants.{Check as CheckCommand}
+use Rattle.os9_boot.specs.declared.status.Input.TheVariants.{Image}
+use Rattle.os9_boot.proofs.CallLemmas.{command-faulted, command-printed, could-not-read, out-of-memory, printed-after}
 use Rattle.os9_boot.proofs.check.check_image.Goals as goal
 
-pub returns-in-Ok-check-clause-checked : goal.returns-in-Ok-check-clause-checked
-returns-in-Ok-check-clause-checked g c answered =
-    checks _ c.args.image.now c.in-Ok.bytes.items c.text.result.now c.in-Ok-check.tree _ _ _ _ c.in-Ok.ensures.contents c.text.ensures (subst (λ image. IsTreeOf image c.in-Ok-check.tree) c.as_slice.ensures.value c.in-Ok-check.ensures.tree) c.in-Ok.ensures.out_kept (c.print_counts.ensures.printed answered)
+pub returns-in-Err-Failed : goal.returns-in-Err-Failed
+returns-in-Err-Failed g c terms =
+    let read = rw c.in-Err-Failed.field-0-is at (c.in-Err-Failed.ensures.read terms) in
+    could-not-read (CheckCommand c.args.image.now) _ _ (Image, read.failed) read.files_kept read.out_kept read.terms_kept
+
+pub returns-in-Err-OutOfMemory : goal.returns-in-Err-OutOfMemory
+returns-in-Err-OutOfMemory g c terms =
+    let read = rw c.in-Err-OutOfMemory.field-0-is at (c.in-Err-OutOfMemory.ensures.read terms) in
+    out-of-memory (CheckCommand c.args.image.now) _ _ read.kept
+
+pub returns : goal.returns
+returns g c terms = out-of-memory (CheckCommand c.args.image.now) _ _ (c.in-Ok.ensures.read terms).kept
+
+pub returns-in-Err-Fault : goal.returns-in-Err-Fault
+returns-in-Err-Fault g c terms =
+    command-faulted _ _ c.args.image.now c.in-Ok.bytes.items c.in-Ok.ensures.contents c.in-Err-Fault.fault.rule c.in-Err-Fault.fault.lsn (subst (λ image. IsFault image c.in-Err-Fault.fault.rule c.in-Err-Fault.fault.lsn) c.as_slice.ensures.value (rw c.in-Err-Fault.field-0-is at c.in-Err-Fault.ensures.fault)) (c.in-Ok.ensures.read terms).kept
+
+pub returns-in-Ok-check : goal.returns-in-Ok-check
+returns-in-Ok-check g c terms =
+    command-printed _ _ c.args.image.now c.in-Ok.bytes.items c.in-Ok.ensures.contents c.in-Ok-check.tree _ (subst (λ image. IsTreeOf image c.in-Ok-check.tree) c.as_slice.ensures.value c.in-Ok-check.ensures.tree) (printed-after _ _ _ _ _ (c.in-Ok.ensures.read terms).kept (c.print_counts.ensures terms))

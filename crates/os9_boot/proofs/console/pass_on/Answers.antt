@@ -1,7 +1,10 @@
-use Rattle.std.proofs.Common.{◌<◌, arith, ◌∙◌}
+use Rattle.std.proofs.Common.{◌+◌, ◌<◌, [], ap, arith, rules, ◌∙◌}
+use Rattle.std.proofs.lemmas.Grind.{common_steps}
 use Rattle.std.proofs.lemmas.List.{length-map}
 use Rattle.std.specs.Vec.{vec_len}
-use Rattle.os9_boot.proofs.ConsoleLemmas.{passes, prefix-on_error, written-more}
+use Rattle.os9_outer.specs.TerminalState.{fault_counts}
+use Rattle.os9_boot.specs.World.{world_of}
+use Rattle.os9_boot.proofs.ConsoleLemmas.{failed-then, faults-front, kept-then, passes, prefix-on_error, written-more}
 use Rattle.os9_boot.proofs.console.pass_on.Goals as goal
 
 pub loop-n-preserved : goal.loop-n-preserved
@@ -16,15 +19,37 @@ loop-n-preserved g c =
       within = omega arith;
       drives = took.drives_kept ∙ so_far.drives;
       emptied = passed.emptied;
-      written = written-more c.loop-n.n c.take_from-bytes.result.items _ _ _ _ _ passed so_far.written (rw (← c.as_slice.ensures.value) wrote.written);
-      count = wrote.count_kept ∙ so_far.count;
+      written = written-more c.loop-n.n c.take_from-bytes.result.items _ _ _ _ _ passed so_far.written (rw (← c.as_slice.ensures.value) wrote.whole);
+      count = (wrote.count_kept ∙ so_far.count.0, wrote.name_kept ∙ so_far.count.1, wrote.read_kept ∙ so_far.count.2);
       files = wrote.files_kept ∙ so_far.files;
     }
 
-pub returns-in_err-write_out-clause-prefix : goal.returns-in_err-write_out-clause-prefix
-returns-in_err-write_out-clause-prefix g c =
+pub returns-in_err-write_out-clause-passed : goal.returns-in_err-write_out-clause-passed
+returns-in_err-write_out-clause-passed g c =
     let so_far = c.loop-n.invariant in
     let took = c.take_from-bytes.ensures in
+    let wrote = c.in_err-write_out.ensures in
     let below : c.loop-n.n < vec_len c.args.devices.now.terms = omega (arith, c.len-n-end.ensures) in
     let passed = passes c.loop-n.n c.take_from-bytes.result.items _ _ _ (rw length-map (omega (arith, c.args.devices.now.terms.ok.0))) so_far.emptied took.terminal in
-    prefix-on_error c.from_residual.result c.loop-n.n c.take_from-bytes.result.items _ _ _ _ _ passed so_far.written (rw (← c.as_slice.ensures.value) c.in_err-write_out.ensures.prefix)
+    record {
+      taken = search rules;
+      written = search rules;
+      prefix = prefix-on_error c.from_residual.result c.loop-n.n c.take_from-bytes.result.items _ _ _ _ _ passed so_far.written (rw (← c.as_slice.ensures.value) wrote.prefix);
+      terminals_kept = ap fault_counts passed.emptied ∙ faults-front (c.loop-n.n + 1) _;
+      output_fault = failed-then c.from_residual.result (world_of g.H.Host c.args.host.now []) (world_of g.H.Host c.loop-n.host []) (world_of g.H.Host c.write_out.new.host []) so_far.count (search rules) (search rules) (search rules);
+      no_fault = kept-then c.from_residual.result (world_of g.H.Host c.args.host.now []) (world_of g.H.Host c.loop-n.host []) (world_of g.H.Host c.write_out.new.host []) so_far.count (search rules) (search rules) (search rules);
+      files_kept = wrote.files_kept ∙ so_far.files;
+    }
+
+pub returns-clause-passed : goal.returns-clause-passed
+returns-clause-passed g c =
+    let so_far = c.loop-n.invariant in
+    record {
+      taken = grind (arith, common_steps);
+      written = grind (arith, common_steps);
+      prefix = search rules;
+      terminals_kept = ap fault_counts so_far.emptied ∙ faults-front c.loop-n.n _;
+      output_fault = search rules;
+      no_fault = so_far.count;
+      files_kept = so_far.files;
+    }

@@ -4,6 +4,7 @@ use Rattle.os9_outer.specs.Stream.{stream_with}
 use Rattle.os9_outer.specs.TerminalState.{terminal_states}
 use Rattle.machine_model.specs.Run.{console_bytes}
 use Rattle.os9_boot.specs.Console.{IsObserved}
+use Rattle.os9_boot.specs.World.{HasNoFault, world_of}
 use Rattle.os9_boot.proofs.ConsoleLemmas.{emptied_front}
 use Rattle.os9_boot.proofs.console.pass_on.Given as goal
 
@@ -16,6 +17,6 @@ invariant-loop-n g l =
       drives : l.devices.drives ≡ l.initial.devices.drives;
       emptied : terminal_states (λ table. (g.dyn-2.0.entry table).1) l.devices.terms.items ≡ emptied_front l.n before;
       written : All IsObserved before → g.H.Host.bytes_out l.host ≡ stream_with (g.H.Host.bytes_out l.initial.host) (console_bytes (take l.n before));
-      count : g.H.Host.host_faults l.host ≡ g.H.Host.host_faults l.initial.host;
+      count : HasNoFault (world_of g.H.Host l.initial.host before) (world_of g.H.Host l.host before);
       files : g.H.Host.file_map l.host ≡ g.H.Host.file_map l.initial.host;
     }

@@ -1,0 +1,9 @@
+use Rattle.os9_boot.proofs.CallLemmas.{err-only, top-command, top-memory, top-refused}
+use Rattle.os9_boot.proofs.top.os9_main.Goals as goal
+
+pub returns-in-Ok-clause-call : goal.returns-in-Ok-clause-call
+returns-in-Ok-clause-call g c = top-command _ _ _ c.in-Ok.command _ c.in-Ok.ensures.command c.do_command.ensures.call
+
+pub returns-in-Err-Refused-clause-call : goal.returns-in-Err-Refused-clause-call
+returns-in-Err-Refused-clause-call g c =
+    top-refused _ _ _ (rw c.in-Err-Refused.field-0-is at c.in-Err-Refused.ensures.refused) (err-only g.H.Host _ _ _ c.report.ensures.others)

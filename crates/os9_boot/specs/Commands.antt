@@ -1,0 +1,87 @@
+-- What a command does if nothing fails.
+use Rattle.std.specs.Prelude.{◌≡◌, ◌≢◌, ℕ, ◌⊎◌, not, Option, List, length, count_by, slice_get, MatchOption, MatchResult}
+use Rattle.os9_outer.specs.Host.{Files, file_contents}
+use Rattle.os9_outer.specs.Stream.{stream_with}
+use Rattle.script_text.specs.Slices.{slices_of}
+use Rattle.os9_words.specs.declared.command.Command.{Command}
+use Rattle.os9_words.specs.declared.command.Command.TheVariants.{Run as RunCommand, Check as CheckCommand}
+use Rattle.os9_words.specs.declared.command.RunWords.{RunWords}
+use Rattle.os9_words.specs.Command.{command_of}
+use Rattle.os9_words.specs.Lines.{counts_line}
+use Rattle.rbf_model.specs.Geometry.{Geometry, image_geometry}
+use Rattle.rbf_model.specs.Volume.{DiskVolume, Vol, free_clusters, lost_clusters}
+use Rattle.rbf_model.specs.Counts.{file_count, directory_count}
+use Rattle.rbf_model.specs.Faults.{IsFault}
+use Rattle.rbf_check.specs.declared.tree.Tree.{Tree}
+use Rattle.rbf_check.specs.Tree.{is_directory_node}
+use Rattle.machine_model.specs.State.{State}
+use Rattle.machine_model.specs.declared.ends.BootFault.{BootFault}
+use Rattle.machine_model.specs.Start.{Starts, Refuses}
+use Rattle.machine_model.specs.Run.{Run, status_of}
+use Rattle.os9_boot.specs.World.{World}
+
+-- the machine goes on from this state over these slices: the output gains what the run writes, the
+-- terminals are those at its end, and the status is the run's
+abbrev pub Runs : State → List ℕ → World → World → ℕ → Type 0
+Runs s slices before after status =
+    (written : List ℕ) × (t : State) × Run slices s written t × (status ≡ status_of t)
+    × (after.out ≡ stream_with before.out written) × (after.terms ≡ t.terms)
+
+-- the boot file starts a machine with so many blocks, which is run; or it is refused with 8
+abbrev pub Boots : List ℕ → ℕ → List ℕ → World → World → ℕ → Type 0
+Boots file blocks slices before after status =
+    ((s : State) × Starts file blocks before.terms s × Runs s slices before after status)
+    ⊎ ((fault : BootFault) × Refuses file blocks fault × (status ≡ 8) × (after ≡ before))
+
+-- the slice text gives slices, or is refused with 7
+abbrev pub Slices : List ℕ → List ℕ → ℕ → World → World → ℕ → Type 0
+Slices text file blocks before after status =
+    MatchResult (slices_of text)
+    (λ slices. Boots file blocks slices before after status)
+    (λ line. (status ≡ 7) × (after ≡ before))
+
+-- the files that the words name are those of the host
+abbrev pub Performs : Files → RunWords → World → World → ℕ → Type 0
+Performs files run before after status =
+    MatchOption (slice_get run.files 0) ⊥
+    (λ modules. Slices (file_contents files run.slices) (file_contents files modules) run.blocks before after status)
+
+-- the line of the counts of a volume
+abbrev pub counts_of : Geometry → DiskVolume → List ℕ
+counts_of g v =
+    counts_line (file_count g v) (directory_count g v) (length (free_clusters g v)) (length (lost_clusters g v))
+
+-- the line of the counts of a tree
+abbrev pub tree_line : Tree → List ℕ
+tree_line tree =
+    counts_line (count_by (λ node. not (is_directory_node node)) tree.nodes) (count_by is_directory_node tree.nodes)
+    tree.free tree.lost
+
+-- the image represents a volume, whose counts are printed; or it is refused with 6
+abbrev pub Checks : List ℕ → Option (List ℕ) → Option (List ℕ) → ℕ → Type 0
+Checks image before now status =
+    ((v : DiskVolume) × Vol image v × (status ≡ 0) × (now ≡ stream_with before (counts_of (image_geometry image) v)))
+    ⊎ ((rule : ℕ) × (lsn : ℕ) × IsFault image rule lsn × (status ≡ 6) × (now ≡ before))
+
+-- what a command does with the files; a check leaves the terminals as they are
+abbrev pub PerformsCommand : Files → World → World → ℕ → Command → Type 0
+PerformsCommand files before after status (RunCommand run) = Performs files run before after status
+PerformsCommand files before after status (CheckCommand image) =
+    Checks (file_contents files image) before.out after.out status × (after.terms ≡ before.terms)
+
+-- the words spell a command, or are refused with 1
+abbrev pub Answers : Files → List (List ℕ) → World → World → ℕ → Type 0
+Answers files words before after status =
+    MatchOption (command_of words) ((status ≡ 1) × (after ≡ before)) (PerformsCommand files before after status)
+
+-- nothing failed, and memory sufficed
+abbrev pub IsAnswered : ℕ → Type 0
+IsAnswered status = (status ≢ 2) × (status ≢ 3) × (status ≢ 4)
+
+-- the output could not be written, or memory was out
+abbrev pub IsStopped : ℕ → Type 0
+IsStopped status = (status ≡ 3) ⊎ (status ≡ 4)
+
+-- the command ended before anything ran
+abbrev pub IsSilent : ℕ → Type 0
+IsSilent status = (status ≡ 1) ⊎ (status ≡ 2) ⊎ (status ≡ 6) ⊎ (status ≡ 7) ⊎ (status ≡ 8)

@@ -1,0 +1,25 @@
+-- What is left when the bytes of the terminals were passed to the output stream.
+use Rattle.std.specs.Prelude.{◌≡◌, Result, OnOk, OnErr, All}
+use Rattle.os9_outer.specs.Host.{OnFailed, UnlessFailed}
+use Rattle.os9_outer.specs.Stream.{stream_with, GainsPrefix}
+use Rattle.os9_outer.specs.TerminalState.{fault_counts}
+use Rattle.os9_outer.specs.declared.host.HostFault.{HostFault}
+use Rattle.machine_model.specs.Run.{console_bytes, terminals_emptied}
+use Rattle.os9_boot.specs.Console.{IsObserved}
+use Rattle.os9_boot.specs.World.{World, HasNoFault, FailsToWrite}
+
+pub record PassesBytes {Value : Type 0} (answer : Result Value HostFault) (before after : World) : Type 0 where
+  -- after Ok no terminal has bytes any more
+  pub taken : OnOk answer (after.terms ≡ terminals_emptied before.terms)
+  -- and the output has gained them
+  pub written : OnOk answer (All IsObserved before.terms
+      → after.out ≡ stream_with before.out (console_bytes before.terms))
+  -- else it has gained their beginning
+  pub prefix : OnErr answer (All IsObserved before.terms
+      → GainsPrefix before.out (console_bytes before.terms) after.out)
+  -- no terminal failed
+  pub terminals_kept : fault_counts after.terms ≡ fault_counts before.terms
+  -- the host failed last at the output, or not at all
+  pub output_fault : OnFailed answer (FailsToWrite before after)
+  pub no_fault : UnlessFailed answer (HasNoFault before after)
+  pub files_kept : after.files ≡ before.files

@@ -1,0 +1,126 @@
+ghost use Rattle.os9_words.specs.Lines.{boot_module_line, image_fault_line, message_line};
+ghost use Rattle.os9_words.specs.Streams.{WritesErr};
+
+use crate::pieces::{report_pieces, report_text};
+use itoa::Buffer;
+use os9_outer::host::{Host, HostFault};
+
+/// A message on the error stream (this project's own). Each is one line, with its numbers in
+/// decimal digits.
+#[derive(Clone, Copy, Debug, PartialEq, Eq)]
+pub enum Message<'a> {
+    /// The words are no command line: `os9: words`.
+    Words,
+    /// The file of this name could not be read: `os9: cannot read NAME`.
+    CannotRead(&'a str),
+    /// The output stream could not be written: `os9: cannot write output`.
+    CannotWrite,
+    /// Out of memory: `os9: no memory`.
+    NoMemory,
+    /// The image in the file of this name breaks this rule at the sector of this number:
+    /// `os9: NAME: rule R at LSN L`.
+    BadImage(&'a str, u8, u32),
+    /// The module that begins at this byte of the boot file is refused with this error:
+    /// `os9: boot module E at O`.
+    BadModule(u32, u8),
+    /// The boot file is too long, or it and the data area of its program need more than eight
+    /// slots: `os9: boot too large`.
+    TooLarge,
+    /// The boot file has no program `SysGo`: `os9: boot no SysGo`.
+    NoFirst,
+}
+
+/// Writes the line of a message to the error stream.
+///
+/// # Errors
+///
+/// Those of [`Host::err`]. A part of the line may be out then.
+pub fn report<H: Host>(host: &mut H, message: &Message) -> Result<(), HostFault>
+    ensures { WritesErr H.Host (message_line message.now) result host.old host.new }
+{
+    match message {
+        Message::Words => report_text(host, b"os9: words\n"),
+        Message::CannotRead(name) => {
+            report_pieces(host, &[b"os9: cannot read ", name.as_bytes(), b"\n"])
+        }
+        Message::CannotWrite => report_text(host, b"os9: cannot write output\n"),
+        Message::NoMemory => report_text(host, b"os9: no memory\n"),
+        Message::BadImage(name, rule, lsn) => report_bad_image(host, name, *rule, *lsn),
+        Message::BadModule(at, error) => report_bad_module(host, *at, *error),
+        Message::TooLarge => report_text(host, b"os9: boot too large\n"),
+        Message::NoFirst => report_text(host, b"os9: boot no SysGo\n"),
+    }
+}
+
+/// Writes that an image breaks a rule.
+fn report_bad_image<H: Host>(host: &mut H, name: &str, rule: u8, lsn: u32) -> Result<(), HostFault>
+    ensures { WritesErr H.Host (image_fault_line name.now rule lsn) result host.old host.new }
+{
+    let mut rule_text = Buffer::new();
+    let mut lsn_text = Buffer::new();
+    report_pieces(
+        host,
+        &[
+            b"os9: ",
+            name.as_bytes(),
+            b": rule ",
+            rule_text.format(rule).as_bytes(),
+            b" at LSN ",
+            lsn_text.format(lsn).as_bytes(),
+            b"\n",
+        ],
+    )
+}
+
+/// Writes that a module of the boot file is refused.
+fn report_bad_module<H: Host>(host: &mut H, at: u32, error: u8) -> Result<(), HostFault>
+    ensures { WritesErr H.Host (boot_module_line at error) result host.old host.new }
+{
+    let mut error_text = Buffer::new();
+    let mut at_text = Buffer::new();
+    report_pieces(
+        host,
+        &[
+            b"os9: boot module ",
+            error_text.format(error).as_bytes(),
+            b" at ",
+            at_text.format(at).as_bytes(),
+            b"\n",
+        ],
+    )
+}
+
+#[cfg(test)]
+mod tests {
+    use super::*;
+    use os9_outer::mem_host::MemHost;
+    use std::test::Fail;
+
+    #[test]
+    fn messages_on_err(rt: HostRuntime) -> Result<(), Fail> {
+        let alloc = rt.alloc();
+        let mut host = MemHost::new(alloc, Vec::new(alloc), Vec::new(alloc));
+        for message in [
+            Message::Words,
+            Message::CannotRead("s"),
+            Message::CannotWrite,
+            Message::NoMemory,
+            Message::BadImage("e", 4, 1000),
+            Message::BadModule(0, 232),
+            Message::TooLarge,
+            Message::NoFirst,
+        ] {
+            report(&mut host, &message)?;
+        }
+        let lines = b"os9: words\n\
+            os9: cannot read s\n\
+            os9: cannot write output\n\
+            os9: no memory\n\
+            os9: e: rule 4 at LSN 1000\n\
+            os9: boot module 232 at 0\n\
+            os9: boot too large\n\
+            os9: boot no SysGo\n";
+        assert_eq!(rt; host.err_bytes.as_slice(), lines.as_slice());
+        Ok(())
+    }
+}
