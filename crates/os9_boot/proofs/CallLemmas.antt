@@ -174,7 +174,7 @@ module _ (before after : World) (image bytes : List ℕ) (read : IfSome before.f
         by_files None bytes_are = tt
         by_files (Some files) bytes_are = λ observed.
             let printed = call.printed answered in (
-              rw (← bytes_are) (inl (is.volume, is.stands, printed.0, printed.1 ∙ rw (is.counts.files, is.counts.directories, is.tells.free, is.tells.lost) refl)),
+              rw (← bytes_are) (inl (is.volume, is.represents, printed.0, printed.1 ∙ rw (is.counts.files, is.counts.directories, is.tells.free, is.tells.lost) refl)),
               call.terms_kept,
             )
 
@@ -184,7 +184,7 @@ module _ (before after : World) (image bytes : List ℕ) (read : IfSome before.f
         by_files : (told : Option Files) → IfSome told (λ files. bytes ≡ file_contents files image) → IfSome told (λ files. All IsObserved before.terms → PerformsPartly files before after (CheckCommand image))
         by_files None bytes_are = tt
         by_files (Some files) bytes_are = λ observed. (
-          inr (is.volume, rw (← bytes_are) is.stands, rw (← bytes_are, ← is.counts.files, ← is.counts.directories, ← is.tells.free, ← is.tells.lost) (call.partial stopped)),
+          inr (is.volume, rw (← bytes_are) is.represents, rw (← bytes_are, ← is.counts.files, ← is.counts.directories, ← is.tells.free, ← is.tells.lost) (call.partial stopped)),
           call.terms_kept,
         )
 
