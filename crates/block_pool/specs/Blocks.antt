@@ -48,7 +48,8 @@ with_block_bytes pool block bytes = record pool { bytes = slice_set pool.bytes b
 
 -- the pool after a free block was taken: it is named once, and its bytes are zeros
 abbrev pub pool_after_take : Blocks → ℕ → Blocks
-pool_after_take pool block = with_block_bytes (with_reference_count pool block 1) block (replicate (length (block_bytes pool block)) 0)
+pool_after_take pool block =
+    with_block_bytes (with_reference_count pool block 1) block (replicate (length (block_bytes pool block)) 0)
 
 -- the pool with one naming more of a block
 abbrev pub pool_after_share : Blocks → ℕ → Blocks

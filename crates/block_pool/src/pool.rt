@@ -135,7 +135,8 @@ impl Pool {
     pub fn copy_in(&mut self, id: BlockId, at: u16, from: &[u8])
         requires live { IsLive self.old id.0 }
         requires fits { at + length from.now ≤ 8192 }
-        ensures bytes { self.new ≡ with_block_bytes self.old id.0 (overwritten (block_bytes self.old id.0) at from.now) }
+        ensures bytes { self.new
+            ≡ with_block_bytes self.old id.0 (overwritten (block_bytes self.old id.0) at from.now) }
         ensures shape { IsPool self.new }
     {
         let block = &mut self.blocks[id.0 as usize];

@@ -1,4 +1,5 @@
--- What the MC6809's arithmetic computes, in whole numbers (programming manual, appendix A, "Operation" of each instruction).
+-- What the MC6809's arithmetic computes, in whole numbers (programming manual, appendix A, "Operation" of each
+-- instruction).
 use Rattle.std.specs.Prelude.{ℕ, ◌+◌, ◌-◌, ◌*◌, ◌/◌, ◌%◌, ◌||◌, ◌&&◌, nat_le, nat_lt, Bool, if◌then◌else◌}
 use Rattle.std.specs.Int.{from_bool}
 

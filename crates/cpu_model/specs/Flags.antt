@@ -141,4 +141,5 @@ flags_of cc = record { h = has_bit 32 cc; n = has_bit 8 cc; z = has_bit 4 cc; v 
 -- the register with these flags, and with E, F and I as they were
 abbrev pub cc_with : Flags → ℕ → ℕ
 cc_with f cc =
-    cc / 64 * 64 + 32 * from_bool f.h + cc / 16 % 2 * 16 + 8 * from_bool f.n + 4 * from_bool f.z + 2 * from_bool f.v + from_bool f.c
+    cc / 64 * 64 + 32 * from_bool f.h + cc / 16 % 2 * 16 + 8 * from_bool f.n + 4 * from_bool f.z
+    + 2 * from_bool f.v + from_bool f.c

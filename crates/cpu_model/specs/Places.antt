@@ -1,4 +1,5 @@
--- Where operands lie. The registers are those after the instruction's own bytes: PC is the address of the next instruction.
+-- Where operands lie. The registers are those after the instruction's own bytes: PC is the address of the next
+-- instruction.
 use Rattle.std.specs.Prelude.{ℕ, ◌+◌, ◌-◌, ◌*◌, ◌%◌, nat_le, Option, Some, None, option_map, option_and_then, unwrap_or, if◌then◌else◌}
 use Rattle.os9_base.specs.declared.registers.Regs.{Regs}
 use Rattle.cpu_model.specs.declared.rows.Mode.{Mode}

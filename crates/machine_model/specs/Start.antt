@@ -29,8 +29,8 @@ data_blocks program = block_count (data_size program)
 abbrev pub boot_group : List ℕ → List ℕ
 boot_group file = range_with_len 0 (file_blocks file)
 
--- what comes of the modules of the boot file, entered in a directory without entries: its entries, or the place and the error of
--- the first module that is refused
+-- what comes of the modules of the boot file, entered in a directory without entries: its entries, or the place and
+-- the error of the first module that is refused
 abbrev pub EntersBoot : List ℕ → Result (List (Option ModuleEntry)) (ℕ × ℕ) → Type 0
 EntersBoot file outcome = EntersModules file (boot_group file) true 0 no_entries outcome
 
@@ -47,7 +47,8 @@ abbrev pub room_for : ℕ → ℕ
 room_for blocks = min 8 blocks
 
 -- the modules of the file are entered, and one of them is the first program, which has this entry and this number
-pub record HasFirst (file : List ℕ) (entries : List (Option ModuleEntry)) (number : ℕ) (program : ModuleEntry) : Type 0 where
+pub record HasFirst (file : List ℕ) (entries : List (Option ModuleEntry)) (number : ℕ) (program : ModuleEntry)
+    : Type 0 where
   pub short : length file ≤ longest_file
   pub entered : EntersBoot file (Ok entries)
   pub found_it : first_program entries ≡ Some number
@@ -57,13 +58,16 @@ pub record HasFirst (file : List ℕ) (entries : List (Option ModuleEntry)) (num
 abbrev pub Refuses : List ℕ → ℕ → BootFault → Type 0
 -- it has more bytes than a group; or it and the first program's data area need more blocks or slots than there are
 Refuses file blocks TooLarge =
-    (longest_file < length file) ⊎ ((entries : List (Option ModuleEntry)) × (number : ℕ) × (program : ModuleEntry) × HasFirst file entries number program × (room_for blocks < data_blocks program + file_blocks file))
+    (longest_file < length file)
+    ⊎ ((entries : List (Option ModuleEntry)) × (number : ℕ) × (program : ModuleEntry)
+    × HasFirst file entries number program × (room_for blocks < data_blocks program + file_blocks file))
 -- one of its modules is refused: where it begins, and the error
 Refuses file blocks (BadModule at error) =
     (length file ≤ longest_file) × EntersBoot file (Err (at, error))
 -- it has no first program
 Refuses file blocks NoFirst =
-    (length file ≤ longest_file) × ((entries : List (Option ModuleEntry)) × EntersBoot file (Ok entries) × (first_program entries ≡ None))
+    (length file ≤ longest_file)
+    × ((entries : List (Option ModuleEntry)) × EntersBoot file (Ok entries) × (first_program entries ≡ None))
 Refuses file blocks OutOfMemory = ⊥
 
 -- the objects of the start: those of the boot file, then the data area of the first process
@@ -74,7 +78,8 @@ first_objects file program = file_objects file ++ replicate (data_blocks program
 abbrev pub first_map : List ℕ → ModuleEntry → Slots ℕ
 first_map file program = record {
   places =
-      map Some (range_with_len (file_blocks file) (data_blocks program)) ++ replicate (8 - (data_blocks program + file_blocks file)) None ++ map Some (boot_group file);
+      map Some (range_with_len (file_blocks file) (data_blocks program))
+      ++ replicate (8 - (data_blocks program + file_blocks file)) None ++ map Some (boot_group file);
   low = data_blocks program;
   groups = replicate (8 - file_blocks file) None ++ Some (file_blocks file) ∷ replicate (file_blocks file - 1) None;
 }
@@ -104,7 +109,14 @@ start_of file entries number program terms = record {
   inner = record {
     objects = first_objects file program;
     modules = with_module_entry entries number (entry_linked program);
-    processes = only_process (record { regs = first_regs file program; map = first_map file program; primary = Some number; activity = Running });
+    processes =
+        only_process (record {
+          regs =
+              first_regs file program;
+          map = first_map file program;
+          primary = Some number;
+          activity = Running;
+        });
     tick = 0;
     chosen = None;
   };

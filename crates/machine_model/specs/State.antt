@@ -9,7 +9,8 @@ use Rattle.os9_outer.specs.TerminalState.{TerminalState}
 use Rattle.machine_model.specs.declared.activity.Activity.{Activity}
 use Rattle.machine_model.specs.declared.activity.Activity.TheVariants.{Running, Calling, Finished}
 
--- a process: its registers, its map of objects by their numbers, the number of its primary module's entry, and what it does
+-- a process: its registers, its map of objects by their numbers, the number of its primary module's entry, and what
+-- it does
 pub record Process : Type 0 where
   pub regs : Regs
   pub map : Slots ℕ
@@ -19,7 +20,7 @@ pub record Process : Type 0 where
 -- the state of everything but the devices
 pub record Inner : Type 0 where
   pub objects : List (List ℕ)  -- by number: all objects that ever appeared
-  pub modules : List (Option ModuleEntry)  -- by number: the module directory, whose groups are lists of objects' numbers
+  pub modules : List (Option ModuleEntry)  -- by number: the module directory, with groups of objects' numbers
   pub processes : List (Option Process)  -- by number, from 0 to 32
   pub tick : ℕ
   pub chosen : Option ℕ  -- the process that was chosen last

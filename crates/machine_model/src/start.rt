@@ -13,7 +13,8 @@ pub fn a_boot_file_comes_to_one_end()
         → Starts file blocks terms s → Starts file blocks terms t → s ≡ t }
     ensures one_cause { (file : List ℕ) (blocks : ℕ) (fault other : BootFault)
         → Refuses file blocks fault → Refuses file blocks other → fault ≡ other }
-    ensures never_both { (file : List ℕ) (blocks : ℕ) (terms : List TerminalState) (s : State) (fault : BootFault)
+    ensures never_both { (file : List ℕ) (blocks : ℕ) (terms : List TerminalState) (s : State)
+        (fault : BootFault)
         → Starts file blocks terms s → Refuses file blocks fault → ⊥ }
     ensures some_end { (file : List ℕ) (blocks : ℕ) (terms : List TerminalState)
         → ((s : State) × Starts file blocks terms s)

@@ -5,7 +5,14 @@ use Rattle.proc_model.specs.ModuleList.{ModuleEntry}
 use Rattle.module_dir.specs.declared.entry.Entry.{Entry}
 
 abbrev pub seen : Entry → ModuleEntry
-seen entry = record { info = entry.info; group = group_block_numbers entry.group; links = entry.links; is_boot = entry.is_boot }
+seen entry =
+    record {
+      info =
+          entry.info;
+      group = group_block_numbers entry.group;
+      links = entry.links;
+      is_boot = entry.is_boot;
+    }
 
 -- by number
 abbrev pub held_entries : List (Option Entry) → List (Option ModuleEntry)

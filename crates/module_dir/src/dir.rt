@@ -66,10 +66,13 @@ impl Dir {
     /// `DirFull` where 64 modules are entered.
     pub fn enter(&mut self, info: ModuleInfo, group: Group, boot: bool) -> Result<ModId, DirFault>
         ensures known { (result ≡ Err DirFault.Known) ↔ IsTrue (is_known_lem self.old info) }
-        ensures full { (result ≡ Err DirFault.DirFull) ↔ ((is_known_lem self.old info ≡ false) × (module_room self.old ≡ 0)) }
+        ensures full { (result ≡ Err DirFault.DirFull)
+            ↔ ((is_known_lem self.old info ≡ false) × (module_room self.old ≡ 0)) }
         ensures number { IfOk result (λ id. free_number_lem self.old ≡ Some id.0) }
-        ensures entered { IfOk result (λ id. self.new ≡ with_module_entry self.old id.0 (new_entry info (group_block_numbers group) boot)) }
-        ensures there { IfOk result (λ id. module_entry_at self.new id.0 ≡ Some (new_entry info (group_block_numbers group) boot)) }
+        ensures entered { IfOk result (λ id. self.new
+            ≡ with_module_entry self.old id.0 (new_entry info (group_block_numbers group) boot)) }
+        ensures there { IfOk result (λ id. module_entry_at self.new id.0
+            ≡ Some (new_entry info (group_block_numbers group) boot)) }
         ensures room { OnOk result (module_room self.new + 1 ≡ module_room self.old) }
         ensures refused { OnErr result (self.new ≡ self.old) }
         ensures places { length self.new ≡ 64 }
@@ -126,7 +129,8 @@ impl Dir {
     /// The group of an entered module.
     pub fn group(&self, id: ModId) -> Group
         requires { IsSome (module_entry_at self.now id.0) }
-        ensures { option_map (λ entry. entry.group) (module_entry_at self.now id.0) ≡ Some (group_block_numbers result) }
+        ensures { option_map (λ entry. entry.group) (module_entry_at self.now id.0)
+            ≡ Some (group_block_numbers result) }
     {
         self.entry(id).group
     }
@@ -134,7 +138,8 @@ impl Dir {
     /// How many links an entered module has.
     pub fn links(&self, id: ModId) -> u32
         requires { IsSome (module_entry_at self.now id.0) }
-        ensures links { option_map (λ entry. entry.links) (module_entry_at self.now id.0) ≡ Some result }
+        ensures links { option_map (λ entry. entry.links) (module_entry_at self.now id.0)
+            ≡ Some result }
         ensures most { result ≤ 65535 }
     {
         u32::from(self.entry(id).links)
@@ -143,7 +148,8 @@ impl Dir {
     /// Counts one link more of an entered module.
     pub fn link(&mut self, id: ModId)
         requires { IsSomeAnd (module_entry_at self.old id.0) (λ entry. entry.links < 65535) }
-        ensures { option_map (λ entry. with_module_entry self.old id.0 (entry_linked entry)) (module_entry_at self.old id.0) ≡ Some self.new }
+        ensures { option_map (λ entry. with_module_entry self.old id.0 (entry_linked entry))
+            (module_entry_at self.old id.0) ≡ Some self.new }
     {
         let entry = self.entry(id);
         let links = entry.links + 1;
@@ -155,8 +161,10 @@ impl Dir {
     /// answer is the group.
     pub fn unlink(&mut self, id: ModId) -> Option<Group>
         requires { IsSome (module_entry_at self.old id.0) }
-        ensures list { option_map (after_unlink self.old id.0) (module_entry_at self.old id.0) ≡ Some self.new }
-        ensures group { option_map (leaving_group self.old id.0) (module_entry_at self.old id.0) ≡ Some (option_map group_block_numbers result) }
+        ensures list { option_map (after_unlink self.old id.0) (module_entry_at self.old id.0)
+            ≡ Some self.new }
+        ensures group { option_map (leaving_group self.old id.0) (module_entry_at self.old id.0)
+            ≡ Some (option_map group_block_numbers result) }
     {
         let entry = self.entry(id);
         let links = entry.links.saturating_sub(1);
@@ -194,7 +202,8 @@ impl Dir {
     fn free_number(&self) -> Option<ModId>
         ensures number { option_map (λ id. id.0) result ≡ free_number_lem self.now }
         ensures within { IfSome result (λ id. id.0 < length self.now) }
-        ensures room { MatchOption result (module_room self.now ≡ 0) (λ _. 0 < module_room self.now) }
+        ensures room { MatchOption result (module_room self.now
+            ≡ 0) (λ _. 0 < module_room self.now) }
     {
         free_number(&self.entries).map(|number| ModId(number as u8))
     }

@@ -35,7 +35,8 @@ pub fn find_entry(entries: &[Option<Entry>], name: &Name, kind: u8) -> Option<us
 /// The least number that no entry has.
 pub fn free_number(entries: &[Option<Entry>]) -> Option<usize>
     ensures number { result ≡ free_number_lem (held_entries entries.now) }
-    ensures room { MatchOption result (module_room (held_entries entries.now) ≡ 0) (λ _. 0 < module_room (held_entries entries.now)) }
+    ensures room { MatchOption result (module_room (held_entries entries.now)
+        ≡ 0) (λ _. 0 < module_room (held_entries entries.now)) }
 {
     entries.iter().position(|place| place.is_none())
 }
@@ -49,7 +50,8 @@ pub fn is_in_use(entries: &[Option<Entry>], group: &Group) -> bool
 
 /// Removes the entries of this group.
 pub fn remove_group(entries: &mut [Option<Entry>], group: &Group)
-    ensures { held_entries entries.new ≡ modules_without_group (held_entries entries.old) (group_block_numbers group.now) }
+    ensures { held_entries entries.new
+        ≡ modules_without_group (held_entries entries.old) (group_block_numbers group.now) }
 {
     for place in entries.iter_mut() {
         *place = place_without_group(place, group);
@@ -58,7 +60,9 @@ pub fn remove_group(entries: &mut [Option<Entry>], group: &Group)
 
 /// Is there an entry here of the module's name and type with its revision or a greater one?
 fn makes_known(place: &Option<Entry>, info: &ModuleInfo) -> bool
-    ensures { result ≡ passes (λ entry. are_namesakes_lem info.now entry.info && nat_le (revision_of info.now) (revision_of entry.info)) (option_map seen place.now) }
+    ensures { result
+        ≡ passes (λ entry. are_namesakes_lem info.now entry.info
+        && nat_le (revision_of info.now) (revision_of entry.info)) (option_map seen place.now) }
 {
     match place {
         None => false,
@@ -70,7 +74,9 @@ fn makes_known(place: &Option<Entry>, info: &ModuleInfo) -> bool
 
 /// Is there an entry here of the module's name and type with a greater revision?
 fn shadows(place: &Option<Entry>, info: &ModuleInfo) -> bool
-    ensures { result ≡ passes (λ entry. are_namesakes_lem info.now entry.info && nat_lt (revision_of info.now) (revision_of entry.info)) (option_map seen place.now) }
+    ensures { result
+        ≡ passes (λ entry. are_namesakes_lem info.now entry.info
+        && nat_lt (revision_of info.now) (revision_of entry.info)) (option_map seen place.now) }
 {
     match place {
         None => false,
@@ -80,7 +86,8 @@ fn shadows(place: &Option<Entry>, info: &ModuleInfo) -> bool
 
 /// Is there an entry here that has the name, matches the type and language, and is not shadowed?
 fn answers(entries: &[Option<Entry>], name: &Name, kind: u8, place: &Option<Entry>) -> bool
-    ensures { result ≡ passes (answers_to (held_entries entries.now) name.now kind) (option_map seen place.now) }
+    ensures { result
+        ≡ passes (answers_to (held_entries entries.now) name.now kind) (option_map seen place.now) }
 {
     match place {
         None => false,
@@ -94,7 +101,9 @@ fn answers(entries: &[Option<Entry>], name: &Name, kind: u8, place: &Option<Entr
 
 /// Is there an entry of this group here, and has it a link?
 fn uses(place: &Option<Entry>, group: &Group) -> bool
-    ensures { result ≡ passes (λ entry. is_of_group_lem (group_block_numbers group.now) entry && nat_lt 0 entry.links) (option_map seen place.now) }
+    ensures { result
+        ≡ passes (λ entry. is_of_group_lem (group_block_numbers group.now) entry
+        && nat_lt 0 entry.links) (option_map seen place.now) }
 {
     match place {
         None => false,
@@ -104,7 +113,8 @@ fn uses(place: &Option<Entry>, group: &Group) -> bool
 
 /// What is left of a place where the entries of this group are removed.
 fn place_without_group(place: &Option<Entry>, group: &Group) -> Option<Entry>
-    ensures { option_map seen result ≡ outside_lem (group_block_numbers group.now) (option_map seen place.now) }
+    ensures { option_map seen result
+        ≡ outside_lem (group_block_numbers group.now) (option_map seen place.now) }
 {
     match place {
         Some(entry) if is_of_group(entry, group) => None,

@@ -11,7 +11,8 @@ pub fn next_module(bytes: &[u8], from: u32) -> ModuleStep
     requires within { from ≤ length bytes.now }
     ensures step { result ≡ step_from bytes.now from }
     ensures end { (result ≡ ModuleStep.End) ↔ All (λ byte. byte ≡ 0) (drop from bytes.now) }
-    ensures module { IfModule result (λ info. IsModule (slice_range bytes.now info.at (info.at + info.size))) }
+    ensures module { IfModule result
+        (λ info. IsModule (slice_range bytes.now info.at (info.at + info.size))) }
     ensures in_file { IfModule result (λ info. info.at + info.size ≤ length bytes.now) }
 {
     let at = next_place(bytes, from as usize);

@@ -31,7 +31,8 @@ pub fn read_module(bytes: &[u8]) -> Result<ModuleInfo, ModuleFault>
     ensures entry { IfOk result (λ info. info.entry + 3 < info.size) }
     ensures module { IfOk result (λ info. IsModule (take info.size bytes.now)) }
     // The usual test of a CRC: over the whole module the register ends at one constant.
-    ensures residue { IfOk result (λ info. crc_register 0xFFFFFF (take info.size bytes.now) ≡ 0x800FE3) }
+    ensures residue { IfOk result (λ info. crc_register 0xFFFFFF (take info.size bytes.now)
+        ≡ 0x800FE3) }
 {
     let info = read_header(bytes).ok_or(ModuleFault::BadSync)?;
     if !has_parity(bytes) {

@@ -4,7 +4,8 @@ use Rattle.std.specs.Prelude.{◌≡◌, ℕ, ◌+◌, ◌-◌, ◌≤◌, ◌==
 -- a letter, a digit, `_` or `.` (System Programmer's Manual, F$PrsNam)
 abbrev pub is_name_character : ℕ → Bool
 is_name_character c =
-    (nat_le 97 c && nat_le c 122) || (nat_le 65 c && nat_le c 90) || (nat_le 48 c && nat_le c 57) || (c == 95) || (c == 46)
+    (nat_le 97 c && nat_le c 122) || (nat_le 65 c && nat_le c 90) || (nat_le 48 c && nat_le c 57) || (c == 95)
+    || (c == 46)
 
 -- a character that the name of a module header or directory entry may have: from `!` to `~`, but `/`
 abbrev pub is_stored_character : ℕ → Bool
@@ -24,7 +25,9 @@ name_run (byte ∷ bytes) =
 abbrev pub marked_run : List ℕ → Option (List ℕ)
 marked_run [] = None
 marked_run (byte ∷ bytes) =
-    if is_stored_character (low_bits byte) then (if nat_lt byte 128 then option_map (λ run. byte ∷ run) (marked_run bytes) else Some (low_bits byte ∷ [])) else None
+    if is_stored_character (low_bits byte)
+    then (if nat_lt byte 128 then option_map (λ run. byte ∷ run) (marked_run bytes)
+    else Some (low_bits byte ∷ [])) else None
 
 -- a list of 1 to 29 characters is a name, another one is none
 abbrev pub if_name : List ℕ → Option (List ℕ)
@@ -34,7 +37,8 @@ if_name run = if nat_le 1 (length run) && nat_le (length run) 29 then Some run e
 abbrev pub parsed_name : List ℕ → Option (List ℕ)
 parsed_name bytes = if_name (name_run bytes)
 
--- the name that a module header or a directory entry has there (System Programmer's Manual, module header and RBF directory)
+-- the name that a module header or a directory entry has there (System Programmer's Manual, module header and RBF
+-- directory)
 abbrev pub stored_name : List ℕ → Option (List ℕ)
 stored_name bytes = option_and_then if_name (marked_run bytes)
 

@@ -17,6 +17,8 @@ name_field name = record { characters = padded_name name; len = length name }
 -- the field is told by the name in it
 pub name_field-view : (field : Inside) → IsNameField field → name_field (take field.len field.characters) ≡ field
 name_field-view field h =
-    let e : length (take field.len field.characters) ≡ field.len = omega (arith, length-take field.len field.characters, h.in_field) in
+    let e : length (take field.len field.characters)
+    ≡ field.len = omega (arith, length-take field.len field.characters, h.in_field) in
     let by : List ℕ → ℕ → Inside = λ characters len. record { characters = characters; len = len } in
-    ap (λ characters. by characters (length (take field.len field.characters))) (sym h.zeros_after) ∙ ap (by field.characters) e
+    ap (λ characters. by characters (length (take field.len field.characters))) (sym h.zeros_after)
+    ∙ ap (by field.characters) e

@@ -148,7 +148,8 @@ fn run_length(bytes: &[u8]) -> usize
     ensures within { result ≤ length bytes.now }
     ensures short { result ≤ 29 → name_run bytes.now ≡ map low_bits_lem (take result bytes.now) }
     ensures long { 29 < result → 29 < length (name_run bytes.now) }
-    ensures characters { All (λ c. is_stored_character_lem c ≡ true) (map low_bits_lem (take result bytes.now)) }
+    ensures characters { All (λ c. is_stored_character_lem c
+        ≡ true) (map low_bits_lem (take result bytes.now)) }
 {
     for (i, byte) in bytes.iter().enumerate() {
         if i > LONGEST || !is_name_character(low_bits(*byte)) {

@@ -63,7 +63,9 @@ pub fn eldest(order: &[Turn], members: &[Option<Member>]) -> Option<Pid>
 /// The first active process of this age.
 fn first_of_age(order: &[Turn], members: &[Option<Member>], age: u8) -> Option<Pid>
     ensures member { IfSome result (λ p. IsMember members.now p.0) }
-    ensures first { result ≡ option_map (λ t. t.process) (find (λ t. is_active_in_lem members.now t.process.0 && (t.age == age)) order.now) }
+    ensures first { result
+        ≡ option_map (λ t. t.process) (find (λ t. is_active_in_lem members.now t.process.0
+        && (t.age == age)) order.now) }
 {
     let turn = order.iter().find(|turn| is_active_in(members, turn.process) && turn.age == age)?;
     Some(turn.process)
@@ -85,7 +87,8 @@ fn greatest_age(order: &[Turn], members: &[Option<Member>]) -> u8
 /// The ages after a choice of another process: an active process grows older by 1 up to 255, and a
 /// resting one has its priority.
 pub fn age(order: &mut [Turn], members: &[Option<Member>])
-    ensures { order.new ≡ map (aged (is_active_in_lem members.now) (priority_in_lem members.now)) order.old }
+    ensures { order.new
+        ≡ map (aged (is_active_in_lem members.now) (priority_in_lem members.now)) order.old }
 {
     for turn in order.iter_mut() {
         turn.age = if is_active_in(members, turn.process) {

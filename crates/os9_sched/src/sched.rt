@@ -99,7 +99,8 @@ impl Sched {
     /// Puts a process to rest that waits for this, until this tick if there is one.
     pub fn wait(&mut self, p: Pid, cause: Cause, until: Option<u32>)
         requires { IsGoing self.old.members p.0 }
-        ensures schedule { self.new ≡ after_wait self.old p.0 (record { cause = cause; until = until }) }
+        ensures schedule { self.new
+            ≡ after_wait self.old p.0 (record { cause = cause; until = until }) }
         ensures shape { IsSchedule self.new }
     {
         self.set_standing(p, Standing::Resting(Wait { cause, until }));
@@ -180,7 +181,8 @@ impl Sched {
 
     fn put(&mut self, p: Pid, member: Member)
         requires { IsMember self.old.members p.0 }
-        ensures schedule { self.new ≡ record self.old { members = slice_set self.old.members p.0 (Some member) } }
+        ensures schedule { self.new
+            ≡ record self.old { members = slice_set self.old.members p.0 (Some member) } }
         ensures shape { IsSchedule self.new }
     {
         self.members[p.0 as usize] = Some(member);

@@ -27,7 +27,8 @@ check_of command image =
 -- `run MODULES --slices SLICES`, over this number of blocks
 abbrev pub run_of : List ℕ → List ℕ → List ℕ → List ℕ → ℕ → Option Command
 run_of command modules option slices blocks =
-    if bytes_eq command (codes "run") && is_argument modules && bytes_eq option (codes "--slices") && is_value slices then Some (Run (record { files = modules ∷ []; slices = slices; blocks = blocks })) else None
+    if bytes_eq command (codes "run") && is_argument modules && bytes_eq option (codes "--slices") && is_value slices
+    then Some (Run (record { files = modules ∷ []; slices = slices; blocks = blocks })) else None
 
 -- the number of blocks that the words behind `run MODULES --slices SLICES` give: 64 where there are
 -- none, and N, from 8 to 256, by `--blocks N`

@@ -10,9 +10,11 @@ polynomial = 0x800063
 -- the bits of a byte, most significant first
 abbrev pub bits_of : ℕ → List ℕ
 bits_of byte =
-    bit_at byte 7 ∷ bit_at byte 6 ∷ bit_at byte 5 ∷ bit_at byte 4 ∷ bit_at byte 3 ∷ bit_at byte 2 ∷ bit_at byte 1 ∷ bit_at byte 0 ∷ []
+    bit_at byte 7 ∷ bit_at byte 6 ∷ bit_at byte 5 ∷ bit_at byte 4 ∷ bit_at byte 3 ∷ bit_at byte 2 ∷ bit_at byte 1
+    ∷ bit_at byte 0 ∷ []
 
--- one step of the division: the register moves up by one place, and where the bit that leaves it differs from the message's bit, the polynomial is subtracted
+-- one step of the division: the register moves up by one place, and where the bit that leaves it differs from the
+-- message's bit, the polynomial is subtracted
 unfoldable pub divided_once : ℕ → ℕ → ℕ
 divided_once register bit =
     if register / 2 ^ 23 == bit then register * 2 % 2 ^ 24 else bit_xor (register * 2 % 2 ^ 24) polynomial

@@ -21,25 +21,33 @@ module_error BadCrc = E_BMCRC
 
 -- the error of a module that the directory does not take: it is known, else no place is left
 abbrev pub entry_refusal : List (Option ModuleEntry) → ModuleInfo → Option ℕ
-entry_refusal entries info = if is_known entries info then Some E_KWNMOD else (if module_room entries == 0 then Some E_DIRFUL else None)
+entry_refusal entries info =
+    if is_known entries info then Some E_KWNMOD else (if module_room entries == 0 then Some E_DIRFUL else None)
 
 -- the list with one module more, at the least number that no entry has
 abbrev pub with_module : List (Option ModuleEntry) → ModuleInfo → List ℕ → Bool → List (Option ModuleEntry)
 with_module entries info group is_boot =
-    option_map_or (λ number. with_module_entry entries number (new_entry info group is_boot)) (free_number entries) entries
+    option_map_or (λ number. with_module_entry entries number (new_entry info group is_boot)) (free_number entries)
+    entries
 
--- The modules of a file from a place on are entered as one group, each tried by all rules before the next: what comes of it is the
--- list of entries, or the place and the error of the first module that is refused.
-pub data EntersModules (file group : List ℕ) (is_boot : Bool) : ℕ → List (Option ModuleEntry) → Result (List (Option ModuleEntry)) (ℕ × ℕ) → Type 0 where
+-- The modules of a file from a place on are entered as one group, each tried by all rules before the next: what comes
+-- of it is the list of entries, or the place and the error of the first module that is refused.
+pub data EntersModules (file group : List ℕ) (is_boot : Bool) : ℕ → List (Option ModuleEntry)
+    → Result (List (Option ModuleEntry)) (ℕ × ℕ) → Type 0 where
   -- only zero bytes are left
-  at_end : {from : ℕ} {entries : List (Option ModuleEntry)} → step_from file from ≡ End → EntersModules file group is_boot from entries (Ok entries)
+  at_end : {from : ℕ} {entries : List (Option ModuleEntry)} → step_from file from ≡ End
+      → EntersModules file group is_boot from entries (Ok entries)
   -- the next module breaks a rule of its own
-  broken : {from at : ℕ} {fault : ModuleFault} {entries : List (Option ModuleEntry)} → step_from file from ≡ Fault at fault
+  broken : {from at : ℕ} {fault : ModuleFault} {entries : List (Option ModuleEntry)}
+      → step_from file from ≡ Fault at fault
       → EntersModules file group is_boot from entries (Err (at, module_error fault))
   -- the directory does not take the next module
-  refused : {from number : ℕ} {info : ModuleInfo} {entries : List (Option ModuleEntry)} → step_from file from ≡ Module info → entry_refusal entries info ≡ Some number
+  refused : {from number : ℕ} {info : ModuleInfo} {entries : List (Option ModuleEntry)}
+      → step_from file from ≡ Module info → entry_refusal entries info ≡ Some number
       → EntersModules file group is_boot from entries (Err (info.at, number))
   -- the next module is entered, and then those behind it
-  entered : {from : ℕ} {info : ModuleInfo} {entries : List (Option ModuleEntry)} {outcome : Result (List (Option ModuleEntry)) (ℕ × ℕ)} → step_from file from ≡ Module info
-      → entry_refusal entries info ≡ None → EntersModules file group is_boot (info.at + info.size) (with_module entries info group is_boot) outcome
+  entered : {from : ℕ} {info : ModuleInfo} {entries : List (Option ModuleEntry)}
+      {outcome : Result (List (Option ModuleEntry)) (ℕ × ℕ)} → step_from file from ≡ Module info
+      → entry_refusal entries info ≡ None
+      → EntersModules file group is_boot (info.at + info.size) (with_module entries info group is_boot) outcome
       → EntersModules file group is_boot from entries outcome

@@ -1,5 +1,5 @@
--- Memory: objects of 8,192 bytes, the maps that name them, and the module directory (Level Two manual, "Memory management").
--- The objects that appeared are kept for ever, by number; the machine has blocks for those that live.
+-- Memory: objects of 8,192 bytes, the maps that name them, and the module directory (Level Two manual, "Memory
+-- management"). The objects that appeared are kept for ever, by number; the machine has blocks for those that live.
 use Rattle.std.specs.Prelude.{ℕ, ◌-◌, ◌==◌, nat_lt, Bool, Option, List, [], ◌++◌, flat_map, length, count_by, slice_index_or, slice_set}
 use Rattle.std.specs.List.{list_any, range_with_len}
 use Rattle.std.specs.Option.{option_map_or}
@@ -14,7 +14,7 @@ pub record MemoryState : Type 0 where
   pub blocks : ℕ  -- how many blocks of 8,192 bytes the machine has
   pub objects : List (List ℕ)  -- by number: all objects that ever appeared
   pub maps : List (Slots ℕ)  -- by process number: the map of each process
-  pub modules : List (Option ModuleEntry)  -- by number: the module directory, whose groups are lists of objects' numbers
+  pub modules : List (Option ModuleEntry)  -- by number: the module directory, with groups of objects' numbers
 
 -- the error of a change of memory that is refused
 abbrev pub memory_error : MemoryFault → ℕ

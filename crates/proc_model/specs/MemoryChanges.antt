@@ -1,5 +1,5 @@
--- The changes of memory that the system calls are made of (Level Two manual, "Memory management"; F$Link, F$Load, F$UnLink,
--- F$UnLoad, F$Fork, F$Chain, F$Mem). A change that is refused says why, and there is no other state then.
+-- The changes of memory that the system calls are made of (Level Two manual, "Memory management"; F$Link, F$Load,
+-- F$UnLink, F$UnLoad, F$Fork, F$Chain, F$Mem). A change that is refused says why, and there is no other state then.
 use Rattle.std.specs.Prelude.{ℕ, ◌+◌, ◌-◌, nat_lt, nat_le, ◌||◌, Bool, false, Option, Some, option_map, Result, Ok, Err, List, [], ◌∷◌, ◌++◌, length, replicate, if◌then◌else◌}
 use Rattle.std.specs.List.{range_with_len}
 use Rattle.std.specs.Option.{option_map_or}
@@ -23,12 +23,13 @@ new_numbers m count = range_with_len (length m.objects) count
 abbrev pub with_new_objects : MemoryState → ℕ → MemoryState
 with_new_objects m count = record m { objects = m.objects ++ replicate count zero_object }
 
--- The data area grows by so many new objects, in the slots that follow it. It is refused with 207 where one of these slots is
--- named or there are fewer, else with 237 where fewer blocks are free.
+-- The data area grows by so many new objects, in the slots that follow it. It is refused with 207 where one of these
+-- slots is named or there are fewer, else with 237 where fewer blocks are free.
 abbrev pub grown : MemoryState → ℕ → ℕ → Result MemoryState MemoryFault
 grown m process count =
     if is_free_run (map_at m process) (map_at m process).low count
-    then (if wants_blocks m count then Err NoRam else Ok (with_map (with_new_objects m count) process (with_low (map_at m process) (new_numbers m count))))
+    then (if wants_blocks m count then Err NoRam
+    else Ok (with_map (with_new_objects m count) process (with_low (map_at m process) (new_numbers m count))))
     else Err MemFull
 
 -- the map of whose data area at most so many slots are kept
@@ -45,14 +46,17 @@ cleared m process = with_map m process no_slots
 
 -- ---- groups in maps (F$Link, F$UnLink)
 
--- A group is mapped into the highest free slots: the first of them, and the memory then; nothing where there is no run of as many.
+-- A group is mapped into the highest free slots: the first of them, and the memory then; nothing where there is no
+-- run of as many.
 abbrev pub group_mapped : MemoryState → ℕ → List ℕ → Option (ℕ × MemoryState)
 group_mapped m process group =
-    option_map (λ first. (first, with_map m process (with_group (map_at m process) first group))) (highest_free_run (map_at m process) (length group))
+    option_map (λ first. (first, with_map m process (with_group (map_at m process) first group)))
+    (highest_free_run (map_at m process) (length group))
 
 -- the map without a group
 abbrev pub map_ungrouped : Slots ℕ → List ℕ → Slots ℕ
-map_ungrouped slots group = option_map_or (λ first. map_without_group slots first (length group)) (group_slot slots group) slots
+map_ungrouped slots group =
+    option_map_or (λ first. map_without_group slots first (length group)) (group_slot slots group) slots
 
 -- a group leaves the map of a process
 abbrev pub group_unmapped : MemoryState → ℕ → List ℕ → MemoryState
@@ -63,9 +67,14 @@ group_unmapped m process group = with_map m process (map_ungrouped (map_at m pro
 -- one link more of an entered module
 abbrev pub linked : MemoryState → ℕ → MemoryState
 linked m number =
-    record m { modules = option_map_or (λ entry. with_module_entry m.modules number (entry_linked entry)) (module_entry_at m.modules number) m.modules }
+    record m {
+      modules =
+          option_map_or (λ entry. with_module_entry m.modules number (entry_linked entry))
+          (module_entry_at m.modules number) m.modules;
+    }
 
--- One link less of an entered module. Its group's entries go with the last link of them all, but not those of the boot file.
+-- One link less of an entered module. Its group's entries go with the last link of them all, but not those of the
+-- boot file.
 abbrev pub unlinked : MemoryState → ℕ → MemoryState
 unlinked m number = record m { modules = without_link m.modules (Some number) }
 
@@ -73,18 +82,26 @@ unlinked m number = record m { modules = without_link m.modules (Some number) }
 abbrev pub is_group_leaving : MemoryState → ℕ → Bool
 is_group_leaving m number = option_map_or (is_leaving m.modules number) (module_entry_at m.modules number) false
 
--- The file of a module is loaded into new objects as a group, and the module is entered. It is refused with 237 where fewer
--- blocks are free than the file needs.
+-- The file of a module is loaded into new objects as a group, and the module is entered. It is refused with 237 where
+-- fewer blocks are free than the file needs.
 abbrev pub entered : MemoryState → List ℕ → ModuleInfo → Bool → Result MemoryState MemoryFault
 entered m file info is_boot =
     if wants_blocks m (file_blocks file)
     then Err NoRam
-    else Ok (record m { objects = m.objects ++ file_objects file; modules = with_module m.modules info (new_numbers m (file_blocks file)) is_boot })
+    else Ok (record m {
+      objects = m.objects
+          ++ file_objects file;
+      modules = with_module m.modules info (new_numbers m (file_blocks file)) is_boot;
+    })
 
 -- one more module of the group of an entered module is entered
 abbrev pub entered_beside : MemoryState → ℕ → ModuleInfo → MemoryState
 entered_beside m number info =
-    record m { modules = option_map_or (λ entry. with_module m.modules info entry.group entry.is_boot) (module_entry_at m.modules number) m.modules }
+    record m {
+      modules =
+          option_map_or (λ entry. with_module m.modules info entry.group entry.is_boot)
+          (module_entry_at m.modules number) m.modules;
+    }
 
 -- ---- a process that begins (F$Fork, F$Chain)
 
@@ -101,9 +118,9 @@ with_first_slots m process group count =
 abbrev pub has_most_links : ModuleEntry → Bool
 has_most_links entry = nat_le MOST_LINKS entry.links
 
--- The memory of a process begins anew with an entered module and a data area of so many blocks. It is refused with 207 where
--- the module has all the links that it can have or the slots are too few, else with 237 where fewer blocks are free, those of
--- the data area that it had counted as free.
+-- The memory of a process begins anew with an entered module and a data area of so many blocks. It is refused with
+-- 207 where the module has all the links that it can have or the slots are too few, else with 237 where fewer blocks
+-- are free, those of the data area that it had counted as free.
 abbrev pub started : MemoryState → ℕ → ℕ → ℕ → Result MemoryState MemoryFault
 started m process number count =
     option_map_or starts (module_entry_at m.modules number) (Err MemFull)
@@ -112,7 +129,8 @@ started m process number count =
     starts entry =
         if has_most_links entry || nat_lt 8 (count + length entry.group)
         then Err MemFull
-        else (if nat_lt (free_blocks m + (map_at m process).low) count then Err NoRam else Ok (with_first_slots m process entry.group count))
+        else (if nat_lt (free_blocks m + (map_at m process).low) count then Err NoRam
+        else Ok (with_first_slots m process entry.group count))
 
 -- ---- bytes
 

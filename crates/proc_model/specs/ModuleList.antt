@@ -8,7 +8,8 @@ use Rattle.std.specs.Str.{bytes_eq}
 use Rattle.os9_base.specs.Name.{lower}
 use Rattle.proc_model.specs.declared.module.ModuleInfo.{ModuleInfo}
 
--- an entry: what the module's header says, with `at` its place in the group; the blocks of the group, in order; the number of links; and whether the group is the boot file's
+-- an entry: what the module's header says, with `at` its place in the group; the blocks of the group, in order; the
+-- number of links; and whether the group is the boot file's
 pub record ModuleEntry : Type 0 where
   pub info : ModuleInfo
   pub group : List ℕ
@@ -77,7 +78,13 @@ free_number entries = position is_none entries
 
 -- a new entry; the boot file's modules are linked once
 abbrev pub new_entry : ModuleInfo → List ℕ → Bool → ModuleEntry
-new_entry info group is_boot = record { info = info; group = group; links = if is_boot then 1 else 0; is_boot = is_boot }
+new_entry info group is_boot = record {
+  info = info;
+  group = group;
+  links = if is_boot then 1
+      else 0;
+  is_boot = is_boot;
+}
 
 -- the list with this entry at a number
 abbrev pub with_module_entry : List (Option ModuleEntry) → ℕ → ModuleEntry → List (Option ModuleEntry)
@@ -110,7 +117,8 @@ modules_without_group entries group = map (place_without_group group) entries
 abbrev pub with_unlinked : List (Option ModuleEntry) → ℕ → ModuleEntry → List (Option ModuleEntry)
 with_unlinked entries number entry = with_module_entry entries number (entry_unlinked entry)
 
--- the group of the entry of this number leaves memory with this link: it is not the boot file's, and none of its entries has a link then
+-- the group of the entry of this number leaves memory with this link: it is not the boot file's, and none of its
+-- entries has a link then
 abbrev pub is_leaving : List (Option ModuleEntry) → ℕ → ModuleEntry → Bool
 is_leaving entries number entry = not entry.is_boot && not (is_in_use (with_unlinked entries number entry) entry.group)
 
@@ -128,11 +136,13 @@ leaving_group entries number entry = if is_leaving entries number entry then Som
 -- the list after a link of the entry of this number, if there is one, is given up
 abbrev pub without_link : List (Option ModuleEntry) → Option ℕ → List (Option ModuleEntry)
 without_link entries None = entries
-without_link entries (Some number) = option_map_or (after_unlink entries number) (module_entry_at entries number) entries
+without_link entries (Some number) =
+    option_map_or (after_unlink entries number) (module_entry_at entries number) entries
 
 -- the groups of the entries, each once
 abbrev pub entered_groups : List (Option ModuleEntry) → List (List ℕ)
 entered_groups [] = []
 entered_groups (None ∷ entries) = entered_groups entries
 entered_groups (Some entry ∷ entries) =
-    if list_any (pointwise nat_eq entry.group) (entered_groups entries) then entered_groups entries else entry.group ∷ entered_groups entries
+    if list_any (pointwise nat_eq entry.group) (entered_groups entries) then entered_groups entries
+    else entry.group ∷ entered_groups entries

@@ -12,7 +12,8 @@ object_byte objects at number = option_and_then (λ object. slice_get object at)
 
 -- the byte at an address: byte `address mod 8192` of the object that slot `address div 8192` names
 abbrev pub object_cells : List (List ℕ) → List (Option ℕ) → ℕ → Option ℕ
-object_cells objects places address = option_and_then (object_byte objects (address % 8192)) (slot_of places (address / 8192))
+object_cells objects places address =
+    option_and_then (object_byte objects (address % 8192)) (slot_of places (address / 8192))
 
 -- the objects with another byte in the one of this number
 abbrev pub with_object_byte : List (List ℕ) → ℕ → ℕ → Option ℕ → List (List ℕ)
@@ -35,7 +36,8 @@ with_writes objects places (write ∷ writes) = with_writes (with_cell objects p
 -- a map names objects that are there, and no object in two of its slots
 pub record NamesObjects (objects : List (List ℕ)) (places : List (Option ℕ)) : Type 0 where
   pub there : (slot number : ℕ) → slot_of places slot ≡ Some number → number < length objects
-  pub apart : (slot other number : ℕ) → slot_of places slot ≡ Some number → slot_of places other ≡ Some number → slot ≡ other
+  pub apart : (slot other number : ℕ) → slot_of places slot ≡ Some number → slot_of places other ≡ Some number
+      → slot ≡ other
 
 -- ---- objects that are new
 

@@ -32,15 +32,18 @@ pub record IsMap {Block : Type 0} (slots : Slots Block) : Type 0 where
   pub eight_groups : length slots.groups ≡ 8
   pub low_fits : slots.low ≤ 8
   pub group_fits : (slot len : ℕ) → group_of slots slot ≡ Some len → slot + len ≤ 8
-  pub once : (slot other : ℕ) (block : Block) → block_at slots slot ≡ Some block → block_at slots other ≡ Some block → slot ≡ other
+  pub once : (slot other : ℕ) (block : Block) → block_at slots slot ≡ Some block → block_at slots other ≡ Some block
+      → slot ≡ other
 
 -- a run of slots that name nothing
 abbrev pub IsFreeRun : {Block : Type 0} → Slots Block → ℕ → ℕ → Type 0
-IsFreeRun slots first len = (first + len ≤ 8) × ((slot : ℕ) → first ≤ slot → slot < first + len → block_at slots slot ≡ None)
+IsFreeRun slots first len =
+    (first + len ≤ 8) × ((slot : ℕ) → first ≤ slot → slot < first + len → block_at slots slot ≡ None)
 
 -- the highest run of slots of this length that name nothing
 abbrev pub IsHighestFreeRun : {Block : Type 0} → Slots Block → ℕ → ℕ → Type 0
-IsHighestFreeRun slots len first = IsFreeRun slots first len × ((higher : ℕ) → IsFreeRun slots higher len → higher ≤ first)
+IsHighestFreeRun slots len first =
+    IsFreeRun slots first len × ((higher : ℕ) → IsFreeRun slots higher len → higher ≤ first)
 
 -- the test of a run of slots that name nothing
 abbrev pub is_free_run : {Block : Type 0} → Slots Block → ℕ → ℕ → Bool
@@ -49,7 +52,8 @@ is_free_run slots first len = nat_le (first + len) 8 && list_all is_none (slice_
 -- the first slot of the highest run of this length that names nothing and begins at a slot or below it, if there is one
 unfoldable pub highest_run_upto : {Block : Type 0} → Slots Block → ℕ → ℕ → Option ℕ
 highest_run_upto slots len zero = if is_free_run slots 0 len then Some 0 else None
-highest_run_upto slots len (suc first) = if is_free_run slots (suc first) len then Some (suc first) else highest_run_upto slots len first
+highest_run_upto slots len (suc first) = if is_free_run slots (suc first) len then Some (suc first)
+    else highest_run_upto slots len first
 
 -- the first slot of the highest run of this length that names nothing, if there is one
 abbrev pub highest_free_run : {Block : Type 0} → Slots Block → ℕ → Option ℕ
@@ -87,16 +91,33 @@ filled_places blocks = map (λ block. Some block) blocks
 
 -- the map with these blocks in the slots that follow the low area, which has them too then
 abbrev pub with_low : {Block : Type 0} → Slots Block → List Block → Slots Block
-with_low slots blocks = record slots { places = put_places slots.places slots.low (filled_places blocks); low = slots.low + length blocks }
+with_low slots blocks =
+    record slots {
+      places =
+          put_places slots.places slots.low (filled_places blocks);
+      low = slots.low + length blocks;
+    }
 
 -- the map of whose low area the first so many slots are kept
 abbrev pub cut_low_to : {Block : Type 0} → Slots Block → ℕ → Slots Block
-cut_low_to slots len = record slots { places = put_places slots.places len (replicate (slots.low - len) None); low = len }
+cut_low_to slots len =
+    record slots { places = put_places slots.places len (replicate (slots.low - len) None); low = len }
 
 -- the map with a group of these blocks from one slot on
 abbrev pub with_group : {Block : Type 0} → Slots Block → ℕ → List Block → Slots Block
-with_group slots first blocks = record slots { places = put_places slots.places first (filled_places blocks); groups = slice_set slots.groups first (Some (length blocks)) }
+with_group slots first blocks =
+    record slots {
+      places =
+          put_places slots.places first (filled_places blocks);
+      groups =
+          slice_set slots.groups first (Some (length blocks));
+    }
 
 -- the map without the group of this length that begins at a slot
 abbrev pub map_without_group : {Block : Type 0} → Slots Block → ℕ → ℕ → Slots Block
-map_without_group slots first len = record slots { places = put_places slots.places first (replicate len None); groups = slice_set slots.groups first None }
+map_without_group slots first len =
+    record slots {
+      places =
+          put_places slots.places first (replicate len None);
+      groups = slice_set slots.groups first None;
+    }

@@ -8,10 +8,13 @@ ghost use Rattle.proc_model.specs.Loading.{EntersModules};
 /// and one only: the list of entries, or the first module that is refused, with its place and its
 /// error.
 pub fn modules_are_entered_in_one_way()
-    ensures one_outcome { (file group : List ℕ) (is_boot : Bool) (from : ℕ) (entries : List (Option ModuleEntry))
+    ensures one_outcome { (file group : List ℕ) (is_boot : Bool) (from : ℕ)
+        (entries : List (Option ModuleEntry))
         (one other : Result (List (Option ModuleEntry)) (ℕ × ℕ)) →
         EntersModules file group is_boot from entries one
         → EntersModules file group is_boot from entries other → one ≡ other }
-    ensures some_outcome { (file group : List ℕ) (is_boot : Bool) (from : ℕ) (entries : List (Option ModuleEntry)) →
-        (outcome : Result (List (Option ModuleEntry)) (ℕ × ℕ)) × EntersModules file group is_boot from entries outcome }
+    ensures some_outcome { (file group : List ℕ) (is_boot : Bool) (from : ℕ)
+        (entries : List (Option ModuleEntry)) →
+        (outcome : Result (List (Option ModuleEntry)) (ℕ × ℕ))
+        × EntersModules file group is_boot from entries outcome }
 {}

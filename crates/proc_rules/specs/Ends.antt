@@ -35,7 +35,13 @@ status_of (Ended status) = status
 -- what a parent is given that waits: the ended child of least number, and its status
 abbrev pub reaped : List (Option Record) → ℕ → Result (Pid × ℕ) Reap
 reaped records parent =
-    option_map_or (λ child. Ok (record { 0 = child }, status_of (record_at records child).life)) (ended_child records parent)
+    option_map_or (λ child. Ok (
+      record {
+        0 =
+            child;
+      },
+      status_of (record_at records child).life,
+    )) (ended_child records parent)
     (if has_child records parent then Err NotYet else Err NoChild)
 
 -- the records after it: without the child that was given
@@ -50,7 +56,8 @@ ended_record r status = if r.parent.0 == 0 then None else Some (record r { life 
 abbrev pub orphaned : ℕ → Option Record → Option Record
 orphaned parent None = None
 orphaned parent (Some r) =
-    if is_child parent r then (if has_ended r.life then None else Some (record r { parent = record { 0 = 0 } })) else Some r
+    if is_child parent r then (if has_ended r.life then None else Some (record r { parent = record { 0 = 0 } }))
+    else Some r
 
 -- the records after the end of a process
 abbrev pub after_exit : List (Option Record) → ℕ → ℕ → List (Option Record)

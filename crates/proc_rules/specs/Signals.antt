@@ -30,7 +30,8 @@ with_sent records to signal = if signal == wake_signal then records else with_si
 
 -- the records after an attempt to send a signal
 abbrev pub after_send : List (Option Record) → ℕ → ℕ → ℕ → List (Option Record)
-after_send records user to signal = if is_some (send_fault records user to signal) then records else with_sent records to signal
+after_send records user to signal =
+    if is_some (send_fault records user to signal) then records else with_sent records to signal
 
 -- the intercept with this routine and area; there is none if the routine is 0
 abbrev pub intercept_of : ℕ → ℕ → Option Intercept

@@ -17,5 +17,6 @@ pub fn low_priority_comes_in_its_turn()
         ≡ (replicate 3 (Some (record { 0 = 2 })) ++ (Some (record { 0 = 3 }) ∷ []))
         ++ (replicate 3 (Some (record { 0 = 2 })) ++ (Some (record { 0 = 3 }) ∷ [])) }
     ensures two_hundredth { choices (λ p. true) (two_priorities 200 1) 300 (two_turns 200 1)
-        ≡ replicate 199 (Some (record { 0 = 2 })) ++ (Some (record { 0 = 3 }) ∷ replicate 100 (Some (record { 0 = 2 }))) }
+        ≡ replicate 199 (Some (record { 0 = 2 }))
+        ++ (Some (record { 0 = 3 }) ∷ replicate 100 (Some (record { 0 = 2 }))) }
 {}

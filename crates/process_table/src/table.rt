@@ -231,7 +231,8 @@ impl Table {
     /// The routine and the area of the intercept; None if there is no intercept.
     pub fn handler(&self, p: Pid) -> Option<(u16, u16)>
         requires { IsLiving self.now p.0 }
-        ensures handler { result ≡ option_map (λ h. (h.routine, h.area)) (record_at self.now p.0).intercept }
+        ensures handler { result
+            ≡ option_map (λ h. (h.routine, h.area)) (record_at self.now p.0).intercept }
         ensures shape { AreRecords self.now }
     {
         let intercept = self.record(p).intercept?;
