@@ -4,3 +4,4 @@ pub mod Counts
 pub mod Places
 pub mod Maps
 pub mod Pools
+pub mod Overwriting

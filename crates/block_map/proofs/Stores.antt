@@ -7,15 +7,15 @@ use Rattle.std.proofs.lemmas.Bool.{cond-true, cond-false, cases_eq, cases_lt, eq
 use Rattle.os9_base.specs.Cells.{put_cell, store_cells, is_in_range}
 
 -- an address of the range
-in_range : (at count address : ℕ) → at ≤ address → address < at + count → is_in_range at count address ≡ true
+pub in_range : (at count address : ℕ) → at ≤ address → address < at + count → is_in_range at count address ≡ true
 in_range at count address low high = and_from (nat_le at address) (nat_lt address (at + count)) (le-leb at address low) (lt-ltb address (at + count) high)
 
 -- an address past the range
-past_range : (at count address : ℕ) → at + count ≤ address → is_in_range at count address ≡ false
+pub past_range : (at count address : ℕ) → at + count ≤ address → is_in_range at count address ≡ false
 past_range at count address past = and_right (nat_le at address) (nat_lt address (at + count)) (le-ltb address (at + count) past)
 
 -- an address before the range
-before_range : (at count address : ℕ) → address < at → is_in_range at count address ≡ false
+pub before_range : (at count address : ℕ) → address < at → is_in_range at count address ≡ false
 before_range at count address before = and_left (nat_le at address) (nat_lt address (at + count)) (lt-leb at address before)
 
 -- a stored byte

@@ -59,7 +59,7 @@ abbrev written : Blocks → BlockId → ℕ → ℕ → Blocks
 written pool id at byte = with_block_bytes pool id.0 (set (block_bytes pool id.0) at byte)
 
 -- a block that has bytes is one of the pool
-block_inside : (pool : Blocks) (block at : ℕ) → at < length (block_bytes pool block) → block < length pool.bytes
+pub block_inside : (pool : Blocks) (block at : ℕ) → at < length (block_bytes pool block) → block < length pool.bytes
 block_inside pool block at within =
     elim (cases_lt block (length pool.bytes)) [
       | inl inside ↦ inside
@@ -93,7 +93,7 @@ live_byte-other pool id other at byte place apart =
     ])
 
 -- the same read of whatever stands in a slot
-read_same : (f g : BlockId → Option ℕ) (place : Option BlockId) → ((id : BlockId) → place ≡ Some id → f id ≡ g id) → option_and_then f place ≡ option_and_then g place
+pub read_same : (f g : BlockId → Option ℕ) (place : Option BlockId) → ((id : BlockId) → place ≡ Some id → f id ≡ g id) → option_and_then f place ≡ option_and_then g place
 read_same f g None same = refl
 read_same f g (Some id) same = same id refl
 

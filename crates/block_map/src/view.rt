@@ -1,9 +1,9 @@
 ghost use Rattle.std.specs.Prelude.{◌≡◌, ◌+◌, ◌/◌, ◌%◌, ◌<◌, ◌≤◌, ◌↔◌, IsTrue, IfSome, IfNone, OnSome, length};
-ghost use Rattle.std.specs.Bool.{OnTrue};
-ghost use Rattle.os9_base.specs.Cells.{Holds};
+ghost use Rattle.std.specs.Bool.{OnTrue, OnFalse};
+ghost use Rattle.os9_base.specs.Cells.{Holds, FitsIn, store_cells};
 
 use crate::map::Map;
-use block_pool::pool::Pool;
+use block_pool::pool::{BLOCK_LEN, Pool};
 use os9_base::memory::{Bus, UserMem};
 use proc_model::group::BlockId;
 
@@ -48,8 +48,25 @@ impl Bus for View<'_> {
         }
     }
 
-    fn store_slice(&mut self, _at: u16, _from: &[u8]) -> bool {
-        false
+    fn store_slice(&mut self, at: u16, from: &[u8]) -> bool
+        ensures stored { OnTrue result
+            (cells_of self.new.map.now self.new.pool.now ≡ store_cells (cells_of self.old.map.now self.old.pool.now) at from.now) }
+        ensures fits { OnTrue result (FitsIn (cells_of self.old.map.now self.old.pool.now) at (length from.now)) }
+        ensures left { OnFalse result
+            (cells_of self.new.map.now self.new.pool.now ≡ cells_of self.old.map.now self.old.pool.now) }
+        ensures beside { SameBeside self.old self.new }
+        ensures always { IsTrue result ↔ (IsSlotLive self.old.map.now self.old.pool.now (at / 8192)
+            × (at % 8192 + length from.now ≤ 8192)) }
+    {
+        let offset = offset_in_block(at);
+        let Some(id) = self.block_in(slot_of(at)) else {
+            return false;
+        };
+        if offset as usize + from.len() > BLOCK_LEN {
+            return false;
+        }
+        self.pool.copy_in(id, offset, from);
+        true
     }
 }
 
@@ -108,7 +125,7 @@ impl View<'_> {
         ensures some { IfSome result (λ id. block_at self.now.map.now slot ≡ Some id) }
         ensures live { IfSome result (λ id. IsLive self.now.pool.now id.0) }
         ensures none { IfNone result (IsSlotLive self.now.map.now self.now.pool.now slot → ⊥) }
-        ensures shape { OnSome result (IsPool self.now.pool.now) }
+        ensures shape { OnSome result (IsMap self.now.map.now × IsPool self.now.pool.now) }
     {
         let id = self.map.place(slot)?;
         if self.pool.is_live(id) {

@@ -1,2 +1,3 @@
-pub mod Bytes
+pub mod Writes
 pub mod Window
+pub mod Together

@@ -4,7 +4,7 @@ use Rattle.std.proofs.lemmas.List.{append-nil}
 use Rattle.cpu_model.specs.Registers.{wrapped}
 use Rattle.cpu_model.specs.Step.{window}
 
-window_some : (cells : ℕ → Option ℕ) (at n : ℕ) (byte : ℕ) → cells at ≡ Some byte
+pub window_some : (cells : ℕ → Option ℕ) (at n : ℕ) (byte : ℕ) → cells at ≡ Some byte
     → window cells at (suc n) ≡ byte ∷ window cells (wrapped (at + 1)) n
 unfolding window
 window_some cells at n byte e = rw e

@@ -5,10 +5,10 @@ pub use cpu_model::stop::Stop;
 pub use execution::step;
 pub use os9_base::memory::Bus;
 
-mod change;
-mod commit;
+mod bytes;
 mod effect;
 mod execution;
+mod memory_effect;
 mod operation;
 mod place;
 mod register;

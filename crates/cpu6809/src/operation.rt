@@ -8,6 +8,7 @@ use cpu_alu::{
 use cpu_model::rows::{Binary, Condition, Unary, WordBinary};
 
 /// NEG to CLR of a byte: what it becomes, and the flags.
+#[inline(always)]
 pub(crate) fn unary(operation: Unary, a: u8, f: Flags) -> (u8, Flags)
     ensures value { result.0 ≡ model.unary_value operation a f }
     ensures flags { result.1 ≡ model.unary_flags operation a f }
@@ -28,6 +29,7 @@ pub(crate) fn unary(operation: Unary, a: u8, f: Flags) -> (u8, Flags)
 }
 
 /// SUB to ADD of an accumulator and a byte: what the accumulator becomes, and the flags.
+#[inline(always)]
 pub(crate) fn binary(operation: Binary, a: u8, b: u8, f: Flags) -> (u8, Flags)
     ensures value { result.0 ≡ model.binary_value operation a b f }
     ensures flags { result.1 ≡ model.binary_flags operation a b f }
@@ -47,6 +49,7 @@ pub(crate) fn binary(operation: Binary, a: u8, b: u8, f: Flags) -> (u8, Flags)
 }
 
 /// SUB to ADD of a register of sixteen bits and a word: what the register becomes, and the flags.
+#[inline(always)]
 pub(crate) fn word_binary(operation: WordBinary, a: u16, b: u16, f: Flags) -> (u16, Flags)
     ensures value { result.0 ≡ model.word_value operation a b }
     ensures flags { result.1 ≡ model.word_flags operation a b f }
@@ -60,6 +63,7 @@ pub(crate) fn word_binary(operation: WordBinary, a: u16, b: u16, f: Flags) -> (u
 }
 
 /// Does a branch with this condition branch?
+#[inline(always)]
 pub(crate) fn holds(condition: Condition, f: Flags) -> bool
     ensures { result ≡ model.holds condition f }
 {

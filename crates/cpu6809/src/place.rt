@@ -1,16 +1,18 @@
-ghost use Rattle.std.specs.Prelude.{◌≡◌};
+ghost use Rattle.std.specs.Prelude.{◌≡◌, option_map};
 ghost use Rattle.cpu_model.specs.Arithmetic.{extended};
 ghost use Rattle.cpu_model.specs.Places as model;
+ghost use Rattle.cpu6809.specs.Operands.{byte_with, word_with};
 
-use crate::register::{d_of, index_register, with_index_register};
+use crate::bytes::word_at;
+use crate::register::{d_of, index_register, set_index_register};
 use cpu_model::indexing::{Form, Indexing};
 use cpu_model::instruction::{Instr, Tail};
-use cpu_model::operand::{ByteOperand, Place, WordOperand};
 use cpu_model::rows::{IndexRegister, Mode};
 use cpu_table::postbyte;
 use os9_base::memory::Bus;
 use os9_base::registers::Regs;
 
+#[inline(always)]
 pub(crate) fn tail_byte(tail: Tail) -> u8
     ensures { result ≡ model.tail_byte tail }
 {
@@ -20,6 +22,7 @@ pub(crate) fn tail_byte(tail: Tail) -> u8
     }
 }
 
+#[inline(always)]
 fn tail_word(tail: Tail) -> u16
     ensures { result ≡ model.tail_word tail }
 {
@@ -30,6 +33,7 @@ fn tail_word(tail: Tail) -> u16
 }
 
 /// A signed byte as a word.
+#[inline(always)]
 fn extend(byte: u8) -> u16
     ensures { result ≡ extended byte }
 {
@@ -41,6 +45,7 @@ fn extend(byte: u8) -> u16
 }
 
 /// The signed five bits of a postbyte, as a word.
+#[inline(always)]
 fn five_bits(post: u8) -> u16
     ensures { result ≡ model.five_bits post }
 {
@@ -48,49 +53,38 @@ fn five_bits(post: u8) -> u16
     if bits > 0x0F { 0xFFE0 + bits } else { bits }
 }
 
-/// The word at an address, high byte first, if both addresses are named.
-pub(crate) fn word_at<B: Bus>(b: &B, at: u16) -> Option<u16>
-    ensures { result ≡ model.word_at (B.cells b.now) at }
-{
-    let high = b.read(at)?;
-    let low = b.read(at.wrapping_add(1))?;
-    Some(high as u16 * 256 + low as u16)
-}
-
 /// This far from an index register.
-fn offset(r: Regs, base: IndexRegister, by: u16) -> Place
-    ensures { result ≡ model.offset_place r base by }
+#[inline(always)]
+fn offset(r: &Regs, base: IndexRegister, by: u16) -> u16
+    ensures { model.place result r.now ≡ model.offset_place r.now base by }
 {
-    Place {
-        at: index_register(r, base).wrapping_add(by),
-        regs: r,
-    }
+    index_register(r, base).wrapping_add(by)
 }
 
 /// At an index register, which then is so much further.
-fn increment(r: Regs, base: IndexRegister, by: u16) -> Place
-    ensures { result ≡ model.increment_place r base by }
+#[inline(always)]
+fn increment(r: &mut Regs, base: IndexRegister, by: u16) -> u16
+    ensures { model.place result r.new ≡ model.increment_place r.old base by }
 {
     let at = index_register(r, base);
-    Place {
-        at,
-        regs: with_index_register(r, base, at.wrapping_add(by)),
-    }
+    set_index_register(r, base, at.wrapping_add(by));
+    at
 }
 
 /// At an index register that has first been taken back so far.
-fn decrement(r: Regs, base: IndexRegister, by: u16) -> Place
-    ensures { result ≡ model.decrement_place r base by }
+#[inline(always)]
+fn decrement(r: &mut Regs, base: IndexRegister, by: u16) -> u16
+    ensures { model.place result r.new ≡ model.decrement_place r.old base by }
 {
     let at = index_register(r, base).wrapping_sub(by);
-    Place {
-        at,
-        regs: with_index_register(r, base, at),
-    }
+    set_index_register(r, base, at);
+    at
 }
 
-fn form_place(r: Regs, form: Form, base: IndexRegister, post: u8, tail: Tail) -> Place
-    ensures { result ≡ model.form_place r form base post tail }
+/// The address that a form of indexed addressing tells.
+#[inline(always)]
+fn form_address(r: &mut Regs, form: Form, base: IndexRegister, post: u8, tail: Tail) -> u16
+    ensures { model.place result r.new ≡ model.form_place r.old form base post tail }
 {
     match form {
         Form::Offset5 => offset(r, base, five_bits(post)),
@@ -98,64 +92,43 @@ fn form_place(r: Regs, form: Form, base: IndexRegister, post: u8, tail: Tail) ->
         Form::Increment2 => increment(r, base, 2),
         Form::Decrement1 => decrement(r, base, 1),
         Form::Decrement2 => decrement(r, base, 2),
-        Form::NoOffset => Place {
-            at: index_register(r, base),
-            regs: r,
-        },
+        Form::NoOffset => index_register(r, base),
         Form::OffsetB => offset(r, base, extend(r.b)),
         Form::OffsetA => offset(r, base, extend(r.a)),
         Form::Offset8 => offset(r, base, extend(tail_byte(tail))),
         Form::Offset16 => offset(r, base, tail_word(tail)),
         Form::OffsetD => offset(r, base, d_of(r)),
-        Form::FromPc8 => Place {
-            at: r.pc.wrapping_add(extend(tail_byte(tail))),
-            regs: r,
-        },
-        Form::FromPc16 => Place {
-            at: r.pc.wrapping_add(tail_word(tail)),
-            regs: r,
-        },
-        Form::Absolute => Place {
-            at: tail_word(tail),
-            regs: r,
-        },
+        Form::FromPc8 => r.pc.wrapping_add(extend(tail_byte(tail))),
+        Form::FromPc16 => r.pc.wrapping_add(tail_word(tail)),
+        Form::Absolute => tail_word(tail),
     }
 }
 
-/// The address in the word there.
-fn pointed<B: Bus>(b: &B, p: Place) -> Option<Place>
-    ensures { result ≡ model.pointed (B.cells b.now) p }
-{
-    let at = word_at(b, p.at)?;
-    Some(Place { at, regs: p.regs })
-}
-
-fn indexed<B: Bus>(b: &B, r: Regs, post: u8, tail: Tail, indexing: Indexing) -> Option<Place>
-    ensures { result ≡ model.indexed_place (B.cells b.now) r post tail indexing }
+/// The address of indexed addressing, of a pointer or of the operand itself.
+#[inline(never)]
+fn indexed<B: Bus>(b: &B, r: &mut Regs, post: u8, tail: Tail, indexing: Indexing) -> Option<u16>
+    ensures { option_map (λ at. model.place at r.new) result
+        ≡ model.indexed_place (B.cells b.now) r.old post tail indexing }
 {
     let Indexing(form, base, is_indirect) = indexing;
-    let place = form_place(r, form, base, post, tail);
+    let at = form_address(r, form, base, post, tail);
     if is_indirect {
-        pointed(b, place)
+        word_at(b, at)
     } else {
-        Some(place)
+        Some(at)
     }
 }
 
-/// The address of an instruction's operand, if the pointer to it can be read.
+/// The address of an instruction's operand, if the pointer to it can be read. Index registers are
+/// stepped.
+#[inline(always)]
 #[tactic(auto, unfolding(cpu_model::specs::Places::place_of))]
-pub(crate) fn place_of<B: Bus>(b: &B, r: Regs, mode: Mode, i: Instr) -> Option<Place>
-    ensures { result ≡ model.place_of (B.cells b.now) r mode i }
+pub(crate) fn address<B: Bus>(b: &B, r: &mut Regs, mode: Mode, i: Instr) -> Option<u16>
+    ensures { option_map (λ at. model.place at r.new) result ≡ model.place_of (B.cells b.now) r.old mode i }
 {
     match mode {
-        Mode::Direct => Some(Place {
-            at: r.dp as u16 * 256 + tail_byte(i.tail) as u16,
-            regs: r,
-        }),
-        Mode::Extended => Some(Place {
-            at: tail_word(i.tail),
-            regs: r,
-        }),
+        Mode::Direct => Some(r.dp as u16 * 256 + tail_byte(i.tail) as u16),
+        Mode::Extended => Some(tail_word(i.tail)),
         Mode::Indexed => {
             let post = i.post.unwrap_or(0);
             let indexing = postbyte(post)?;
@@ -171,8 +144,9 @@ pub(crate) fn place_of<B: Bus>(b: &B, r: Regs, mode: Mode, i: Instr) -> Option<P
 }
 
 /// Where a branch goes.
-pub(crate) fn target_of(r: Regs, mode: Mode, tail: Tail) -> u16
-    ensures { result ≡ model.target_of r mode tail }
+#[inline(always)]
+pub(crate) fn target_of(r: &Regs, mode: Mode, tail: Tail) -> u16
+    ensures { result ≡ model.target_of r.now mode tail }
 {
     match mode {
         Mode::Relative8 => r.pc.wrapping_add(extend(tail_byte(tail))),
@@ -180,56 +154,32 @@ pub(crate) fn target_of(r: Regs, mode: Mode, tail: Tail) -> u16
     }
 }
 
-fn byte_operand_at<B: Bus>(b: &B, p: Place) -> Option<ByteOperand>
-    ensures { result ≡ model.byte_operand_at (B.cells b.now) p }
-{
-    let value = b.read(p.at)?;
-    Some(ByteOperand {
-        value,
-        regs: p.regs,
-    })
-}
-
-fn word_operand_at<B: Bus>(b: &B, p: Place) -> Option<WordOperand>
-    ensures { result ≡ model.word_operand_at (B.cells b.now) p }
-{
-    let value = word_at(b, p.at)?;
-    Some(WordOperand {
-        value,
-        regs: p.regs,
-    })
-}
-
 /// The byte after the opcode, or at the operand's address.
+#[inline(always)]
 #[tactic(auto, unfolding(cpu_model::specs::Places::byte_operand))]
-pub(crate) fn byte_operand<B: Bus>(b: &B, r: Regs, mode: Mode, i: Instr) -> Option<ByteOperand>
-    ensures { result ≡ model.byte_operand (B.cells b.now) r mode i }
+pub(crate) fn byte_operand<B: Bus>(b: &B, r: &mut Regs, mode: Mode, i: Instr) -> Option<u8>
+    ensures { option_map (byte_with r.new) result ≡ model.byte_operand (B.cells b.now) r.old mode i }
 {
     match mode {
-        Mode::Immediate8 => Some(ByteOperand {
-            value: tail_byte(i.tail),
-            regs: r,
-        }),
+        Mode::Immediate8 => Some(tail_byte(i.tail)),
         _ => {
-            let place = place_of(b, r, mode, i)?;
-            byte_operand_at(b, place)
+            let at = address(b, r, mode, i)?;
+            b.read(at)
         }
     }
 }
 
 /// The word after the opcode, or at the operand's address.
+#[inline(always)]
 #[tactic(auto, unfolding(cpu_model::specs::Places::word_operand))]
-pub(crate) fn word_operand<B: Bus>(b: &B, r: Regs, mode: Mode, i: Instr) -> Option<WordOperand>
-    ensures { result ≡ model.word_operand (B.cells b.now) r mode i }
+pub(crate) fn word_operand<B: Bus>(b: &B, r: &mut Regs, mode: Mode, i: Instr) -> Option<u16>
+    ensures { option_map (word_with r.new) result ≡ model.word_operand (B.cells b.now) r.old mode i }
 {
     match mode {
-        Mode::Immediate16 => Some(WordOperand {
-            value: tail_word(i.tail),
-            regs: r,
-        }),
+        Mode::Immediate16 => Some(tail_word(i.tail)),
         _ => {
-            let place = place_of(b, r, mode, i)?;
-            word_operand_at(b, place)
+            let at = address(b, r, mode, i)?;
+            word_at(b, at)
         }
     }
 }

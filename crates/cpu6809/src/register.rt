@@ -6,24 +6,24 @@ use cpu_model::rows::{Accumulator, IndexRegister, Register, Stack, WordRegister}
 use os9_base::registers::Regs;
 
 /// D: A is its high byte, B its low one.
-pub(crate) fn d_of(r: Regs) -> u16
-    ensures { result ≡ model.d_of r }
+#[inline(always)]
+pub(crate) fn d_of(r: &Regs) -> u16
+    ensures { result ≡ model.d_of r.now }
 {
     r.a as u16 * 256 + r.b as u16
 }
 
-pub(crate) fn with_d(r: Regs, value: u16) -> Regs
-    ensures { result ≡ model.with_d r value }
+#[inline(always)]
+pub(crate) fn set_d(r: &mut Regs, value: u16)
+    ensures { r.new ≡ model.with_d r.old value }
 {
-    Regs {
-        a: (value >> 8) as u8,
-        b: (value & 0xFF) as u8,
-        ..r
-    }
+    r.a = (value >> 8) as u8;
+    r.b = (value & 0xFF) as u8;
 }
 
-pub(crate) fn accumulator(r: Regs, accumulator: Accumulator) -> u8
-    ensures { result ≡ model.accumulator r accumulator }
+#[inline(always)]
+pub(crate) fn accumulator(r: &Regs, accumulator: Accumulator) -> u8
+    ensures { result ≡ model.accumulator r.now accumulator }
 {
     match accumulator {
         Accumulator::A => r.a,
@@ -31,17 +31,19 @@ pub(crate) fn accumulator(r: Regs, accumulator: Accumulator) -> u8
     }
 }
 
-pub(crate) fn with_accumulator(r: Regs, accumulator: Accumulator, value: u8) -> Regs
-    ensures { result ≡ model.with_accumulator r accumulator value }
+#[inline(always)]
+pub(crate) fn set_accumulator(r: &mut Regs, accumulator: Accumulator, value: u8)
+    ensures { r.new ≡ model.with_accumulator r.old accumulator value }
 {
     match accumulator {
-        Accumulator::A => Regs { a: value, ..r },
-        Accumulator::B => Regs { b: value, ..r },
+        Accumulator::A => r.a = value,
+        Accumulator::B => r.b = value,
     }
 }
 
-pub(crate) fn word_register(r: Regs, register: WordRegister) -> u16
-    ensures { result ≡ model.word_register r register }
+#[inline(always)]
+pub(crate) fn word_register(r: &Regs, register: WordRegister) -> u16
+    ensures { result ≡ model.word_register r.now register }
 {
     match register {
         WordRegister::D => d_of(r),
@@ -52,20 +54,22 @@ pub(crate) fn word_register(r: Regs, register: WordRegister) -> u16
     }
 }
 
-pub(crate) fn with_word_register(r: Regs, register: WordRegister, value: u16) -> Regs
-    ensures { result ≡ model.with_word_register r register value }
+#[inline(always)]
+pub(crate) fn set_word_register(r: &mut Regs, register: WordRegister, value: u16)
+    ensures { r.new ≡ model.with_word_register r.old register value }
 {
     match register {
-        WordRegister::D => with_d(r, value),
-        WordRegister::X => Regs { x: value, ..r },
-        WordRegister::Y => Regs { y: value, ..r },
-        WordRegister::U => Regs { u: value, ..r },
-        WordRegister::S => Regs { s: value, ..r },
+        WordRegister::D => set_d(r, value),
+        WordRegister::X => r.x = value,
+        WordRegister::Y => r.y = value,
+        WordRegister::U => r.u = value,
+        WordRegister::S => r.s = value,
     }
 }
 
-pub(crate) fn index_register(r: Regs, register: IndexRegister) -> u16
-    ensures { result ≡ model.index_register r register }
+#[inline(always)]
+pub(crate) fn index_register(r: &Regs, register: IndexRegister) -> u16
+    ensures { result ≡ model.index_register r.now register }
 {
     match register {
         IndexRegister::X => r.x,
@@ -75,19 +79,21 @@ pub(crate) fn index_register(r: Regs, register: IndexRegister) -> u16
     }
 }
 
-pub(crate) fn with_index_register(r: Regs, register: IndexRegister, value: u16) -> Regs
-    ensures { result ≡ model.with_index_register r register value }
+#[inline(always)]
+pub(crate) fn set_index_register(r: &mut Regs, register: IndexRegister, value: u16)
+    ensures { r.new ≡ model.with_index_register r.old register value }
 {
     match register {
-        IndexRegister::X => Regs { x: value, ..r },
-        IndexRegister::Y => Regs { y: value, ..r },
-        IndexRegister::U => Regs { u: value, ..r },
-        IndexRegister::S => Regs { s: value, ..r },
+        IndexRegister::X => r.x = value,
+        IndexRegister::Y => r.y = value,
+        IndexRegister::U => r.u = value,
+        IndexRegister::S => r.s = value,
     }
 }
 
-pub(crate) fn stack_pointer(r: Regs, stack: Stack) -> u16
-    ensures { result ≡ model.stack_pointer r stack }
+#[inline(always)]
+pub(crate) fn stack_pointer(r: &Regs, stack: Stack) -> u16
+    ensures { result ≡ model.stack_pointer r.now stack }
 {
     match stack {
         Stack::System => r.s,
@@ -95,25 +101,25 @@ pub(crate) fn stack_pointer(r: Regs, stack: Stack) -> u16
     }
 }
 
-pub(crate) fn with_stack_pointer(r: Regs, stack: Stack, value: u16) -> Regs
-    ensures { result ≡ model.with_stack_pointer r stack value }
+#[inline(always)]
+pub(crate) fn set_stack_pointer(r: &mut Regs, stack: Stack, value: u16)
+    ensures { r.new ≡ model.with_stack_pointer r.old stack value }
 {
     match stack {
-        Stack::System => Regs { s: value, ..r },
-        Stack::User => Regs { u: value, ..r },
+        Stack::System => r.s = value,
+        Stack::User => r.u = value,
     }
 }
 
-pub(crate) fn with_flags(r: Regs, f: Flags) -> Regs
-    ensures { result ≡ model.with_flags r f }
+#[inline(always)]
+pub(crate) fn set_flags(r: &mut Regs, f: Flags)
+    ensures { r.new ≡ model.with_flags r.old f }
 {
-    Regs {
-        cc: cpu_alu::with_flags(r.cc, f),
-        ..r
-    }
+    r.cc = cpu_alu::with_flags(r.cc, f);
 }
 
 /// The register of a code in the postbyte of EXG and TFR.
+#[inline(always)]
 pub(crate) fn register_coded(code: u8) -> Register
     ensures { result ≡ model.register_coded code }
 {
@@ -132,8 +138,9 @@ pub(crate) fn register_coded(code: u8) -> Register
 }
 
 /// A byte register as a word whose high byte is 0.
-pub(crate) fn register(r: Regs, register: Register) -> u16
-    ensures { result ≡ model.register r register }
+#[inline(always)]
+pub(crate) fn register(r: &Regs, register: Register) -> u16
+    ensures { result ≡ model.register r.now register }
 {
     match register {
         Register::D => d_of(r),
@@ -150,25 +157,27 @@ pub(crate) fn register(r: Regs, register: Register) -> u16
 }
 
 /// A byte register takes the low byte.
-pub(crate) fn with_register(r: Regs, register: Register, value: u16) -> Regs
-    ensures { result ≡ model.with_register r register value }
+#[inline(always)]
+pub(crate) fn set_register(r: &mut Regs, register: Register, value: u16)
+    ensures { r.new ≡ model.with_register r.old register value }
 {
     let byte = (value & 0xFF) as u8;
     match register {
-        Register::D => with_d(r, value),
-        Register::X => Regs { x: value, ..r },
-        Register::Y => Regs { y: value, ..r },
-        Register::U => Regs { u: value, ..r },
-        Register::S => Regs { s: value, ..r },
-        Register::Pc => Regs { pc: value, ..r },
-        Register::A => Regs { a: byte, ..r },
-        Register::B => Regs { b: byte, ..r },
-        Register::Cc => Regs { cc: byte, ..r },
-        Register::Dp => Regs { dp: byte, ..r },
+        Register::D => set_d(r, value),
+        Register::X => r.x = value,
+        Register::Y => r.y = value,
+        Register::U => r.u = value,
+        Register::S => r.s = value,
+        Register::Pc => r.pc = value,
+        Register::A => r.a = byte,
+        Register::B => r.b = byte,
+        Register::Cc => r.cc = byte,
+        Register::Dp => r.dp = byte,
     }
 }
 
 /// The pointer of the other stack, which a push or a pull may name.
+#[inline(always)]
 pub(crate) fn other_pointer(stack: Stack) -> Register
     ensures { result ≡ model.other_pointer stack }
 {

@@ -1,41 +1,48 @@
-ghost use Rattle.std.specs.Prelude.{◌≡◌, ◌<◌, ◌≤◌, ◌+◌, ◌++◌, [], ◌∷◌, length, if◌then◌else◌};
+ghost use Rattle.std.specs.Prelude.{◌≡◌, ◌<◌, ◌≤◌, ◌+◌, ◌++◌, [], ◌∷◌, length, option_map, Some, None, if◌then◌else◌};
 ghost use Rattle.arrayvec.specs.ArrayVec.{array_vec_len};
 ghost use Rattle.cpu_model.specs.Effects as model;
 ghost use Rattle.cpu_model.specs.Flags.{has_bit};
-ghost use Rattle.cpu6809.specs.Writes.{effect};
+ghost use Rattle.cpu_model.specs.Places.{place};
+ghost use Rattle.cpu_model.specs.Step.{outcome_of_effect};
+ghost use Rattle.cpu6809.specs.Does.{Does};
 
-use crate::change::{Change, FRAME, Writes};
-use crate::place::word_at;
-use crate::register::{other_pointer, register, stack_pointer, with_register, with_stack_pointer};
+use crate::bytes::{word_at, write, write_word};
+use crate::register::{other_pointer, register, set_register, set_stack_pointer, stack_pointer};
 use arrayvec::ArrayVec;
-use cpu_model::operand::Place;
 use cpu_model::rows::{Register, Stack};
+use cpu_model::stop::Stop;
 use os9_base::memory::Bus;
 use os9_base::registers::Regs;
 
+/// The most bytes that a push puts on a stack.
+const FRAME: usize = 12;
+
 /// A subroutine is entered: the next instruction's address goes on the stack.
-pub(crate) fn enter(r: Regs, target: u16) -> Change
-    ensures { effect result ≡ model.enters r target }
+#[inline(always)]
+pub(crate) fn enter<B: Bus>(r: &mut Regs, b: &mut B, target: u16) -> Stop
+    ensures step { Does (outcome_of_effect (B.cells b.old) (Some (model.enters r.old target)))
+        result r.new (B.cells b.old) (B.cells b.new) }
+    ensures beside { B.same_beside b.old b.new }
 {
     let at = r.s.wrapping_sub(2);
-    Change {
-        regs: Regs {
-            s: at,
-            pc: target,
-            ..r
-        },
-        writes: Writes::Word(at, r.pc),
+    if !write_word(b, at, r.pc) {
+        return Stop::Abort(228);
     }
+    r.s = at;
+    r.pc = target;
+    Stop::Next
 }
 
 /// Does a mask have the bit of this weight?
-pub(crate) fn names(mask: u8, weight: u8) -> bool
+#[inline(always)]
+fn names(mask: u8, weight: u8) -> bool
     requires { 0 < weight }
     ensures { result ≡ has_bit weight mask }
 {
     mask / weight % 2 == 1
 }
 
+#[inline(always)]
 fn add_byte(frame: &mut ArrayVec<u8, FRAME>, mask: u8, weight: u8, byte: u8)
     requires weighs { 0 < weight }
     requires room { array_vec_len frame.old < FRAME }
@@ -47,6 +54,7 @@ fn add_byte(frame: &mut ArrayVec<u8, FRAME>, mask: u8, weight: u8, byte: u8)
     }
 }
 
+#[inline(always)]
 fn add_word(frame: &mut ArrayVec<u8, FRAME>, mask: u8, weight: u8, value: u16)
     requires weighs { 0 < weight }
     requires room { array_vec_len frame.old + 1 < FRAME }
@@ -60,9 +68,10 @@ fn add_word(frame: &mut ArrayVec<u8, FRAME>, mask: u8, weight: u8, value: u16)
 }
 
 /// What a push with this mask puts on a stack, from the lowest address up.
+#[inline(always)]
 #[tactic(auto, unfolding(cpu_model::specs::Effects::frame))]
-fn frame(r: Regs, stack: Stack, mask: u8) -> ArrayVec<u8, FRAME>
-    ensures { result.items ≡ model.frame r stack mask }
+fn frame(r: &Regs, stack: Stack, mask: u8) -> ArrayVec<u8, FRAME>
+    ensures { result.items ≡ model.frame r.now stack mask }
 {
     let mut bytes = ArrayVec::new();
     add_byte(&mut bytes, mask, 1, r.cc);
@@ -77,96 +86,141 @@ fn frame(r: Regs, stack: Stack, mask: u8) -> ArrayVec<u8, FRAME>
 }
 
 /// PSHS and PSHU.
-pub(crate) fn push(r: Regs, stack: Stack, mask: u8) -> Change
-    ensures { effect result ≡ model.push r stack mask }
+pub(crate) fn push<B: Bus>(r: &mut Regs, b: &mut B, stack: Stack, mask: u8) -> Stop
+    ensures step { Does (outcome_of_effect (B.cells b.old) (Some (model.push r.old stack mask)))
+        result r.new (B.cells b.old) (B.cells b.new) }
+    ensures beside { B.same_beside b.old b.new }
 {
     let bytes = frame(r, stack, mask);
     let at = stack_pointer(r, stack).wrapping_sub(bytes.len() as u16);
-    Change {
-        regs: with_stack_pointer(r, stack, at),
-        writes: Writes::Frame(at, bytes),
+    if !write(b, at, bytes.as_slice()) {
+        return Stop::Abort(228);
     }
+    set_stack_pointer(r, stack, at);
+    Stop::Next
 }
 
-/// A byte register is taken from the stack, if the mask names it.
-fn pull_byte<B: Bus>(b: &B, mask: u8, weight: u8, register: Register, p: Place) -> Option<Place>
+/// A byte register is taken from the stack at an address, if the mask names it; answers the next
+/// address.
+#[inline(always)]
+fn pull_byte<B: Bus>(
+    b: &B,
+    r: &mut Regs,
+    mask: u8,
+    weight: u8,
+    register: Register,
+    at: u16,
+) -> Option<u16>
     requires { 0 < weight }
-    ensures { result ≡ model.pull_byte (B.cells b.now) mask weight register p }
+    ensures { option_map (λ next. place next r.new) result
+        ≡ model.pull_byte (B.cells b.now) mask weight register (place at r.old) }
 {
     if !names(mask, weight) {
-        return Some(p);
+        return Some(at);
     }
-    let value = b.read(p.at)?;
-    Some(Place {
-        at: p.at.wrapping_add(1),
-        regs: with_register(p.regs, register, value as u16),
-    })
+    let value = b.read(at)?;
+    set_register(r, register, value as u16);
+    Some(at.wrapping_add(1))
 }
 
-/// A register of sixteen bits is taken from the stack, if the mask names it.
-fn pull_word<B: Bus>(b: &B, mask: u8, weight: u8, register: Register, p: Place) -> Option<Place>
+/// A register of sixteen bits is taken from the stack at an address, if the mask names it; answers
+/// the next address.
+#[inline(always)]
+fn pull_word<B: Bus>(
+    b: &B,
+    r: &mut Regs,
+    mask: u8,
+    weight: u8,
+    register: Register,
+    at: u16,
+) -> Option<u16>
     requires { 0 < weight }
-    ensures { result ≡ model.pull_word (B.cells b.now) mask weight register p }
+    ensures { option_map (λ next. place next r.new) result
+        ≡ model.pull_word (B.cells b.now) mask weight register (place at r.old) }
 {
     if !names(mask, weight) {
-        return Some(p);
+        return Some(at);
     }
-    let value = word_at(b, p.at)?;
-    Some(Place {
-        at: p.at.wrapping_add(2),
-        regs: with_register(p.regs, register, value),
-    })
+    let value = word_at(b, at)?;
+    set_register(r, register, value);
+    Some(at.wrapping_add(2))
 }
 
-fn pull_bytes<B: Bus>(b: &B, mask: u8, p: Place) -> Option<Place>
-    ensures { result ≡ model.pull_bytes (B.cells b.now) mask p }
+#[inline(always)]
+fn pull_bytes<B: Bus>(b: &B, r: &mut Regs, mask: u8, at: u16) -> Option<u16>
+    ensures { option_map (λ next. place next r.new) result
+        ≡ model.pull_bytes (B.cells b.now) mask (place at r.old) }
 {
-    let p = pull_byte(b, mask, 1, Register::Cc, p)?;
-    let p = pull_byte(b, mask, 2, Register::A, p)?;
-    let p = pull_byte(b, mask, 4, Register::B, p)?;
-    pull_byte(b, mask, 8, Register::Dp, p)
+    let at = pull_byte(b, r, mask, 1, Register::Cc, at)?;
+    let at = pull_byte(b, r, mask, 2, Register::A, at)?;
+    let at = pull_byte(b, r, mask, 4, Register::B, at)?;
+    pull_byte(b, r, mask, 8, Register::Dp, at)
 }
 
-fn pull_words<B: Bus>(b: &B, stack: Stack, mask: u8, p: Place) -> Option<Place>
-    ensures { result ≡ model.pull_words (B.cells b.now) stack mask p }
+#[inline(always)]
+fn pull_words<B: Bus>(b: &B, r: &mut Regs, stack: Stack, mask: u8, at: u16) -> Option<u16>
+    ensures { option_map (λ next. place next r.new) result
+        ≡ model.pull_words (B.cells b.now) stack mask (place at r.old) }
 {
-    let p = pull_word(b, mask, 16, Register::X, p)?;
-    let p = pull_word(b, mask, 32, Register::Y, p)?;
-    let p = pull_word(b, mask, 64, other_pointer(stack), p)?;
-    pull_word(b, mask, 128, Register::Pc, p)
+    let at = pull_word(b, r, mask, 16, Register::X, at)?;
+    let at = pull_word(b, r, mask, 32, Register::Y, at)?;
+    let at = pull_word(b, r, mask, 64, other_pointer(stack), at)?;
+    pull_word(b, r, mask, 128, Register::Pc, at)
+}
+
+/// The registers that a mask names are taken from a stack, if all their bytes can be read.
+#[inline(always)]
+#[tactic(auto, unfolding(cpu_model::specs::Effects::pull))]
+fn pulled<B: Bus>(b: &B, r: &mut Regs, stack: Stack, mask: u8) -> bool
+    ensures { (if result then Some r.new else None) ≡ model.pull (B.cells b.now) r.old stack mask }
+{
+    let bottom = stack_pointer(r, stack);
+    let Some(at) = pull_bytes(b, r, mask, bottom) else {
+        return false;
+    };
+    let Some(at) = pull_words(b, r, stack, mask, at) else {
+        return false;
+    };
+    set_stack_pointer(r, stack, at);
+    true
 }
 
 /// PULS and PULU.
-#[tactic(auto, unfolding(cpu_model::specs::Effects::pull))]
-pub(crate) fn pull<B: Bus>(b: &B, r: Regs, stack: Stack, mask: u8) -> Option<Regs>
-    ensures { result ≡ model.pull (B.cells b.now) r stack mask }
+pub(crate) fn pull<B: Bus>(r: &mut Regs, b: &B, stack: Stack, mask: u8) -> Stop
+    ensures { Does
+        (outcome_of_effect (B.cells b.now) (option_map model.changes (model.pull (B.cells b.now) r.old stack mask)))
+        result r.new (B.cells b.now) (B.cells b.now) }
 {
-    let bottom = Place {
-        at: stack_pointer(r, stack),
-        regs: r,
-    };
-    let p = pull_bytes(b, mask, bottom)?;
-    let p = pull_words(b, stack, mask, p)?;
-    Some(with_stack_pointer(p.regs, stack, p.at))
+    if !pulled(b, r, stack, mask) {
+        return Stop::Abort(228);
+    }
+    Stop::Next
 }
 
 /// RTI: E of the CC on the stack tells whether all registers lie there, or CC and PC alone.
-pub(crate) fn return_from_interrupt<B: Bus>(b: &B, r: Regs) -> Option<Regs>
-    ensures { result ≡ model.return_from_interrupt (B.cells b.now) r }
+pub(crate) fn return_from_interrupt<B: Bus>(r: &mut Regs, b: &B) -> Stop
+    ensures { Does
+        (outcome_of_effect (B.cells b.now) (option_map model.changes (model.return_from_interrupt (B.cells b.now) r.old)))
+        result r.new (B.cells b.now) (B.cells b.now) }
 {
-    let cc = b.read(r.s)?;
+    let Some(cc) = b.read(r.s) else {
+        return Stop::Abort(228);
+    };
     let mask = if cc > 0x7F { 255 } else { 129 };
-    pull(b, r, Stack::System, mask)
+    pull(r, b, Stack::System, mask)
 }
 
 /// RTS.
-pub(crate) fn return_from_subroutine<B: Bus>(b: &B, r: Regs) -> Option<Regs>
-    ensures { result ≡ model.return_from_subroutine (B.cells b.now) r }
+#[inline(always)]
+pub(crate) fn return_from_subroutine<B: Bus>(r: &mut Regs, b: &B) -> Stop
+    ensures { Does
+        (outcome_of_effect (B.cells b.now) (option_map model.changes (model.return_from_subroutine (B.cells b.now) r.old)))
+        result r.new (B.cells b.now) (B.cells b.now) }
 {
-    let target = word_at(b, r.s)?;
-    Some(Regs {
-        s: r.s.wrapping_add(2),
-        pc: target,
-        ..r
-    })
+    let Some(target) = word_at(b, r.s) else {
+        return Stop::Abort(228);
+    };
+    r.s = r.s.wrapping_add(2);
+    r.pc = target;
+    Stop::Next
 }

@@ -2,7 +2,7 @@
 #![tactic(auto)]
 
 pub use cpu_model::instruction::{DecodeFault, Instr, Page, Tail};
-pub use reading::decode;
+pub use reading::{Decoded, decode, decode_with_row};
 pub use table::{postbyte, row};
 pub use writing::{Spelling, spell};
 

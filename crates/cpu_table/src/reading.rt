@@ -2,6 +2,7 @@ ghost use Rattle.std.specs.Prelude.{◌≡◌, ◌↔◌, ℕ, ◌≤◌, None, 
 ghost use Rattle.cpu_model.specs.Reading as model;
 ghost use Rattle.cpu_model.specs.Table as tables;
 ghost use Rattle.cpu_model.specs.declared.instruction.Instr.{Instr};
+ghost use Rattle.cpu_table.specs.Decoded.{BeginsWithHead, reading_of, HasItsRow};
 ghost use Rattle.cpu_table.specs.Spelling.{BeginsWith, IsPlain, IsBegun, IsSpelled};
 
 use crate::table::{postbyte, row};
@@ -20,6 +21,7 @@ struct Head {
 
 impl Head {
     /// The instruction with these operand bytes.
+    #[inline(always)]
     fn instruction(self, tail: Tail) -> Instr
         ensures { result ≡ record { page = self.page; opcode = self.opcode; post = self.post; tail = tail } }
     {
@@ -33,16 +35,20 @@ impl Head {
 }
 
 /// The instruction with no operand bytes.
+#[inline(always)]
 fn with_none(head: Head) -> Result<(Instr, u8), DecodeFault>
-    ensures { result ≡ model.read_tail head.page head.opcode head.post head.length model.none [] }
+    ensures value { result ≡ model.read_tail head.page head.opcode head.post head.length model.none [] }
+    ensures head { BeginsWithHead head result }
 {
     Ok((head.instruction(Tail::Empty), head.length))
 }
 
 /// The instruction with one operand byte, the first of `rest`.
+#[inline(always)]
 fn with_byte(head: Head, rest: &[u8]) -> Result<(Instr, u8), DecodeFault>
     requires { head.length ≤ 3 }
-    ensures { result ≡ model.read_tail head.page head.opcode head.post head.length model.byte rest.now }
+    ensures value { result ≡ model.read_tail head.page head.opcode head.post head.length model.byte rest.now }
+    ensures head { BeginsWithHead head result }
 {
     match rest {
         [byte, ..] => Ok((head.instruction(Tail::Byte(*byte)), head.length + 1)),
@@ -51,9 +57,11 @@ fn with_byte(head: Head, rest: &[u8]) -> Result<(Instr, u8), DecodeFault>
 }
 
 /// The instruction with two operand bytes, the first of `rest`.
+#[inline(always)]
 fn with_word(head: Head, rest: &[u8]) -> Result<(Instr, u8), DecodeFault>
     requires { head.length ≤ 3 }
-    ensures { result ≡ model.read_tail head.page head.opcode head.post head.length model.word rest.now }
+    ensures value { result ≡ model.read_tail head.page head.opcode head.post head.length model.word rest.now }
+    ensures head { BeginsWithHead head result }
 {
     match rest {
         [high, low, ..] => {
@@ -65,9 +73,11 @@ fn with_word(head: Head, rest: &[u8]) -> Result<(Instr, u8), DecodeFault>
 }
 
 /// The instruction whose operand bytes, the first of `rest`, are those that its postbyte's form has.
+#[inline(always)]
 fn with_form(head: Head, form: Form, rest: &[u8]) -> Result<(Instr, u8), DecodeFault>
     requires { head.length ≤ 3 }
-    ensures { result ≡ model.read_tail head.page head.opcode head.post head.length (model.extent_of_form form) rest.now }
+    ensures value { result ≡ model.read_tail head.page head.opcode head.post head.length (model.extent_of_form form) rest.now }
+    ensures head { BeginsWithHead head result }
 {
     match form {
         Form::Offset8 | Form::FromPc8 => with_byte(head, rest),
@@ -77,6 +87,7 @@ fn with_form(head: Head, form: Form, rest: &[u8]) -> Result<(Instr, u8), DecodeF
 }
 
 /// The postbyte as it is given: bits 6 and 5 do not matter where the offset counts from PC.
+#[inline(always)]
 fn plain_postbyte(form: Form, post: u8) -> u8
     ensures { result ≡ tables.plain_postbyte form post }
 {
@@ -87,9 +98,11 @@ fn plain_postbyte(form: Form, post: u8) -> u8
 }
 
 /// The instruction of an indexed mode, whose postbyte is the first of `rest`.
+#[inline(always)]
 fn with_postbyte(head: Head, rest: &[u8]) -> Result<(Instr, u8), DecodeFault>
     requires { head.length ≤ 2 }
-    ensures { result ≡ model.read_indexed head.page head.opcode head.length rest.now }
+    ensures value { result ≡ model.read_indexed head.page head.opcode head.length rest.now }
+    ensures head { BeginsWithHead head result }
 {
     match rest {
         [post, after @ ..] => match postbyte(*post) {
@@ -113,6 +126,7 @@ fn with_postbyte(head: Head, rest: &[u8]) -> Result<(Instr, u8), DecodeFault>
 }
 
 /// Do both halves of this byte name registers, and of one size?
+#[inline(always)]
 fn is_pair(post: u8) -> bool
     ensures { result ≡ tables.is_pair post }
 {
@@ -121,10 +135,12 @@ fn is_pair(post: u8) -> bool
 }
 
 /// The instruction on two registers, which the first byte of `rest` names.
+#[inline(always)]
 fn with_pair(head: Head, rest: &[u8]) -> Result<(Instr, u8), DecodeFault>
     requires no_postbyte { head.post ≡ None }
     requires short { head.length ≤ 2 }
-    ensures { result ≡ model.read_pair head.page head.opcode head.length rest.now }
+    ensures value { result ≡ model.read_pair head.page head.opcode head.length rest.now }
+    ensures head { BeginsWithHead head result }
 {
     match rest {
         [pair, ..] if is_pair(*pair) => with_byte(head, rest),
@@ -134,10 +150,12 @@ fn with_pair(head: Head, rest: &[u8]) -> Result<(Instr, u8), DecodeFault>
 }
 
 /// The instruction of this mode, whose bytes after the opcode are the first of `rest`.
+#[inline(always)]
 fn with_operand(head: Head, mode: Mode, rest: &[u8]) -> Result<(Instr, u8), DecodeFault>
     requires no_postbyte { head.post ≡ None }
     requires short { head.length ≤ 2 }
-    ensures { result ≡ model.read_operand head.page head.opcode head.length mode rest.now }
+    ensures value { result ≡ model.read_operand head.page head.opcode head.length mode rest.now }
+    ensures head { BeginsWithHead head result }
 {
     match mode {
         Mode::Inherent => with_none(head),
@@ -148,22 +166,33 @@ fn with_operand(head: Head, mode: Mode, rest: &[u8]) -> Result<(Instr, u8), Deco
     }
 }
 
+/// An instruction, the number of its bytes, and its row of the opcode map.
+#[derive(Clone, Copy, Debug, PartialEq, Eq)]
+pub struct Decoded {
+    pub instr: Instr,
+    pub length: u8,
+    pub row: Row,
+}
+
 /// The instruction whose opcode, of this page, is the first of `bytes`, with `length` bytes up to
 /// and with it.
-fn from_opcode(page: Page, length: u8, bytes: &[u8]) -> Result<(Instr, u8), DecodeFault>
+#[inline(always)]
+fn from_opcode(page: Page, length: u8, bytes: &[u8]) -> Result<Decoded, DecodeFault>
     requires { length ≤ 2 }
-    ensures { result ≡ model.read_opcode page length bytes.now }
+    ensures value { reading_of result ≡ model.read_opcode page length bytes.now }
+    ensures row { IfOk result HasItsRow }
 {
     match bytes {
         [opcode, rest @ ..] => match row(page, *opcode) {
-            Some(Row(_, mode)) => {
+            Some(row) => {
                 let head = Head {
                     page,
                     opcode: *opcode,
                     post: None,
                     length,
                 };
-                with_operand(head, mode, rest)
+                let (instr, length) = with_operand(head, row.1, rest)?;
+                Ok(Decoded { instr, length, row })
             }
             None => Err(DecodeFault::NotDocumented),
         },
@@ -171,10 +200,13 @@ fn from_opcode(page: Page, length: u8, bytes: &[u8]) -> Result<(Instr, u8), Deco
     }
 }
 
-/// What the bytes begin with, by its prefix.
+/// The instruction at the front of these bytes, as [`decode`] reads it, with its row of the opcode
+/// map.
+#[inline(always)]
 #[tactic(auto, unfolding(cpu_model::specs::Reading::reading))]
-fn from_prefix(bytes: &[u8]) -> Result<(Instr, u8), DecodeFault>
-    ensures { result ≡ model.reading bytes.now }
+pub fn decode_with_row(bytes: &[u8]) -> Result<Decoded, DecodeFault>
+    ensures value { reading_of result ≡ model.reading bytes.now }
+    ensures row { IfOk result HasItsRow }
 {
     match bytes {
         [] => Err(DecodeFault::Short),
@@ -202,5 +234,12 @@ pub fn decode(bytes: &[u8]) -> Result<(Instr, u8), DecodeFault>
     ensures short { (result ≡ Err DecodeFault.Short) ↔ IsBegun bytes.now }
     ensures not_documented { (result ≡ Err DecodeFault.NotDocumented) ↔ (¬ IsBegun bytes.now × ¬ IsSpelled bytes.now) }
 {
-    from_prefix(bytes)
+    instruction_and_length(bytes)
+}
+
+fn instruction_and_length(bytes: &[u8]) -> Result<(Instr, u8), DecodeFault>
+    ensures { result ≡ model.reading bytes.now }
+{
+    let decoded = decode_with_row(bytes)?;
+    Ok((decoded.instr, decoded.length))
 }

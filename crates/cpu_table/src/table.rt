@@ -10,6 +10,7 @@ use cpu_model::instruction::Page;
 use cpu_model::rows::Row;
 
 /// What an opcode of a page stands for, or None where it is not documented.
+#[inline(always)]
 pub fn row(page: Page, opcode: u8) -> Option<Row>
     ensures { result ≡ model.row page opcode }
 {
@@ -23,6 +24,7 @@ pub fn row(page: Page, opcode: u8) -> Option<Row>
 }
 
 /// What a postbyte of indexed addressing means, or None where it is not documented.
+#[inline(always)]
 pub fn postbyte(post: u8) -> Option<Indexing>
     ensures { result ≡ model.postbyte post }
 {

@@ -14,7 +14,7 @@ both_true : (a b : Bool) → (a && b) ≡ true → (a ≡ true) × (b ≡ true)
 both_true true b h = (refl, h)
 both_true false b h = cc
 
-are_both : (a b : Bool) → a ≡ true → b ≡ true → (a && b) ≡ true
+pub are_both : (a b : Bool) → a ≡ true → b ≡ true → (a && b) ≡ true
 are_both a b p q = rw (p, q)
 
 -- a written byte leaves an address named that was

@@ -1,6 +1,6 @@
 use Rattle.std.proofs.Common.{rules}
-use Rattle.cpu6809.proofs.Bytes.{named_when_written, written_so_far}
-use Rattle.cpu6809.proofs.commit.write_from.Goals as goal
+use Rattle.cpu6809.proofs.Writes.{named_when_written, written_so_far}
+use Rattle.cpu6809.proofs.bytes.write_from.Goals as goal
 
 pub loop-byte-preserved : goal.loop-byte-preserved
 loop-byte-preserved g c = record {

@@ -1,7 +1,7 @@
 use Rattle.std.proofs.Common.{◌≡◌, drop}
 use Rattle.cpu_model.specs.Step.{all_named}
 use Rattle.cpu_model.specs.Effects.{bytes_from}
-use Rattle.cpu6809.proofs.commit.all_named_from.Given as goal
+use Rattle.cpu6809.proofs.bytes.all_named_from.Given as goal
 
 abbrev pub invariant-loop-byte : goal.invariant-loop-byte
 invariant-loop-byte g l =

@@ -1,7 +1,7 @@
 use Rattle.std.proofs.Common.{◌≡◌, drop, true}
 use Rattle.cpu_model.specs.Step.{all_named, write_cells}
 use Rattle.cpu_model.specs.Effects.{bytes_from}
-use Rattle.cpu6809.proofs.commit.write_from.Given as goal
+use Rattle.cpu6809.proofs.bytes.write_from.Given as goal
 
 abbrev pub invariant-loop-byte : goal.invariant-loop-byte
 invariant-loop-byte g l = record {

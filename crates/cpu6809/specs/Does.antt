@@ -1,0 +1,14 @@
+-- What carrying out an instruction leaves, before the registers are given back at an abort.
+use Rattle.std.specs.Prelude.{◌≡◌}
+use Rattle.os9_base.specs.declared.registers.Regs.{Regs}
+use Rattle.os9_base.specs.Cells.{Cells}
+use Rattle.cpu_model.specs.declared.stop.Stop.{Stop}
+use Rattle.cpu_model.specs.declared.stop.Stop.TheVariants.{Next, Call, Abort}
+use Rattle.cpu_model.specs.Step.{Outcome, Done, Calls, Aborts, write_cells}
+
+-- as `Leaves`, but at an abort the registers are any
+abbrev pub Does : Outcome → Stop → Regs → Cells → Cells → Type 0
+Does (Done effect) stop after cells now =
+    (stop ≡ Next) × (after ≡ effect.regs) × (now ≡ write_cells cells effect.writes)
+Does (Calls code past_it) stop after cells now = (stop ≡ Call code) × (after ≡ past_it) × (now ≡ cells)
+Does (Aborts status) stop after cells now = (stop ≡ Abort status) × (now ≡ cells)
