@@ -13,9 +13,12 @@ pub record SameBeside (before after : View) : Type 0 where
 pub SameBeside-self : (view : View) → SameBeside view view
 SameBeside-self view = record { map = refl; pool = refl; beyond = SameBeyond-self view.map.now view.pool.now }
 
-pub SameBeside-then : (first middle last : View) → SameBeside first middle → SameBeside middle last → SameBeside first last
+pub SameBeside-then : (first middle last : View) → SameBeside first middle → SameBeside middle last
+    → SameBeside first last
 SameBeside-then first middle last one two = record {
   map = two.map ∙ one.map;
   pool = two.pool ∙ one.pool;
-  beyond = SameBeyond-then first.map.now middle.map.now first.pool.now middle.pool.now last.pool.now (ap (λ m. m.now) one.map) one.beyond two.beyond;
+  beyond =
+      SameBeyond-then first.map.now middle.map.now first.pool.now middle.pool.now last.pool.now
+      (ap (λ m. m.now) one.map) one.beyond two.beyond;
 }

@@ -33,8 +33,9 @@ abbrev pub group_blocks : Group → List BlockId
 group_blocks group = take group.len group.blocks
 
 -- so many new blocks stand in the slots that follow the low area
-pub record GainsLow (len : ℕ) (old : Slots BlockId) (before : Blocks) (new : Slots BlockId) (after : Blocks) : Type 0 where
-  pub blocks : List BlockId
-  pub all : length blocks ≡ len
-  pub taken : TakesBlocks before blocks after
-  pub low : new ≡ with_low old blocks
+pub record GainsLow (len : ℕ) (old : Slots BlockId) (before : Blocks) (new : Slots BlockId) (after : Blocks) : Type 0
+  where
+    pub blocks : List BlockId
+    pub all : length blocks ≡ len
+    pub taken : TakesBlocks before blocks after
+    pub low : new ≡ with_low old blocks

@@ -31,7 +31,8 @@ pub record SameBeyond (slots : Slots BlockId) (before after : Blocks) : Type 0 w
 pub SameBeyond-self : (slots : Slots BlockId) (pool : Blocks) → SameBeyond slots pool pool
 SameBeyond-self slots pool = record { shape = λ pool. pool; counts = refl; blocks = refl; bytes = λ id apart. refl }
 
-pub SameBeyond-then : (slots other : Slots BlockId) (first middle last : Blocks) → other ≡ slots → SameBeyond slots first middle → SameBeyond other middle last → SameBeyond slots first last
+pub SameBeyond-then : (slots other : Slots BlockId) (first middle last : Blocks) → other ≡ slots
+    → SameBeyond slots first middle → SameBeyond other middle last → SameBeyond slots first last
 SameBeyond-then slots other first middle last same one two = record {
   shape = λ pool. two.shape (one.shape pool);
   counts = two.counts ∙ one.counts;

@@ -5,7 +5,7 @@ ghost use Rattle.block_pool.specs.Blocks.{Blocks, IsPool, IsLive, reference_coun
 ghost use Rattle.proc_model.specs.Slots.{Slots, filled_places, blocks_in};
 ghost use Rattle.block_map.specs.TakenBlocks.{AreNewBlocks, pool_after_sharing, pool_after_giving, NamesLiveBlocks, GainsLow, group_blocks};
 
-use block_pool::pool::Pool;
+use block_pool::pool::{MOST_SHARED, Pool};
 use proc_model::group::{BlockId, Group};
 use std::marker::Model;
 use thiserror::Error;
@@ -104,7 +104,8 @@ impl Map {
 
         ensures whole { self.old.low ≤ n → (self.new ≡ self.old) × (pool.new ≡ pool.old) }
         ensures cut { n < self.old.low → self.new ≡ cut_low_to self.old n }
-        ensures given { n < self.old.low → pool.new ≡ pool_after_giving pool.old (blocks_between self.old n self.old.low) }
+        ensures given { n < self.old.low
+            → pool.new ≡ pool_after_giving pool.old (blocks_between self.old n self.old.low) }
         ensures live { NamesLiveBlocks self.new pool.new }
         ensures shape { IsMap self.new }
         ensures pool { IsPool pool.old → IsPool pool.new }
@@ -123,16 +124,19 @@ impl Map {
         requires some { 1 ≤ g.now.len }
         requires different { AllPairs (λ a b. a ≢ b) (group_blocks g.now) }
         requires group_live { All (λ id. IsLive pool.old id.0) (group_blocks g.now) }
-        requires countable { All (λ id. reference_count pool.old id.0 < 65000) (group_blocks g.now) }
+        requires countable { All (λ id. reference_count pool.old id.0 < MOST_SHARED)
+            (group_blocks g.now) }
         requires unnamed { All (λ id. NamesBlock self.old id → ⊥) (group_blocks g.now) }
         requires live { NamesLiveBlocks self.old pool.old }
 
-        ensures no_slot { (result ≡ Err MapFault.NoSlot) ↔ ((first : ℕ) → IsFreeRun self.old first g.now.len → ⊥) }
+        ensures no_slot { (result ≡ Err MapFault.NoSlot)
+            ↔ ((first : ℕ) → IsFreeRun self.old first g.now.len → ⊥) }
         ensures no_other_fault { result ≢ Err MapFault.NoBlock }
         ensures refused { OnErr result ((self.new ≡ self.old) × (pool.new ≡ pool.old)) }
 
         ensures highest { IfOk result (IsHighestFreeRun self.old g.now.len) }
-        ensures grouped { IfOk result (λ first. self.new ≡ with_group self.old first (group_blocks g.now)) }
+        ensures grouped { IfOk result (λ first. self.new
+            ≡ with_group self.old first (group_blocks g.now)) }
         ensures shared { OnOk result (pool.new ≡ pool_after_sharing pool.old (group_blocks g.now)) }
         ensures live { NamesLiveBlocks self.new pool.new }
         ensures shape { IsMap self.new }
@@ -153,9 +157,11 @@ impl Map {
         requires begins { IsSome (group_of self.old slot) }
         requires live { NamesLiveBlocks self.old pool.old }
 
-        ensures cut { IfSome (group_of self.old slot) (λ len. self.new ≡ map_without_group self.old slot len) }
+        ensures cut { IfSome (group_of self.old slot) (λ len. self.new
+            ≡ map_without_group self.old slot len) }
         ensures given { IfSome (group_of self.old slot)
-            (λ len. pool.new ≡ pool_after_giving pool.old (blocks_between self.old slot (slot + len))) }
+            (λ len. pool.new
+            ≡ pool_after_giving pool.old (blocks_between self.old slot (slot + len))) }
         ensures live { NamesLiveBlocks self.new pool.new }
         ensures shape { IsMap self.new }
         ensures pool { IsPool pool.old → IsPool pool.new }
@@ -217,7 +223,7 @@ fn name_shared(places: &mut [Option<BlockId>], blocks: &[BlockId], pool: &mut Po
     requires as_many { length places.old ≡ length blocks.now }
     requires few { length blocks.now ≤ 7 }
     requires live { All (λ id. IsLive pool.old id.0) blocks.now }
-    requires countable { All (λ id. reference_count pool.old id.0 < 65000) blocks.now }
+    requires countable { All (λ id. reference_count pool.old id.0 < MOST_SHARED) blocks.now }
     ensures named { places.new ≡ filled_places blocks.now }
     ensures shared { pool.new ≡ pool_after_sharing pool.old blocks.now }
     ensures pool { IsPool pool.old → IsPool pool.new }
@@ -230,7 +236,8 @@ fn name_shared(places: &mut [Option<BlockId>], blocks: &[BlockId], pool: &mut Po
 
 // Gives back what these places name, and clears them.
 fn give_back(places: &mut [Option<BlockId>], pool: &mut Pool)
-    requires live { (k : ℕ) (id : BlockId) → slice_index_or places.old k None ≡ Some id → IsLive pool.old id.0 }
+    requires live { (k : ℕ) (id : BlockId) → slice_index_or places.old k None ≡ Some id
+        → IsLive pool.old id.0 }
     requires once { (k other : ℕ) (id : BlockId) → slice_index_or places.old k None ≡ Some id
         → slice_index_or places.old other None ≡ Some id → k ≡ other }
     ensures cleared { places.new ≡ replicate (length places.old) None }
@@ -255,7 +262,8 @@ fn give_place(place: &mut Option<BlockId>, pool: &mut Pool)
 
 // Do all of these places name nothing?
 fn name_nothing(places: &[Option<BlockId>]) -> bool
-    ensures { IsTrue result ↔ ((k : ℕ) → k < length places.now → slice_index_or places.now k None ≡ None) }
+    ensures { IsTrue result
+        ↔ ((k : ℕ) → k < length places.now → slice_index_or places.now k None ≡ None) }
 {
     places.iter().all(|place| place.is_none())
 }

@@ -30,7 +30,8 @@ impl Bus for View<'_> {
     fn slice_from(&self, at: u16) -> &[u8]
         ensures fits { at + length result.now ≤ 65536 }
         ensures bytes { Holds (map_cells self.now.map.now self.now.pool.now) at result.now }
-        ensures whole { IsSlotLive self.now.map.now self.now.pool.now (at / 8192) → at % 8192 + length result.now ≡ 8192 }
+        ensures whole { IsSlotLive self.now.map.now self.now.pool.now (at / 8192)
+            → at % 8192 + length result.now ≡ 8192 }
     {
         match self.block_in(slot_of(at)) {
             Some(id) => &self.pool.bytes(id)[offset_in_block(at) as usize..],
@@ -50,10 +51,13 @@ impl Bus for View<'_> {
 
     fn store_slice(&mut self, at: u16, from: &[u8]) -> bool
         ensures stored { OnTrue result
-            (cells_of self.new.map.now self.new.pool.now ≡ store_cells (cells_of self.old.map.now self.old.pool.now) at from.now) }
-        ensures fits { OnTrue result (FitsIn (cells_of self.old.map.now self.old.pool.now) at (length from.now)) }
+            (cells_of self.new.map.now self.new.pool.now
+            ≡ store_cells (cells_of self.old.map.now self.old.pool.now) at from.now) }
+        ensures fits { OnTrue result (FitsIn (cells_of self.old.map.now self.old.pool.now) at
+            (length from.now)) }
         ensures left { OnFalse result
-            (cells_of self.new.map.now self.new.pool.now ≡ cells_of self.old.map.now self.old.pool.now) }
+            (cells_of self.new.map.now self.new.pool.now
+            ≡ cells_of self.old.map.now self.old.pool.now) }
         ensures beside { SameBeside self.old self.new }
         ensures always { IsTrue result ↔ (IsSlotLive self.old.map.now self.old.pool.now (at / 8192)
             × (at % 8192 + length from.now ≤ 8192)) }

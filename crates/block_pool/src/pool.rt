@@ -10,6 +10,9 @@ use std::marker::Model;
 /// How many bytes a block has.
 pub const BLOCK_LEN: usize = 8192;
 
+/// A block that has fewer references than this may be shared by a group (this project's own).
+pub const MOST_SHARED: u16 = 65_000;
+
 /// One region of blocks of 8,192 bytes, each with a count of what names it, and a list of those
 /// that nothing names.
 #[derive(Drop)]

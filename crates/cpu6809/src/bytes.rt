@@ -60,7 +60,8 @@ fn write_from<B: Bus>(b: &mut B, mut at: u16, bytes: &[u8])
 #[cold]
 fn write_apart<B: Bus>(b: &mut B, at: u16, bytes: &[u8]) -> bool
     ensures named { result ≡ all_named (B.cells b.old) (bytes_from at bytes.now) }
-    ensures written { OnTrue result (B.cells b.new ≡ write_cells (B.cells b.old) (bytes_from at bytes.now)) }
+    ensures written { OnTrue result (B.cells b.new
+        ≡ write_cells (B.cells b.old) (bytes_from at bytes.now)) }
     ensures left { OnFalse result (B.cells b.new ≡ B.cells b.old) }
     ensures beside { B.same_beside b.old b.new }
 {
@@ -76,7 +77,8 @@ fn write_apart<B: Bus>(b: &mut B, at: u16, bytes: &[u8]) -> bool
 #[inline(always)]
 pub(crate) fn write<B: Bus>(b: &mut B, at: u16, bytes: &[u8]) -> bool
     ensures named { result ≡ all_named (B.cells b.old) (bytes_from at bytes.now) }
-    ensures written { OnTrue result (B.cells b.new ≡ write_cells (B.cells b.old) (bytes_from at bytes.now)) }
+    ensures written { OnTrue result (B.cells b.new
+        ≡ write_cells (B.cells b.old) (bytes_from at bytes.now)) }
     ensures left { OnFalse result (B.cells b.new ≡ B.cells b.old) }
     ensures beside { B.same_beside b.old b.new }
 {
@@ -90,7 +92,8 @@ pub(crate) fn write<B: Bus>(b: &mut B, at: u16, bytes: &[u8]) -> bool
 #[inline(always)]
 pub(crate) fn write_byte<B: Bus>(b: &mut B, at: u16, byte: u8) -> bool
     ensures named { result ≡ all_named (B.cells b.old) (bytes_from at (byte ∷ [])) }
-    ensures written { OnTrue result (B.cells b.new ≡ write_cells (B.cells b.old) (bytes_from at (byte ∷ []))) }
+    ensures written { OnTrue result (B.cells b.new
+        ≡ write_cells (B.cells b.old) (bytes_from at (byte ∷ []))) }
     ensures left { OnFalse result (B.cells b.new ≡ B.cells b.old) }
     ensures beside { B.same_beside b.old b.new }
 {
@@ -101,7 +104,8 @@ pub(crate) fn write_byte<B: Bus>(b: &mut B, at: u16, byte: u8) -> bool
 #[inline(always)]
 pub(crate) fn write_word<B: Bus>(b: &mut B, at: u16, word: u16) -> bool
     ensures named { result ≡ all_named (B.cells b.old) (bytes_from at (word_bytes word)) }
-    ensures written { OnTrue result (B.cells b.new ≡ write_cells (B.cells b.old) (bytes_from at (word_bytes word))) }
+    ensures written { OnTrue result (B.cells b.new
+        ≡ write_cells (B.cells b.old) (bytes_from at (word_bytes word))) }
     ensures left { OnFalse result (B.cells b.new ≡ B.cells b.old) }
     ensures beside { B.same_beside b.old b.new }
 {

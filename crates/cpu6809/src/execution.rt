@@ -15,6 +15,7 @@ use cpu_model::instruction::{DecodeFault, Instr};
 use cpu_model::rows::{Mode, Operation, Row};
 use cpu_model::stop::Stop;
 use cpu_table::{Decoded, decode_with_row};
+use os9_base::errors::{E_ISWI, E_PRCABT};
 use os9_base::memory::Bus;
 use os9_base::registers::Regs;
 
@@ -26,7 +27,8 @@ const LONGEST: usize = 5;
 #[tactic(auto, unfolding(cpu_model::specs::Step::effect_of))]
 fn change<B: Bus>(r: &mut Regs, b: &mut B, mode: Mode, i: Instr, operation: Operation) -> Stop
     ensures step { Does
-        (model.outcome_of_effect (B.cells b.old) (model.effect_of (B.cells b.old) r.old i mode operation))
+        (model.outcome_of_effect (B.cells b.old)
+        (model.effect_of (B.cells b.old) r.old i mode operation))
         result r.new (B.cells b.old) (B.cells b.new) }
     ensures beside { B.same_beside b.old b.new }
 {
@@ -62,7 +64,7 @@ fn change<B: Bus>(r: &mut Regs, b: &mut B, mode: Mode, i: Instr, operation: Oper
         Operation::Sex => sex(r),
         Operation::Nop => {}
         Operation::Swi | Operation::Swi2 | Operation::Swi3 | Operation::Sync | Operation::Cwai => {
-            return Stop::Abort(228);
+            return Stop::Abort(E_PRCABT);
         }
     }
     Stop::Next
@@ -107,14 +109,15 @@ fn instruction_at<B: Bus>(b: &B, at: u16) -> Result<Decoded, DecodeFault>
 
 /// SWI2: the code byte follows.
 fn system_call<B: Bus>(r: &mut Regs, b: &B) -> Stop
-    ensures { Does (model.call_outcome r.old (B.cells b.now r.old.pc)) result r.new (B.cells b.now) (B.cells b.now) }
+    ensures { Does (model.call_outcome r.old (B.cells b.now r.old.pc)) result r.new
+        (B.cells b.now) (B.cells b.now) }
 {
     match b.read(r.pc) {
         Some(code) => {
             r.pc = r.pc.wrapping_add(1);
             Stop::Call(code)
         }
-        None => Stop::Abort(228),
+        None => Stop::Abort(E_PRCABT),
     }
 }
 
@@ -129,7 +132,7 @@ fn execute<B: Bus>(r: &mut Regs, b: &mut B, i: Instr, row: Row) -> Stop
     let Row(operation, mode) = row;
     match operation {
         Operation::Swi2 => system_call(r, b),
-        Operation::Swi | Operation::Swi3 | Operation::Sync | Operation::Cwai => Stop::Abort(227),
+        Operation::Swi | Operation::Swi3 | Operation::Sync | Operation::Cwai => Stop::Abort(E_ISWI),
         _ => change(r, b, mode, i, operation),
     }
 }
@@ -148,7 +151,7 @@ fn run<B: Bus>(r: &mut Regs, b: &mut B) -> Stop
             r.pc = r.pc.wrapping_add(decoded.length as u16);
             execute(r, b, decoded.instr, decoded.row)
         }
-        Err(_) => Stop::Abort(228),
+        Err(_) => Stop::Abort(E_PRCABT),
     }
 }
 

@@ -14,6 +14,7 @@ use cpu_alu::flags_of;
 use cpu_model::instruction::Instr;
 use cpu_model::rows::{Accumulator, Binary, IndexRegister, Mode, Unary, WordBinary, WordRegister};
 use cpu_model::stop::Stop;
+use os9_base::errors::E_PRCABT;
 use os9_base::memory::Bus;
 use os9_base::registers::Regs;
 
@@ -27,16 +28,17 @@ pub(crate) fn unary_at<B: Bus>(
     operation: Unary,
 ) -> Stop
     ensures step { Does
-        (outcome_of_effect (B.cells b.old) (option_and_then (λ p. model.unary_effect_at (B.cells b.old) operation p)
+        (outcome_of_effect (B.cells b.old) (option_and_then
+        (λ p. model.unary_effect_at (B.cells b.old) operation p)
         (places.place_of (B.cells b.old) r.old mode i)))
         result r.new (B.cells b.old) (B.cells b.new) }
     ensures beside { B.same_beside b.old b.new }
 {
     let Some(at) = address(b, r, mode, i) else {
-        return Stop::Abort(228);
+        return Stop::Abort(E_PRCABT);
     };
     let Some(value) = b.read(at) else {
-        return Stop::Abort(228);
+        return Stop::Abort(E_PRCABT);
     };
     let (after, flags) = unary(operation, value, flags_of(r.cc));
     set_flags(r, flags);
@@ -44,7 +46,7 @@ pub(crate) fn unary_at<B: Bus>(
         return Stop::Next;
     }
     if !write_byte(b, at, after) {
-        return Stop::Abort(228);
+        return Stop::Abort(E_PRCABT);
     }
     Stop::Next
 }
@@ -59,18 +61,19 @@ pub(crate) fn store<B: Bus>(
     from: Accumulator,
 ) -> Stop
     ensures step { Does
-        (outcome_of_effect (B.cells b.old) (option_map (λ p. model.store from p) (places.place_of (B.cells b.old) r.old mode i)))
+        (outcome_of_effect (B.cells b.old) (option_map (λ p. model.store from p)
+        (places.place_of (B.cells b.old) r.old mode i)))
         result r.new (B.cells b.old) (B.cells b.new) }
     ensures beside { B.same_beside b.old b.new }
 {
     let Some(at) = address(b, r, mode, i) else {
-        return Stop::Abort(228);
+        return Stop::Abort(E_PRCABT);
     };
     let value = accumulator(r, from);
     let flags = cpu_alu::logic8(value, flags_of(r.cc));
     set_flags(r, flags);
     if !write_byte(b, at, value) {
-        return Stop::Abort(228);
+        return Stop::Abort(E_PRCABT);
     }
     Stop::Next
 }
@@ -85,18 +88,19 @@ pub(crate) fn store_word<B: Bus>(
     from: WordRegister,
 ) -> Stop
     ensures step { Does
-        (outcome_of_effect (B.cells b.old) (option_map (λ p. model.store_word from p) (places.place_of (B.cells b.old) r.old mode i)))
+        (outcome_of_effect (B.cells b.old) (option_map (λ p. model.store_word from p)
+        (places.place_of (B.cells b.old) r.old mode i)))
         result r.new (B.cells b.old) (B.cells b.new) }
     ensures beside { B.same_beside b.old b.new }
 {
     let Some(at) = address(b, r, mode, i) else {
-        return Stop::Abort(228);
+        return Stop::Abort(E_PRCABT);
     };
     let value = word_register(r, from);
     let flags = cpu_alu::logic16(value, flags_of(r.cc));
     set_flags(r, flags);
     if !write_word(b, at, value) {
-        return Stop::Abort(228);
+        return Stop::Abort(E_PRCABT);
     }
     Stop::Next
 }
@@ -112,11 +116,13 @@ pub(crate) fn binary_from<B: Bus>(
     on: Accumulator,
 ) -> Stop
     ensures { Does
-        (outcome_of_effect (B.cells b.now) (option_map (λ x. model.changes (model.binary_on operation on x)) (places.byte_operand (B.cells b.now) r.old mode i)))
+        (outcome_of_effect (B.cells b.now) (option_map
+        (λ x. model.changes (model.binary_on operation on x))
+        (places.byte_operand (B.cells b.now) r.old mode i)))
         result r.new (B.cells b.now) (B.cells b.now) }
 {
     let Some(value) = byte_operand(b, r, mode, i) else {
-        return Stop::Abort(228);
+        return Stop::Abort(E_PRCABT);
     };
     binary_on(r, operation, on, value);
     Stop::Next
@@ -133,11 +139,13 @@ pub(crate) fn word_from<B: Bus>(
     on: WordRegister,
 ) -> Stop
     ensures { Does
-        (outcome_of_effect (B.cells b.now) (option_map (λ x. model.changes (model.word_on operation on x)) (places.word_operand (B.cells b.now) r.old mode i)))
+        (outcome_of_effect (B.cells b.now) (option_map
+        (λ x. model.changes (model.word_on operation on x))
+        (places.word_operand (B.cells b.now) r.old mode i)))
         result r.new (B.cells b.now) (B.cells b.now) }
 {
     let Some(value) = word_operand(b, r, mode, i) else {
-        return Stop::Abort(228);
+        return Stop::Abort(E_PRCABT);
     };
     word_on(r, operation, on, value);
     Stop::Next
@@ -147,11 +155,12 @@ pub(crate) fn word_from<B: Bus>(
 #[inline(always)]
 pub(crate) fn lea_of<B: Bus>(r: &mut Regs, b: &B, mode: Mode, i: Instr, to: IndexRegister) -> Stop
     ensures { Does
-        (outcome_of_effect (B.cells b.now) (option_map (λ p. model.changes (model.lea to p)) (places.place_of (B.cells b.now) r.old mode i)))
+        (outcome_of_effect (B.cells b.now) (option_map (λ p. model.changes (model.lea to p))
+        (places.place_of (B.cells b.now) r.old mode i)))
         result r.new (B.cells b.now) (B.cells b.now) }
 {
     let Some(at) = address(b, r, mode, i) else {
-        return Stop::Abort(228);
+        return Stop::Abort(E_PRCABT);
     };
     lea(r, to, at);
     Stop::Next
@@ -161,11 +170,12 @@ pub(crate) fn lea_of<B: Bus>(r: &mut Regs, b: &B, mode: Mode, i: Instr, to: Inde
 #[inline(always)]
 pub(crate) fn jump<B: Bus>(r: &mut Regs, b: &B, mode: Mode, i: Instr) -> Stop
     ensures { Does
-        (outcome_of_effect (B.cells b.now) (option_map (model.jump) (places.place_of (B.cells b.now) r.old mode i)))
+        (outcome_of_effect (B.cells b.now) (option_map (model.jump)
+        (places.place_of (B.cells b.now) r.old mode i)))
         result r.new (B.cells b.now) (B.cells b.now) }
 {
     let Some(at) = address(b, r, mode, i) else {
-        return Stop::Abort(228);
+        return Stop::Abort(E_PRCABT);
     };
     r.pc = at;
     Stop::Next
@@ -175,12 +185,13 @@ pub(crate) fn jump<B: Bus>(r: &mut Regs, b: &B, mode: Mode, i: Instr) -> Stop
 #[inline(always)]
 pub(crate) fn enter_at<B: Bus>(r: &mut Regs, b: &mut B, mode: Mode, i: Instr) -> Stop
     ensures step { Does
-        (outcome_of_effect (B.cells b.old) (option_map (λ p. model.enters p.regs p.at) (places.place_of (B.cells b.old) r.old mode i)))
+        (outcome_of_effect (B.cells b.old) (option_map (λ p. model.enters p.regs p.at)
+        (places.place_of (B.cells b.old) r.old mode i)))
         result r.new (B.cells b.old) (B.cells b.new) }
     ensures beside { B.same_beside b.old b.new }
 {
     let Some(at) = address(b, r, mode, i) else {
-        return Stop::Abort(228);
+        return Stop::Abort(E_PRCABT);
     };
     enter(r, b, at)
 }

@@ -124,7 +124,8 @@ fn indexed<B: Bus>(b: &B, r: &mut Regs, post: u8, tail: Tail, indexing: Indexing
 #[inline(always)]
 #[tactic(auto, unfolding(cpu_model::specs::Places::place_of))]
 pub(crate) fn address<B: Bus>(b: &B, r: &mut Regs, mode: Mode, i: Instr) -> Option<u16>
-    ensures { option_map (λ at. model.place at r.new) result ≡ model.place_of (B.cells b.now) r.old mode i }
+    ensures { option_map (λ at. model.place at r.new) result
+        ≡ model.place_of (B.cells b.now) r.old mode i }
 {
     match mode {
         Mode::Direct => Some(r.dp as u16 * 256 + tail_byte(i.tail) as u16),
@@ -158,7 +159,8 @@ pub(crate) fn target_of(r: &Regs, mode: Mode, tail: Tail) -> u16
 #[inline(always)]
 #[tactic(auto, unfolding(cpu_model::specs::Places::byte_operand))]
 pub(crate) fn byte_operand<B: Bus>(b: &B, r: &mut Regs, mode: Mode, i: Instr) -> Option<u8>
-    ensures { option_map (byte_with r.new) result ≡ model.byte_operand (B.cells b.now) r.old mode i }
+    ensures { option_map (byte_with r.new) result
+        ≡ model.byte_operand (B.cells b.now) r.old mode i }
 {
     match mode {
         Mode::Immediate8 => Some(tail_byte(i.tail)),
@@ -173,7 +175,8 @@ pub(crate) fn byte_operand<B: Bus>(b: &B, r: &mut Regs, mode: Mode, i: Instr) ->
 #[inline(always)]
 #[tactic(auto, unfolding(cpu_model::specs::Places::word_operand))]
 pub(crate) fn word_operand<B: Bus>(b: &B, r: &mut Regs, mode: Mode, i: Instr) -> Option<u16>
-    ensures { option_map (word_with r.new) result ≡ model.word_operand (B.cells b.now) r.old mode i }
+    ensures { option_map (word_with r.new) result
+        ≡ model.word_operand (B.cells b.now) r.old mode i }
 {
     match mode {
         Mode::Immediate16 => Some(tail_word(i.tail)),

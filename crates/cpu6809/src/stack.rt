@@ -11,6 +11,7 @@ use crate::register::{other_pointer, register, set_register, set_stack_pointer, 
 use arrayvec::ArrayVec;
 use cpu_model::rows::{Register, Stack};
 use cpu_model::stop::Stop;
+use os9_base::errors::E_PRCABT;
 use os9_base::memory::Bus;
 use os9_base::registers::Regs;
 
@@ -26,7 +27,7 @@ pub(crate) fn enter<B: Bus>(r: &mut Regs, b: &mut B, target: u16) -> Stop
 {
     let at = r.s.wrapping_sub(2);
     if !write_word(b, at, r.pc) {
-        return Stop::Abort(228);
+        return Stop::Abort(E_PRCABT);
     }
     r.s = at;
     r.pc = target;
@@ -58,7 +59,8 @@ fn add_byte(frame: &mut ArrayVec<u8, FRAME>, mask: u8, weight: u8, byte: u8)
 fn add_word(frame: &mut ArrayVec<u8, FRAME>, mask: u8, weight: u8, value: u16)
     requires weighs { 0 < weight }
     requires room { array_vec_len frame.old + 1 < FRAME }
-    ensures bytes { frame.new.items ≡ frame.old.items ++ model.part mask weight (model.word_bytes value) }
+    ensures bytes { frame.new.items ≡ frame.old.items
+        ++ model.part mask weight (model.word_bytes value) }
     ensures len { array_vec_len frame.new ≤ array_vec_len frame.old + 2 }
 {
     if names(mask, weight) {
@@ -94,7 +96,7 @@ pub(crate) fn push<B: Bus>(r: &mut Regs, b: &mut B, stack: Stack, mask: u8) -> S
     let bytes = frame(r, stack, mask);
     let at = stack_pointer(r, stack).wrapping_sub(bytes.len() as u16);
     if !write(b, at, bytes.as_slice()) {
-        return Stop::Abort(228);
+        return Stop::Abort(E_PRCABT);
     }
     set_stack_pointer(r, stack, at);
     Stop::Next
@@ -188,11 +190,12 @@ fn pulled<B: Bus>(b: &B, r: &mut Regs, stack: Stack, mask: u8) -> bool
 /// PULS and PULU.
 pub(crate) fn pull<B: Bus>(r: &mut Regs, b: &B, stack: Stack, mask: u8) -> Stop
     ensures { Does
-        (outcome_of_effect (B.cells b.now) (option_map model.changes (model.pull (B.cells b.now) r.old stack mask)))
+        (outcome_of_effect (B.cells b.now) (option_map model.changes
+        (model.pull (B.cells b.now) r.old stack mask)))
         result r.new (B.cells b.now) (B.cells b.now) }
 {
     if !pulled(b, r, stack, mask) {
-        return Stop::Abort(228);
+        return Stop::Abort(E_PRCABT);
     }
     Stop::Next
 }
@@ -200,11 +203,12 @@ pub(crate) fn pull<B: Bus>(r: &mut Regs, b: &B, stack: Stack, mask: u8) -> Stop
 /// RTI: E of the CC on the stack tells whether all registers lie there, or CC and PC alone.
 pub(crate) fn return_from_interrupt<B: Bus>(r: &mut Regs, b: &B) -> Stop
     ensures { Does
-        (outcome_of_effect (B.cells b.now) (option_map model.changes (model.return_from_interrupt (B.cells b.now) r.old)))
+        (outcome_of_effect (B.cells b.now) (option_map model.changes
+        (model.return_from_interrupt (B.cells b.now) r.old)))
         result r.new (B.cells b.now) (B.cells b.now) }
 {
     let Some(cc) = b.read(r.s) else {
-        return Stop::Abort(228);
+        return Stop::Abort(E_PRCABT);
     };
     let mask = if cc > 0x7F { 255 } else { 129 };
     pull(r, b, Stack::System, mask)
@@ -214,11 +218,12 @@ pub(crate) fn return_from_interrupt<B: Bus>(r: &mut Regs, b: &B) -> Stop
 #[inline(always)]
 pub(crate) fn return_from_subroutine<B: Bus>(r: &mut Regs, b: &B) -> Stop
     ensures { Does
-        (outcome_of_effect (B.cells b.now) (option_map model.changes (model.return_from_subroutine (B.cells b.now) r.old)))
+        (outcome_of_effect (B.cells b.now) (option_map model.changes
+        (model.return_from_subroutine (B.cells b.now) r.old)))
         result r.new (B.cells b.now) (B.cells b.now) }
 {
     let Some(target) = word_at(b, r.s) else {
-        return Stop::Abort(228);
+        return Stop::Abort(E_PRCABT);
     };
     r.s = r.s.wrapping_add(2);
     r.pc = target;

@@ -2,6 +2,7 @@
 use Rattle.std.specs.Prelude.{◌≡◌, ℕ, zero, suc, ◌+◌, ◌&&◌, Bool, true, is_some, Option, Some, None, option_map, option_and_then, Ok, Err, List, [], ◌∷◌, if◌then◌else◌}
 use Rattle.os9_base.specs.declared.registers.Regs.{Regs}
 use Rattle.os9_base.specs.Cells.{put_cell}
+use Rattle.os9_base.specs.declared.errors.TheConstants.{E_ISWI, E_PRCABT}
 use Rattle.cpu_model.specs.declared.rows.Mode.{Mode}
 use Rattle.cpu_model.specs.declared.rows.Row.{Row}
 use Rattle.cpu_model.specs.declared.rows.Operation.{Operation}
@@ -76,29 +77,29 @@ all_named cells (w ∷ ws) = is_some (cells w.0) && all_named cells ws
 
 -- nothing is done where a cell is read or written that is not named
 abbrev pub outcome_of_effect : (ℕ → Option ℕ) → Option Effect → Outcome
-outcome_of_effect cells None = Aborts 228
-outcome_of_effect cells (Some e) = if all_named cells e.writes then Done e else Aborts 228
+outcome_of_effect cells None = Aborts E_PRCABT
+outcome_of_effect cells (Some e) = if all_named cells e.writes then Done e else Aborts E_PRCABT
 
 -- SWI2: the code byte follows
 abbrev pub call_outcome : Regs → Option ℕ → Outcome
-call_outcome r None = Aborts 228
+call_outcome r None = Aborts E_PRCABT
 call_outcome r (Some code) = Calls code (past r 1)
 
 -- SYNC, CWAI, SWI and SWI3 are not for programs
 unfoldable pub outcome_of : (ℕ → Option ℕ) → Regs → Instr → Mode → Operation → Outcome
 outcome_of cells r i mode Swi2 = call_outcome r (cells r.pc)
-outcome_of cells r i mode Swi = Aborts 227
-outcome_of cells r i mode Swi3 = Aborts 227
-outcome_of cells r i mode Sync = Aborts 227
-outcome_of cells r i mode Cwai = Aborts 227
+outcome_of cells r i mode Swi = Aborts E_ISWI
+outcome_of cells r i mode Swi3 = Aborts E_ISWI
+outcome_of cells r i mode Sync = Aborts E_ISWI
+outcome_of cells r i mode Cwai = Aborts E_ISWI
 outcome_of cells r i mode operation = outcome_of_effect cells (effect_of cells r i mode operation)
 
 abbrev pub outcome_of_row : (ℕ → Option ℕ) → Regs → Instr → Option Row → Outcome
-outcome_of_row cells r i None = Aborts 228
+outcome_of_row cells r i None = Aborts E_PRCABT
 outcome_of_row cells r i (Some line) = outcome_of cells r i line.1 line.0
 
 abbrev pub outcome_of_reading : (ℕ → Option ℕ) → Regs → Reading → Outcome
-outcome_of_reading cells r (Err fault) = Aborts 228
+outcome_of_reading cells r (Err fault) = Aborts E_PRCABT
 outcome_of_reading cells r (Ok found) =
     outcome_of_row cells (past r found.1) found.0 (row found.0.page found.0.opcode)
 

@@ -53,7 +53,8 @@ spelling i = prefix i.page ++ (i.opcode ∷ (option_to_list i.post ++ tail_bytes
 
 -- ---- which bytes spell an instruction
 
--- the same instruction with bits 6 and 5 of its postbyte 0 where they do not matter, which is where the offset counts from PC
+-- the same instruction with bits 6 and 5 of its postbyte 0 where they do not matter, which is where the offset counts
+-- from PC
 abbrev pub plain_post : ℕ → ℕ
 plain_post post = option_map_or (λ indexing. plain_postbyte indexing.0 post) (postbyte post) post
 

@@ -23,7 +23,8 @@ impl Head {
     /// The instruction with these operand bytes.
     #[inline(always)]
     fn instruction(self, tail: Tail) -> Instr
-        ensures { result ≡ record { page = self.page; opcode = self.opcode; post = self.post; tail = tail } }
+        ensures { result
+            ≡ record { page = self.page; opcode = self.opcode; post = self.post; tail = tail } }
     {
         Instr {
             page: self.page,
@@ -37,7 +38,8 @@ impl Head {
 /// The instruction with no operand bytes.
 #[inline(always)]
 fn with_none(head: Head) -> Result<(Instr, u8), DecodeFault>
-    ensures value { result ≡ model.read_tail head.page head.opcode head.post head.length model.none [] }
+    ensures value { result
+        ≡ model.read_tail head.page head.opcode head.post head.length model.none [] }
     ensures head { BeginsWithHead head result }
 {
     Ok((head.instruction(Tail::Empty), head.length))
@@ -47,7 +49,8 @@ fn with_none(head: Head) -> Result<(Instr, u8), DecodeFault>
 #[inline(always)]
 fn with_byte(head: Head, rest: &[u8]) -> Result<(Instr, u8), DecodeFault>
     requires { head.length ≤ 3 }
-    ensures value { result ≡ model.read_tail head.page head.opcode head.post head.length model.byte rest.now }
+    ensures value { result
+        ≡ model.read_tail head.page head.opcode head.post head.length model.byte rest.now }
     ensures head { BeginsWithHead head result }
 {
     match rest {
@@ -60,7 +63,8 @@ fn with_byte(head: Head, rest: &[u8]) -> Result<(Instr, u8), DecodeFault>
 #[inline(always)]
 fn with_word(head: Head, rest: &[u8]) -> Result<(Instr, u8), DecodeFault>
     requires { head.length ≤ 3 }
-    ensures value { result ≡ model.read_tail head.page head.opcode head.post head.length model.word rest.now }
+    ensures value { result
+        ≡ model.read_tail head.page head.opcode head.post head.length model.word rest.now }
     ensures head { BeginsWithHead head result }
 {
     match rest {
@@ -76,7 +80,9 @@ fn with_word(head: Head, rest: &[u8]) -> Result<(Instr, u8), DecodeFault>
 #[inline(always)]
 fn with_form(head: Head, form: Form, rest: &[u8]) -> Result<(Instr, u8), DecodeFault>
     requires { head.length ≤ 3 }
-    ensures value { result ≡ model.read_tail head.page head.opcode head.post head.length (model.extent_of_form form) rest.now }
+    ensures value { result
+        ≡ model.read_tail head.page head.opcode head.post head.length (model.extent_of_form form)
+        rest.now }
     ensures head { BeginsWithHead head result }
 {
     match form {
@@ -232,7 +238,8 @@ pub fn decode(bytes: &[u8]) -> Result<(Instr, u8), DecodeFault>
     ensures only { (i : Instr) (count : ℕ) → BeginsWith bytes.now i count → result ≡ Ok (i, count) }
 
     ensures short { (result ≡ Err DecodeFault.Short) ↔ IsBegun bytes.now }
-    ensures not_documented { (result ≡ Err DecodeFault.NotDocumented) ↔ (¬ IsBegun bytes.now × ¬ IsSpelled bytes.now) }
+    ensures not_documented { (result ≡ Err DecodeFault.NotDocumented)
+        ↔ (¬ IsBegun bytes.now × ¬ IsSpelled bytes.now) }
 {
     instruction_and_length(bytes)
 }

@@ -42,7 +42,8 @@ fn of_page(page: Page) -> Spelling
 fn with_post(spelled: Spelling, post: Option<u8>) -> Spelling
     requires { spelled.len < 5 }
     ensures len { result.len ≡ spelled.len + length (option_to_list post) }
-    ensures bytes { take result.len result.bytes ≡ take spelled.len spelled.bytes ++ option_to_list post }
+    ensures bytes { take result.len result.bytes ≡ take spelled.len spelled.bytes
+        ++ option_to_list post }
 {
     match post {
         Some(post) => with_byte(spelled, post),
@@ -54,7 +55,8 @@ fn with_post(spelled: Spelling, post: Option<u8>) -> Spelling
 fn with_tail(spelled: Spelling, tail: Tail) -> Spelling
     requires { spelled.len < 4 }
     ensures len { result.len ≡ spelled.len + length (tail_bytes tail) }
-    ensures bytes { take result.len result.bytes ≡ take spelled.len spelled.bytes ++ tail_bytes tail }
+    ensures bytes { take result.len result.bytes ≡ take spelled.len spelled.bytes
+        ++ tail_bytes tail }
 {
     match tail {
         Tail::Empty => spelled,
@@ -73,7 +75,8 @@ fn with_tail(spelled: Spelling, tail: Tail) -> Spelling
 pub fn spell(i: &Instr) -> Spelling
     ensures bytes { take result.len result.bytes ≡ spelling i.now }
     ensures len { result.len ≡ length (spelling i.now) }
-    ensures read_again { IsPlain i.now → (rest : List ℕ) → reading (spelling i.now ++ rest) ≡ Ok (i.now, result.len) }
+    ensures read_again { IsPlain i.now → (rest : List ℕ)
+        → reading (spelling i.now ++ rest) ≡ Ok (i.now, result.len) }
 {
     let opcode = with_byte(of_page(i.page), i.opcode);
     with_tail(with_post(opcode, i.post), i.tail)

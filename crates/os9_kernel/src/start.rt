@@ -14,7 +14,7 @@ ghost use Rattle.os9_kernel.specs.Start.{IsFirstMap};
 use crate::kernel::Kernel;
 use crate::load::{enter_modules, load_group};
 use block_map::map::Map;
-use block_pool::pool::Pool;
+use block_pool::pool::{MOST_SHARED, Pool};
 use machine_model::activity::Activity;
 use machine_model::ends::BootFault;
 use module_dir::{Dir, ModId};
@@ -111,7 +111,7 @@ fn first_map(pool: &mut Pool, low: u8, group: &Group) -> Option<Map>
     requires some { 1 ≤ group.now.len }
     requires different { AllPairs (λ a b. a ≢ b) (group_blocks group.now) }
     requires live { All (λ id. IsLive pool.old id.0) (group_blocks group.now) }
-    requires countable { All (λ id. reference_count pool.old id.0 < 65000) (group_blocks group.now) }
+    requires countable { All (λ id. reference_count pool.old id.0 < MOST_SHARED) (group_blocks group.now) }
     requires enough { 8 ≤ free_block_count pool.old + group.now.len }
     ensures none { IfNone result (8 < low + group.now.len) }
     ensures fits { IfSome result (λ _. low + group.now.len ≤ 8) }
