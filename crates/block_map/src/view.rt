@@ -51,13 +51,13 @@ impl Bus for View<'_> {
 
     fn store_slice(&mut self, at: u16, from: &[u8]) -> bool
         ensures stored { OnTrue result
-            (cells_of self.new.map.now self.new.pool.now
-            ≡ store_cells (cells_of self.old.map.now self.old.pool.now) at from.now) }
-        ensures fits { OnTrue result (FitsIn (cells_of self.old.map.now self.old.pool.now) at
+            (map_cells self.new.map.now self.new.pool.now
+            ≡ store_cells (map_cells self.old.map.now self.old.pool.now) at from.now) }
+        ensures fits { OnTrue result (FitsIn (map_cells self.old.map.now self.old.pool.now) at
             (length from.now)) }
         ensures left { OnFalse result
-            (cells_of self.new.map.now self.new.pool.now
-            ≡ cells_of self.old.map.now self.old.pool.now) }
+            (map_cells self.new.map.now self.new.pool.now
+            ≡ map_cells self.old.map.now self.old.pool.now) }
         ensures beside { SameBeside self.old self.new }
         ensures always { IsTrue result ↔ (IsSlotLive self.old.map.now self.old.pool.now (at / 8192)
             × (at % 8192 + length from.now ≤ 8192)) }
