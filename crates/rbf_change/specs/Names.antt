@@ -4,7 +4,7 @@ use Rattle.os9_base.specs.Name.{padded_name}
 use Rattle.rbf_model.specs.Fields.{is_used}
 use Rattle.rbf_model.specs.File.{DiskFile, is_directory}
 use Rattle.rbf_model.specs.Tree.{dot, dot_dot}
-use Rattle.rbf_model.specs.Walk.{WalkEnd, arrives, not_allowed, not_found, entries_of, has_name, look_up, may_search, file_permits}
+use Rattle.rbf_model.specs.Walk.{WalkEnd, arrives, not_allowed, not_found, directory_entries, entry_has_name, look_up, may_search, file_permits}
 
 -- a name with bit 7 on its last character ("Directories", DIR.NM)
 abbrev pub marked_name : List ℕ → List ℕ
@@ -26,11 +26,12 @@ new_listing n d = new_entry dot_dot d ++ new_entry dot n
 
 -- where a new entry goes: to the first free place, else to the end
 abbrev pub entry_place : List ℕ → ℕ
-entry_place contents = unwrap_or (position (λ entry. not (is_used entry)) (entries_of contents)) (length contents / 32)
+entry_place contents =
+    unwrap_or (position (λ entry. not (is_used entry)) (directory_entries contents)) (length contents / 32)
 
 -- where an entry with this name is
 abbrev pub place_of : List ℕ → List ℕ → Option ℕ
-place_of contents name = position (has_name name) (entries_of contents)
+place_of contents name = position (entry_has_name name) (directory_entries contents)
 
 -- a directory that a user may search and change
 abbrev pub may_change : DiskFile → ℕ → Bool → Bool

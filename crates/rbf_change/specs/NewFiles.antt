@@ -1,13 +1,13 @@
 -- New files and their entries, and files that go.
 use Rattle.std.specs.Prelude.{◌≡◌, ℕ, ◌+◌, ◌-◌, ◌*◌, ◌/◌, ◌%◌, ◌==◌, ◌&&◌, ◌||◌, nat_lt, Bool, true, not, List, [], ◌∷◌, length, Option, Some, None, is_some, if◌then◌else◌}
 use Rattle.os9_base.specs.declared.registers.TimePacket.{TimePacket}
-use Rattle.rbf_model.specs.Fields.{entry_at}
+use Rattle.rbf_model.specs.Fields.{directory_entry}
 use Rattle.rbf_model.specs.Geometry.{Geometry}
 use Rattle.rbf_model.specs.File.{DiskFile}
 use Rattle.rbf_model.specs.Space.{has_cluster}
 use Rattle.rbf_model.specs.Volume.{DiskVolume}
 use Rattle.rbf_model.specs.Walk.{look_up}
-use Rattle.rbf_model.specs.Laws.{with_entry}
+use Rattle.rbf_model.specs.Laws.{with_directory_entry}
 use Rattle.rbf_change.specs.Growth.{with_clusters, clusters_needed, IsChoice}
 use Rattle.rbf_change.specs.Names.{new_entry, freed_entry, new_listing, entry_place, place_of, may_change, is_dots}
 use Rattle.rbf_change.specs.Calls.{shape, cluster_size, is_free_in, replaced, minute_of, day_of, WritesFile}
@@ -111,7 +111,9 @@ entry_refusal k free dir name user execute size =
 pub record Drops (v w : DiskVolume) (d i n : ℕ) : Type 0 where
   pub old : DiskFile
   pub is : v.files d ≡ Some old
-  pub volume : w ≡ replaced (replaced v d (Some (with_entry old i (freed_entry (entry_at old.contents i))))) n None
+  pub volume : w
+      ≡ replaced
+      (replaced v d (Some (with_directory_entry old i (freed_entry (directory_entry old.contents i))))) n None
 
 -- file n has been deleted from directory d, where it had a name
 pub record Deletes (v w : DiskVolume) (d n : ℕ) (name : List ℕ) : Type 0 where

@@ -2,12 +2,12 @@
 -- clusters of a file that has gone.
 use Rattle.std.specs.Prelude.{◌≡◌, ℕ, ◌*◌, ◌&&◌, ◌||◌, not, List, Some, None}
 use Rattle.os9_base.specs.declared.registers.TimePacket.{TimePacket}
-use Rattle.rbf_model.specs.Fields.{entry_at, descriptor_field}
+use Rattle.rbf_model.specs.Fields.{directory_entry, descriptor_field}
 use Rattle.rbf_model.specs.File.{DiskFile, file_at}
 use Rattle.rbf_model.specs.Space.{has_cluster}
 use Rattle.rbf_model.specs.Volume.{DiskVolume}
 use Rattle.rbf_model.specs.Writes.{with_file, with_lost}
-use Rattle.rbf_model.specs.Laws.{with_entry}
+use Rattle.rbf_model.specs.Laws.{with_directory_entry}
 use Rattle.rbf_change.specs.Names.{freed_entry}
 use Rattle.rbf_change.specs.Calls.{shape, cluster_size, is_free_in, replaced, WritesFile}
 use Rattle.rbf_change.specs.NewFiles.{Plan, IsNewFile}
@@ -34,8 +34,10 @@ pub record PutsEntry (v w : DiskVolume) (disk : ℕ → List ℕ) (d i : ℕ) (e
 pub record FreesEntry (v w : DiskVolume) (d i : ℕ) : Type 0 where
   pub old : DiskFile
   pub is : v.files d ≡ Some old
-  pub volume : w ≡ with_file (shape v) (replaced v d (Some (with_entry old i (freed_entry (entry_at old.contents i)))))
-      (descriptor_field (entry_at old.contents i)) None
+  pub volume : w
+      ≡ with_file (shape v)
+      (replaced v d (Some (with_directory_entry old i (freed_entry (directory_entry old.contents i)))))
+      (descriptor_field (directory_entry old.contents i)) None
 
 -- the clusters of file n, which has gone, are lost no more
 abbrev pub FreesClusters : DiskVolume → DiskVolume → ℕ → DiskFile → Type 0

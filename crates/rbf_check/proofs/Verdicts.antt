@@ -5,7 +5,6 @@ use Rattle.std.specs.Prelude.{Result, Ok, Err, MatchOption, IfErr, IsErrAnd}
 use Rattle.std.proofs.lemmas.Bool.{cases_lt, cases_eq, cases_Bool}
 use Rattle.rbf_check.specs.declared.faults.CheckError.{CheckError}
 use Rattle.rbf_check.specs.declared.faults.CheckError.TheVariants.{Fault, OutOfMemory}
-use Rattle.std.proofs.lemmas.List.{get_or_default}
 use Rattle.rbf_model.specs.Fields.{directory_entry, entry_name_field, descriptor_field, segments_field, size_field}
 use Rattle.rbf_model.specs.Geometry.{Geometry, IsNumber, IsHeader, HasMap, HasHeader, image_geometry, map_sectors, sector}
 use Rattle.rbf_model.specs.File.{file_at, is_directory, is_directory_size, has_room}

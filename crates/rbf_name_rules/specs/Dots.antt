@@ -3,7 +3,7 @@ use Rattle.rbf_model.specs.Disk.{Disk}
 use Rattle.std.specs.Prelude.{◌≡◌, ◌≢◌, ◌⊎◌, ℕ, true, false, Bool, List, length, get_or, Some}
 use Rattle.os9_base.specs.Name.{stored_name}
 use Rattle.rbf_model.specs.Fields.{directory_entry}
-use Rattle.rbf_model.specs.Geometry.{Geometry, IsNumber}
+use Rattle.rbf_model.specs.Geometry.{IsNumber}
 use Rattle.rbf_model.specs.File.{file_at, is_directory}
 use Rattle.rbf_model.specs.Tree.{dot, dot_dot, IsEntry, HasDots}
 use Rattle.rbf_model.specs.Search.{searchable_bytes}

@@ -6,7 +6,6 @@ use Rattle.std.specs.Cmp.Lexicographic.{slice_cmp}
 use Rattle.std.specs.BTreeSet.{BTreeSet, contains}
 use Rattle.os9_base.specs.Name.{lower, SameName}
 use Rattle.rbf_model.specs.Fields.{directory_entry, entry_name_field}
-use Rattle.rbf_model.specs.Geometry.{Geometry}
 use Rattle.rbf_model.specs.Search.{searchable_bytes}
 use Rattle.rbf_model.specs.Tree.{HasEntry, IsProper, HasNames, HasDifferentNames}
 
