@@ -1,6 +1,6 @@
 #!/usr/bin/env bash
 # Runs a million instructions of each of seven programs, and prints for each how many instructions a
-# second that is. Where valgrind is there, it also prints host instructions for each guest
+# second that is. Where valgrind is installed, it also prints host instructions for each guest
 # instruction, and their mean over the four programs that touch memory in one way each.
 top=$(cd "$(dirname "$(readlink -f "${BASH_SOURCE[0]}")")/.." && pwd) || exit 1
 folder=$(mktemp -d) || exit 1

@@ -50,13 +50,11 @@ impl Bus for View<'_> {
     }
 
     fn store_slice(&mut self, at: u16, from: &[u8]) -> bool
-        ensures stored { OnTrue result
-            (map_cells self.new.map.now self.new.pool.now
-            ≡ store_cells (map_cells self.old.map.now self.old.pool.now) at from.now) }
         ensures fits { OnTrue result (FitsIn (map_cells self.old.map.now self.old.pool.now) at
             (length from.now)) }
-        ensures left { OnFalse result
-            (map_cells self.new.map.now self.new.pool.now
+        ensures stored { OnTrue result (map_cells self.new.map.now self.new.pool.now
+            ≡ store_cells (map_cells self.old.map.now self.old.pool.now) at from.now) }
+        ensures left { OnFalse result (map_cells self.new.map.now self.new.pool.now
             ≡ map_cells self.old.map.now self.old.pool.now) }
         ensures beside { SameBeside self.old self.new }
         ensures always { IsTrue result ↔ (IsSlotLive self.old.map.now self.old.pool.now (at / 8192)

@@ -1,4 +1,4 @@
-ghost use Rattle.std.specs.Prelude.{◌≡◌, ◌+◌, ◌*◌, ◌/◌};
+ghost use Rattle.std.specs.Prelude.{◌≡◌};
 ghost use Rattle.cpu_vectors.specs.Memory.{cells_of, is_in_named_slot};
 
 use crate::vector::Cell;
@@ -6,9 +6,6 @@ use cpu6809::Bus;
 use std::alloc::{AllocError, Global};
 
 const ADDRESSES: usize = 0x1_0000;
-
-/// How many addresses a slot has.
-const SLOT: usize = 8192;
 
 /// The bytes of all addresses, in eight slots of which some are named.
 #[derive(Drop)]
@@ -54,14 +51,8 @@ impl Bus for Memory {
 
     ghost same_beside_then = { λ _ _ _ _ _. tt };
 
-    fn slice_from(&self, at: u16) -> &[u8] {
-        let start = at as usize;
-        let end = end_of_slot(at);
-        if self.has_slot(at) && end <= self.bytes.len() {
-            &self.bytes[start..end]
-        } else {
-            &[]
-        }
+    fn slice_from(&self, _at: u16) -> &[u8] {
+        &[]
     }
 
     fn read(&self, at: u16) -> Option<u8> {
@@ -74,51 +65,6 @@ impl Bus for Memory {
 
     fn put(&mut self, at: u16, byte: u8) {
         self.bytes[at as usize] = byte;
-    }
-
-    fn store_slice(&mut self, at: u16, from: &[u8]) -> bool {
-        let start = at as usize;
-        let end = end_of_slot(at);
-        if !self.has_slot(at) || end > self.bytes.len() || from.len() > end - start {
-            return false;
-        }
-        self.bytes[start..start + from.len()].copy_from_slice(from);
-        true
-    }
-}
-
-/// The address at which the slot of an address ends.
-fn end_of_slot(at: u16) -> usize
-    ensures { result ≡ at / 8192 * 8192 + 8192 }
-{
-    at as usize / SLOT * SLOT + SLOT
-}
-
-/// A memory as a bus that has no bytes together.
-#[derive(Drop)]
-pub(crate) struct Scattered {
-    pub(crate) memory: Memory,
-}
-
-impl Bus for Scattered {
-    ghost cells = { λ bus at. cells_of bus.memory.slots bus.memory.bytes.items at };
-
-    ghost same_beside = { λ _ _. Unit {0} };
-
-    ghost same_beside_self = { λ _. tt };
-
-    ghost same_beside_then = { λ _ _ _ _ _. tt };
-
-    fn slice_from(&self, _at: u16) -> &[u8] {
-        &[]
-    }
-
-    fn read(&self, at: u16) -> Option<u8> {
-        self.memory.read(at)
-    }
-
-    fn put(&mut self, at: u16, byte: u8) {
-        self.memory.put(at, byte);
     }
 
     fn store_slice(&mut self, _at: u16, _from: &[u8]) -> bool {
