@@ -1,0 +1,19 @@
+-- The module's bytes are those of its parts.
+use Rattle.std.proofs.Common.{◌≡◌, ◌<◌, arith, append_assoc, subst, sym}
+use Rattle.std.proofs.lemmas.Grind.{common_steps}
+use Rattle.proc_model.specs.Module.{IsModule, info_at}
+use Rattle.guest_mods.specs.GuestModule.{guest_module, guest_info}
+use Rattle.guest_mods.proofs.ModuleLemmas.{guest_module-is, guest_info-is}
+use Rattle.guest_mods.proofs.module.module.Goals as goal
+
+pub returns-clause-module : goal.returns-clause-module
+returns-clause-module c =
+    let bytes : c.push_crc.new.bytes.items ≡ guest_module c.args.name.now c.args.kind c.args.attr c.args.storage c.args.code.now = grind (arith, common_steps, append_assoc) in
+    let kind_fits : c.args.kind < 256 = omega arith in
+    let attr_fits : c.args.attr < 256 = omega arith in
+    subst IsModule (sym bytes) (guest_module-is c.args.name.now c.args.kind c.args.attr c.args.storage c.args.code.now c.push_name.ensures.name c.requires.filled c.requires.short kind_fits attr_fits)
+
+pub returns-clause-info : goal.returns-clause-info
+returns-clause-info c =
+    let bytes : c.push_crc.new.bytes.items ≡ guest_module c.args.name.now c.args.kind c.args.attr c.args.storage c.args.code.now = grind (arith, common_steps, append_assoc) in
+    subst (λ b. info_at 0 b ≡ guest_info c.args.name.now c.args.kind c.args.attr c.args.storage c.args.code.now) (sym bytes) (guest_info-is c.args.name.now c.args.kind c.args.attr c.args.storage c.args.code.now c.push_name.ensures.name)

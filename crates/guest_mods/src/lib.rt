@@ -1,0 +1,4 @@
+//! Modules made of their parts: the one maker of modules for tests and examples.
+#![tactic(auto)]
+
+pub mod module;

@@ -1,0 +1,170 @@
+ghost use Rattle.std.specs.Prelude.{◌≡◌, ◌≤◌, ◌<◌, ◌+◌, ◌-◌, ◌++◌, ◌∷◌, [], length, IfOk, slice_range};
+ghost use Rattle.os9_base.specs.Name.{IsName};
+ghost use Rattle.proc_model.specs.Module.{IsModule, info_at};
+ghost use Rattle.guest_mods.specs.GuestModule.{guest_module, guest_body, guest_info, guest_size, code_offset, is_program_kind, kind_header_length, header_front, parity_of, program_fields, marked_name, word_bytes, crc_bytes};
+
+use module_format::crc24;
+use os9_base::call::OutOfMemory;
+use os9_base::name::Name;
+use std::alloc::{AllocError, Global};
+
+/// The type of a program, which alone has an execution offset and a storage size.
+const PROGRAM: u8 = 1;
+
+/// How many bytes the CRC has.
+const CRC_LENGTH: u16 = 3;
+
+/// Makes a module (System Programmer's Manual, "Memory module structure") of its name, its type
+/// (high half) and language (low half), its attributes (high half) and revision (low half), the
+/// size of its data memory in bytes, and its code.
+///
+/// The name stands right behind the header and the code right behind the name; a program begins
+/// where its code does. A module of a type other than 1 has no size of data memory.
+///
+/// # Errors
+///
+/// `OutOfMemory` alone.
+pub fn module(
+    alloc: Global,
+    name: &Name,
+    kind: u8,
+    attr: u8,
+    storage: u16,
+    code: &[u8],
+) -> Result<Vec<u8>, OutOfMemory>
+    requires filled { 0 < length code.now }
+    requires short { guest_size name.now kind code.now ≤ 57344 }
+    ensures module { IfOk result (λ bytes. IsModule bytes.items) }
+    ensures info { IfOk result (λ bytes. info_at 0 bytes.items ≡ guest_info name.now kind attr storage code.now) }
+    ensures bytes { IfOk result (λ bytes. bytes.items ≡ guest_module name.now kind attr storage code.now) }
+{
+    let mut bytes = Vec::new(alloc);
+    push_header(&mut bytes, name, kind, attr, storage, code.len() as u16)?;
+    push_name(&mut bytes, name)?;
+    bytes.extend_from_slice(code)?;
+    let crc = crc24(&bytes);
+    push_crc(&mut bytes, crc)?;
+    Ok(bytes)
+}
+
+// Puts the header of a module with so many bytes of code behind these bytes.
+fn push_header(
+    bytes: &mut Vec<u8>,
+    name: &Name,
+    kind: u8,
+    attr: u8,
+    storage: u16,
+    code_length: u16,
+) -> Result<(), AllocError>
+    requires { code_offset name.now kind + code_length + 3 ≤ 57344 }
+    ensures { IfOk result (λ _. bytes.new.items ≡ bytes.old.items
+        ++ (header_front (code_offset name.now kind + code_length + 3) kind attr
+        ++ parity_of (header_front (code_offset name.now kind + code_length + 3) kind attr)
+        ∷ program_fields kind (code_offset name.now kind) storage)) }
+{
+    let length = header_length(kind);
+    let entry = u16::from(length) + u16::from(name.len());
+    let [size_high, size_low] = (entry + code_length + CRC_LENGTH).to_be_bytes();
+    let front = [0x87, 0xcd, size_high, size_low, 0, length, kind, attr];
+    bytes.extend_from_slice(&front)?;
+    bytes.push(parity(&front))?;
+    if is_program(kind) {
+        push_word(bytes, entry)?;
+        push_word(bytes, storage)?;
+    }
+    Ok(())
+}
+
+// How long the header of a module of this type is.
+fn header_length(kind: u8) -> u8
+    ensures { result ≡ kind_header_length kind }
+{
+    if is_program(kind) { 13 } else { 9 }
+}
+
+// Is the type 1?
+fn is_program(kind: u8) -> bool
+    ensures { result ≡ is_program_kind kind }
+{
+    kind >> 4 == PROGRAM
+}
+
+// The byte that brings the exclusive or of the header's first nine bytes to `FF`.
+fn parity(front: &[u8]) -> u8
+    ensures { result ≡ parity_of front.now }
+{
+    0xff - front.iter().fold(0, |parity, byte| parity ^ *byte)
+}
+
+// Puts the name with bit 7 on its last character behind these bytes.
+fn push_name(bytes: &mut Vec<u8>, name: &Name) -> Result<(), AllocError>
+    ensures bytes { IfOk result (λ _. bytes.new.items ≡ bytes.old.items ++ marked_name name.now) }
+    ensures name { IsName name.now }
+{
+    let last = name.len() - 1;
+    for i in 0..last {
+        bytes.push(name.byte(i))?;
+    }
+    bytes.push(name.byte(last) + 0x80)?;
+    Ok(())
+}
+
+// Puts a word, high byte first, behind these bytes.
+fn push_word(bytes: &mut Vec<u8>, word: u16) -> Result<(), AllocError>
+    ensures { IfOk result (λ _. bytes.new.items ≡ bytes.old.items ++ word_bytes word) }
+{
+    bytes.extend_from_slice(&word.to_be_bytes())
+}
+
+// Puts the three bytes of a CRC behind these.
+fn push_crc(bytes: &mut Vec<u8>, crc: u32) -> Result<(), AllocError>
+    requires { crc < 16777216 }
+    ensures { IfOk result (λ _. bytes.new.items ≡ bytes.old.items ++ crc_bytes crc) }
+{
+    let [_, high, middle, low] = crc.to_be_bytes();
+    bytes.extend_from_slice(&[high, middle, low])
+}
+
+#[cfg(test)]
+mod tests {
+    use super::*;
+    use module_format::read_module;
+    use os9_base::name::parse_name;
+    use std::test::Fail;
+
+    /// The code of a program that writes `Hello`, with the text behind it.
+    const CODE: [u8; 22] = [
+        0x30, 0x8C, 0x0D, 0x10, 0x8E, 0x00, 0x50, 0x86, 0x01, 0x10, 0x3F, 0x8C, 0x5F, 0x10, 0x3F,
+        0x06, 0x48, 0x65, 0x6C, 0x6C, 0x6F, 0x0D,
+    ];
+
+    /// The program's module.
+    const HELLO: [u8; 43] = [
+        0x87, 0xCD, 0x00, 0x2B, 0x00, 0x0D, 0x11, 0x81, 0x03, 0x00, 0x12, 0x00, 0xC8, 0x53, 0x79,
+        0x73, 0x47, 0xEF, 0x30, 0x8C, 0x0D, 0x10, 0x8E, 0x00, 0x50, 0x86, 0x01, 0x10, 0x3F, 0x8C,
+        0x5F, 0x10, 0x3F, 0x06, 0x48, 0x65, 0x6C, 0x6C, 0x6F, 0x0D, 0x84, 0x92, 0xD7,
+    ];
+
+    #[test]
+    fn hello(rt: HostRuntime) -> Result<(), Fail> {
+        let name = parse_name(b"SysGo")?;
+        assert_eq!(rt; name.len(), 5);
+        let made = module(rt.alloc(), &name, 0x11, 0x81, 200, &CODE)?;
+        assert_eq!(rt; made.as_slice(), HELLO.as_slice());
+        Ok(())
+    }
+
+    #[test]
+    fn shared_data(rt: HostRuntime) -> Result<(), Fail> {
+        let name = parse_name(b"Shared")?;
+        assert_eq!(rt; name.len(), 6);
+        let made = module(rt.alloc(), &name, 0x40, 0x82, 200, &[0; 10])?;
+        let info = read_module(&made)?;
+        assert_eq!(rt; info.size, 28);
+        assert_eq!(rt; info.kind, 0x40);
+        assert_eq!(rt; info.attr, 0x82);
+        assert_eq!(rt; info.entry, 0);
+        assert_eq!(rt; info.storage, 0);
+        Ok(())
+    }
+}
