@@ -4,8 +4,9 @@ use Rattle.std.specs.Option.{option_map_or}
 use Rattle.std.specs.List.{filter_map}
 use Rattle.os9_base.specs.declared.registers.Pid.{Pid}
 use Rattle.os9_base.specs.Count.{Rose}
-use Rattle.os9_outer.specs.Stream.{appended}
+use Rattle.os9_outer.specs.Stream.{stream_with}
 use Rattle.os9_outer.specs.Terminal.{due_byte}
+use Rattle.os9_outer.specs.TerminalState.{TerminalState}
 use Rattle.os9_outer.specs.declared.terminal.Key.{Key}
 use Rattle.io_model.specs.Edit.{Editing, Edited, Typing, typing, edited, copied, cleared, no_line}
 use Rattle.io_model.specs.declared.edit.LineEnd.{LineEnd}
@@ -18,12 +19,6 @@ use Rattle.io_model.specs.declared.terminal.ReadKind.{ReadKind}
 use Rattle.io_model.specs.declared.terminal.ReadKind.TheVariants.{Bytes, WholeLine}
 use Rattle.io_model.specs.declared.terminal.Reading.{Reading}
 use Rattle.io_model.specs.declared.terminal.TheConstants.{TYPE_AHEAD}
-
--- what the driver of a terminal tells: the keys to come, the bytes put, and how often it failed
-pub record TerminalState : Type 0 where
-  pub keys : List Key
-  pub put : Option (List ℕ)
-  pub faults : ℕ
 
 -- what stands at a terminal
 pub record Terminal : Type 0 where
@@ -67,17 +62,21 @@ forgotten process t =
 abbrev pub signal_of : ℕ → Option ℕ
 signal_of key = if key == INTERRUPT then Some 3 else (if key == QUIT then Some 2 else None)
 
--- the bytes of the keys that send no signal
-abbrev pub typed_bytes : List Key → List ℕ
-typed_bytes keys = filter (λ byte. is_none (signal_of byte)) (map (λ key. key.byte) keys)
+-- the bytes of keys
+abbrev pub key_bytes : List Key → List ℕ
+key_bytes keys = map (λ key. key.byte) keys
 
--- the signal of the first key that sends one
-abbrev pub first_signal : List Key → Option ℕ
-first_signal keys = slice_get (filter_map signal_of (map (λ key. key.byte) keys)) 0
+-- the bytes that send no signal
+abbrev pub typed_bytes : List ℕ → List ℕ
+typed_bytes bytes = filter (λ byte. is_none (signal_of byte)) bytes
 
--- how many of the keys find the type-ahead full
-abbrev pub dropped_count : List ℕ → List Key → ℕ
-dropped_count ahead keys = length ahead + length (typed_bytes keys) - TYPE_AHEAD
+-- the signal of the first byte that sends one
+abbrev pub first_signal : List ℕ → Option ℕ
+first_signal bytes = slice_get (filter_map signal_of bytes) 0
+
+-- how many of these bytes find the type-ahead full
+abbrev pub dropped_count : List ℕ → List ℕ → ℕ
+dropped_count ahead bytes = length ahead + length (typed_bytes bytes) - TYPE_AHEAD
 
 -- the count of faults rose at least this often, or stands at its last value
 pub record RoseTimes (times before now : ℕ) : Type 0 where
@@ -92,14 +91,15 @@ pub record Arrives (tick : ℕ) (old new : Terminal) (before now : TerminalState
   pub bells : ℕ  -- the bells that are put
   pub mute : ℕ  -- the bells that the driver failed to put
   pub broken : ℕ  -- 1 where the driver failed to give a key, which ends the poll, else 0
+  pub once : broken ≤ 1
   pub in_order : before.keys ≡ taken ++ now.keys
   pub due : All (λ key. key.tick ≤ tick) taken
-  pub kept : new ≡ record old { ahead = take TYPE_AHEAD (old.ahead ++ typed_bytes taken) }
-  pub signal : answer.signal ≡ first_signal taken
-  pub put : now.put ≡ appended before.put (replicate bells BELL)
+  pub kept : new ≡ record old { ahead = take TYPE_AHEAD (old.ahead ++ typed_bytes (key_bytes taken)) }
+  pub signal : answer.signal ≡ first_signal (key_bytes taken)
+  pub put : now.put ≡ stream_with before.put (replicate bells BELL)
   pub faults : RoseTimes (mute + broken) before.faults now.faults
-  pub every_bell : answer.memory ≡ true → bells + mute ≡ dropped_count old.ahead taken
-  pub last_bell : answer.memory ≡ false → bells + mute + 1 ≡ dropped_count old.ahead taken
+  pub every_bell : answer.memory ≡ true → bells + mute ≡ dropped_count old.ahead (key_bytes taken)
+  pub last_bell : answer.memory ≡ false → bells + mute + 1 ≡ dropped_count old.ahead (key_bytes taken)
   pub all_taken : answer.memory ≡ true → broken ≡ 0 → due_byte now.keys tick ≡ None
 
 -- Reads.
@@ -155,7 +155,7 @@ read_attempt request t =
 pub record Attempted (attempt : Attempt) (answer : Progress) (new : Terminal) (before now : TerminalState) : Type 0 where
   pub answer_is : answer ≡ attempt.answer
   pub terminal : new ≡ attempt.terminal
-  pub echo : now.put ≡ appended before.put attempt.echo
+  pub echo : now.put ≡ stream_with before.put attempt.echo
 
 -- what the last of these keys makes of the line of a read, after those before it
 abbrev pub last_effect : Reading → Editing → List ℕ → ℕ → Edited
@@ -176,7 +176,7 @@ pub record BreaksOff (request : Reading) (old new : Terminal) (before now : Term
   pub keys : old.ahead ≡ front ++ key ∷ rest
   pub unfinished : (typed request old.line front).end ≡ None
   pub part : count < length (last_effect request old.line front key).echo
-  pub echo : now.put ≡ appended before.put ((typed request old.line front).echo ++ take count (last_effect request old.line front key).echo)
+  pub echo : now.put ≡ stream_with before.put ((typed request old.line front).echo ++ take count (last_effect request old.line front key).echo)
   pub terminal : new ≡ broken_off request (last_effect request old.line front key).line rest
 
 -- a byte was not put
@@ -218,13 +218,13 @@ stored_bytes answer request t = if is_refused answer then [] else (read_attempt 
 -- the terminal was given a part of these bytes: one of them at least was refused
 abbrev pub PutsPart : List ℕ → TerminalState → TerminalState → Type 0
 PutsPart bytes before now =
-    (count : ℕ) × (count < length bytes) × (now.put ≡ appended before.put (take count bytes))
+    (count : ℕ) × (count < length bytes) × (now.put ≡ stream_with before.put (take count bytes))
 
 -- a write was done: these bytes are out, and it answers this count
 pub record IsWritten (process : Pid) (bytes : List ℕ) (count : ℕ) (answer : Progress) (old new : Terminal) (before now : TerminalState) : Type 0 where
   pub answer_is : answer ≡ Done count
   pub terminal : new ≡ used_by process old
-  pub put : now.put ≡ appended before.put bytes
+  pub put : now.put ≡ stream_with before.put bytes
 
 -- a byte of a write was refused: a part of the bytes is out, and no read is unfinished
 pub record IsCutShort (process : Pid) (bytes : List ℕ) (old new : Terminal) (before now : TerminalState) : Type 0 where

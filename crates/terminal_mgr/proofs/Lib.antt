@@ -1,2 +1,4 @@
+pub mod PollLemmas
 pub mod PutLemmas
+pub mod RingLemmas
 pub mod TypingLemmas

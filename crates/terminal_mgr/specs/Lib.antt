@@ -1,3 +1,4 @@
 pub mod Driver
+pub mod Polling
 pub mod Term
 pub mod Typing

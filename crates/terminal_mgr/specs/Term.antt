@@ -1,15 +1,15 @@
 -- The terminal that a `Term` keeps.
 use Rattle.std.specs.Prelude.{◌≡◌, ℕ, ◌<◌, ◌≤◌, Option, MatchOption, List, [], length}
 use Rattle.os9_base.specs.declared.registers.Pid.{Pid}
+use Rattle.os9_outer.specs.TerminalState.{TerminalState, terminal_state}
 use Rattle.os9_outer.specs.declared.terminal.CharDriver.{Ghosts}
 use Rattle.io_model.specs.Edit.{Editing}
-use Rattle.io_model.specs.Terminal.{Terminal, TerminalState}
+use Rattle.io_model.specs.Terminal.{Terminal}
 use Rattle.io_model.specs.declared.terminal.Reading.{Reading}
 
--- what a driver tells, as `dyn_state ⟦<dyn CharDriver as CharDriver>⟧ d.old`
+-- the state of a terminal that is lent, as `dyn_state ⟦<dyn CharDriver as CharDriver>⟧ d.old`
 abbrev pub dyn_state : {Table : Type 0} {Driver : Table → Type 0} → ((table : Table) → Ghosts (Driver table)) → ((table : Table) × Driver table) → TerminalState
-dyn_state members d =
-    record { keys = (members d.0).keys_left d.1; put = (members d.0).bytes_put d.1; faults = (members d.0).term_faults d.1 }
+dyn_state members d = terminal_state (members d.0) d.1
 
 -- a terminal by its parts
 abbrev pub terminal_of : List ℕ → Editing → Option Reading → Option Pid → Terminal

@@ -1,10 +1,11 @@
 -- What the keys of the type-ahead make of the line of a read.
 use Rattle.std.specs.Prelude.{◌≡◌, ℕ, ◌<◌, Option, None, MatchBool, List, [], ◌∷◌, ◌++◌, length, take, if◌then◌else◌}
-use Rattle.os9_outer.specs.Stream.{appended}
+use Rattle.os9_outer.specs.Stream.{stream_with}
+use Rattle.os9_outer.specs.TerminalState.{TerminalState}
 use Rattle.os9_outer.specs.declared.terminal.PutFault.{PutFault}
 use Rattle.os9_outer.specs.declared.terminal.PutFault.TheVariants.{Fault, OutOfMemory}
 use Rattle.io_model.specs.Edit.{Editing}
-use Rattle.io_model.specs.Terminal.{Terminal, TerminalState, typed, last_effect, is_refused, BreaksOff, Attempted, typed_attempt, LeavesDriver, stored_over}
+use Rattle.io_model.specs.Terminal.{Terminal, typed, last_effect, is_refused, BreaksOff, Attempted, typed_attempt, LeavesDriver, stored_over}
 use Rattle.io_model.specs.declared.edit.LineEnd.{LineEnd}
 use Rattle.io_model.specs.declared.terminal.Progress.{Progress}
 use Rattle.io_model.specs.declared.terminal.Progress.TheVariants.{NoMemory}
@@ -16,17 +17,17 @@ pub record IsTyped (request : Reading) (end : Option LineEnd) (old new : Editing
   pub line : new ≡ (typed request old ahead).line
   pub ended : end ≡ (typed request old ahead).end
   pub left_is : left ≡ (typed request old ahead).left
-  pub echo : now ≡ appended before (typed request old ahead).echo
+  pub echo : now ≡ stream_with before (typed request old ahead).echo
 
 -- the echo of a key was refused, and these keys are left
 pub record TypingBreaksOff (request : Reading) (old new : Editing) (ahead left : List ℕ) (before now : Option (List ℕ)) : Type 0 where
-  pub front : List ℕ -- the keys before it
+  pub front : List ℕ  -- the keys before it
   pub key : ℕ
-  pub count : ℕ -- how many bytes of its echo are out
+  pub count : ℕ  -- how many bytes of its echo are out
   pub keys : ahead ≡ front ++ key ∷ left
   pub unfinished : (typed request old front).end ≡ None
   pub part : count < length (last_effect request old front key).echo
-  pub echo : now ≡ appended before ((typed request old front).echo ++ take count (last_effect request old front key).echo)
+  pub echo : now ≡ stream_with before ((typed request old front).echo ++ take count (last_effect request old front key).echo)
   pub line : new ≡ (last_effect request old front key).line
 
 -- the answer of a call one of whose bytes was refused

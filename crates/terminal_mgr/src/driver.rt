@@ -1,6 +1,6 @@
 ghost use Rattle.std.specs.Prelude.{◌≡◌, ℕ, ◌≤◌, ◌<◌, length, Option, IfSome, IfOk, OnOk, OnErr, List, [], ◌∷◌};
 ghost use Rattle.os9_base.specs.Count.{Rose};
-ghost use Rattle.os9_outer.specs.Stream.{appended};
+ghost use Rattle.os9_outer.specs.Stream.{stream_with};
 ghost use Rattle.os9_outer.specs.Terminal.{due_byte, keys_after, OnFault, UnlessFault};
 ghost use Rattle.io_model.specs.Line.{return_place, line_length, line_put};
 ghost use Rattle.terminal_mgr.specs.Driver.{GainsPart};
@@ -23,7 +23,7 @@ pub(crate) fn next_key(d: &mut dyn CharDriver, tick: u32) -> Result<Option<u8>, 
 
 // `CharDriver::put` with its clauses by name.
 pub(crate) fn put_byte(d: &mut dyn CharDriver, byte: u8) -> Result<(), PutFault>
-    ensures put_last { OnOk result (bytes_put d.new ≡ appended (bytes_put d.old) (byte ∷ [])) }
+    ensures put_last { OnOk result (bytes_put d.new ≡ stream_with (bytes_put d.old) (byte ∷ [])) }
     ensures put_kept { OnErr result (bytes_put d.new ≡ bytes_put d.old) }
     ensures fault_counted { OnFault result (Rose (term_faults d.old) (term_faults d.new)) }
     ensures faults_kept { UnlessFault result (term_faults d.new ≡ term_faults d.old) }
@@ -35,7 +35,7 @@ pub(crate) fn put_byte(d: &mut dyn CharDriver, byte: u8) -> Result<(), PutFault>
 
 // Puts the bytes one after another, until one is refused.
 pub(crate) fn put_bytes(d: &mut dyn CharDriver, bytes: &[u8]) -> Result<(), PutFault>
-    ensures all { OnOk result (bytes_put d.new ≡ appended (bytes_put d.old) bytes.now) }
+    ensures all { OnOk result (bytes_put d.new ≡ stream_with (bytes_put d.old) bytes.now) }
     ensures part { OnErr result (GainsPart bytes.now (bytes_put d.old) (bytes_put d.new)) }
     ensures fault_counted { OnFault result (Rose (term_faults d.old) (term_faults d.new)) }
     ensures faults_kept { UnlessFault result (term_faults d.new ≡ term_faults d.old) }
@@ -71,7 +71,7 @@ pub(crate) fn line_len(bytes: &[u8]) -> usize
 
 // Puts the first line, and a line feed after its carriage return.
 pub(crate) fn put_line(d: &mut dyn CharDriver, bytes: &[u8]) -> Result<(), PutFault>
-    ensures all { OnOk result (bytes_put d.new ≡ appended (bytes_put d.old) (line_put bytes.now)) }
+    ensures all { OnOk result (bytes_put d.new ≡ stream_with (bytes_put d.old) (line_put bytes.now)) }
     ensures part { OnErr result (GainsPart (line_put bytes.now) (bytes_put d.old) (bytes_put d.new)) }
     ensures fault_counted { OnFault result (Rose (term_faults d.old) (term_faults d.new)) }
     ensures faults_kept { UnlessFault result (term_faults d.new ≡ term_faults d.old) }

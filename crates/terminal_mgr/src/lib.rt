@@ -1,6 +1,7 @@
 //! Terminals: keys that arrive, one read at a time, and writes, over a driver that may fail in any call.
 #![tactic(auto)]
 
+mod arrival;
 mod driver;
 pub mod term;
 mod type_ahead;

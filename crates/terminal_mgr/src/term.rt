@@ -1,13 +1,14 @@
 ghost use Rattle.std.specs.Prelude.{◌≡◌, ◌<◌, ◌≤◌, IfOk, length};
 ghost use Rattle.io_model.specs.Line.{line_length, line_put};
-ghost use Rattle.io_model.specs.Terminal.{new_terminal, reader, released, forgotten, Reads, Writes, IsSameCall, stored_over, stored_bytes};
+ghost use Rattle.io_model.specs.Terminal.{new_terminal, reader, released, forgotten, Arrives, Reads, Writes, IsSameCall, stored_over, stored_bytes};
 ghost use Rattle.terminal_mgr.specs.Term.{dyn_state};
 ghost use Rattle.io_model.specs.declared.terminal.ReadKind.TheVariants.{Bytes, WholeLine};
 
+use crate::arrival::poll;
 use crate::driver::{line_len, put_bytes, put_line};
 use crate::type_ahead::TypeAhead;
 use crate::typist::{read_keys, refused};
-use io_model::terminal::{Progress, ReadKind, Reading};
+use io_model::terminal::{Arrival, Progress, ReadKind, Reading};
 use line_edit::line::Line;
 use os9_base::call::OutOfMemory;
 use os9_base::registers::Pid;
@@ -57,6 +58,18 @@ impl Term {
         self.ahead.len()
     }
 
+    /// The keys that are due at a tick arrive: those that send a signal are not kept, the others go
+    /// into the type-ahead, and a bell is put for each one that finds it full. The poll ends early
+    /// where the driver fails to give a key, which is then not lost. That it fails to put a bell is
+    /// ignored.
+    pub fn arrive(&mut self, tick: u32, d: &mut dyn CharDriver) -> Arrival
+        ensures { Arrives tick self.old self.new
+            (dyn_state ⟦<dyn CharDriver as CharDriver>⟧ d.old)
+            (dyn_state ⟦<dyn CharDriver as CharDriver>⟧ d.new) result }
+    {
+        poll(&mut self.ahead, tick, d)
+    }
+
     /// The process whose read is unfinished. None if there is none.
     pub fn reader(&self) -> Option<Pid>
         ensures { result ≡ reader self.now }
@@ -78,13 +91,7 @@ impl Term {
     /// An attempt of I$Read of at most `most` bytes, from 1 to 256, which are stored into `into` once
     /// it is done (Level Two manual, I$Read). It waits while another process's read is unfinished, and
     /// where the keys of the type-ahead do not finish it.
-    pub fn read(
-        &mut self,
-        p: Pid,
-        most: u16,
-        into: &mut [u8],
-        d: &mut dyn CharDriver,
-    ) -> Progress
+    pub fn read(&mut self, p: Pid, most: u16, into: &mut [u8], d: &mut dyn CharDriver) -> Progress
         requires some { 1 ≤ most }
         requires most { most ≤ 256 }
         requires buffer { most ≤ length into.old }
@@ -138,12 +145,7 @@ impl Term {
         )
     }
 
-    fn attempt(
-        &mut self,
-        request: Reading,
-        into: &mut [u8],
-        d: &mut dyn CharDriver,
-    ) -> Progress
+    fn attempt(&mut self, request: Reading, into: &mut [u8], d: &mut dyn CharDriver) -> Progress
         requires some { 1 ≤ request.most }
         requires most { request.most ≤ 256 }
         requires buffer { request.most ≤ length into.old }

@@ -1,4 +1,4 @@
-ghost use Rattle.std.specs.Prelude.{◌≡◌, ◌<◌, ◌≤◌, ◌↔◌, IsTrue, [], ◌∷◌, ◌++◌, IfOk, length, slice_get, drop, MatchBool};
+ghost use Rattle.std.specs.Prelude.{◌≡◌, ◌<◌, ◌≤◌, ◌↔◌, IsTrue, [], ◌∷◌, ◌++◌, IfOk, length, slice_get, drop, take};
 
 use circular_buffer::HeapCircularBuffer;
 use io_model::terminal::TYPE_AHEAD;
@@ -41,7 +41,7 @@ impl TypeAhead {
     // Keeps a key. False where it is dropped, since the type-ahead is full.
     pub(crate) fn keep(&mut self, key: u8) -> bool
         ensures room { IsTrue result ↔ (length self.old < 256) }
-        ensures kept { MatchBool result (self.new ≡ self.old ++ key ∷ []) (self.new ≡ self.old) }
+        ensures kept { self.new ≡ take 256 (self.old ++ key ∷ []) }
         ensures within { length self.new ≤ 256 }
     {
         self.keys.try_push_back(key).is_ok()

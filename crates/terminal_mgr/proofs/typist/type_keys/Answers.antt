@@ -1,4 +1,4 @@
-use Rattle.std.proofs.Common.{◌≡◌, ◌∷◌, Some, None, refl, sym, ap, ◌∙◌}
+use Rattle.std.proofs.Common.{◌≡◌, ◌∷◌, refl, sym, ap, ◌∙◌}
 use Rattle.terminal_mgr.proofs.TypingLemmas.{none-typed, first-rest, typed-on, typed-all, room-left}
 use Rattle.terminal_mgr.proofs.typist.type_keys.Goals as goal
 
