@@ -64,7 +64,7 @@ pub(crate) fn lea(r: &mut Regs, to: IndexRegister, at: u16)
 pub(crate) fn branch(r: &mut Regs, condition: Condition, target: u16)
     ensures { r.new ≡ model.branch r.old condition target }
 {
-    if holds(condition, flags_of(r.cc)) {
+    if holds(condition, r.cc) {
         r.pc = target;
     }
 }

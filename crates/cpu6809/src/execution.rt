@@ -87,6 +87,7 @@ fn fetch<B: Bus>(b: &B, mut at: u16) -> ArrayVec<u8, LONGEST>
 
 /// The instruction at an address whose bytes do not lie together.
 #[cold]
+#[inline(never)]
 fn instruction_apart<B: Bus>(b: &B, at: u16) -> Result<Decoded, DecodeFault>
     ensures value { reading_of result ≡ reading (model.window (B.cells b.now) at 5) }
     ensures row { IfOk result HasItsRow }

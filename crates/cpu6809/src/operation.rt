@@ -1,9 +1,10 @@
 ghost use Rattle.std.specs.Prelude.{◌≡◌};
+ghost use Rattle.cpu_model.specs.Flags as flags;
 ghost use Rattle.cpu_model.specs.Operations as model;
 
 use cpu_alu::{
-    Flags, add8, add16, asl8, asr8, clr8, com8, dec8, inc8, logic8, logic16, lsr8, neg8, rol8,
-    ror8, sub8, sub16,
+    Flags, add8, add16, asl8, asr8, clr8, com8, dec8, flags_of, inc8, logic8, logic16, lsr8, neg8,
+    rol8, ror8, sub8, sub16,
 };
 use cpu_model::rows::{Binary, Condition, Unary, WordBinary};
 
@@ -62,28 +63,36 @@ pub(crate) fn word_binary(operation: WordBinary, a: u16, b: u16, f: Flags) -> (u
     }
 }
 
-/// Does a branch with this condition branch?
+/// Does a branch with this condition branch? Each condition looks at its own flags alone.
 #[inline(always)]
-pub(crate) fn holds(condition: Condition, f: Flags) -> bool
-    ensures { result ≡ model.holds condition f }
+pub(crate) fn holds(condition: Condition, cc: u8) -> bool
+    ensures { result ≡ model.holds condition (flags.flags_of cc) }
 {
-    let is_less = f.n != f.v;
     match condition {
         Condition::Always => true,
         Condition::Never => false,
-        Condition::Higher => !(f.c || f.z),
-        Condition::LowerOrSame => f.c || f.z,
-        Condition::CarryClear => !f.c,
-        Condition::CarrySet => f.c,
-        Condition::NotEqual => !f.z,
-        Condition::Equal => f.z,
-        Condition::OverflowClear => !f.v,
-        Condition::OverflowSet => f.v,
-        Condition::Plus => !f.n,
-        Condition::Minus => f.n,
-        Condition::GreaterOrEqual => !is_less,
-        Condition::Less => is_less,
-        Condition::Greater => !(f.z || is_less),
-        Condition::LessOrEqual => f.z || is_less,
+        Condition::Higher => !(flags_of(cc).c || flags_of(cc).z),
+        Condition::LowerOrSame => flags_of(cc).c || flags_of(cc).z,
+        Condition::CarryClear => !flags_of(cc).c,
+        Condition::CarrySet => flags_of(cc).c,
+        Condition::NotEqual => !flags_of(cc).z,
+        Condition::Equal => flags_of(cc).z,
+        Condition::OverflowClear => !flags_of(cc).v,
+        Condition::OverflowSet => flags_of(cc).v,
+        Condition::Plus => !flags_of(cc).n,
+        Condition::Minus => flags_of(cc).n,
+        Condition::GreaterOrEqual => !is_less(cc),
+        Condition::Less => is_less(cc),
+        Condition::Greater => !(flags_of(cc).z || is_less(cc)),
+        Condition::LessOrEqual => flags_of(cc).z || is_less(cc),
     }
+}
+
+/// Are N and V different?
+#[inline(always)]
+fn is_less(cc: u8) -> bool
+    ensures { result ≡ model.is_less (flags.flags_of cc) }
+{
+    let f = flags_of(cc);
+    f.n != f.v
 }

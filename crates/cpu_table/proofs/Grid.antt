@@ -21,3 +21,8 @@ grid_at f table d e k h =
     let whole : 16 * (k / 16) + k % 16 ≡ k = omega arith in
     let mask : bit_and k 15 ≡ k % 16 = and_mask k 4 in
     rw (e, row, mask, column, whole) refl
+
+-- the entry of a table in one row
+pub flat_at : {A : Type 0} (f : ℕ → A) (table : List A) (d : A) → table ≡ map f (range_with_len 0 256) → (k : ℕ) → k < 256 →
+    get_or table k d ≡ f k
+flat_at f table d e k h = rw e (get_or-map-range_with_len f 0 256 k k d (omega arith) (omega arith))

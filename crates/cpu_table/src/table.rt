@@ -17,7 +17,7 @@ pub fn row(page: Page, opcode: u8) -> Option<Row>
     let high = (opcode >> 4) as usize;
     let low = (opcode & 0x0F) as usize;
     match page {
-        Page::Base => BASE_PAGE[high][low],
+        Page::Base => BASE_PAGE[opcode as usize],
         Page::Ten => TEN_PAGE[high][low],
         Page::Eleven => ELEVEN_PAGE[high][low],
     }

@@ -5,12 +5,12 @@ use Rattle.cpu_model.specs.BasePage.{base_page}
 use Rattle.cpu_model.specs.TenPage.{ten_page}
 use Rattle.cpu_model.specs.ElevenPage.{eleven_page}
 use Rattle.cpu_model.specs.declared.instruction.Page.TheVariants.{Base, Ten, Eleven}
-use Rattle.cpu_table.proofs.Grid.{grid_at}
+use Rattle.cpu_table.proofs.Grid.{grid_at, flat_at}
 use Rattle.cpu_table.proofs.table.row.Goals as goal
 
 pub returns-in-Base : goal.returns-in-Base
 unfolding model.row base_page
-returns-in-Base c = rw c.in-Base.is (grid_at (model.row Base) _ None refl c.args.opcode c.ranges.opcode.fits)
+returns-in-Base c = rw c.in-Base.is (flat_at (model.row Base) _ None refl c.args.opcode c.ranges.opcode.fits)
 
 pub returns-in-Ten : goal.returns-in-Ten
 unfolding model.row ten_page
