@@ -1,9 +1,10 @@
 -- The scheduler: the order of choice, and for each process its priority and what it waits for.
 use Rattle.std.specs.Prelude.{◌≡◌, ℕ, ◌==◌, Bool, false, Option, Some, None, is_some, option_map, List, [], ◌∷◌, length, map, slice_set}
 use Rattle.std.specs.List.{list_any, find}
+use Rattle.os9_base.specs.declared.limits.TheConstants.{PROCESS_PLACES}
 use Rattle.os9_base.specs.declared.registers.Pid.{Pid}
 use Rattle.proc_rules.specs.declared.turn.Turn.{Turn}
-use Rattle.proc_rules.specs.Turns.{with_turn, without_turn, choose}
+use Rattle.proc_rules.specs.Turns.{with_turn, without_turn, has_turn, AreOnce, choose}
 use Rattle.os9_sched.specs.declared.member.Wait.{Wait}
 use Rattle.os9_sched.specs.declared.member.Standing.{Standing}
 use Rattle.os9_sched.specs.declared.member.Standing.TheVariants.{Going, Resting}
@@ -15,22 +16,9 @@ pub record Schedule : Type 0 where
   pub order : List Turn  -- the one chosen longest ago first, with their ages
   pub members : List (Option Member)  -- by process number, 0 to 32
 
--- the age of a process, if it has a turn
-abbrev pub age_in : List Turn → ℕ → Option ℕ
-age_in order p = option_map (λ t. t.age) (find (λ t. t.process.0 == p) order)
-
--- a process has a turn
-abbrev pub has_turn : List Turn → ℕ → Bool
-has_turn order p = list_any (λ t. t.process.0 == p) order
-
--- no process has two turns
-abbrev pub AreOnce : List Turn → Type 0
-AreOnce [] = Unit {0}
-AreOnce (t ∷ order) = (has_turn order t.process.0 ≡ false) × AreOnce order
-
 -- what a scheduler always is: each process that is in it has one turn, and no other has one
 pub record IsSchedule (s : Schedule) : Type 0 where
-  pub places : length s.members ≡ 33
+  pub places : length s.members ≡ PROCESS_PLACES
   pub same : (p : ℕ) → has_turn s.order p ≡ is_some (member_of s.members p)
   pub once : AreOnce s.order
 

@@ -1,24 +1,21 @@
 ghost use Rattle.std.specs.Prelude.{◌≡◌, ◌==◌, ◌&&◌, None, IfOk, IfSome, IfNone, option_map, map, length, replicate};
 ghost use Rattle.std.specs.List.{find};
-ghost use Rattle.proc_rules.specs.Turns.{ready_turns, greatest_age as greatest_age_lem, eldest as eldest_lem, aged};
+ghost use Rattle.proc_rules.specs.Turns.{age_in as age_in_lem, ready_turns, greatest_age as greatest_age_lem, eldest as eldest_lem, aged};
 ghost use Rattle.os9_sched.specs.Waits.{woken_at as woken_at_lem};
 ghost use Rattle.os9_sched.specs.Members.{IsMember, is_active_in as is_active_in_lem, priority_in as priority_in_lem, IsNextWaiting, NobodyWaits};
-ghost use Rattle.os9_sched.specs.Schedule.{age_in as age_in_lem};
 
 use crate::member::{Cause, Member, is_active, waits_for, woken_at};
+use os9_base::limits::PROCESS_PLACES;
 use os9_base::registers::Pid;
 use proc_rules::turn::Turn;
 use std::alloc::{AllocError, Global};
 
-/// How many process numbers there are, with those that no process has.
-pub const PLACES: usize = 33;
-
 /// Places without members.
 pub fn empty_places(alloc: Global) -> Result<Vec<Option<Member>>, AllocError>
-    ensures { IfOk result (λ places. places.items ≡ replicate 33 None) }
+    ensures { IfOk result (λ places. places.items ≡ replicate PROCESS_PLACES None) }
 {
-    let mut places = Vec::with_capacity(alloc, PLACES)?;
-    'fill: while places.len() < PLACES {
+    let mut places = Vec::with_capacity(alloc, PROCESS_PLACES as usize)?;
+    'fill: while places.len() < PROCESS_PLACES as usize {
         places.push(None)?;
     }
     Ok(places)
@@ -110,7 +107,7 @@ pub fn wake_due(members: &mut [Option<Member>], tick: u32)
 
 /// The process of least number above this one that waits for this.
 pub fn next_waiting(members: &[Option<Member>], cause: Cause, after: u8) -> Option<Pid>
-    requires { length members.now ≡ 33 }
+    requires { length members.now ≡ PROCESS_PLACES }
     ensures found { IfSome result (λ p. IsNextWaiting members.now cause after p.0) }
     ensures none { IfNone result (NobodyWaits members.now cause after) }
 {

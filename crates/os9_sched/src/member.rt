@@ -83,16 +83,12 @@ pub fn woken_at(tick: u32, member: Member) -> Member
     Member { standing, ..member }
 }
 
+/// Has a process of this standing a tick, and is it reached?
 fn is_due(tick: u32, standing: Standing) -> bool
     ensures { result ≡ is_due_lem tick standing }
 {
-    match wait_of(standing) {
-        None => false,
-        Some(wait) => match wait.until {
-            None => false,
-            Some(until) => until <= tick,
-        },
-    }
+    let until = wait_of(standing).and_then(|wait| wait.until);
+    until.is_some_and(|until| until <= tick)
 }
 
 /// Does the process of this place wait for this?

@@ -1,14 +1,15 @@
 ghost use Rattle.std.specs.Prelude.{◌≡◌, ◌<◌, ◌≤◌, ◌++◌, ◌∷◌, [], None, Some, IfOk, IfSome, IfNone, replicate, slice_set, vec_len};
 ghost use Rattle.std.specs.Vec.{vec_capacity};
 ghost use Rattle.proc_rules.specs.Records.{IsProcess};
-ghost use Rattle.proc_rules.specs.Turns.{without_turn};
+ghost use Rattle.proc_rules.specs.Turns.{age_in as age_in_lem, without_turn};
 ghost use Rattle.os9_sched.specs.Members.{member_of, member_at, IsMember, HasWait, IsGoing, IsNextWaiting, NobodyWaits};
-ghost use Rattle.os9_sched.specs.Schedule.{IsSchedule, age_in as age_in_lem, with_priority, with_standing, after_add, after_remove, after_wait, after_wake, after_rest, after_go, after_tick, chosen, after_dispatch};
+ghost use Rattle.os9_sched.specs.Schedule.{IsSchedule, with_priority, with_standing, after_add, after_remove, after_wait, after_wake, after_rest, after_go, after_tick, chosen, after_dispatch};
 ghost use Rattle.os9_sched.specs.Dispatch.{grown_older, with_last};
 
-use crate::list::{PLACES, age, age_in, eldest, empty_places, next_waiting, priority_in, wake_due};
+use crate::list::{age, age_in, eldest, empty_places, next_waiting, priority_in, wake_due};
 use crate::member::{Cause, Member, Standing, Wait, rested, woken};
 use os9_base::call::OutOfMemory;
+use os9_base::limits::PROCESS_PLACES;
 use os9_base::registers::Pid;
 use proc_rules::turn::Turn;
 use std::alloc::Global;
@@ -40,10 +41,11 @@ impl Model for Sched {
 impl Sched {
     /// A scheduler without processes. Only this call takes memory.
     pub fn new(alloc: Global) -> Result<Sched, OutOfMemory>
-        ensures empty { IfOk result (λ s. s ≡ record { order = []; members = replicate 33 None }) }
+        ensures empty { IfOk result (λ s. s
+            ≡ record { order = []; members = replicate PROCESS_PLACES None }) }
     {
         Ok(Sched {
-            order: Vec::with_capacity(alloc, PLACES)?,
+            order: Vec::with_capacity(alloc, PROCESS_PLACES as usize)?,
             members: empty_places(alloc)?,
         })
     }
@@ -232,4 +234,63 @@ fn remove_turn(order: &mut Vec<Turn>, p: Pid)
     ensures capacity { vec_capacity order.new ≡ vec_capacity order.old }
 {
     order.retain(|turn| turn.process != p);
+}
+
+#[cfg(test)]
+mod tests {
+    use super::*;
+    use std::test::Fail;
+
+    const TWO: Pid = Pid(2);
+
+    const THREE: Pid = Pid(3);
+
+    const FOUR: Pid = Pid(4);
+
+    #[test]
+    fn ample_memory(rt: HostRuntime) -> Result<(), Fail> {
+        let mut sched = Sched::new(rt.alloc())?;
+        assert_eq!(rt; sched.dispatch(), None);
+        Ok(())
+    }
+
+    #[test]
+    fn age_order(rt: HostRuntime) -> Result<(), Fail> {
+        let mut sched = Sched::new(rt.alloc())?;
+        sched.add(TWO, 200);
+        sched.add(THREE, 1);
+        for number in 1..=300 {
+            if number == 201 {
+                assert_eq!(rt; sched.age(TWO), 201);
+            }
+            let chosen = if number == 200 { THREE } else { TWO };
+            assert_eq!(rt; sched.dispatch(), Some(chosen));
+        }
+        Ok(())
+    }
+
+    #[test]
+    fn sleepers_and_waiters(rt: HostRuntime) -> Result<(), Fail> {
+        let mut sched = Sched::new(rt.alloc())?;
+        sched.add(TWO, 128);
+        sched.add(THREE, 128);
+        sched.add(FOUR, 128);
+        sched.wait(FOUR, Cause::Pipe(1), None);
+        sched.wait(THREE, Cause::Pipe(1), Some(9));
+        sched.wait(TWO, Cause::Pipe(2), Some(10));
+        assert_eq!(rt; sched.next_waiting(Cause::Pipe(1), 0), Some(THREE));
+        assert_eq!(rt; sched.next_waiting(Cause::Pipe(1), 3), Some(FOUR));
+        assert_eq!(rt; sched.next_waiting(Cause::Pipe(1), 4), None);
+        sched.wake_due(9);
+        assert_eq!(rt; sched.dispatch(), Some(THREE));
+        assert_eq!(rt; sched.dispatch(), Some(THREE));
+        sched.rest(THREE);
+        sched.wake(TWO);
+        assert_eq!(rt; sched.dispatch(), Some(TWO));
+        sched.go(FOUR);
+        assert_eq!(rt; sched.next_waiting(Cause::Pipe(1), 3), None);
+        sched.remove(FOUR);
+        assert_eq!(rt; sched.dispatch(), Some(TWO));
+        Ok(())
+    }
 }

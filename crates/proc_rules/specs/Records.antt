@@ -2,6 +2,7 @@
 -- number: place p has the record of process p, or nothing. Processes have numbers from 2 to 32.
 use Rattle.std.specs.Prelude.{◌≡◌, ℕ, ◌+◌, ◌<◌, ◌≤◌, not, Bool, true, false, Option, Some, None, is_none, option_map, unwrap_or, List, length, drop, position, slice_index_or, slice_set}
 use Rattle.std.specs.Option.{option_map_or}
+use Rattle.os9_base.specs.declared.limits.TheConstants.{PROCESS_PLACES}
 use Rattle.os9_base.specs.declared.registers.Pid.{Pid}
 use Rattle.os9_base.specs.declared.registers.Regs.{Regs}
 use Rattle.proc_rules.specs.declared.record.Life.{Life}
@@ -10,7 +11,7 @@ use Rattle.proc_rules.specs.declared.record.Record.{Record}
 
 -- the numbers that processes have
 abbrev pub IsProcess : ℕ → Type 0
-IsProcess p = (2 ≤ p) × (p < 33)
+IsProcess p = (2 ≤ p) × (p < PROCESS_PLACES)
 
 -- registers that are all 0
 abbrev pub zero_regs : Regs
@@ -62,7 +63,7 @@ IsLiving records p = is_living records p ≡ true
 
 -- what the list of records always is: it has 33 places, and there are no processes 0 and 1
 pub record AreRecords (records : List (Option Record)) : Type 0 where
-  pub places : length records ≡ 33
+  pub places : length records ≡ PROCESS_PLACES
   pub from_two : (p : ℕ) → p < 2 → record_of records p ≡ None
 
 -- the records with this one of a process

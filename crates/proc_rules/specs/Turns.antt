@@ -1,7 +1,7 @@
 -- The order of choice: the turns of the living processes, the one chosen longest ago first (Level
 -- Two manual, process scheduling; the exact rule of ages is this project's own).
-use Rattle.std.specs.Prelude.{ℕ, zero, suc, ◌+◌, ◌==◌, not, min, max, Bool, Option, Some, None, option_map, List, [], ◌∷◌, ◌++◌, map, if◌then◌else◌}
-use Rattle.std.specs.List.{filter, find, fold}
+use Rattle.std.specs.Prelude.{◌≡◌, ℕ, zero, suc, ◌+◌, ◌<◌, ◌≤◌, ◌==◌, not, min, max, Bool, true, false, Option, Some, None, option_map, List, [], ◌∷◌, ◌++◌, map, if◌then◌else◌}
+use Rattle.std.specs.List.{filter, find, fold, list_any, AllByRecursion}
 use Rattle.os9_base.specs.declared.registers.Pid.{Pid}
 use Rattle.proc_rules.specs.declared.turn.Turn.{Turn}
 
@@ -47,11 +47,45 @@ choose is_ready priority order = record {
   order = after_choice is_ready priority order (eldest (ready_turns is_ready order));
 }
 
+-- a process has a turn
+abbrev pub has_turn : List Turn → ℕ → Bool
+has_turn order p = list_any (λ t. t.process.0 == p) order
+
+-- no process has two turns
+abbrev pub AreOnce : List Turn → Type 0
+AreOnce [] = Unit {0}
+AreOnce (t ∷ order) = (has_turn order t.process.0 ≡ false) × AreOnce order
+
+-- the age of a process, if it has a turn
+abbrev pub age_in : List Turn → ℕ → Option ℕ
+age_in order p = option_map (λ t. t.age) (find (λ t. t.process.0 == p) order)
+
+-- a process is the one to choose: it is Ready, no Ready process is older, and each Ready one that was chosen longer
+-- ago is younger
+pub record IsToChoose (is_ready : ℕ → Bool) (order : List Turn) (p : Pid) : Type 0 where
+  pub before : List Turn
+  pub turn : Turn
+  pub after : List Turn
+  pub stands : order ≡ before ++ turn ∷ after
+  pub is_process : turn.process ≡ p
+  pub ready : is_ready p.0 ≡ true
+  pub none_older : AllByRecursion (λ q. is_ready q.process.0 ≡ true → q.age ≤ turn.age) order
+  pub younger_before : AllByRecursion (λ q. is_ready q.process.0 ≡ true → q.age < turn.age) before
+
+-- no process in the order is Ready
+abbrev pub NobodyReady : (ℕ → Bool) → List Turn → Type 0
+NobodyReady is_ready order = AllByRecursion (λ q. is_ready q.process.0 ≡ false) order
+
 -- so many choices one after another, each with the same readiness and priorities: who is chosen in each
 abbrev pub choices : (ℕ → Bool) → (ℕ → ℕ) → ℕ → List Turn → List (Option Pid)
 choices is_ready priority zero order = []
 choices is_ready priority (suc n) order =
     (choose is_ready priority order).chosen ∷ choices is_ready priority n (choose is_ready priority order).order
+
+-- the order after so many choices
+abbrev pub after_choices : (ℕ → Bool) → (ℕ → ℕ) → ℕ → List Turn → List Turn
+after_choices is_ready priority zero order = order
+after_choices is_ready priority (suc n) order = after_choices is_ready priority n (choose is_ready priority order).order
 
 -- processes 2 and 3 with these priorities, made in this order
 abbrev pub two_priorities : ℕ → ℕ → ℕ → ℕ

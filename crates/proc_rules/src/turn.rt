@@ -1,5 +1,5 @@
-ghost use Rattle.std.specs.Prelude.{◌≡◌, true, Some, [], ◌∷◌, ◌++◌, replicate};
-ghost use Rattle.proc_rules.specs.Turns.{choices, two_turns, two_priorities};
+ghost use Rattle.std.specs.Prelude.{◌≡◌, ℕ, Bool, true, IfSome, IfNone, List, Some, [], ◌∷◌, ◌++◌, replicate};
+ghost use Rattle.proc_rules.specs.Turns.{choose, IsToChoose, NobodyReady, choices, after_choices, age_in, two_turns, two_priorities};
 
 use os9_base::registers::Pid;
 
@@ -10,6 +10,15 @@ pub struct Turn {
     pub age: u8,
 }
 
+/// Who is chosen is Ready, no Ready process is older, and each one that was chosen longer ago is
+/// younger. Nobody is chosen only if nobody is Ready.
+pub fn the_eldest_is_chosen()
+    ensures chosen { (is_ready : ℕ → Bool) (priority : ℕ → ℕ) (order : List Turn) →
+        IfSome (choose is_ready priority order).chosen (IsToChoose is_ready order) }
+    ensures nobody { (is_ready : ℕ → Bool) (priority : ℕ → ℕ) (order : List Turn) →
+        IfNone (choose is_ready priority order).chosen (NobodyReady is_ready order) }
+{}
+
 /// Of processes 2 and 3 that are Ready all the time, process 3 is chosen as soon as its age has
 /// grown to the priority of process 2, since it was chosen longer ago; then it begins anew.
 pub fn low_priority_comes_in_its_turn()
@@ -19,4 +28,6 @@ pub fn low_priority_comes_in_its_turn()
     ensures two_hundredth { choices (λ p. true) (two_priorities 200 1) 300 (two_turns 200 1)
         ≡ replicate 199 (Some (record { 0 = 2 }))
         ++ (Some (record { 0 = 3 }) ∷ replicate 100 (Some (record { 0 = 2 }))) }
+    ensures older_then { age_in (after_choices (λ p. true) (two_priorities 200 1) 200
+        (two_turns 200 1)) 2 ≡ Some 201 }
 {}

@@ -3,6 +3,7 @@ ghost use Rattle.proc_rules.specs.Records.{IsProcess, free_process as free_proce
 ghost use Rattle.proc_rules.specs.Ends.{has_child as has_child_lem, ended_child as ended_child_lem, orphaned as orphaned_lem};
 
 use crate::places::{is_child, is_ended_child, orphaned};
+use os9_base::limits::PROCESS_PLACES;
 use os9_base::registers::Pid;
 use proc_rules::record::Record;
 use std::alloc::{AllocError, Global};
@@ -10,15 +11,12 @@ use std::alloc::{AllocError, Global};
 /// The least number that a process has.
 const FIRST: usize = 2;
 
-/// How many numbers there are, with those that no process has.
-const PLACES: usize = 33;
-
 /// Places without records.
 pub fn empty_places(alloc: Global) -> Result<Vec<Option<Record>>, AllocError>
-    ensures { IfOk result (λ places. places.items ≡ replicate 33 None) }
+    ensures { IfOk result (λ places. places.items ≡ replicate PROCESS_PLACES None) }
 {
-    let mut places = Vec::with_capacity(alloc, PLACES)?;
-    'fill: while places.len() < PLACES {
+    let mut places = Vec::with_capacity(alloc, PROCESS_PLACES as usize)?;
+    'fill: while places.len() < PROCESS_PLACES as usize {
         places.push(None)?;
     }
     Ok(places)
@@ -26,7 +24,7 @@ pub fn empty_places(alloc: Global) -> Result<Vec<Option<Record>>, AllocError>
 
 /// The least number of a process that no record has.
 pub fn free_process(records: &[Option<Record>]) -> Option<Pid>
-    requires { length records.now ≡ 33 }
+    requires { length records.now ≡ PROCESS_PLACES }
     ensures number { option_map (λ p. p.0) result ≡ free_process_lem records.now }
     ensures process { IfSome result (λ p. IsProcess p.0) }
 {
@@ -43,7 +41,7 @@ pub fn has_child(records: &[Option<Record>], parent: Pid) -> bool
 
 /// The number of the first record of a child that has ended.
 pub fn ended_child(records: &[Option<Record>], parent: Pid) -> Option<Pid>
-    requires { length records.now ≡ 33 }
+    requires { length records.now ≡ PROCESS_PLACES }
     ensures number { option_map (λ p. p.0) result ≡ ended_child_lem records.now parent.0 }
     ensures there { IfSome result (λ p. IsSome (record_of records.now p.0)) }
 {

@@ -7,6 +7,7 @@ ghost use Rattle.proc_rules.specs.Signals.{is_reached, send_fault, after_send, i
 use crate::list::{empty_places, ended_child, free_process, has_child, orphan};
 use crate::places::{ended, new_record};
 use os9_base::call::OutOfMemory;
+use os9_base::limits::PROCESS_PLACES;
 use os9_base::registers::{Pid, Regs};
 use proc_rules::record::{Intercept, Life, Reap, Record, SendFault};
 use std::alloc::Global;
@@ -39,7 +40,7 @@ impl Model for Table {
 impl Table {
     /// A table without records. Only this call takes memory.
     pub fn new(alloc: Global) -> Result<Table, OutOfMemory>
-        ensures empty { IfOk result (λ table. table ≡ replicate 33 None) }
+        ensures empty { IfOk result (λ table. table ≡ replicate PROCESS_PLACES None) }
     {
         Ok(Table {
             records: empty_places(alloc)?,
@@ -99,6 +100,7 @@ impl Table {
         self.record(p).user
     }
 
+    /// Gives a process to another user.
     pub fn set_user(&mut self, p: Pid, user: u16)
         requires { IsLiving self.old p.0 }
         ensures records { self.new ≡ with_user self.old p.0 user }
@@ -117,6 +119,7 @@ impl Table {
         self.record(p).priority
     }
 
+    /// Sets the priority of a process.
     pub fn set_priority(&mut self, p: Pid, priority: u8)
         requires { IsLiving self.old p.0 }
         ensures records { self.new ≡ with_priority self.old p.0 priority }
@@ -135,6 +138,7 @@ impl Table {
         self.record(p).regs
     }
 
+    /// Sets the registers that the next instruction of a process finds.
     pub fn set_regs(&mut self, p: Pid, r: Regs)
         requires { IsLiving self.old p.0 }
         ensures records { self.new ≡ with_regs self.old p.0 r }
@@ -314,5 +318,72 @@ impl Table {
             Life::Ended(status) => status,
             Life::Running | Life::Waiting => 0,
         }
+    }
+}
+
+#[cfg(test)]
+mod tests {
+    use super::*;
+    use std::test::Fail;
+
+    fn end(table: &mut Table, p: Pid, status: u8) {
+        if let Some(Life::Running) = table.life(p) {
+            table.exit(p, status);
+        }
+    }
+
+    fn parent_of(table: &Table, p: Pid) -> Option<Pid> {
+        table.life(p)?;
+        Some(table.parent(p))
+    }
+
+    #[test]
+    fn ample_memory(rt: HostRuntime) -> Result<(), Fail> {
+        let mut table = Table::new(rt.alloc())?;
+        for process in 2..=32 {
+            assert_eq!(rt; table.make(Pid(0), 0, 128), Some(Pid(process)));
+        }
+        assert_eq!(rt; table.make(Pid(0), 0, 128), None);
+        Ok(())
+    }
+
+    #[test]
+    fn children_and_numbers(rt: HostRuntime) -> Result<(), Fail> {
+        let mut table = Table::new(rt.alloc())?;
+        let parent = table.make(Pid(0), 0, 128).ok_or("no process")?;
+        assert_eq!(rt; table.reap(parent), Err(Reap::NoChild));
+        for _ in 0..3 {
+            let _ = table.make(parent, 7, 128);
+        }
+        assert_eq!(rt; table.reap(parent), Err(Reap::NotYet));
+        end(&mut table, Pid(5), 1);
+        end(&mut table, Pid(4), 2);
+        assert_eq!(rt; table.life(Pid(5)), Some(Life::Ended(1)));
+        assert_eq!(rt; table.reap(parent), Ok((Pid(4), 2)));
+        assert_eq!(rt; table.reap(parent), Ok((Pid(5), 1)));
+        assert_eq!(rt; table.make(parent, 7, 128), Some(Pid(4)));
+        end(&mut table, parent, 0);
+        assert_eq!(rt; table.life(parent), None);
+        assert_eq!(rt; parent_of(&table, Pid(3)), Some(Pid(0)));
+        Ok(())
+    }
+
+    #[test]
+    fn signals(rt: HostRuntime) -> Result<(), Fail> {
+        let mut table = Table::new(rt.alloc())?;
+        let target = table.make(Pid(0), 7, 128).ok_or("no process")?;
+        assert_eq!(rt; table.send(8, target, 3), Err(SendFault::NoProcess));
+        assert_eq!(rt; table.send(0, Pid(3), 3), Err(SendFault::NoProcess));
+        assert_eq!(rt; table.send(7, target, 1), Ok(()));
+        assert_eq!(rt; table.due_signal(target), None);
+        assert_eq!(rt; table.send(0, target, 3), Ok(()));
+        assert_eq!(rt; table.send(7, target, 0), Err(SendFault::Pending));
+        assert_eq!(rt; table.send(8, target, 0), Err(SendFault::NoProcess));
+        table.intercept(target, 0x1234, 0x0100);
+        assert_eq!(rt; table.handler(target), Some((0x1234, 0x0100)));
+        assert_eq!(rt; table.clear_signal(target), Some(3));
+        table.intercept(target, 0, 0x0100);
+        assert_eq!(rt; table.handler(target), None);
+        Ok(())
     }
 }

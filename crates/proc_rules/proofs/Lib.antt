@@ -1,0 +1,2 @@
+pub mod EldestLaws
+pub mod TurnLaws
