@@ -29,7 +29,8 @@ marked_name [] = []
 marked_name (c ∷ []) = (c + 128) ∷ []
 marked_name (c ∷ next ∷ name) = c ∷ marked_name (next ∷ name)
 
--- a header's bytes before the parity: the sync bytes, the size, the name's offset, type and language, attributes and revision
+-- a header's bytes before the parity: the sync bytes, the size, the name's offset, type and language, attributes and
+-- revision
 abbrev pub header_front : ℕ → ℕ → ℕ → List ℕ
 header_front size kind attr =
     0x87 ∷ 0xCD ∷ size / 256 ∷ size % 256 ∷ 0 ∷ kind_header_length kind ∷ kind ∷ attr ∷ []

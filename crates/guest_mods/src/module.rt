@@ -35,8 +35,10 @@ pub fn module(
     requires filled { 0 < length code.now }
     requires short { guest_size name.now kind code.now ≤ 57344 }
     ensures module { IfOk result (λ bytes. IsModule bytes.items) }
-    ensures info { IfOk result (λ bytes. info_at 0 bytes.items ≡ guest_info name.now kind attr storage code.now) }
-    ensures bytes { IfOk result (λ bytes. bytes.items ≡ guest_module name.now kind attr storage code.now) }
+    ensures info { IfOk result (λ bytes. info_at 0 bytes.items
+        ≡ guest_info name.now kind attr storage code.now) }
+    ensures bytes { IfOk result (λ bytes. bytes.items
+        ≡ guest_module name.now kind attr storage code.now) }
 {
     let mut bytes = Vec::new(alloc);
     push_header(&mut bytes, name, kind, attr, storage, code.len() as u16)?;

@@ -15,8 +15,10 @@ references maps entries = flat_map mapped_blocks maps ++ flat_map (λ group. gro
 
 -- each block is counted as often as it is named
 abbrev pub AreReferenceCounts : Blocks → List (Slots BlockId) → List (Option ModuleEntry) → Type 0
-AreReferenceCounts pool maps entries = (block : ℕ) → reference_count pool block ≡ count_by (λ named. named == block) (references maps entries)
+AreReferenceCounts pool maps entries =
+    (block : ℕ) → reference_count pool block ≡ count_by (λ named. named == block) (references maps entries)
 
 -- every module is the boot file's
 abbrev pub AreBoot : List (Option ModuleEntry) → Type 0
-AreBoot entries = (number : ℕ) (entry : ModuleEntry) → module_entry_at entries number ≡ Some entry → entry.is_boot ≡ true
+AreBoot entries =
+    (number : ℕ) (entry : ModuleEntry) → module_entry_at entries number ≡ Some entry → entry.is_boot ≡ true

@@ -6,7 +6,8 @@ use Rattle.proc_model.specs.declared.group.BlockId.{BlockId}
 use Rattle.proc_model.specs.declared.group.Group.{Group}
 use Rattle.proc_model.specs.Slots.{Slots, no_slots, with_low, with_group}
 
--- The map names an area of so many new blocks from slot 0 up, and the blocks of a group, once more, in the highest slots.
+-- The map names an area of so many new blocks from slot 0 up, and the blocks of a group, once more, in the highest
+-- slots.
 pub record IsFirstMap (low : ℕ) (group : Group) (before : Blocks) (map : Slots BlockId) (after : Blocks) : Type 0 where
   pub area : List BlockId
   pub middle : Blocks

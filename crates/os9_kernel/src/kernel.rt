@@ -55,7 +55,8 @@ impl Kernel {
 
     /// How many processes live.
     pub fn living(&self) -> u8
-        ensures { (terms : List TerminalState) (s : State) → Represents self.now terms s → result ≡ count_by is_living s.inner.processes }
+        ensures { (terms : List TerminalState) (s : State) → Represents self.now terms s
+            → result ≡ count_by is_living s.inner.processes }
     {
         if self.is_living() { 1 } else { 0 }
     }
@@ -73,7 +74,8 @@ impl Kernel {
     /// Chooses the process that lives; None exactly where none does.
     pub fn choose(&mut self) -> Option<Pid>
         ensures step { (terms : List TerminalState) (s : State) → Represents self.old terms s
-            → (t : State) × Choose s t × Represents self.new terms t × (option_map (λ p. p.0) result ≡ t.inner.chosen) }
+            → (t : State) × Choose s t × Represents self.new terms t
+            × (option_map (λ p. p.0) result ≡ t.inner.chosen) }
         ensures count { ticks self.new ≡ ticks self.old }
         ensures going { IsSome result → IsGoing self.new }
     {
@@ -89,9 +91,11 @@ impl Kernel {
         requires going { IsGoing self.old }
         requires terminal { 0 < vec_len devices.old.terms }
         ensures step { result ≢ EventEnd.NoMemory → (s : State)
-            → Represents self.old (terminal_states ⟦<dyn CharDriver as CharDriver>⟧ devices.old.terms.items) s
+            → Represents self.old (terminal_states ⟦<dyn CharDriver as CharDriver>⟧
+            devices.old.terms.items) s
             → (t : State) × Event s result t
-            × Represents self.new (terminal_states ⟦<dyn CharDriver as CharDriver>⟧ devices.new.terms.items) t }
+            × Represents self.new (terminal_states ⟦<dyn CharDriver as CharDriver>⟧
+            devices.new.terms.items) t }
         ensures ran { result ≡ EventEnd.Ran → IsGoing self.new }
         ensures attempted { result ≡ EventEnd.Ran → pending self.old + pending self.new ≤ 1 }
         ensures ended { result ≡ EventEnd.Ended → HasFinished self.new }
@@ -99,8 +103,10 @@ impl Kernel {
         ensures memory { result ≡ EventEnd.NoMemory → PutsByte self.old }
         ensures stopped { result ≡ EventEnd.NoMemory → PutsByte self.new }
         ensures unfaulted { result ≡ EventEnd.NoMemory
-            → fault_counts (terminal_states ⟦<dyn CharDriver as CharDriver>⟧ devices.new.terms.items)
-            ≡ fault_counts (terminal_states ⟦<dyn CharDriver as CharDriver>⟧ devices.old.terms.items) }
+            → fault_counts (terminal_states ⟦<dyn CharDriver as CharDriver>⟧
+            devices.new.terms.items)
+            ≡ fault_counts (terminal_states ⟦<dyn CharDriver as CharDriver>⟧
+            devices.old.terms.items) }
         ensures terminals { vec_len devices.new.terms ≡ vec_len devices.old.terms }
         ensures count { ticks self.new ≡ ticks self.old }
         ensures drives_kept { devices.new.drives ≡ devices.old.drives }
@@ -123,13 +129,17 @@ impl Kernel {
         requires tick { ticks self.old < LAST_TICK }
         requires terminal { 0 < vec_len devices.old.terms }
         ensures step { result ≢ SliceEnd.NoMemory → (s : State)
-            → Represents self.old (terminal_states ⟦<dyn CharDriver as CharDriver>⟧ devices.old.terms.items) s
+            → Represents self.old (terminal_states ⟦<dyn CharDriver as CharDriver>⟧
+            devices.old.terms.items) s
             → (t : State) × Slice n s result t
-            × Represents self.new (terminal_states ⟦<dyn CharDriver as CharDriver>⟧ devices.new.terms.items) t }
+            × Represents self.new (terminal_states ⟦<dyn CharDriver as CharDriver>⟧
+            devices.new.terms.items) t }
         ensures part { result ≡ SliceEnd.NoMemory → (s : State)
-            → Represents self.old (terminal_states ⟦<dyn CharDriver as CharDriver>⟧ devices.old.terms.items) s
+            → Represents self.old (terminal_states ⟦<dyn CharDriver as CharDriver>⟧
+            devices.old.terms.items) s
             → (t : State) × BeginsSlice n s t × (fault_counts t.terms
-            ≡ fault_counts (terminal_states ⟦<dyn CharDriver as CharDriver>⟧ devices.new.terms.items)) }
+            ≡ fault_counts (terminal_states ⟦<dyn CharDriver as CharDriver>⟧
+            devices.new.terms.items)) }
         ensures memory { result ≡ SliceEnd.NoMemory → PutsByte self.new }
         ensures count { ticks self.new ≡ ticks self.old + 1 }
         ensures terminals { vec_len devices.new.terms ≡ vec_len devices.old.terms }
@@ -147,13 +157,17 @@ impl Kernel {
         requires going { IsGoing self.old }
         requires terminal { 0 < vec_len devices.old.terms }
         ensures step { result ≢ SliceEnd.NoMemory → (s : State)
-            → Represents self.old (terminal_states ⟦<dyn CharDriver as CharDriver>⟧ devices.old.terms.items) s
+            → Represents self.old (terminal_states ⟦<dyn CharDriver as CharDriver>⟧
+            devices.old.terms.items) s
             → (states : List State) × (t : State) × Steps n s states t
-            × Represents self.new (terminal_states ⟦<dyn CharDriver as CharDriver>⟧ devices.new.terms.items) t }
+            × Represents self.new (terminal_states ⟦<dyn CharDriver as CharDriver>⟧
+            devices.new.terms.items) t }
         ensures part { result ≡ SliceEnd.NoMemory → (s : State)
-            → Represents self.old (terminal_states ⟦<dyn CharDriver as CharDriver>⟧ devices.old.terms.items) s
+            → Represents self.old (terminal_states ⟦<dyn CharDriver as CharDriver>⟧
+            devices.old.terms.items) s
             → (states : List State) × (t : State) × FirstSteps n s states t × (fault_counts t.terms
-            ≡ fault_counts (terminal_states ⟦<dyn CharDriver as CharDriver>⟧ devices.new.terms.items)) }
+            ≡ fault_counts (terminal_states ⟦<dyn CharDriver as CharDriver>⟧
+            devices.new.terms.items)) }
         ensures memory { result ≡ SliceEnd.NoMemory → PutsByte self.new }
         ensures ran { result ≢ SliceEnd.NoMemory → result ≡ SliceEnd.Ran }
         ensures count { ticks self.new ≡ ticks self.old }
@@ -175,7 +189,8 @@ impl Kernel {
     /// How many instructions the next event executes: an attempt of a call costs none.
     fn cost(&self) -> u32
         requires { IsGoing self.now }
-        ensures tied { (terms : List TerminalState) (s : State) → Represents self.now terms s → result ≡ cost_lem s }
+        ensures tied { (terms : List TerminalState) (s : State) → Represents self.now terms s
+            → result ≡ cost_lem s }
         ensures attempt { result + pending self.now ≡ 1 }
     {
         match self.activity {
@@ -242,14 +257,18 @@ impl Kernel {
         requires calling { self.old.activity ≡ Activity.Calling I_WRITLN }
         requires terminal { 0 < vec_len devices.old.terms }
         ensures step { result ≢ EventEnd.NoMemory → (s : State)
-            → Represents self.old (terminal_states ⟦<dyn CharDriver as CharDriver>⟧ devices.old.terms.items) s
+            → Represents self.old (terminal_states ⟦<dyn CharDriver as CharDriver>⟧
+            devices.old.terms.items) s
             → (t : State) × Event s result t
-            × Represents self.new (terminal_states ⟦<dyn CharDriver as CharDriver>⟧ devices.new.terms.items) t }
+            × Represents self.new (terminal_states ⟦<dyn CharDriver as CharDriver>⟧
+            devices.new.terms.items) t }
         ensures memory { result ≡ EventEnd.NoMemory → PutsByte self.old }
         ensures stopped { result ≡ EventEnd.NoMemory → PutsByte self.new }
         ensures unfaulted { result ≡ EventEnd.NoMemory
-            → fault_counts (terminal_states ⟦<dyn CharDriver as CharDriver>⟧ devices.new.terms.items)
-            ≡ fault_counts (terminal_states ⟦<dyn CharDriver as CharDriver>⟧ devices.old.terms.items) }
+            → fault_counts (terminal_states ⟦<dyn CharDriver as CharDriver>⟧
+            devices.new.terms.items)
+            ≡ fault_counts (terminal_states ⟦<dyn CharDriver as CharDriver>⟧
+            devices.old.terms.items) }
         ensures ran { result ≢ EventEnd.NoMemory → result ≡ EventEnd.Ran }
         ensures going { result ≡ EventEnd.Ran → IsGoing self.new }
         ensures running { result ≡ EventEnd.Ran → pending self.new ≡ 0 }
@@ -272,7 +291,8 @@ impl Kernel {
     /// The process ends with this status. It gives up its whole map, and one link to its primary
     /// module.
     fn end(&mut self, status: u8)
-        ensures ended { (terms : List TerminalState) (s : State) (stood : Represents self.old terms s)
+        ensures ended { (terms : List TerminalState) (s : State)
+            (stood : Represents self.old terms s)
             → Represents self.new terms (ended s 2 (process_of self.old stood.number) status) }
         ensures finished { HasFinished self.new }
         ensures chosen { self.new.chosen ≡ self.old.chosen }
@@ -286,7 +306,8 @@ impl Kernel {
 
     /// The call is done.
     fn succeed(&mut self)
-        ensures { self.new ≡ record self.old { regs = done self.old.regs; activity = Activity.Running } }
+        ensures { self.new
+            ≡ record self.old { regs = done self.old.regs; activity = Activity.Running } }
     {
         self.regs.cc = carry_clear(self.regs.cc);
         self.activity = Activity::Running;
@@ -294,7 +315,12 @@ impl Kernel {
 
     /// The call is refused with this number.
     fn refuse(&mut self, number: u8)
-        ensures { self.new ≡ record self.old { regs = refused self.old.regs number; activity = Activity.Running } }
+        ensures { self.new
+            ≡ record self.old {
+              regs =
+                  refused self.old.regs number;
+              activity = Activity.Running;
+            } }
     {
         self.regs.cc = carry_clear(self.regs.cc) + 1;
         self.regs.b = number;

@@ -32,7 +32,8 @@ pub enum LineEnd {
 fn read_line<B: Bus>(memory: &B, at: u16, most: u16, into: &mut [u8]) -> Option<usize>
     requires { most ≤ length into.old }
     ensures none { IfNone result (line_at (B.cells memory.now) at most ≡ None) }
-    ensures some { IfSome result (λ count. line_at (B.cells memory.now) at most ≡ Some (take count into.new)) }
+    ensures some { IfSome result (λ count. line_at (B.cells memory.now) at most
+        ≡ Some (take count into.new)) }
     ensures short { IfSome result (λ count. count ≤ most) }
 {
     for count in 0..most {

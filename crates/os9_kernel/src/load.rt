@@ -80,8 +80,10 @@ fn load_block(pool: &mut Pool, bytes: &[u8]) -> BlockId
 /// The first module that is refused; those before it are entered.
 pub fn enter_modules(dir: &mut Dir, file: &[u8], group: Group) -> Result<(), Refusal>
     requires short { length file.now ≤ MOST_GROUP_BYTES }
-    ensures entered { OnOk result (EntersModules file.now (group_block_numbers group) true 0 dir.old (Ok dir.new)) }
-    ensures refused { IfErr result (λ refusal. EntersModules file.now (group_block_numbers group) true 0 dir.old (Err (refusal.at, refusal.error))) }
+    ensures entered { OnOk result (EntersModules file.now (group_block_numbers group) true 0
+        dir.old (Ok dir.new)) }
+    ensures refused { IfErr result (λ refusal. EntersModules file.now (group_block_numbers group)
+        true 0 dir.old (Err (refusal.at, refusal.error))) }
 {
     let mut from = 0;
     while let Some(info) = module_from(file, from)? {
@@ -95,11 +97,14 @@ pub fn enter_modules(dir: &mut Dir, file: &[u8], group: Group) -> Result<(), Ref
 fn module_from(file: &[u8], from: u32) -> Result<Option<ModuleInfo>, Refusal>
     requires short { length file.now ≤ MOST_GROUP_BYTES }
     requires within { from ≤ length file.now }
-    ensures module { IfOk result (λ step. IfSome step (λ info. step_from file.now from ≡ ModuleStep.Module info)) }
+    ensures module { IfOk result (λ step. IfSome step (λ info. step_from file.now from
+        ≡ ModuleStep.Module info)) }
     ensures end { IfOk result (λ step. IfNone step (step_from file.now from ≡ ModuleStep.End)) }
     ensures fault { IfErr result (λ refusal. (fault : ModuleFault)
-        × (step_from file.now from ≡ ModuleStep.Fault refusal.at fault) × (refusal.error ≡ fault_number_lem fault)) }
-    ensures in_file { IfOk result (λ step. IfSome step (λ info. info.at + info.size ≤ length file.now)) }
+        × (step_from file.now from ≡ ModuleStep.Fault refusal.at fault)
+        × (refusal.error ≡ fault_number_lem fault)) }
+    ensures in_file { IfOk result (λ step. IfSome step
+        (λ info. info.at + info.size ≤ length file.now)) }
 {
     match next_module(file, from) {
         ModuleStep::Module(info) => Ok(Some(info)),
@@ -114,8 +119,10 @@ fn module_from(file: &[u8], from: u32) -> Result<Option<ModuleInfo>, Refusal>
 /// Enters one module, of the boot file.
 fn enter_module(dir: &mut Dir, info: ModuleInfo, group: Group) -> Result<(), Refusal>
     ensures entered { OnOk result (entry_refusal dir.old info ≡ None) }
-    ensures list { OnOk result (dir.new ≡ with_module dir.old info (group_block_numbers group) true) }
-    ensures refused { IfErr result (λ refusal. (refusal.at ≡ info.at) × (entry_refusal dir.old info ≡ Some refusal.error)) }
+    ensures list { OnOk result (dir.new
+        ≡ with_module dir.old info (group_block_numbers group) true) }
+    ensures refused { IfErr result (λ refusal. (refusal.at ≡ info.at)
+        × (entry_refusal dir.old info ≡ Some refusal.error)) }
 {
     let at = info.at;
     match dir.enter(info, group, true) {

@@ -57,8 +57,10 @@ impl Kernel {
         requires most { config.blocks ≤ 256 }
         ensures start { IfOk result (λ kernel. (terms : List TerminalState)
             → (s : State) × Starts boot.now config.blocks terms s × Represents kernel terms s) }
-        ensures accepted { OnOk result ((fault : BootFault) → ¬ Refuses boot.now config.blocks fault) }
-        ensures refused { IfErr result (λ fault. fault ≢ BootFault.OutOfMemory → Refuses boot.now config.blocks fault) }
+        ensures accepted { OnOk result ((fault : BootFault)
+            → ¬ Refuses boot.now config.blocks fault) }
+        ensures refused { IfErr result (λ fault. fault ≢ BootFault.OutOfMemory
+            → Refuses boot.now config.blocks fault) }
         ensures count { IfOk result (λ kernel. ticks kernel ≡ 0) }
     {
         if boot.len() > LONGEST_FILE {
@@ -111,7 +113,8 @@ fn first_map(pool: &mut Pool, low: u8, group: &Group) -> Option<Map>
     requires some { 1 ≤ group.now.len }
     requires different { AllPairs (λ a b. a ≢ b) (group_blocks group.now) }
     requires live { All (λ id. IsLive pool.old id.0) (group_blocks group.now) }
-    requires countable { All (λ id. reference_count pool.old id.0 < MOST_SHARED) (group_blocks group.now) }
+    requires countable { All (λ id. reference_count pool.old id.0 < MOST_SHARED)
+        (group_blocks group.now) }
     requires enough { 8 ≤ free_block_count pool.old + group.now.len }
     ensures none { IfNone result (8 < low + group.now.len) }
     ensures fits { IfSome result (λ _. low + group.now.len ≤ 8) }
