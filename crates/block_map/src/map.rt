@@ -67,6 +67,13 @@ impl Map {
         self.places[slot as usize]
     }
 
+    /// How many slots the low area has.
+    pub fn low(&self) -> u8
+        ensures { result ≡ self.now.low }
+    {
+        self.low
+    }
+
     /// Puts `n` new blocks in the slots that follow the low area, which has them too then.
     ///
     /// `NoSlot` where fewer than `n` slots follow or one of them names a block, else `NoBlock` where

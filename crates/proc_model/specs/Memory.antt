@@ -1,6 +1,6 @@
 -- Memory: objects of 8,192 bytes, the maps that name them, and the module directory (Level Two manual, "Memory
 -- management"). The objects that appeared are kept for ever, by number; the machine has blocks for those that live.
-use Rattle.std.specs.Prelude.{ℕ, ◌-◌, ◌==◌, nat_lt, Bool, Option, List, [], ◌++◌, flat_map, length, count_by, slice_index_or, slice_set}
+use Rattle.std.specs.Prelude.{ℕ, ◌-◌, ◌==◌, nat_lt, Bool, Option, None, List, [], ◌++◌, flat_map, length, replicate, count_by, slice_index_or, slice_set}
 use Rattle.std.specs.List.{list_any, range_with_len}
 use Rattle.std.specs.Option.{option_map_or}
 use Rattle.os9_base.specs.declared.errors.TheConstants.{E_MEMFUL, E_NORAM}
@@ -58,3 +58,9 @@ free_blocks m = m.blocks - living_object_count m
 -- fewer blocks are free than are wanted
 abbrev pub wants_blocks : MemoryState → ℕ → Bool
 wants_blocks m wanted = nat_lt (free_blocks m) wanted
+
+-- the memory of a machine with so many blocks, in which nothing has appeared: no process names anything, and no module
+-- is entered
+abbrev pub first_memory : ℕ → MemoryState
+first_memory blocks =
+    record { blocks = blocks; objects = []; maps = replicate 33 no_slots; modules = replicate 64 None }

@@ -33,7 +33,7 @@ grown m process count =
     else Err MemFull
 
 -- the map of whose data area at most so many slots are kept
-abbrev pub map_cut : Slots ℕ → ℕ → Slots ℕ
+abbrev pub map_cut : {Block : Type 0} → Slots Block → ℕ → Slots Block
 map_cut slots count = if nat_lt count slots.low then cut_low_to slots count else slots
 
 -- at most so many slots of the data area are kept
@@ -118,19 +118,21 @@ with_first_slots m process group count =
 abbrev pub has_most_links : ModuleEntry → Bool
 has_most_links entry = nat_le MOST_LINKS entry.links
 
+-- the memory of a process that begins with a module of this entry
+abbrev pub started_with : MemoryState → ℕ → ℕ → ModuleEntry → Result MemoryState MemoryFault
+started_with m process count entry =
+    if has_most_links entry || nat_lt 8 (count + length entry.group)
+    then Err MemFull
+    else (if nat_lt (free_blocks m + (map_at m process).low) count
+    then Err NoRam
+    else Ok (with_first_slots m process entry.group count))
+
 -- The memory of a process begins anew with an entered module and a data area of so many blocks. It is refused with
 -- 207 where the module has all the links that it can have or the slots are too few, else with 237 where fewer blocks
 -- are free, those of the data area that it had counted as free.
 abbrev pub started : MemoryState → ℕ → ℕ → ℕ → Result MemoryState MemoryFault
 started m process number count =
-    option_map_or starts (module_entry_at m.modules number) (Err MemFull)
-  where
-    starts : ModuleEntry → Result MemoryState MemoryFault
-    starts entry =
-        if has_most_links entry || nat_lt 8 (count + length entry.group)
-        then Err MemFull
-        else (if nat_lt (free_blocks m + (map_at m process).low) count then Err NoRam
-        else Ok (with_first_slots m process entry.group count))
+    option_map_or (started_with m process count) (module_entry_at m.modules number) (Err MemFull)
 
 -- ---- bytes
 
