@@ -136,7 +136,9 @@ mod tests {
             terms: Vec::new(alloc),
         };
         let plan = vec![in alloc; 3]?;
-        devices.terms.push(Box::new(alloc, ScriptTty::new(alloc, plan))?)?;
+        devices
+            .terms
+            .push(Box::new(alloc, ScriptTty::new(alloc, plan))?)?;
         assert_eq!(rt; devices.terms.len(), 1);
         assert_eq!(rt; put_on(&mut devices, 0, b"hello"), Err(PutFault::Fault));
         assert_eq!(rt; devices.terms.len(), 1);
