@@ -1,6 +1,5 @@
 -- The scheduler: the order of choice, and for each process its priority and what it waits for.
-use Rattle.std.specs.Prelude.{◌≡◌, ℕ, ◌==◌, Bool, false, Option, Some, None, is_some, option_map, List, [], ◌∷◌, length, map, slice_set}
-use Rattle.std.specs.List.{list_any, find}
+use Rattle.std.specs.Prelude.{◌≡◌, ℕ, Option, Some, None, is_some, option_map, List, length, map, slice_set}
 use Rattle.os9_base.specs.declared.limits.TheConstants.{PROCESS_PLACES}
 use Rattle.os9_base.specs.declared.registers.Pid.{Pid}
 use Rattle.proc_rules.specs.declared.turn.Turn.{Turn}

@@ -1,8 +1,6 @@
 -- Who is active, and what a process waits for. This project's own: the real system keeps a queue of
 -- active, of waiting and of sleeping processes (Level Two manual, process scheduling).
-use Rattle.std.specs.Prelude.{ℕ, ◌==◌, ◌&&◌, nat_le, Bool, true, false, Option, Some, None, option_map, if◌then◌else◌}
-use Rattle.os9_sched.specs.declared.member.Cause.{Cause}
-use Rattle.os9_sched.specs.declared.member.Cause.TheVariants.{Child, Sleep, Term, Pipe, Lock}
+use Rattle.std.specs.Prelude.{ℕ, nat_le, Bool, true, false, Option, Some, None, if◌then◌else◌}
 use Rattle.os9_sched.specs.declared.member.Wait.{Wait}
 use Rattle.os9_sched.specs.declared.member.Standing.{Standing}
 use Rattle.os9_sched.specs.declared.member.Standing.TheVariants.{Going, Woken, Resting}

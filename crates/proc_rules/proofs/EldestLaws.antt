@@ -1,8 +1,7 @@
 -- The first of greatest age is the one to choose.
-use Rattle.std.proofs.Common.{◌≡◌, ◌≢◌, ◌⊎◌, inl, inr, ℕ, ◌+◌, ◌<◌, ◌≤◌, ◌==◌, max, Bool, true, false, cond, Option, Some, None, is_some, option_map, IfSome, IfNone, List, [], ◌∷◌, ◌++◌, refl, ap, sym, ◌∙◌, subst, arith}
-use Rattle.std.specs.List.{filter, find, fold, AllByRecursion}
+use Rattle.std.proofs.Common.{◌≡◌, ◌≢◌, ◌⊎◌, inl, inr, ℕ, ◌<◌, ◌≤◌, ◌==◌, max, Bool, true, false, cond, Some, None, is_some, option_map, IfSome, IfNone, List, [], ◌∷◌, ◌++◌, refl, ap, sym, subst, arith}
+use Rattle.std.specs.List.{find, fold, AllByRecursion}
 use Rattle.std.proofs.lemmas.Bool.Decides.{nat_tests}
-use Rattle.os9_base.specs.declared.registers.Pid.{Pid}
 use Rattle.proc_rules.specs.declared.turn.Turn.{Turn}
 use Rattle.proc_rules.specs.Turns.{ready_turns, greatest_age, eldest, IsToChoose, NobodyReady}
 

@@ -1,4 +1,4 @@
-use Rattle.std.proofs.Common.{◌≡◌, ◌∙◌, ◌&&◌, ◌==◌, ℕ, Option, option_map, ap, sym}
+use Rattle.std.proofs.Common.{◌∙◌, ◌&&◌, ◌==◌, ℕ, Option, option_map, ap, sym}
 use Rattle.std.specs.List.{find}
 use Rattle.os9_base.specs.declared.registers.Pid.{Pid}
 use Rattle.proc_rules.specs.declared.turn.Turn.{Turn}

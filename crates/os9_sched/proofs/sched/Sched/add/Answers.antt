@@ -1,4 +1,4 @@
-use Rattle.std.proofs.Common.{◌<◌, Some, length, arith, rules}
+use Rattle.std.proofs.Common.{◌<◌, length, arith, rules}
 use Rattle.os9_sched.specs.declared.member.Standing.TheVariants.{Going}
 use Rattle.os9_sched.proofs.ScheduleLaws.{room_for_one, IsSchedule-added}
 use Rattle.os9_sched.proofs.sched.Sched.add.Goals as goal

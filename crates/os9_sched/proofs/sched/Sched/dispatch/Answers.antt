@@ -1,5 +1,4 @@
-use Rattle.std.proofs.Common.{◌≡◌, Some, rules, sym, ◌∙◌}
-use Rattle.std.proofs.lemmas.Grind.{common_steps}
+use Rattle.std.proofs.Common.{◌≡◌, Some, rules}
 use Rattle.proc_rules.specs.Turns.{ready_turns, eldest}
 use Rattle.os9_sched.specs.Members.{is_active_in}
 use Rattle.os9_sched.proofs.ScheduleLaws.{two_steps}

@@ -1,5 +1,4 @@
-use Rattle.std.proofs.Common.{◌≡◌, ℕ, ◌<◌, false, None, get_or, replicate, refl, ap, arith}
-use Rattle.std.proofs.lemmas.Grind.{common_steps}
+use Rattle.std.proofs.Common.{arith}
 use Rattle.os9_sched.proofs.ScheduleLaws.{IsSchedule-empty}
 use Rattle.os9_sched.proofs.sched.Sched.new.Goals as goal
 
