@@ -1,14 +1,15 @@
 -- The end of a process, and what its parent is given of it (System Programmer's Manual, F$Exit and F$Wait).
-use Rattle.std.specs.Prelude.{ℕ, ◌==◌, ◌&&◌, Bool, Option, Some, None, Result, Ok, Err, List, map, position, slice_set, if◌then◌else◌}
+use Rattle.std.specs.Prelude.{ℕ, ◌==◌, ◌&&◌, not, Bool, Option, Some, None, Result, Ok, Err, List, map, position, replicate, slice_set, if◌then◌else◌}
 use Rattle.std.specs.List.{list_any}
 use Rattle.std.specs.Option.{option_map_or}
+use Rattle.os9_base.specs.declared.limits.TheConstants.{PROCESS_PLACES}
 use Rattle.os9_base.specs.declared.registers.Pid.{Pid}
 use Rattle.proc_rules.specs.declared.record.Life.{Life}
 use Rattle.proc_rules.specs.declared.record.Life.TheVariants.{Running, Waiting, Ended}
 use Rattle.proc_rules.specs.declared.record.Reap.{Reap}
 use Rattle.proc_rules.specs.declared.record.Reap.TheVariants.{NoChild, NotYet}
 use Rattle.proc_rules.specs.declared.record.Record.{Record}
-use Rattle.proc_rules.specs.Records.{record_passes, has_ended, record_at, without_record}
+use Rattle.proc_rules.specs.Records.{record_passes, has_ended, record_at, without_record, after_make}
 
 -- a record is of a child of this process
 abbrev pub is_child : ℕ → Record → Bool
@@ -32,16 +33,14 @@ status_of Running = 0
 status_of Waiting = 0
 status_of (Ended status) = status
 
+-- the number and the status of a child that has ended
+abbrev pub child_and_status : List (Option Record) → ℕ → Pid × ℕ
+child_and_status records child = (record { 0 = child }, status_of (record_at records child).life)
+
 -- what a parent is given that waits: the ended child of least number, and its status
 abbrev pub reaped : List (Option Record) → ℕ → Result (Pid × ℕ) Reap
 reaped records parent =
-    option_map_or (λ child. Ok (
-      record {
-        0 =
-            child;
-      },
-      status_of (record_at records child).life,
-    )) (ended_child records parent)
+    option_map_or (λ child. Ok (child_and_status records child)) (ended_child records parent)
     (if has_child records parent then Err NotYet else Err NoChild)
 
 -- the records after it: without the child that was given
@@ -56,9 +55,15 @@ ended_record r status = if r.parent.0 == 0 then None else Some (record r { life 
 abbrev pub orphaned : ℕ → Option Record → Option Record
 orphaned parent None = None
 orphaned parent (Some r) =
-    if is_child parent r then (if has_ended r.life then None else Some (record r { parent = record { 0 = 0 } }))
-    else Some r
+    if not (is_child parent r) then Some r
+    else (if has_ended r.life then None else Some (record r { parent = record { 0 = 0 } }))
 
 -- the records after the end of a process
 abbrev pub after_exit : List (Option Record) → ℕ → ℕ → List (Option Record)
 after_exit records p status = slice_set (map (orphaned p) records) p (ended_record (record_at records p) status)
+
+-- process 2 of user 7, and its children 3 and 4
+abbrev pub family : List (Option Record)
+family =
+    after_make (after_make (after_make (replicate PROCESS_PLACES None) (record { 0 = 0 }) 7 128) (record { 0 = 2 }) 7 128)
+    (record { 0 = 2 }) 7 128

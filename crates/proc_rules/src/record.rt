@@ -1,3 +1,8 @@
+ghost use Rattle.std.specs.Prelude.{◌≡◌, Some, None, Ok, Err, option_map};
+ghost use Rattle.proc_rules.specs.Records.{record_of, record_at, free_process};
+ghost use Rattle.proc_rules.specs.Ends.{family, reaped, after_reap, after_exit};
+ghost use Rattle.proc_rules.specs.Signals.{send_fault, after_send};
+
 use os9_base::registers::{Pid, Regs};
 use thiserror::Error;
 
@@ -59,3 +64,35 @@ pub enum SendFault {
     #[error("signal pending")]
     Pending,
 }
+
+/// A parent is given its ended children by their numbers, each once, and the numbers are used
+/// again. Processes 3 and 4 are the children of process 2.
+pub fn an_ended_child_is_given_once()
+    ensures not_yet { reaped family 2 ≡ Err Reap.NotYet }
+    ensures least_first { reaped (after_exit (after_exit family 4 7) 3 9) 2 ≡ Ok (record { 0 = 3 }, 9) }
+    ensures then_the_other { reaped (after_reap (after_exit (after_exit family 4 7) 3 9) 2) 2
+        ≡ Ok (record { 0 = 4 }, 7) }
+    ensures none_left { reaped (after_reap (after_reap (after_exit (after_exit family 4 7) 3 9) 2) 2) 2
+        ≡ Err Reap.NoChild }
+    ensures number_again { free_process (after_reap (after_exit family 3 9) 2) ≡ Some 3 }
+{}
+
+/// A parent that ends leaves no record of its ended children, nor of itself if it has no parent,
+/// and its living children have no parent any more.
+pub fn a_parent_ends_before_its_children()
+    ensures parent_gone { record_of (after_exit (after_exit family 3 9) 2 1) 2 ≡ None }
+    ensures ended_child_gone { record_of (after_exit (after_exit family 3 9) 2 1) 3 ≡ None }
+    ensures living_child_stays { option_map (λ r. r.parent) (record_of (after_exit family 2 1) 4)
+        ≡ Some (record { 0 = 0 }) }
+{}
+
+/// A second signal is refused while one is pending, also signal 0, and signal 1 is never pending.
+/// The processes are user 7's.
+pub fn one_signal_is_pending()
+    ensures sent { (record_at (after_send family 0 3 7) 3).signal ≡ Some 7 }
+    ensures pending { send_fault (after_send family 0 3 7) 7 3 0 ≡ Some SendFault.Pending }
+    ensures wake { (record_at (after_send family 7 3 1) 3).signal ≡ None }
+    ensures wake_beside { send_fault (after_send family 0 3 7) 7 3 1 ≡ None }
+    ensures other_user { send_fault (after_send family 0 3 7) 8 3 0 ≡ Some SendFault.NoProcess }
+    ensures ended { send_fault (after_exit family 3 9) 0 3 7 ≡ Some SendFault.NoProcess }
+{}
