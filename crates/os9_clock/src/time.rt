@@ -1,0 +1,189 @@
+ghost use Rattle.std.specs.Prelude.{◌≡◌, ◌<◌, ◌+◌, ◌%◌, true, pos, ◌≤ℤ◌};
+ghost use Rattle.os9_clock.specs.CivilTime.{is_time_packet, IsAfter, month_days as month_days_lem, is_leap as is_leap_lem, time_packet};
+ghost use Rattle.os9_clock.specs.JiffTime.{civil_of};
+ghost use Rattle.jiff.specs.Words.{IsYmd, IsHms};
+
+use jiff::SignedDuration;
+use jiff::civil::DateTime;
+use os9_base::registers::TimePacket;
+
+/// The year from which packets count.
+const FIRST_YEAR: i16 = 1900;
+
+/// Is the packet a civil date and time of a year from 1900 to 2155?
+pub fn is_time(t: TimePacket) -> bool
+    ensures { result ≡ is_time_packet t }
+{
+    1 <= t.month
+        && t.month <= 12
+        && 1 <= t.day
+        && t.day <= month_days(1900 + u16::from(t.year), t.month)
+        && t.hour <= 23
+        && t.minute <= 59
+        && t.second <= 59
+}
+
+/// The packet of the civil time so many seconds after another packet's (System Programmer's
+/// Manual, F$Time). Its year counts from 1900 and goes round after 2155 (this project's own).
+pub fn time_at(base: TimePacket, seconds: u32) -> TimePacket
+    requires { is_time_packet base ≡ true }
+    ensures { IsAfter base seconds result }
+{
+    let later = civil_time(base)
+        .checked_add(SignedDuration::from_secs(i64::from(seconds)))
+        .unwrap();
+    packet_of(later)
+}
+
+// The civil time that a packet gives.
+fn civil_time(t: TimePacket) -> DateTime
+    requires { is_time_packet t ≡ true }
+    ensures date { IsYmd (pos (1900 + t.year)) (pos t.month) (pos t.day) result.date }
+    ensures time { IsHms (pos t.hour) (pos t.minute) (pos t.second) (pos 0) result.time }
+{
+    let year = full_year(t.year);
+    let month = signed(t.month);
+    let day = signed(t.day);
+    let hour = signed(t.hour);
+    let minute = signed(t.minute);
+    let second = signed(t.second);
+    DateTime::new(year, month, day, hour, minute, second, 0).unwrap()
+}
+
+// The year that a packet's year is.
+fn full_year(year: u8) -> i16
+    ensures { result ≡ pos (1900 + year) }
+{
+    FIRST_YEAR + i16::from(year)
+}
+
+// The same number as a signed one.
+fn signed(part: u8) -> i8
+    requires { part < 128 }
+    ensures { result ≡ pos part }
+{
+    part as i8
+}
+
+// The packet of a civil time from 1900 on.
+fn packet_of(time: DateTime) -> TimePacket
+    requires { pos 1900 ≤ℤ time.date.year }
+    ensures { result ≡ time_packet (civil_of time) }
+{
+    TimePacket {
+        year: ((time.year() - FIRST_YEAR) % 256) as u8,
+        month: time.month() as u8,
+        day: time.day() as u8,
+        hour: time.hour() as u8,
+        minute: time.minute() as u8,
+        second: time.second() as u8,
+    }
+}
+
+// How many days the month has.
+fn month_days(year: u16, month: u8) -> u8
+    ensures { result ≡ month_days_lem year month }
+{
+    match month {
+        2 if is_leap(year) => 29,
+        2 => 28,
+        4 | 6 | 9 | 11 => 30,
+        _ => 31,
+    }
+}
+
+// Is the year a leap year?
+fn is_leap(year: u16) -> bool
+    ensures { result ≡ is_leap_lem year }
+{
+    year % 4 == 0 && (year % 100 != 0 || year % 400 == 0)
+}
+
+#[cfg(test)]
+mod tests {
+    use super::*;
+
+    /// A packet of these parts, with the year as it is written.
+    fn packet(year: u16, month: u8, day: u8, hour: u8, minute: u8, second: u8) -> TimePacket {
+        TimePacket {
+            year: (year.saturating_sub(1900) % 256) as u8,
+            month,
+            day,
+            hour,
+            minute,
+            second,
+        }
+    }
+
+    #[test]
+    fn times(rt: HostRuntime) {
+        for (time, is) in [
+            (packet(1990, 1, 1, 0, 0, 0), true),
+            (packet(1900, 2, 28, 23, 59, 59), true),
+            (packet(1900, 2, 29, 0, 0, 0), false),
+            (packet(2000, 2, 29, 0, 0, 0), true),
+            (packet(1992, 2, 29, 0, 0, 0), true),
+            (packet(2100, 2, 29, 0, 0, 0), false),
+            (packet(2155, 12, 31, 23, 59, 59), true),
+            (packet(1990, 0, 1, 0, 0, 0), false),
+            (packet(1990, 13, 1, 0, 0, 0), false),
+            (packet(1990, 4, 31, 0, 0, 0), false),
+            (packet(1990, 1, 0, 0, 0, 0), false),
+            (packet(1990, 1, 1, 24, 0, 0), false),
+            (packet(1990, 1, 1, 0, 60, 0), false),
+            (packet(1990, 1, 1, 0, 0, 60), false),
+        ] {
+            assert_eq!(rt; is_time(time), is);
+        }
+    }
+
+    // The seconds between two of these times are those of their Unix times.
+    #[test]
+    fn times_after(rt: HostRuntime) {
+        for (base, seconds, after) in [
+            (packet(1990, 1, 1, 0, 0, 0), 0, packet(1990, 1, 1, 0, 0, 0)),
+            (
+                packet(1990, 1, 1, 0, 0, 0),
+                368_848_000,
+                packet(2001, 9, 9, 1, 46, 40),
+            ),
+            (
+                packet(1990, 1, 1, 0, 0, 0),
+                1_516_331_647,
+                packet(2038, 1, 19, 3, 14, 7),
+            ),
+            (
+                packet(1970, 1, 1, 0, 0, 0),
+                u32::MAX,
+                packet(2106, 2, 7, 6, 28, 15),
+            ),
+            (
+                packet(1992, 2, 28, 23, 59, 59),
+                1,
+                packet(1992, 2, 29, 0, 0, 0),
+            ),
+            (
+                packet(1900, 2, 28, 23, 59, 59),
+                1,
+                packet(1900, 3, 1, 0, 0, 0),
+            ),
+            (
+                packet(2155, 12, 31, 23, 59, 59),
+                1,
+                packet(2156, 1, 1, 0, 0, 0),
+            ),
+            (
+                packet(2155, 12, 31, 0, 0, 0),
+                5_184_000,
+                packet(2156, 2, 29, 0, 0, 0),
+            ),
+        ] {
+            if is_time(base) {
+                assert_eq!(rt; time_at(base, seconds), after);
+            } else {
+                assert!(rt; false);
+            }
+        }
+        assert!(rt; !is_time(packet(2156, 2, 29, 0, 0, 0)));
+    }
+}
