@@ -95,7 +95,7 @@ module _ (number : ℕ → ℕ) (Live : ℕ → Type 0) (apart : (one other : �
   listed-renamed group (first ∷ groups) live each =
       λ i. pointwise-renamed group first live (All-head (All Live) first groups each) i || listed-renamed group groups live (All-tail (All Live) first groups each) i
 
-  abbrev AreLive : List (Option ModuleEntry) → Type 0
+  abbrev pub AreLive : List (Option ModuleEntry) → Type 0
   AreLive entries = (number : ℕ) (entry : ModuleEntry) → module_entry_at entries number ≡ Some entry → All Live entry.group
 
   groups_live : (entries : List (Option ModuleEntry)) → AreLive entries → All (All Live) (entered_groups entries)

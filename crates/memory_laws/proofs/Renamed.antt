@@ -58,7 +58,7 @@ module _ (number : ℕ → ℕ) where
   pub with_entry-renamed : (entries : List (Option ModuleEntry)) (place : ℕ) (entry : ModuleEntry) → with_module_entry (renamed_modules number entries) place (renamed_entry number entry) ≡ renamed_modules number (with_module_entry entries place entry)
   with_entry-renamed entries place entry = sym (map-set (option_map (renamed_entry number)) entries place (Some entry))
 
-  with_module-renamed : (entries : List (Option ModuleEntry)) (info : ModuleInfo) (group : List ℕ) (is_boot : Bool) → with_module (renamed_modules number entries) info (map number group) is_boot ≡ renamed_modules number (with_module entries info group is_boot)
+  pub with_module-renamed : (entries : List (Option ModuleEntry)) (info : ModuleInfo) (group : List ℕ) (is_boot : Bool) → with_module (renamed_modules number entries) info (map number group) is_boot ≡ renamed_modules number (with_module entries info group is_boot)
   with_module-renamed entries info group is_boot =
       ap (λ (free : Option ℕ). option_map_or (λ place. with_module_entry (renamed_modules number entries) place (new_entry info (map number group) is_boot)) free (renamed_modules number entries)) (position-is_none (renamed_entry number) entries)
       ∙ by_place (free_number entries)

@@ -8,9 +8,10 @@ use Rattle.proc_model.specs.declared.group.BlockId.{BlockId}
 abbrev pub times_in : List BlockId → ℕ → ℕ
 times_in group block = count_by (λ (id : BlockId). id.0 == block) group
 
--- Blocks that were free, all different, are named once more and have these bytes, block by block. The other counts stay, and so
--- do the bytes of each block that was live.
-pub record GainsBlocks (before : Blocks) (group : List BlockId) (contents : List (List ℕ)) (after : Blocks) : Type 0 where
+-- Blocks that were free, all different, are named once more and have these bytes, block by block. The other counts
+-- stay, and so do the bytes of each block that was live.
+pub record GainsBlocks (before : Blocks) (group : List BlockId) (contents : List (List ℕ)) (after : Blocks) : Type 0
+    where
   pub were_free : All (λ id. IsFreeBlock before id.0) group
   pub different : AllPairs (λ a b. a ≢ b) group
   pub holds : map (λ (id : BlockId). block_bytes after id.0) group ≡ contents

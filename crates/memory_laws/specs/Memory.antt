@@ -16,8 +16,10 @@ memory_of number pool maps entries objects = record {
   modules = renamed_modules number entries;
 }
 
--- Blocks, maps and entries represent a memory: the live blocks represent objects, and all else is equal but for their numbers.
-pub record RepresentMemory (pool : Blocks) (maps : List (Slots BlockId)) (entries : List (Option ModuleEntry)) (m : MemoryState) : Type 0 where
+-- Blocks, maps and entries represent a memory: the live blocks represent objects, and all else is equal but for their
+-- numbers.
+pub record RepresentMemory (pool : Blocks) (maps : List (Slots BlockId)) (entries : List (Option ModuleEntry))
+    (m : MemoryState) : Type 0 where
   pub number : ℕ → ℕ
   pub objects : List (List ℕ)
   pub represent : RepresentObjects number pool objects

@@ -5,7 +5,8 @@ use Rattle.proc_model.specs.declared.group.BlockId.{BlockId}
 use Rattle.proc_model.specs.ModuleList.{ModuleEntry}
 use Rattle.proc_model.specs.Slots.{Slots}
 
--- Live blocks represent objects by their numbers: each has the object's bytes, and different blocks represent different objects.
+-- Live blocks represent objects by their numbers: each has the object's bytes, and different blocks represent
+-- different objects.
 pub record RepresentObjects (number : ℕ → ℕ) (pool : Blocks) (objects : List (List ℕ)) : Type 0 where
   pub same_bytes : (block : ℕ) → IsLive pool block → slice_get objects (number block) ≡ Some (block_bytes pool block)
   pub apart : (one other : ℕ) → IsLive pool one → IsLive pool other → number one ≡ number other → one ≡ other
@@ -13,7 +14,8 @@ pub record RepresentObjects (number : ℕ → ℕ) (pool : Blocks) (objects : Li
 -- a map of blocks as a map of the objects that they represent
 abbrev pub renamed_map : (ℕ → ℕ) → Slots BlockId → Slots ℕ
 renamed_map number slots =
-    record { places = map (option_map (λ (id : BlockId). number id.0)) slots.places; low = slots.low; groups = slots.groups }
+    record { places =
+        map (option_map (λ (id : BlockId). number id.0)) slots.places; low = slots.low; groups = slots.groups }
 
 -- an entry whose group is one of objects
 abbrev pub renamed_entry : (ℕ → ℕ) → ModuleEntry → ModuleEntry

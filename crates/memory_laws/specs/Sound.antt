@@ -13,9 +13,12 @@ pub record IsHeld (pool : Blocks) (entries : List (Option ModuleEntry)) (slots :
   -- each slot of the data area names a block
   pub full : (slot : ℕ) → slot < slots.low → IsSome (block_at slots slot)
   -- nothing else names a block of the data area
-  pub alone : (slot : ℕ) (id : BlockId) → slot < slots.low → block_at slots slot ≡ Some id → reference_count pool id.0 ≡ 1
+  pub alone : (slot : ℕ) (id : BlockId) → slot < slots.low → block_at slots slot ≡ Some id
+      → reference_count pool id.0 ≡ 1
   -- where a slot names a block of an entered group, the whole group stands around it
-  pub grouped : (number : ℕ) (entry : ModuleEntry) → module_entry_at entries number ≡ Some entry → (slot k : ℕ) (id : BlockId) → block_at slots slot ≡ Some id → k < length entry.group → id.0 ≡ slice_index entry.group k → (k ≤ slot) × BeginsAt (numbered_map slots) entry.group (slot - k)
+  pub grouped : (number : ℕ) (entry : ModuleEntry) → module_entry_at entries number ≡ Some entry
+      → (slot k : ℕ) (id : BlockId) → block_at slots slot ≡ Some id → k < length entry.group
+      → id.0 ≡ slice_index entry.group k → (k ≤ slot) × BeginsAt (numbered_map slots) entry.group (slot - k)
 
 -- what holds of each entered module
 pub record IsGrouped (entry : ModuleEntry) : Type 0 where
@@ -23,7 +26,8 @@ pub record IsGrouped (entry : ModuleEntry) : Type 0 where
   pub some : 1 ≤ length entry.group
   pub few : length entry.group ≤ 7
   -- no block is in it twice
-  pub once : (one other : ℕ) → one < length entry.group → other < length entry.group → slice_index entry.group one ≡ slice_index entry.group other → one ≡ other
+  pub once : (one other : ℕ) → one < length entry.group → other < length entry.group
+      → slice_index entry.group one ≡ slice_index entry.group other → one ≡ other
   -- the module lies in it
   pub inside : entry.info.at + entry.info.size ≤ 8192 * length entry.group
 
@@ -31,7 +35,9 @@ pub record IsGrouped (entry : ModuleEntry) : Type 0 where
 pub record AreGrouped (entries : List (Option ModuleEntry)) : Type 0 where
   pub each : (number : ℕ) (entry : ModuleEntry) → module_entry_at entries number ≡ Some entry → IsGrouped entry
   -- groups that share a block are the same
-  pub same : (number other : ℕ) (entry another : ModuleEntry) → module_entry_at entries number ≡ Some entry → module_entry_at entries other ≡ Some another → (block : ℕ) → Has entry.group block → Has another.group block → entry.group ≡ another.group
+  pub same : (number other : ℕ) (entry another : ModuleEntry) → module_entry_at entries number ≡ Some entry
+      → module_entry_at entries other ≡ Some another → (block : ℕ) → Has entry.group block → Has another.group block
+      → entry.group ≡ another.group
 
 -- what holds of the blocks, the maps of all processes and the module directory together
 pub record IsSound (pool : Blocks) (maps : List (Slots BlockId)) (entries : List (Option ModuleEntry)) : Type 0 where

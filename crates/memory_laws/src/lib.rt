@@ -13,7 +13,8 @@ ghost use Rattle.memory_laws.specs.Sound.{IsSound};
 /// The blocks of the machine less the living objects are as many as the blocks that no map and no
 /// entered group names: so a change of memory is refused exactly where blocks are too few.
 pub fn free_blocks_are_those_that_nothing_names()
-    ensures { (pool : Blocks) (maps : List (Slots BlockId)) (entries : List (Option ModuleEntry)) (m : MemoryState)
+    ensures { (pool : Blocks) (maps : List (Slots BlockId)) (entries : List (Option ModuleEntry))
+        (m : MemoryState)
         → IsSound pool maps entries → RepresentMemory pool maps entries m
         → free_blocks m ≡ free_block_count pool }
 {}

@@ -135,6 +135,14 @@ impl Dir {
         self.entry(id).group
     }
 
+    /// Is the group of an entered module the boot file's?
+    pub fn is_boot(&self, id: ModId) -> bool
+        requires { IsSome (module_entry_at self.now id.0) }
+        ensures { option_map (λ entry. entry.is_boot) (module_entry_at self.now id.0) ≡ Some result }
+    {
+        self.entry(id).is_boot
+    }
+
     /// How many links an entered module has.
     pub fn links(&self, id: ModId) -> u32
         requires { IsSome (module_entry_at self.now id.0) }
@@ -192,7 +200,8 @@ impl Dir {
         self.entries[id.0 as usize] = Some(entry);
     }
 
-    fn knows(&self, info: &ModuleInfo) -> bool
+    /// Is a module known: has an entry of its name and type its revision or a greater one?
+    pub fn knows(&self, info: &ModuleInfo) -> bool
         ensures known { result ≡ is_known_lem self.now info.now }
         ensures places { length self.now ≡ 64 }
     {

@@ -56,6 +56,8 @@ mod tests {
         assert_eq!(rt; dir.find(&name, 0x01), Some(ModId(0)));
         assert!(rt; dir.is_entered(ModId(0)));
         assert_eq!(rt; (dir.links(ModId(0)), dir.info(ModId(0)).attr), (1, 0x81));
+        assert!(rt; dir.is_boot(ModId(0)));
+        assert!(rt; dir.knows(&module(0x80)));
         Ok(())
     }
 }

@@ -1,0 +1,6 @@
+mod EnterCalls
+mod First
+mod GroupCalls
+mod LinkCalls
+mod MapCalls
+mod StartCalls

@@ -1,0 +1,41 @@
+use Rattle.std.proofs.Common.{◌≡◌, Result, Ok, Err, refl, sym, subst, ap, ◌∙◌}
+use Rattle.block_map.specs.declared.map.MapFault.{MapFault}
+use Rattle.proc_model.specs.declared.memory.MemoryFault.{MemoryFault}
+use Rattle.proc_model.specs.Memory.{MemoryState}
+use Rattle.guest_memory.specs.Tie.{Answers}
+use Rattle.guest_memory.proofs.MapCalls.{live, sound-grow, grow-full, grow-no_ram, grow-ok}
+use Rattle.guest_memory.proofs.memory.Memory.grow.Goals as goal
+
+pub map_low-requires : goal.map_low-requires
+map_low-requires c = let m = c.args.self.now in live m.pool m.maps.items m.dir m.sound c.args.p.0 c.requires c.index_mut-map.result.now c.index_mut-map.ensures.value
+
+pub invariant_of-self : goal.invariant_of-self
+invariant_of-self c =
+    let m = c.args.self.now in
+    let done = c.map_low.ensures in record {
+      sound = sound-grow m.pool m.maps.items m.dir m.sound c.args.p.0 c.requires c.index_mut-map.result.now c.index_mut-map.ensures.value c.args.count c.map_low.result c.map_low.new.self c.map_low.new.pool done.no_slot done.no_block done.refused done.gains done.shape;
+    }
+
+pub returns-in-Ok : goal.returns-in-Ok
+returns-in-Ok c =
+    let m = c.args.self.now in
+    let done = c.map_low.ensures in
+    λ before tied.
+    let comes = grow-ok m.pool m.maps.items m.dir m.sound c.args.p.0 c.requires c.index_mut-map.result.now c.index_mut-map.ensures.value c.args.count c.map_low.result c.map_low.new.self c.map_low.new.pool done.no_slot done.no_block done.refused done.gains c.in-Ok.is before tied in
+    rw comes.0 (refl, comes.1)
+
+pub returns-in-Err-NoSlot : goal.returns-in-Err-NoSlot
+returns-in-Err-NoSlot c =
+    let m = c.args.self.now in
+    let done = c.map_low.ensures in
+    λ before tied.
+    let comes = grow-full m.pool m.maps.items m.dir m.sound c.args.p.0 c.requires c.index_mut-map.result.now c.index_mut-map.ensures.value c.args.count c.map_low.result c.map_low.new.self c.map_low.new.pool done.no_slot done.no_block done.refused done.gains (c.in-Err-NoSlot.is ∙ ap Err c.in-Err-NoSlot.field-0-is) before tied in
+    rw comes.0 (refl, comes.1)
+
+pub returns-in-Err-NoBlock : goal.returns-in-Err-NoBlock
+returns-in-Err-NoBlock c =
+    let m = c.args.self.now in
+    let done = c.map_low.ensures in
+    λ before tied.
+    let comes = grow-no_ram m.pool m.maps.items m.dir m.sound c.args.p.0 c.requires c.index_mut-map.result.now c.index_mut-map.ensures.value c.args.count c.map_low.result c.map_low.new.self c.map_low.new.pool done.no_slot done.no_block done.refused done.gains (c.in-Err-NoBlock.is ∙ ap Err c.in-Err-NoBlock.field-0-is) before tied in
+    rw comes.0 (refl, comes.1)

@@ -1,0 +1,42 @@
+-- How the kernel's memory is tied to that of the machine.
+use Rattle.std.specs.Prelude.{◌≡◌, ℕ, Option, Some, None, option_and_then, Result, Ok, Err, IsOk, List, slice_index_or}
+use Rattle.block_map.specs.Window.{map_cells}
+use Rattle.proc_model.specs.declared.memory.MemoryFault.{MemoryFault}
+use Rattle.proc_model.specs.Memory.{MemoryState}
+use Rattle.proc_model.specs.ModuleList.{ModuleEntry, module_entry_at}
+use Rattle.proc_model.specs.Slots.{no_slots, group_slot}
+use Rattle.memory_laws.specs.Memory.{RepresentMemory}
+use Rattle.memory_laws.specs.Renaming.{numbered_map}
+use Rattle.guest_memory.specs.declared.memory.Memory.{Memory}
+
+-- a memory of blocks represents one of objects
+abbrev pub Represents : Memory → MemoryState → Type 0
+Represents memory m = RepresentMemory memory.pool memory.maps.items memory.dir m
+
+-- A call on memory answers what the change of memory comes to: it is done, and memory represents that of the machine
+-- then; or it is refused, for the same reason, and memory represents what it did before.
+abbrev pub Answers : {T : Type 0} → Result MemoryState MemoryFault → MemoryState → Result T MemoryFault → Memory
+    → Type 0
+Answers (Ok after) before result new = IsOk result × Represents new after
+Answers (Err fault) before result new = (result ≡ Err fault) × Represents new before
+
+-- ---- what callers may know of a memory
+
+-- the module directory
+abbrev pub modules_of : Memory → List (Option ModuleEntry)
+modules_of memory = memory.dir
+
+-- the slot at which the group of an entered module begins in the map of a process, if it is mapped there
+abbrev pub slot_of_group : Memory → ℕ → ℕ → Option ℕ
+slot_of_group memory process number =
+    option_and_then (λ entry. group_slot (numbered_map (slice_index_or memory.maps.items process no_slots))
+    entry.group) (module_entry_at memory.dir number)
+
+-- a group is mapped, and begins at this slot; or there is no run of free slots for it, and nothing has changed
+abbrev pub MapsGroup : Option (ℕ × MemoryState) → MemoryState → Option ℕ → Memory → Type 0
+MapsGroup (Some found) before result new = (result ≡ Some found.0) × Represents new found.1
+MapsGroup None before result new = (result ≡ None) × Represents new before
+
+-- the byte that a process sees at each address, or nothing where the address is not named
+abbrev pub cells_of : Memory → ℕ → ℕ → Option ℕ
+cells_of memory process = map_cells (slice_index_or memory.maps.items process no_slots) memory.pool

@@ -1,0 +1,47 @@
+ghost use Rattle.std.specs.Prelude.{◌<◌};
+ghost use Rattle.proc_model.specs.Memory.{MemoryState};
+ghost use Rattle.proc_model.specs.MemoryChanges.{grown, cut as cut_lem, cleared};
+ghost use Rattle.guest_memory.specs.Tie.{Represents, Answers};
+
+use crate::memory::Memory;
+use block_map::map::MapFault;
+use os9_base::registers::Pid;
+use proc_model::memory::MemoryFault;
+
+impl Memory {
+    /// The data area of a process grows by so many new blocks, whose bytes are zeros (F$Mem).
+    ///
+    /// # Errors
+    ///
+    /// `MemFull` exactly where one of the slots that follow the data area is named or there are
+    /// fewer; else `NoRam` exactly where fewer blocks are free. Nothing has changed then.
+    pub fn grow(&mut self, p: Pid, count: u8) -> Result<(), MemoryFault>
+        requires { p.0 < 33 }
+        ensures { (m : MemoryState) → Represents self.old m
+            → Answers (grown m p.0 count) m result self.new }
+    {
+        let map = &mut self.maps[p.0 as usize];
+        match map.map_low(&mut self.pool, count) {
+            Ok(()) => Ok(()),
+            Err(MapFault::NoSlot) => Err(MemoryFault::MemFull),
+            Err(MapFault::NoBlock) => Err(MemoryFault::NoRam),
+        }
+    }
+
+    /// At most so many blocks of a process's data area are kept, the first ones (F$Mem).
+    pub fn cut(&mut self, p: Pid, count: u8)
+        requires { p.0 < 33 }
+        ensures { (m : MemoryState) → Represents self.old m
+            → Represents self.new (cut_lem m p.0 count) }
+    {
+        self.maps[p.0 as usize].cut_low(&mut self.pool, count);
+    }
+
+    /// The map of a process names nothing any more (F$Exit).
+    pub fn clear(&mut self, p: Pid)
+        requires { p.0 < 33 }
+        ensures { (m : MemoryState) → Represents self.old m → Represents self.new (cleared m p.0) }
+    {
+        self.maps[p.0 as usize].clear(&mut self.pool);
+    }
+}
