@@ -1,3 +1,4 @@
+mod ByteCalls
 mod EnterCalls
 mod First
 mod GroupCalls
