@@ -52,7 +52,8 @@ refused_key line = still_typing line (BELL ∷ [])
 -- 08 takes the last byte away; nothing on an empty line
 abbrev pub backspaced : Editing → Edited
 backspaced line =
-    still_typing (with_bytes line (take (length line.bytes - 1) line.bytes)) (rubouts (take 1 line.bytes))
+    still_typing (with_bytes line (take (length line.bytes - 1) line.bytes))
+    (rubouts (take 1 line.bytes))
 
 -- 18 takes each byte away
 abbrev pub deleted : Editing → Edited
@@ -69,12 +70,17 @@ last_that_fits most line = take (most - 1) line.last
 -- 01 takes each byte away and types the last finished line, as much as fits
 abbrev pub duplicated : ℕ → Editing → Edited
 duplicated most line =
-    still_typing (with_bytes line (last_that_fits most line)) (rubouts line.bytes ++ map shown (last_that_fits most line))
+    still_typing (with_bytes line (last_that_fits most line))
+    (rubouts line.bytes ++ map shown (last_that_fits most line))
 
 -- 0D ends the line, which is then the last finished one
 abbrev pub returned : Editing → Edited
 returned line =
-    record { line = record { bytes = line.bytes ++ RETURN ∷ []; last = line.bytes }; echo = RETURN ∷ LINE_FEED ∷ []; end = Some Line }
+    record {
+      line = record { bytes = line.bytes ++ RETURN ∷ []; last = line.bytes };
+      echo = RETURN ∷ LINE_FEED ∷ [];
+      end = Some Line;
+    }
 
 -- the end of the file
 abbrev pub file_ended : Editing → Edited
@@ -91,12 +97,16 @@ escaped line = if is_empty_line line then file_ended line else refused_key line
 -- any other key, where the line has room for it and a carriage return
 abbrev pub typed_key : ℕ → Editing → ℕ → Edited
 typed_key most line key =
-    if nat_lt (length line.bytes) (most - 1) then still_typing (with_bytes line (line.bytes ++ key ∷ [])) (shown key ∷ []) else refused_key line
+    if nat_lt (length line.bytes) (most - 1)
+    then still_typing (with_bytes line (line.bytes ++ key ∷ [])) (shown key ∷ []) else refused_key line
 
 -- a key of I$ReadLn, which asks for at most so many bytes
 unfoldable pub edited : ℕ → Editing → ℕ → Edited
 edited most line key =
-    if key == BACKSPACE then backspaced line else (if key == DELETE_LINE then deleted line else (if key == REPRINT then reprinted line else (if key == DUPLICATE then duplicated most line else (if key == RETURN then returned line else (if key == END_OF_FILE then escaped line else typed_key most line key)))))
+    if key == BACKSPACE then backspaced line else (if key == DELETE_LINE then deleted line
+    else (if key == REPRINT then reprinted line else (if key == DUPLICATE then duplicated most line
+    else (if key == RETURN then returned line else (if key == END_OF_FILE then escaped line
+    else typed_key most line key)))))
 
 -- this byte is the last one of an I$Read, which asks for at most so many
 abbrev pub is_last_byte : ℕ → Editing → ℕ → Bool
@@ -105,7 +115,11 @@ is_last_byte most line key = (key == RETURN) || (length line.bytes + 1 == most)
 -- the byte is moved as it is
 abbrev pub moved : ℕ → Editing → ℕ → Edited
 moved most line key =
-    record { line = with_bytes line (line.bytes ++ key ∷ []); echo = key ∷ []; end = if is_last_byte most line key then Some Line else None }
+    record {
+      line = with_bytes line (line.bytes ++ key ∷ []);
+      echo = key ∷ [];
+      end = if is_last_byte most line key then Some Line else None;
+    }
 
 -- a key of I$Read, which asks for at most so many bytes
 unfoldable pub copied : ℕ → Editing → ℕ → Edited
@@ -123,7 +137,7 @@ pub record Typing : Type 0 where
 abbrev pub after_echo : List ℕ → Typing → Typing
 after_echo echo typed = record typed { echo = echo ++ typed.echo }
 
--- what a key and those behind it make of a line, where `rest` is what those behind it make of it after the key
+-- what a key and those behind it make of a line; `rest` is what those behind it make of it after the key
 abbrev pub after_key : Option LineEnd → Edited → List ℕ → Typing → Typing
 after_key None key keys rest = after_echo key.echo rest
 after_key (Some end) key keys rest = record { line = key.line; echo = key.echo; end = Some end; left = keys }
@@ -142,3 +156,7 @@ goes_on (Some end) step typed keys = record typed { left = typed.left ++ keys }
 -- what was typed, with these keys after it
 abbrev pub after_typing : (Editing → ℕ → Edited) → Typing → List ℕ → Typing
 after_typing step typed keys = goes_on typed.end step typed keys
+
+-- these keys make all of it: none of them is left
+abbrev pub used_up : Typing → Typing
+used_up typed = record typed { left = [] }

@@ -54,7 +54,8 @@ released process t = if option_map_or (is_process process) (reader t) false then
 -- the terminal without a trace of this process
 abbrev pub forgotten : Pid → Terminal → Terminal
 forgotten process t =
-    if option_map_or (is_process process) t.user false then record (released process t) { user = None } else released process t
+    if option_map_or (is_process process) t.user false
+    then record (released process t) { user = None } else released process t
 
 -- Keys that arrive.
 
@@ -132,27 +133,48 @@ pub record Attempt : Type 0 where
   pub echo : List ℕ
   pub stored : List ℕ  -- the bytes that are stored into the buffer
 
+-- the terminal after a read that typed these keys and is unfinished
+abbrev pub still_reading : Reading → Typing → Terminal
+still_reading request it =
+    record { ahead = it.left; line = it.line; reading = Some request; user = Some request.process }
+
+-- the terminal after a read that is over, where this is its line and these keys are left
+abbrev pub after_reading : Reading → Editing → List ℕ → Terminal
+after_reading request line left =
+    record { ahead = left; line = cleared line; reading = None; user = Some request.process }
+
 -- the attempt of a read, by what its keys made of its line
-abbrev pub attempt_by : Option LineEnd → Typing → Reading → Terminal → Attempt
-attempt_by None it request t =
-    record { answer = Wait; terminal = record { ahead = it.left; line = it.line; reading = Some request; user = Some request.process }; echo = it.echo; stored = [] }
-attempt_by (Some EndOfFile) it request t =
-    record { answer = End; terminal = record { ahead = it.left; line = cleared it.line; reading = None; user = Some request.process }; echo = it.echo; stored = [] }
-attempt_by (Some Line) it request t =
-    record { answer = Done (length it.line.bytes); terminal = record { ahead = it.left; line = cleared it.line; reading = None; user = Some request.process }; echo = it.echo; stored = it.line.bytes }
+abbrev pub attempt_by : Option LineEnd → Typing → Reading → Attempt
+attempt_by None it request =
+    record { answer = Wait; terminal = still_reading request it; echo = it.echo; stored = [] }
+attempt_by (Some EndOfFile) it request =
+    record { answer = End; terminal = after_reading request it.line it.left; echo = it.echo; stored = [] }
+attempt_by (Some Line) it request =
+    record {
+      answer = Done (length it.line.bytes);
+      terminal = after_reading request it.line it.left;
+      echo = it.echo;
+      stored = it.line.bytes;
+    }
 
 -- the attempt of a read that no other process's read keeps waiting
 abbrev pub typed_attempt : Reading → Terminal → Attempt
 typed_attempt request t =
-    attempt_by (typed request t.line t.ahead).end (typed request t.line t.ahead) request t
+    attempt_by (typed request t.line t.ahead).end (typed request t.line t.ahead) request
+
+-- the attempt of a read while another process's read is unfinished
+abbrev pub kept_waiting : Reading → Terminal → Attempt
+kept_waiting request t =
+    record { answer = Wait; terminal = used_by request.process t; echo = []; stored = [] }
 
 -- an attempt of a read: it waits for another process's read, or types the keys of the type-ahead
 abbrev pub read_attempt : Reading → Terminal → Attempt
 read_attempt request t =
-    if is_taken request.process t then record { answer = Wait; terminal = used_by request.process t; echo = []; stored = [] } else typed_attempt request t
+    if is_taken request.process t then kept_waiting request t else typed_attempt request t
 
 -- the attempt came to this
-pub record Attempted (attempt : Attempt) (answer : Progress) (new : Terminal) (before now : TerminalState) : Type 0 where
+pub record Attempted (attempt : Attempt) (answer : Progress) (new : Terminal) (before now : TerminalState)
+    : Type 0 where
   pub answer_is : answer ≡ attempt.answer
   pub terminal : new ≡ attempt.terminal
   pub echo : now.put ≡ stream_with before.put attempt.echo
@@ -160,11 +182,6 @@ pub record Attempted (attempt : Attempt) (answer : Progress) (new : Terminal) (b
 -- what the last of these keys makes of the line of a read, after those before it
 abbrev pub last_effect : Reading → Editing → List ℕ → ℕ → Edited
 last_effect request line front key = key_effect request (typed request line front).line key
-
--- the terminal after a read whose echo was refused at a key, where that key makes this line and these are left
-abbrev pub broken_off : Reading → Editing → List ℕ → Terminal
-broken_off request line rest =
-    record { ahead = rest; line = cleared line; reading = None; user = Some request.process }
 
 -- A read whose echo was refused: it used the keys up to the one whose echo failed and no others. What the keys before
 -- that one echo is out, and a part of what that one echoes. Where that key ended a line, this is the last finished one.
@@ -176,8 +193,9 @@ pub record BreaksOff (request : Reading) (old new : Terminal) (before now : Term
   pub keys : old.ahead ≡ front ++ key ∷ rest
   pub unfinished : (typed request old.line front).end ≡ None
   pub part : count < length (last_effect request old.line front key).echo
-  pub echo : now.put ≡ stream_with before.put ((typed request old.line front).echo ++ take count (last_effect request old.line front key).echo)
-  pub terminal : new ≡ broken_off request (last_effect request old.line front key).line rest
+  pub echo : now.put ≡ stream_with before.put
+      ((typed request old.line front).echo ++ take count (last_effect request old.line front key).echo)
+  pub terminal : new ≡ after_reading request (last_effect request old.line front key).line rest
 
 -- a byte was not put
 abbrev pub is_refused : Progress → Bool
@@ -205,8 +223,10 @@ abbrev pub stored_over : List ℕ → List ℕ → List ℕ
 stored_over bytes buffer = bytes ++ drop (length bytes) buffer
 
 -- an attempt of a read came to this answer
-pub record Reads (request : Reading) (answer : Progress) (old new : Terminal) (before now : TerminalState) : Type 0 where
-  pub outcome : MatchBool (is_refused answer) (BreaksOff request old new before now) (Attempted (read_attempt request old) answer new before now)
+pub record Reads (request : Reading) (answer : Progress) (old new : Terminal) (before now : TerminalState)
+    : Type 0 where
+  pub outcome : MatchBool (is_refused answer) (BreaksOff request old new before now)
+      (Attempted (read_attempt request old) answer new before now)
   pub driver : LeavesDriver answer before now
 
 -- what a read stores into its buffer: its bytes where it is done, else nothing
@@ -221,7 +241,8 @@ PutsPart bytes before now =
     (count : ℕ) × (count < length bytes) × (now.put ≡ stream_with before.put (take count bytes))
 
 -- a write was done: these bytes are out, and it answers this count
-pub record IsWritten (process : Pid) (bytes : List ℕ) (count : ℕ) (answer : Progress) (old new : Terminal) (before now : TerminalState) : Type 0 where
+pub record IsWritten (process : Pid) (bytes : List ℕ) (count : ℕ) (answer : Progress) (old new : Terminal)
+    (before now : TerminalState) : Type 0 where
   pub answer_is : answer ≡ Done count
   pub terminal : new ≡ used_by process old
   pub put : now.put ≡ stream_with before.put bytes
@@ -232,6 +253,8 @@ pub record IsCutShort (process : Pid) (bytes : List ℕ) (old new : Terminal) (b
   pub part : PutsPart bytes before now
 
 -- a write of these bytes came to this answer, where a write that is done answers this count
-pub record Writes (process : Pid) (bytes : List ℕ) (count : ℕ) (answer : Progress) (old new : Terminal) (before now : TerminalState) : Type 0 where
-  pub outcome : MatchBool (is_refused answer) (IsCutShort process bytes old new before now) (IsWritten process bytes count answer old new before now)
+pub record Writes (process : Pid) (bytes : List ℕ) (count : ℕ) (answer : Progress) (old new : Terminal)
+    (before now : TerminalState) : Type 0 where
+  pub outcome : MatchBool (is_refused answer) (IsCutShort process bytes old new before now)
+      (IsWritten process bytes count answer old new before now)
   pub driver : LeavesDriver answer before now

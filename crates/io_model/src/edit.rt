@@ -1,7 +1,7 @@
 //! How a line ends, and line editing as laws over every list of keys.
 
 ghost use Rattle.std.specs.Prelude.{◌≡◌, ℕ, ◌<◌, Some, None, List, [], ◌∷◌, ◌++◌, length, codes};
-ghost use Rattle.io_model.specs.Edit.{Editing, Edited, HasRoom, typing, edited, copied, after_typing, no_line, refused_key, still_typing, file_ended};
+ghost use Rattle.io_model.specs.Edit.{Editing, Edited, HasRoom, typing, edited, copied, after_typing, used_up, no_line, refused_key, still_typing, file_ended};
 
 /// What ends a read of a terminal.
 #[derive(Clone, Copy, Debug, PartialEq, Eq)]
@@ -17,6 +17,20 @@ pub enum LineEnd {
 pub fn typing_can_be_cut()
     ensures { (step : Editing → ℕ → Edited) (line : Editing) (first later : List ℕ) →
         typing step line (first ++ later) ≡ after_typing step (typing step line first) later }
+{}
+
+/// A read uses keys from the front of those that are there, and what it makes of them is what these
+/// keys make alone. So each key is used by one read, in order.
+pub fn typing_uses_a_front()
+    ensures { (step : Editing → ℕ → Edited) (line : Editing) (keys : List ℕ) →
+        (used : List ℕ) × (keys ≡ used ++ (typing step line keys).left)
+        × (typing step line used ≡ used_up (typing step line keys)) }
+{}
+
+/// A read that goes on has used every key.
+pub fn unended_typing_uses_all()
+    ensures { (step : Editing → ℕ → Edited) (line : Editing) (keys : List ℕ) →
+        (typing step line keys).end ≡ None → (typing step line keys).left ≡ [] }
 {}
 
 /// A line that has room for a byte has room after every key that does not end it.

@@ -1,5 +1,8 @@
 //! What a terminal answers, and its worked cases.
 
+ghost use Rattle.std.specs.Prelude.{◌≡◌, true, Some, None, [], ◌∷◌, ◌++◌, codes};
+ghost use Rattle.io_model.specs.Terminal.{Arrives, Writes, read_attempt, new_terminal, used_by};
+
 use os9_base::registers::Pid;
 
 /// How many keys the type-ahead of a terminal holds (this project's own).
@@ -46,3 +49,42 @@ pub struct Arrival {
     /// False if a bell found no memory.
     pub memory: bool,
 }
+
+/// A line that waits in the type-ahead is read at once, and the keys behind it stay.
+pub fn waiting_line()
+    ensures { read_attempt
+        (record { process = record { 0 = 2 }; kind = ReadKind.WholeLine; most = 80 })
+        (record new_terminal { ahead = 97 ∷ 98 ∷ 120 ∷ 8 ∷ 99 ∷ 13 ∷ 100 ∷ [] })
+        ≡ record {
+          answer = Progress.Done 4;
+          terminal = record {
+            ahead = 100 ∷ [];
+            line = record { bytes = []; last = codes "abc" };
+            reading = None;
+            user = Some (record { 0 = 2 });
+          };
+          echo = 97 ∷ 98 ∷ 120 ∷ 8 ∷ 32 ∷ 8 ∷ 99 ∷ 13 ∷ 10 ∷ [];
+          stored = codes "abc" ++ 13 ∷ [];
+        } }
+{}
+
+/// A write of three bytes to a terminal that fails at the second one leaves one byte out.
+pub fn terminal_put_fault()
+    ensures { Writes (record { 0 = 2 }) (97 ∷ 98 ∷ 99 ∷ []) 3 Progress.Fault
+        new_terminal (used_by (record { 0 = 2 }) new_terminal)
+        (record { keys = []; put = Some []; faults = 0 })
+        (record { keys = []; put = Some (97 ∷ []); faults = 1 }) }
+{}
+
+/// A terminal that fails to give a key ends the poll of that tick, and nothing else changes. The key
+/// arrives in the next one.
+pub fn key_fault()
+    ensures first { Arrives 1 new_terminal new_terminal
+        (record { keys = record { tick = 1; byte = 97 } ∷ []; put = Some []; faults = 0 })
+        (record { keys = record { tick = 1; byte = 97 } ∷ []; put = Some []; faults = 1 })
+        (record { signal = None; memory = true }) }
+    ensures second { Arrives 2 new_terminal (record new_terminal { ahead = 97 ∷ [] })
+        (record { keys = record { tick = 1; byte = 97 } ∷ []; put = Some []; faults = 1 })
+        (record { keys = []; put = Some []; faults = 1 })
+        (record { signal = None; memory = true }) }
+{}

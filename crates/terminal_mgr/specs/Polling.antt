@@ -17,7 +17,8 @@ pub record Rings (bells mute : ℕ) (before now : TerminalState) : Type 0 where
   pub keys : now.keys ≡ before.keys
 
 -- the keys of a tick that are due arrive, where a signal may have been sent before
-pub record Polls (tick : ℕ) (sent : Option ℕ) (old new : List ℕ) (before now : TerminalState) (answer : Arrival) : Type 0 where
+pub record Polls (tick : ℕ) (sent : Option ℕ) (old new : List ℕ) (before now : TerminalState)
+    (answer : Arrival) : Type 0 where
   pub taken : List Key  -- the keys that arrive
   pub bells : ℕ  -- the bells that are put
   pub mute : ℕ  -- the bells that the driver failed to put

@@ -8,7 +8,8 @@ use Rattle.io_model.specs.Terminal.{Terminal}
 use Rattle.io_model.specs.declared.terminal.Reading.{Reading}
 
 -- the state of a terminal that is lent, as `dyn_state ⟦<dyn CharDriver as CharDriver>⟧ d.old`
-abbrev pub dyn_state : {Table : Type 0} {Driver : Table → Type 0} → ((table : Table) → Ghosts (Driver table)) → ((table : Table) × Driver table) → TerminalState
+abbrev pub dyn_state : {Table : Type 0} {Driver : Table → Type 0} → ((table : Table) → Ghosts (Driver table))
+    → ((table : Table) × Driver table) → TerminalState
 dyn_state members d = terminal_state (members d.0) d.1
 
 -- a terminal by its parts

@@ -4,6 +4,8 @@
 mod arrival;
 mod driver;
 pub mod term;
+#[cfg(test)]
+mod tests;
 mod type_ahead;
 mod typist;
 
