@@ -133,13 +133,13 @@ module _ (pool : Blocks) (maps : List (Slots BlockId)) (entries : List (Option M
               let was = held.grouped number entry is slot k id ((stays slot id named).0) inside same in (
                 was.0,
                 BeginsAt-kept slots (cut_low_to slots count) entry.group (slot - k) was.1 refl
-                (λ j other here there is_it.
-                let has : HasBlock entries other.0 = record { number = number; entry = entry; is = is; has = times-at entry.group j other.0 here (sym is_it) } in
-                let high : slots.low ≤ slot - k + j = elim (cases_lt (slot - k + j) slots.low) [
-                  | inl low ↦ absurd (low_ungrouped pool maps entries sound process within (slot - k + j) other low there has)
-                  | inr high ↦ high
-                ] in
-                still (slot - k + j) (inr high) ∙ there),
+                    (λ j other here there is_it.
+                    let has : HasBlock entries other.0 = record { number = number; entry = entry; is = is; has = times-at entry.group j other.0 here (sym is_it) } in
+                    let high : slots.low ≤ slot - k + j = elim (cases_lt (slot - k + j) slots.low) [
+                      | inl low ↦ absurd (low_ungrouped pool maps entries sound process within (slot - k + j) other low there has)
+                      | inr high ↦ high
+                    ] in
+                    still (slot - k + j) (inr high) ∙ there),
               );
         })
 

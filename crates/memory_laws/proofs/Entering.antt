@@ -205,7 +205,7 @@ module _ (pool after : Blocks) (maps : List (Slots BlockId)) (entries : List (Op
               omega (
                 arith,
                 times-same entries later_entries sound.groups all_after block (HasBlock-still entries place free first_entry block)
-                (λ has. elim (HasBlock-either entries place free first_entry block has) [ inl new ↦ absurd (omega arith) | inr old ↦ old ]),
+                    (λ has. elim (HasBlock-either entries place free first_entry block has) [ inl new ↦ absurd (omega arith) | inr old ↦ old ]),
               )
           | inr has ↦
               omega (

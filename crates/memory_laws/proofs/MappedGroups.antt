@@ -393,7 +393,7 @@ module _ (pool : Blocks) (maps : List (Slots BlockId)) (entries : List (Option M
         ] in (
           was.0,
           BeginsAt-kept slots (map_without_group slots first (length entry.group)) other.group (slot - k) was.1 (get_or-set_other slots.groups first (slot - k) None None not_first)
-          (λ j b here there is_it. slot_still (slot - k + j) (outside_group (slot - k + j) b there (apart j b here is_it)) ∙ there),
+              (λ j b here there is_it. slot_still (slot - k + j) (outside_group (slot - k + j) b there (apart j b here is_it)) ∙ there),
         )
 
     pub IsSound-unmapped : IsPool after → IsMap (map_without_group slots first (length entry.group)) → NamesLiveBlocks (map_without_group slots first (length entry.group)) after → IsSound after (set maps process (map_without_group slots first (length entry.group))) entries

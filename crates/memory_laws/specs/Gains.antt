@@ -11,13 +11,13 @@ times_in group block = count_by (λ (id : BlockId). id.0 == block) group
 -- Blocks that were free, all different, are named once more and have these bytes, block by block. The other counts
 -- stay, and so do the bytes of each block that was live.
 pub record GainsBlocks (before : Blocks) (group : List BlockId) (contents : List (List ℕ)) (after : Blocks) : Type 0
-    where
-  pub were_free : All (λ id. IsFreeBlock before id.0) group
-  pub different : AllPairs (λ a b. a ≢ b) group
-  pub holds : map (λ (id : BlockId). block_bytes after id.0) group ≡ contents
-  pub as_many : length after.counts ≡ length before.counts
-  pub counts : (block : ℕ) → reference_count after block ≡ reference_count before block + times_in group block
-  pub kept : (block : ℕ) → IsLive before block → block_bytes after block ≡ block_bytes before block
+  where
+    pub were_free : All (λ id. IsFreeBlock before id.0) group
+    pub different : AllPairs (λ a b. a ≢ b) group
+    pub holds : map (λ (id : BlockId). block_bytes after id.0) group ≡ contents
+    pub as_many : length after.counts ≡ length before.counts
+    pub counts : (block : ℕ) → reference_count after block ≡ reference_count before block + times_in group block
+    pub kept : (block : ℕ) → IsLive before block → block_bytes after block ≡ block_bytes before block
 
 -- a file stands in new blocks, zeros behind it in the last one
 abbrev pub IsLoaded : List ℕ → Blocks → List BlockId → Blocks → Type 0

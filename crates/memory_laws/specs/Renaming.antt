@@ -14,8 +14,12 @@ pub record RepresentObjects (number : ℕ → ℕ) (pool : Blocks) (objects : Li
 -- a map of blocks as a map of the objects that they represent
 abbrev pub renamed_map : (ℕ → ℕ) → Slots BlockId → Slots ℕ
 renamed_map number slots =
-    record { places =
-        map (option_map (λ (id : BlockId). number id.0)) slots.places; low = slots.low; groups = slots.groups }
+    record {
+      places =
+          map (option_map (λ (id : BlockId). number id.0)) slots.places;
+      low = slots.low;
+      groups = slots.groups;
+    }
 
 -- an entry whose group is one of objects
 abbrev pub renamed_entry : (ℕ → ℕ) → ModuleEntry → ModuleEntry

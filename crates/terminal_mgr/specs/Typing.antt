@@ -30,7 +30,7 @@ pub record TypingBreaksOff (request : Reading) (old new : Editing) (ahead left :
   pub unfinished : (typed request old front).end ≡ None
   pub part : count < length (last_effect request old front key).echo
   pub echo : now ≡ stream_with before
-    ((typed request old front).echo ++ take count (last_effect request old front key).echo)
+      ((typed request old front).echo ++ take count (last_effect request old front key).echo)
   pub line : new ≡ (last_effect request old front key).line
 
 -- the answer of a call one of whose bytes was refused
@@ -42,6 +42,6 @@ refusal_answer OutOfMemory = NoMemory
 pub record Comes (request : Reading) (answer : Progress) (old new : Terminal) (before now : TerminalState)
     (buffer filled : List ℕ) : Type 0 where
   pub outcome : MatchBool (is_refused answer) (BreaksOff request old new before now)
-    (Attempted (typed_attempt request old) answer new before now)
+      (Attempted (typed_attempt request old) answer new before now)
   pub driver : LeavesDriver answer before now
   pub stored : filled ≡ stored_over (if is_refused answer then [] else (typed_attempt request old).stored) buffer

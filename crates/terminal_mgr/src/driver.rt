@@ -71,8 +71,10 @@ pub(crate) fn line_len(bytes: &[u8]) -> usize
 
 // Puts the first line, and a line feed after its carriage return.
 pub(crate) fn put_line(d: &mut dyn CharDriver, bytes: &[u8]) -> Result<(), PutFault>
-    ensures all { OnOk result (bytes_put d.new ≡ stream_with (bytes_put d.old) (line_put bytes.now)) }
-    ensures part { OnErr result (GainsPart (line_put bytes.now) (bytes_put d.old) (bytes_put d.new)) }
+    ensures all { OnOk result (bytes_put d.new
+        ≡ stream_with (bytes_put d.old) (line_put bytes.now)) }
+    ensures part { OnErr result (GainsPart (line_put bytes.now) (bytes_put d.old)
+        (bytes_put d.new)) }
     ensures fault_counted { OnFault result (Rose (term_faults d.old) (term_faults d.new)) }
     ensures faults_kept { UnlessFault result (term_faults d.new ≡ term_faults d.old) }
     ensures keys_kept { keys_left d.new ≡ keys_left d.old }

@@ -126,7 +126,12 @@ impl Term {
         requires some { 1 ≤ most }
         requires most { most ≤ 256 }
         requires buffer { most ≤ length into.old }
-        requires same { IsSameCall (record { process = p; kind = WholeLine; most = most }) self.old }
+        requires same { IsSameCall (record {
+          process =
+              p;
+          kind = WholeLine;
+          most = most;
+        }) self.old }
         ensures read { Reads (record { process = p; kind = WholeLine; most = most }) result
             self.old self.new
             (dyn_state ⟦<dyn CharDriver as CharDriver>⟧ d.old)
