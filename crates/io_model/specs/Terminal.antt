@@ -227,6 +227,7 @@ pub record Reads (request : Reading) (answer : Progress) (old new : Terminal) (b
     : Type 0 where
   pub outcome : MatchBool (is_refused answer) (BreaksOff request old new before now)
       (Attempted (read_attempt request old) answer new before now)
+  pub turn : is_refused answer ≡ true → is_taken request.process old ≡ false
   pub driver : LeavesDriver answer before now
 
 -- what a read stores into its buffer: its bytes where it is done, else nothing
