@@ -1,3 +1,4 @@
 pub mod Edit
 pub mod Line
+pub mod Pipe
 pub mod Terminal

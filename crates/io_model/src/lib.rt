@@ -4,4 +4,5 @@
 
 pub mod edit;
 pub mod keys;
+pub mod pipe;
 pub mod terminal;
