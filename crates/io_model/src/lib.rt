@@ -3,6 +3,8 @@
 #![tactic(auto)]
 
 pub mod edit;
+pub mod kept;
 pub mod keys;
+pub mod path;
 pub mod pipe;
 pub mod terminal;

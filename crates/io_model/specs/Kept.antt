@@ -1,0 +1,24 @@
+-- Calls that wait on a terminal or a pipe. A process has one of them at most: they are a list by number, where place p
+-- has that of process p, or nothing.
+use Rattle.std.specs.Prelude.{ℕ, ◌+◌, ◌-◌, ◌==◌, Bool, Option, Some, None, List, slice_index_or, slice_set}
+use Rattle.io_model.specs.declared.kept.Kept.{Kept}
+
+-- the call of a process that waits, if it has one
+abbrev pub kept_of : List (Option Kept) → ℕ → Option Kept
+kept_of calls p = slice_index_or calls p None
+
+-- the calls with this one of a process, or with none
+abbrev pub with_kept : List (Option Kept) → ℕ → Option Kept → List (Option Kept)
+with_kept calls p kept = slice_set calls p kept
+
+-- how many bytes a call still has to move
+abbrev pub count_left : Kept → ℕ
+count_left kept = kept.count - kept.moved
+
+-- a call after an attempt that moved so many bytes more
+abbrev pub moved_on : Kept → ℕ → Kept
+moved_on kept count = record kept { moved = kept.moved + count }
+
+-- a call has moved all bytes that it asks for
+abbrev pub is_complete : Kept → Bool
+is_complete kept = kept.moved == kept.count
