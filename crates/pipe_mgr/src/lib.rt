@@ -1,0 +1,9 @@
+//! Pipes: sixteen rings of 256 bytes, by number.
+#![tactic(auto)]
+
+mod pipe;
+pub mod pipes;
+#[cfg(test)]
+mod tests;
+
+pub use io_model::pipe::{PipeAns, PipeId};
