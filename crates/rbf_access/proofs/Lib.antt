@@ -1,0 +1,5 @@
+pub mod Counting
+pub mod Mounting
+pub mod Reading
+pub mod ReadPieces
+pub mod ReadFile

@@ -1,0 +1,44 @@
+-- A drive as contracts see it, and how its counts move in a call.
+use Rattle.std.specs.Prelude.{◌≡◌, ℕ, ◌+◌, ◌-◌, ◌^◌, ◌≤◌, min, Option, Some, IfSome, IfNone, option_map}
+use Rattle.os9_base.specs.Count.{Rose}
+use Rattle.os9_outer.specs.Drive.{drive_error}
+use Rattle.os9_outer.specs.declared.drive.DriveFault.{DriveFault}
+use Rattle.os9_outer.specs.declared.drive.BlockDriver.{Ghosts}
+
+-- how many faults and calls there were, and the last fault
+pub record DriveCounts : Type 0 where
+  pub faults : ℕ
+  pub last : Option DriveFault
+  pub calls : ℕ
+
+-- as a driver shows them by its ghost members
+abbrev pub drive_counts : {Driver : Type 0} → Ghosts Driver → Driver → DriveCounts
+drive_counts members driver =
+    record {
+      faults = members.drive_faults driver;
+      last = members.last_fault driver;
+      calls = members.drive_calls driver;
+    }
+
+-- the counts of a drive that is lent: the table of its methods gives the driver's ghost members
+abbrev pub counts_of : {Table : Type 0} {Driver : Table → Type 0} → ((table : Table) → Ghosts (Driver table))
+    → (table : Table) × Driver table → DriveCounts
+counts_of members drive = drive_counts (members drive.0) drive.1
+
+-- a call that made at most so many reads and writes, and that the fault of this number ended, if any: then the count
+-- of faults rose, and the fault is the last one
+pub record MovesCounts (fault : Option ℕ) (most : ℕ) (before now : DriveCounts) : Type 0 where
+  pub calls_made : now.calls ≤ before.calls + most
+  pub never_falls : before.faults ≤ now.faults
+  pub rose : IfSome fault (λ n. Rose before.faults now.faults)
+  pub number : IfSome fault (λ n. option_map drive_error now.last ≡ Some n)
+  pub kept : IfNone fault (now.faults ≡ before.faults)
+
+-- the same of a drive that is lent, as `Counts ⟦<dyn BlockDriver as BlockDriver>⟧ fault most d.old d.new`
+abbrev pub Counts : {Table : Type 0} {Driver : Table → Type 0} → ((table : Table) → Ghosts (Driver table))
+    → Option ℕ → ℕ → (table : Table) × Driver table → (table : Table) × Driver table → Type 0
+Counts members fault most before now = MovesCounts fault most (counts_of members before) (counts_of members now)
+
+-- exactly so many reads and writes were made, as far as the count tells: it stands still at its last value
+abbrev pub Made : ℕ → ℕ → ℕ → Type 0
+Made count before now = min now (2 ^ 64 - 1) ≡ min (before + count) (2 ^ 64 - 1)

@@ -1,0 +1,4 @@
+pub mod Drive
+pub mod Faults
+pub mod Mounted
+pub mod Reading

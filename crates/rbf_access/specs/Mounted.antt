@@ -1,0 +1,72 @@
+-- A mounted volume, and the volume that the media of its drive represents.
+use Rattle.std.specs.Prelude.{◌≡◌, ℕ, ◌+◌, ◌*◌, ◌≤◌, Option, Some, None, List, [], take, drop}
+use Rattle.rbf_model.specs.Geometry.{geometry, image_geometry, map_sectors, IsHeader, HasHeader, HasMap}
+use Rattle.rbf_model.specs.File.{DiskFile}
+use Rattle.rbf_model.specs.Volume.{DiskVolume, Vol}
+use Rattle.rbf_sector.specs.Ident.{geometry_of}
+use Rattle.rbf_sector.specs.declared.ident.Ident.{Ident}
+use Rattle.rbf_change.specs.Agrees.{KeptVolume, AgreesOnMap, Agrees}
+use Rattle.rbf_map.specs.Map.{ClusterMap}
+use Rattle.rbf_access.specs.declared.volume.Volume.{Volume}
+
+-- the media holds the volume of which its sector 0 speaks, and that volume has a map for its clusters
+pub record HoldsVolume (media : Option (List ℕ)) : Type 0 where
+  pub image : List ℕ
+  pub is : media ≡ Some image
+  pub header : HasHeader image
+  pub map : HasMap (image_geometry image)
+
+-- an identification sector of a volume that fits a drive of so many sectors, and that has a map for its clusters
+pub record FitsDrive (ident : List ℕ) (sectors : ℕ) : Type 0 where
+  pub header : IsHeader (geometry ident)
+  pub map : HasMap (geometry ident)
+  pub fits : (geometry ident).total ≤ sectors
+
+-- the bytes of the first sectors of the map, which begins at sector 1
+abbrev pub map_bytes : Option (List ℕ) → ℕ → List ℕ
+map_bytes None count = []
+map_bytes (Some image) count = take (256 * count) (drop 256 image)
+
+-- the identification is that of the volume that the media holds
+pub record IsIdentOf (media : Option (List ℕ)) (ident : Ident) : Type 0 where
+  pub holds : HoldsVolume media
+  pub sizes : geometry_of ident ≡ image_geometry holds.image
+
+-- the map is that of the media
+abbrev pub IsMapOf : Option (List ℕ) → ClusterMap → Type 0
+IsMapOf media map = (image : List ℕ) → media ≡ Some image → AgreesOnMap map image
+
+-- what is kept of a mounted volume
+abbrev pub kept : Volume → KeptVolume
+kept volume = record { sizes = geometry_of volume.ident; map = volume.map }
+
+-- what is kept is that of the volume that the media holds
+pub record IsVolumeOf (media : Option (List ℕ)) (volume : Volume) : Type 0 where
+  pub holds : HoldsVolume media
+  pub agrees : Agrees (kept volume) holds.image
+
+-- how many calls of the drive mount it: one for its identification sector, and one for each sector of the map
+abbrev pub image_calls : List ℕ → ℕ
+image_calls image = 1 + map_sectors (image_geometry image)
+
+abbrev pub mount_calls : Volume → ℕ
+mount_calls volume = 1 + map_sectors (kept volume).sizes
+
+-- the media represents the volume
+pub record Represents (media : Option (List ℕ)) (v : DiskVolume) : Type 0 where
+  pub image : List ℕ
+  pub is : media ≡ Some image
+  pub vol : Vol image v
+
+-- the volume is mounted: what is kept of it is that of the media, which represents a volume
+pub record IsMounted (volume : Volume) (media : Option (List ℕ)) : Type 0 where
+  pub content : DiskVolume
+  pub on : Represents media content
+  pub agrees : Agrees (kept volume) on.image
+
+-- the media represents a volume with a file of this number
+pub record HasFile (media : Option (List ℕ)) (n : ℕ) : Type 0 where
+  pub content : DiskVolume
+  pub on : Represents media content
+  pub file : DiskFile
+  pub is : content.files n ≡ Some file

@@ -1,0 +1,43 @@
+-- What is read of a file.
+use Rattle.std.specs.Prelude.{◌≡◌, true, ℕ, ◌+◌, ◌<◌, Option, Some, List, ◌++◌, length, min, drop}
+use Rattle.os9_outer.specs.Drive.{sector_count as drive_sectors}
+use Rattle.rbf_model.specs.Segments.{has}
+use Rattle.rbf_model.specs.File.{DiskFile}
+use Rattle.rbf_model.specs.Volume.{DiskVolume}
+use Rattle.rbf_sector.specs.declared.fd.Fd.{Fd}
+use Rattle.rbf_change.specs.Contents.{bytes_from, sector_span}
+use Rattle.rbf_access.specs.Mounted.{Represents}
+
+-- the fields of a descriptor are those of a file
+pub record IsFdOf (file : DiskFile) (fd : Fd) : Type 0 where
+  pub attributes_are : fd.attr ≡ file.attributes
+  pub owner_is : fd.owner ≡ file.owner
+  pub modified_is : fd.modified ≡ file.modified
+  pub links_are : fd.links ≡ file.links
+  pub created_is : fd.created ≡ file.created
+  pub size_is : fd.size ≡ length file.contents
+  pub segments_are : fd.segs ≡ file.segments
+
+-- what holds of the file of number n of the volume that the media represents
+abbrev pub OnFile : Option (List ℕ) → ℕ → (DiskFile → Type 0) → Type 0
+OnFile media n fact =
+    (v : DiskVolume) (file : DiskFile) → Represents media v → v.files n ≡ Some file → fact file
+
+-- a buffer into which bytes have been read: what they do not fill is as it was
+abbrev pub filled_buffer : List ℕ → List ℕ → List ℕ
+filled_buffer bytes buffer = bytes ++ drop (length bytes) buffer
+
+-- a read of a file from a place on: how many bytes it gives, as many as there are and the buffer has room for, and
+-- the buffer then
+pub record IsRead (file : DiskFile) (at : ℕ) (before now : List ℕ) (count : ℕ) : Type 0 where
+  pub count_is : count ≡ length (bytes_from file.contents at (length before))
+  pub buffer_is : now ≡ filled_buffer (bytes_from file.contents at (length before)) before
+
+-- how many calls of the drive a read into a buffer makes at most: the descriptor's, and one for each sector of which
+-- it reads a byte
+abbrev pub read_calls : DiskFile → ℕ → ℕ → ℕ
+read_calls file at room = 1 + sector_span at (min (at + room) (length file.contents))
+
+-- the drive has each of the sectors
+abbrev pub AreOnDrive : Option (List ℕ) → List ℕ → Type 0
+AreOnDrive media sectors = (s : ℕ) → has sectors s ≡ true → s < drive_sectors media

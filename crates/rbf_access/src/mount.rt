@@ -1,0 +1,115 @@
+ghost use Rattle.std.specs.Prelude.{◌≡◌, ℕ, List, Some, ◌+◌, ◌-◌, ◌≤◌, IfOk, OnOk, IsSome, IsErrOf, MatchOption};
+ghost use Rattle.os9_outer.specs.Drive.{sector_count};
+ghost use Rattle.rbf_model.specs.Geometry.{geometry, map_sectors};
+ghost use Rattle.rbf_model.specs.Volume.{DiskVolume};
+ghost use Rattle.rbf_sector.specs.Ident.{geometry_of};
+ghost use Rattle.rbf_access.specs.Drive.{Counts, Made};
+ghost use Rattle.rbf_access.specs.Faults.{volume_fault};
+ghost use Rattle.rbf_access.specs.Mounted.{FitsDrive, HoldsVolume, IsIdentOf, IsMapOf, IsVolumeOf, IsMounted, Represents, map_bytes, mount_calls, image_calls};
+
+use crate::faults::VolFault;
+use crate::sector::read_sector;
+use crate::volume::Volume;
+use os9_outer::drive::BlockDriver;
+use rbf_map::RbfMap;
+use rbf_sector::{Ident, has_map, is_header, read_ident, system_sectors};
+use std::alloc::Global;
+
+impl Volume {
+    /// Mounts the volume on the media of a drive: reads its identification sector and its map.
+    ///
+    /// # Errors
+    ///
+    /// `NotRbf` if the media holds no RBF volume, `Device` if a read of the drive fails, or out of
+    /// memory.
+    pub fn mount(alloc: Global, d: &mut dyn BlockDriver) -> Result<Volume, VolFault>
+        requires { IsSome (media d.old) }
+        ensures kept { IfOk result (IsVolumeOf (media d.new)) }
+        ensures mounted { (v : DiskVolume) → Represents (media d.old) v
+            → IfOk result (λ volume. IsMounted volume (media d.new)) }
+        ensures not_rbf { IsErrOf result VolFault.NotRbf → ¬ HoldsVolume (media d.old) }
+        ensures media_kept { media d.new ≡ media d.old }
+        ensures made { IfOk result (λ volume.
+            Made (mount_calls volume) (drive_calls d.old) (drive_calls d.new)) }
+        ensures counts { (image : List ℕ) → media d.old ≡ Some image
+            → Counts ⟦<dyn BlockDriver as BlockDriver>⟧
+            (volume_fault result) (image_calls image) d.old d.new }
+    {
+        let ident = read_identification(d)?;
+        let map = read_map(alloc, d, &ident)?;
+        Ok(Volume { ident, map })
+    }
+}
+
+// What the identification sector says, if it is that of a volume that the media holds.
+fn read_identification(d: &mut dyn BlockDriver) -> Result<Ident, VolFault>
+    requires { IsSome (media d.old) }
+    ensures ident { IfOk result (IsIdentOf (media d.old)) }
+    ensures not_rbf { IsErrOf result VolFault.NotRbf → ¬ HoldsVolume (media d.old) }
+    ensures media_kept { media d.new ≡ media d.old }
+    ensures counts { Counts ⟦<dyn BlockDriver as BlockDriver>⟧ (volume_fault result) 1 d.old d.new }
+    ensures made { OnOk result (Made 1 (drive_calls d.old) (drive_calls d.new)) }
+{
+    let sectors = d.sectors();
+    if sectors == 0 {
+        return Err(VolFault::NotRbf);
+    }
+    match read_sector(d, 0) {
+        Err(fault) => Err(VolFault::Device(fault.number())),
+        Ok(bytes) => match identify(&bytes, sectors) {
+            Some(ident) => Ok(ident),
+            None => Err(VolFault::NotRbf),
+        },
+    }
+}
+
+// What an identification sector says, if it is that of a volume that fits the drive.
+fn identify(bytes: &[u8; 256], sectors: u32) -> Option<Ident>
+    ensures fits { MatchOption result (¬ FitsDrive bytes.now sectors) (λ _. FitsDrive bytes.now sectors) }
+    ensures sizes { MatchOption result Unit (λ ident. geometry_of ident ≡ geometry bytes.now) }
+{
+    let ident = read_ident(bytes);
+    if is_header(&ident) && has_map(&ident) && ident.total <= sectors {
+        Some(ident)
+    } else {
+        None
+    }
+}
+
+// Reads the map of the volume that the media holds.
+fn read_map(alloc: Global, d: &mut dyn BlockDriver, ident: &Ident) -> Result<RbfMap, VolFault>
+    requires { IsIdentOf (media d.old) ident.now }
+    ensures map { IfOk result (IsMapOf (media d.old)) }
+    ensures rbf { ¬ IsErrOf result VolFault.NotRbf }
+    ensures media_kept { media d.new ≡ media d.old }
+    ensures counts { Counts ⟦<dyn BlockDriver as BlockDriver>⟧
+        (volume_fault result) (map_sectors (geometry_of ident.now)) d.old d.new }
+    ensures made { OnOk result
+        (Made (map_sectors (geometry_of ident.now)) (drive_calls d.old) (drive_calls d.new)) }
+{
+    let bytes = read_map_bytes(alloc, d, system_sectors(ident))?;
+    let cluster = u32::from(ident.cluster);
+    let clusters = ident.total.div_ceil(cluster);
+    Ok(RbfMap::new(clusters, ident.total / cluster, bytes))
+}
+
+// The bytes of the sectors from 1 up to `end`.
+fn read_map_bytes(alloc: Global, d: &mut dyn BlockDriver, end: u16) -> Result<Vec<u8>, VolFault>
+    requires some { 1 ≤ end }
+    requires within { end ≤ sector_count (media d.old) }
+    ensures bytes { IfOk result (λ bytes. bytes.items ≡ map_bytes (media d.old) (end - 1)) }
+    ensures rbf { ¬ IsErrOf result VolFault.NotRbf }
+    ensures media_kept { media d.new ≡ media d.old }
+    ensures counts { Counts ⟦<dyn BlockDriver as BlockDriver>⟧
+        (volume_fault result) (end - 1) d.old d.new }
+    ensures made { OnOk result (Made (end - 1) (drive_calls d.old) (drive_calls d.new)) }
+{
+    let mut bytes = Vec::new(alloc);
+    for lsn in 1..end {
+        match read_sector(d, u32::from(lsn)) {
+            Err(fault) => return Err(VolFault::Device(fault.number())),
+            Ok(sector) => bytes.extend_from_slice(&sector)?,
+        }
+    }
+    Ok(bytes)
+}

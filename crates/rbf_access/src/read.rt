@@ -1,0 +1,139 @@
+ghost use Rattle.std.specs.Prelude.{◌≡◌, ◌+◌, ◌-◌, ◌*◌, ◌^◌, ◌<◌, ◌≤◌, ◌++◌, ℕ, List, IfOk, IsSome, OnOk, OnErr, drop, length, max, min, take};
+ghost use Rattle.os9_outer.specs.Drive.{sector_at};
+ghost use Rattle.rbf_model.specs.File.{segment_bytes};
+ghost use Rattle.rbf_model.specs.Segments.{sectors_of};
+ghost use Rattle.rbf_model.specs.Volume.{DiskVolume, Vol};
+ghost use Rattle.rbf_map.specs.Map.{map_free_clusters};
+ghost use Rattle.rbf_change.specs.Calls.{free_total, shape};
+ghost use Rattle.rbf_change.specs.Agrees.{Agrees};
+ghost use Rattle.rbf_change.specs.Contents.{bytes_from, sector_span};
+ghost use Rattle.rbf_access.specs.Drive.{Counts};
+ghost use Rattle.rbf_access.specs.Faults.{file_fault};
+ghost use Rattle.rbf_access.specs.Mounted.{kept, HasFile, IsMounted, Represents};
+ghost use Rattle.rbf_access.specs.Reading.{AreOnDrive, IsFdOf, IsRead, OnFile, read_calls};
+
+use crate::faults::FileFault;
+use crate::volume::Volume;
+use os9_outer::drive::BlockDriver;
+use rbf_sector::{Fd, read_fd};
+use rbf_segs::Segs;
+
+impl Volume {
+    /// The descriptor number of the root directory.
+    pub fn root(&self) -> u32
+        ensures kept { result ≡ self.now.ident.root }
+        ensures volume { (image : List ℕ) (v : DiskVolume) → Agrees (kept self.now) image → Vol image v
+            → result ≡ (shape v).root }
+    {
+        self.ident.root
+    }
+
+    /// How many clusters are free.
+    pub fn free_count(&self) -> u32
+        ensures kept { result ≡ length (map_free_clusters self.now.map) }
+        ensures volume { (image : List ℕ) (v : DiskVolume) → Agrees (kept self.now) image → Vol image v
+            → result ≡ free_total v }
+    {
+        self.map.free_count()
+    }
+
+    /// The descriptor of a file.
+    ///
+    /// # Errors
+    ///
+    /// `Device` if the drive's read fails.
+    pub fn fd(&mut self, d: &mut dyn BlockDriver, lsn: u32) -> Result<Fd, FileFault>
+        requires mounted { IsMounted self.old (media d.old) }
+        requires file { HasFile (media d.old) lsn }
+        ensures ok { OnFile (media d.old) lsn (λ file. IfOk result (IsFdOf file)) }
+        ensures device { OnErr result (IsSome (file_fault result)) }
+        ensures mounted { IsMounted self.new (media d.new) }
+        ensures media_kept { media d.new ≡ media d.old }
+        ensures volume_kept { kept self.new ≡ kept self.old }
+        ensures counts { Counts ⟦<dyn BlockDriver as BlockDriver>⟧
+            (file_fault result) 1 d.old d.new }
+    {
+        let bytes = self.load(d, lsn)?;
+        Ok(read_fd(&bytes))
+    }
+
+    /// Reads bytes of a file from `at` on, as many as `into` has room for and the file has there,
+    /// and answers how many; 0 at or past its end. The rest of `into` stays.
+    ///
+    /// # Errors
+    ///
+    /// `Device` if a read of the drive fails; then `into` may have changed.
+    pub fn read_at(
+        &mut self,
+        d: &mut dyn BlockDriver,
+        fd: u32,
+        at: u32,
+        into: &mut [u8],
+    ) -> Result<u32, FileFault>
+        requires mounted { IsMounted self.old (media d.old) }
+        requires file { HasFile (media d.old) fd }
+        ensures ok { OnFile (media d.old) fd (λ file. IfOk result (IsRead file at into.old into.new)) }
+        ensures device { OnErr result (IsSome (file_fault result)) }
+        ensures mounted { IsMounted self.new (media d.new) }
+        ensures media_kept { media d.new ≡ media d.old }
+        ensures volume_kept { kept self.new ≡ kept self.old }
+        ensures counts { OnFile (media d.old) fd (λ file. Counts ⟦<dyn BlockDriver as BlockDriver>⟧
+            (file_fault result) (read_calls file at (length into.old)) d.old d.new) }
+    {
+        let file = self.fd(d, fd)?;
+        let count = readable(file.size, at, into.len());
+        self.read_bytes(d, &file.segs, at, &mut into[..count])?;
+        Ok(count as u32)
+    }
+
+    // Reads the bytes of a file's sectors from `at` on, as many as `into` has room for.
+    fn read_bytes(
+        &mut self,
+        d: &mut dyn BlockDriver,
+        segs: &Segs,
+        at: u32,
+        into: &mut [u8],
+    ) -> Result<(), FileFault>
+        requires on_drive { AreOnDrive (media d.old) (sectors_of segs.now) }
+        requires within { length into.old ≤ 256 * length (sectors_of segs.now) - at }
+        requires fits { at + length into.old < 2 ^ 32 }
+        ensures bytes { OnOk result (into.new
+            ≡ bytes_from (segment_bytes (sector_at (media d.old)) segs.now) at (length into.old)) }
+        ensures device { OnErr result (IsSome (file_fault result)) }
+        ensures media_kept { media d.new ≡ media d.old }
+        ensures volume_kept { kept self.new ≡ kept self.old }
+        ensures counts { Counts ⟦<dyn BlockDriver as BlockDriver>⟧
+            (file_fault result) (sector_span at (at + length into.old)) d.old d.new }
+    {
+        if into.is_empty() {
+            return Ok(());
+        }
+        let end = (at as usize + into.len()).div_ceil(256) as u32;
+        for place in at / 256..end {
+            let bytes = self.load(d, segs.lsn_of(place).unwrap())?;
+            copy_piece(&bytes, 256 * place as usize, at as usize, into);
+        }
+        Ok(())
+    }
+}
+
+// How many bytes there are from a place on, up to a number of them.
+fn readable(size: u32, at: u32, room: usize) -> usize
+    ensures { result ≡ min room (size - at) }
+{
+    room.min(size.saturating_sub(at) as usize)
+}
+
+// Copies what the sector at byte `first` of a file has of the bytes of the file from `at` on.
+fn copy_piece(sector: &[u8; 256], first: usize, at: usize, into: &mut [u8])
+    requires begins { at < first + 256 }
+    requires ends { first < at + length into.old }
+    requires fits { at + length into.old < 2 ^ 63 }
+    ensures { let from = max at first in let end = min (at + length into.old) (first + 256) in
+        into.new ≡ take (from - at) into.old ++ take (end - from) (drop (from - first) sector.now)
+        ++ drop (end - at) into.old }
+{
+    let from = at.max(first);
+    let end = (at + into.len()).min(first + 256);
+    into[from - at..end - at].copy_from_slice(&sector[from - first..end - first]);
+}
