@@ -40,7 +40,12 @@ fn drive_with(alloc: Global, image: &[u8], failing: u64) -> Result<RamDrive, Fai
     ensures { IfOk result (λ drive. ⟦<RamDrive as BlockDriver>⟧.media drive ≡ Some image.now) }
 {
     let fault = DriveFault::SeekFault;
-    let mut drive = RamDrive::new(vec![in alloc; PlannedFault { call: failing, fault }]?);
+    let mut drive = RamDrive::new(vec![in alloc;
+        PlannedFault {
+            call: failing,
+            fault
+        },
+    ]?);
     drive.insert(image.to_vec(alloc)?)?;
     Ok(drive)
 }

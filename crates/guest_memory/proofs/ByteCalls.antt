@@ -1,7 +1,7 @@
 -- What bytes that a process stores come to for the whole memory.
-use Rattle.std.proofs.Common.{◌≡◌, ℕ, ◌+◌, ◌<◌, Option, List, length, get_or, sym, ap, ◌∙◌, subst}
+use Rattle.std.proofs.Common.{◌≡◌, ℕ, ◌<◌, Option, List, length, get_or, sym, ap, ◌∙◌, subst}
 use Rattle.os9_base.specs.Cells.{store_cells, FitsIn}
-use Rattle.block_pool.specs.Blocks.{Blocks, IsPool}
+use Rattle.block_pool.specs.Blocks.{Blocks}
 use Rattle.block_map.specs.Window.{map_cells, SameBeyond}
 use Rattle.proc_model.specs.declared.group.BlockId.{BlockId}
 use Rattle.proc_model.specs.Memory.{MemoryState}

@@ -1,7 +1,7 @@
 -- What a module that is entered comes to for the whole memory.
-use Rattle.std.proofs.Common.{◌≡◌, ℕ, ◌+◌, ◌*◌, ◌<◌, ◌≤◌, Bool, Option, Some, None, IsSome, option_map, List, ◌++◌, length, refl, sym, ap, ◌∙◌, subst, arith}
+use Rattle.std.proofs.Common.{◌≡◌, ℕ, ◌+◌, ◌*◌, ◌≤◌, Bool, Option, Some, None, IsSome, option_map, List, ◌++◌, length, sym, ap, ◌∙◌, subst}
 use Rattle.std.specs.Prelude.{IsSomeAnd}
-use Rattle.std.proofs.lemmas.Option.{none-some, same_Some}
+use Rattle.std.proofs.lemmas.Option.{same_Some}
 use Rattle.block_pool.specs.Blocks.{Blocks, IsPool}
 use Rattle.proc_model.specs.declared.group.BlockId.{BlockId}
 use Rattle.proc_model.specs.declared.module.ModuleInfo.{ModuleInfo}
@@ -16,7 +16,7 @@ use Rattle.memory_laws.specs.Memory.{RepresentMemory}
 use Rattle.memory_laws.specs.Sound.{IsSound}
 use Rattle.memory_laws.proofs.Entering.{beside, IsSound-beside, represent-beside, IsSound-entered, represent-entered, with_entered}
 use Rattle.memory_laws.proofs.Times.{numbers_of}
-use Rattle.guest_memory.proofs.LinkCalls.{IsFound, found_entry}
+use Rattle.guest_memory.proofs.LinkCalls.{found_entry}
 
 -- what is said of the entry is true of the one that was found
 some_and : (P : ModuleEntry → Type 0) (place : Option ModuleEntry) (entry : ModuleEntry) → place ≡ Some entry → IsSomeAnd place P → P entry

@@ -1,20 +1,19 @@
 -- The memory of a machine in which nothing has appeared.
-use Rattle.std.proofs.Common.{◌≡◌, ℕ, zero, suc, ◌<◌, ◌≤◌, Option, Some, None, List, [], ◌∷◌, ◌++◌, length, get_or, replicate, map, flat_map, ◌⊎◌, inl, inr, refl, sym, ap, ◌∙◌, subst, arith}
+use Rattle.std.proofs.Common.{◌≡◌, ℕ, zero, suc, ◌<◌, Option, Some, None, List, [], ◌∷◌, ◌++◌, length, get_or, replicate, map, flat_map, inl, inr, refl, sym, ap, ◌∙◌, subst, arith}
 use Rattle.std.proofs.lemmas.List.{length-replicate, get_or-replicate, get_or_past}
 use Rattle.std.proofs.lemmas.List.Elements.{All-replicate}
 use Rattle.std.proofs.lemmas.Option.{none-some}
 use Rattle.std.proofs.lemmas.Bool.{cases_lt}
-use Rattle.block_pool.specs.Blocks.{Blocks, IsPool, IsLive, reference_count}
+use Rattle.block_pool.specs.Blocks.{Blocks, IsPool, reference_count}
 use Rattle.block_map.proofs.Places.{at-cleared}
 use Rattle.proc_model.specs.declared.group.BlockId.{BlockId}
 use Rattle.proc_model.specs.Memory.{first_memory}
 use Rattle.proc_model.specs.ModuleList.{ModuleEntry, module_entry_at, entered_groups}
 use Rattle.proc_model.specs.Slots.{Slots, IsMap, no_slots}
-use Rattle.memory_laws.specs.Memory.{memory_of, RepresentMemory}
+use Rattle.memory_laws.specs.Memory.{RepresentMemory}
 use Rattle.memory_laws.specs.References.{times, references, mapped_blocks}
 use Rattle.memory_laws.specs.Renaming.{renamed_map, renamed_modules}
 use Rattle.memory_laws.specs.Sound.{IsHeld, IsSound}
-use Rattle.memory_laws.proofs.Times.{times-append}
 
 no_entry : (n number : ℕ) (entry : ModuleEntry) → module_entry_at (replicate n None) number ≡ Some entry → ⊥
 no_entry zero number entry is = none-some entry is

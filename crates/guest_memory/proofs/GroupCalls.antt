@@ -1,7 +1,7 @@
 -- What it comes to for the whole memory that a group is mapped, or leaves a map.
-use Rattle.std.proofs.Common.{◌≡◌, ◌≢◌, ℕ, ◌+◌, ◌-◌, ◌<◌, ◌≤◌, ◌↔◌, Bool, true, false, Option, Some, None, IsSome, is_some, IfSome, option_map, option_and_then, Result, Ok, Err, IfOk, OnOk, OnErr, List, length, get_or, set, take, position, All, AllPairs, refl, sym, ap, ◌∙◌, subst, arith}
+use Rattle.std.proofs.Common.{◌≡◌, ◌≢◌, ℕ, ◌+◌, ◌<◌, ◌≤◌, ◌↔◌, Option, Some, None, IsSome, is_some, IfSome, option_map, option_and_then, Result, Ok, Err, IfOk, OnOk, OnErr, List, length, get_or, set, position, All, AllPairs, sym, ap, ◌∙◌, subst, arith}
 use Rattle.std.proofs.lemmas.List.{length-take-le, get_or-take, get_or-map, length-map}
-use Rattle.std.proofs.lemmas.Option.{none-some, same_Some}
+use Rattle.std.proofs.lemmas.Option.{same_Some}
 use Rattle.block_pool.specs.Blocks.{Blocks, IsPool, IsLive, reference_count}
 use Rattle.block_map.specs.TakenBlocks.{NamesLiveBlocks, group_blocks, pool_after_sharing, pool_after_giving}
 use Rattle.block_map.specs.declared.map.MapFault.{MapFault}
@@ -20,7 +20,7 @@ use Rattle.memory_laws.proofs.Times.{numbers_of}
 use Rattle.memory_laws.proofs.Keeping.{map_of}
 use Rattle.memory_laws.proofs.Leaving.{group-live, group-different}
 use Rattle.memory_laws.proofs.MappedGroups.{block_slot, block_slot-is, names_number, begins_at, group_slot-tied, group-unnamed, group-countable, IsSound-mapped, represent-mapped, group_mapped-some, group_mapped-none, IsSound-unmapped, represent-unmapped, represent-not_mapped}
-use Rattle.guest_memory.proofs.LinkCalls.{IsFound, found_entry}
+use Rattle.guest_memory.proofs.LinkCalls.{found_entry}
 use Rattle.guest_memory.proofs.MapCalls.{is_map_of, unchanged}
 
 module _ (pool : Blocks) (maps : List (Slots BlockId)) (entries : List (Option ModuleEntry)) (sound : IsSound pool maps entries) (process : ℕ) (within : process < 33) (number : ℕ) (some : IsSome (module_entry_at entries number)) where

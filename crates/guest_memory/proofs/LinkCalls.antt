@@ -1,11 +1,11 @@
 -- What a link more or less of an entered module comes to for the whole memory.
-use Rattle.std.proofs.Common.{◌≡◌, ◌≢◌, ℕ, ◌+◌, ◌-◌, ◌<◌, ◌≤◌, Bool, true, false, Option, Some, None, IsSome, option_map, List, [], length, get_or, take, set, All, AllPairs, refl, sym, ap, ◌∙◌, subst, arith}
+use Rattle.std.proofs.Common.{◌≡◌, ◌≢◌, ℕ, ◌-◌, ◌<◌, Bool, true, false, Option, Some, None, IsSome, option_map, List, [], length, get_or, take, All, AllPairs, refl, sym, ap, ◌∙◌, subst, arith}
 use Rattle.std.specs.Prelude.{IsSomeAnd, if◌then◌else◌}
 use Rattle.std.proofs.lemmas.List.{length-take, get_or-take, get_or_default}
 use Rattle.std.proofs.lemmas.Option.{none-some, same_Some}
 use Rattle.block_map.proofs.Counts.{count_of-given_all as given_others}
 use Rattle.block_map.proofs.Places.{same_id}
-use Rattle.std.proofs.lemmas.Bool.{cases_Bool, cond-true, cond-false, false≢true}
+use Rattle.std.proofs.lemmas.Bool.{cond-true, cond-false, false≢true}
 use Rattle.block_map.specs.TakenBlocks.{group_blocks, pool_after_giving}
 use Rattle.block_pool.specs.Blocks.{Blocks, IsPool, IsLive, reference_count}
 use Rattle.proc_model.specs.declared.group.BlockId.{BlockId}

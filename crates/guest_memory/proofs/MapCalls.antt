@@ -1,6 +1,5 @@
 -- What the calls on the map of a process come to for the whole memory.
-use Rattle.std.proofs.Common.{◌≡◌, ◌≢◌, ℕ, ◌+◌, ◌-◌, ◌<◌, ◌≤◌, ◌↔◌, nat_lt, Bool, true, false, Option, Some, None, Result, Ok, Err, OnOk, OnErr, ◌⊎◌, inl, inr, List, [], length, get_or, set, refl, sym, ap, ◌∙◌, subst, arith}
-use Rattle.std.specs.Prelude.{if◌then◌else◌}
+use Rattle.std.proofs.Common.{◌≡◌, ℕ, ◌<◌, ◌≤◌, ◌↔◌, nat_lt, Option, Result, Ok, Err, OnOk, OnErr, inl, inr, List, [], get_or, set, refl, sym, ap, ◌∙◌, subst, arith}
 use Rattle.std.proofs.lemmas.List.{get_or_default, set-get_or}
 use Rattle.std.proofs.lemmas.Bool.{cases_lt, cases_Bool, cond-true, cond-false, lt-ltb, le-ltb, false≢true}
 use Rattle.block_map.specs.TakenBlocks.{NamesLiveBlocks, GainsLow, pool_after_giving}
@@ -8,7 +7,6 @@ use Rattle.block_map.specs.declared.map.MapFault.{MapFault}
 use Rattle.block_map.specs.declared.map.MapFault.TheVariants.{NoSlot, NoBlock}
 use Rattle.block_pool.specs.Blocks.{Blocks, IsPool, free_block_count}
 use Rattle.proc_model.specs.declared.group.BlockId.{BlockId}
-use Rattle.proc_model.specs.declared.memory.MemoryFault.{MemoryFault}
 use Rattle.proc_model.specs.declared.memory.MemoryFault.TheVariants.{MemFull, NoRam}
 use Rattle.proc_model.specs.Memory.{MemoryState}
 use Rattle.proc_model.specs.MemoryChanges.{grown, cut, cleared, map_cut}

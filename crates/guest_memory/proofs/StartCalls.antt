@@ -1,11 +1,10 @@
 -- What it comes to for the whole memory that the map of a process is cleared and filled anew.
-use Rattle.std.proofs.Common.{◌≡◌, ◌≢◌, ℕ, ◌+◌, ◌-◌, ◌<◌, ◌≤◌, ◌↔◌, ◌||◌, nat_lt, nat_le, Bool, true, false, Option, Some, None, IsSome, option_map, option_and_then, Result, Ok, Err, IfOk, OnOk, OnErr, List, [], ◌++◌, length, get_or, set, replicate, map, position, All, AllPairs, ◌⊎◌, inl, inr, refl, sym, ap, ◌∙◌, subst, arith}
-use Rattle.std.specs.Prelude.{if◌then◌else◌}
+use Rattle.std.proofs.Common.{◌≡◌, ◌≢◌, ℕ, ◌+◌, ◌-◌, ◌<◌, ◌≤◌, ◌↔◌, ◌||◌, nat_lt, false, Option, Some, None, IsSome, option_map, option_and_then, Result, Ok, Err, IfOk, OnOk, OnErr, List, [], ◌++◌, length, get_or, set, replicate, All, AllPairs, ◌⊎◌, inl, inr, refl, sym, ap, ◌∙◌, subst, arith}
 use Rattle.std.specs.List.{range_with_len}
 use Rattle.std.specs.Option.{option_map_or}
 use Rattle.std.proofs.lemmas.List.{length-map, length-set, set-set, get_or-set_same}
-use Rattle.std.proofs.lemmas.Option.{none-some, same_Some}
-use Rattle.std.proofs.lemmas.Bool.{cases_lt, cases_Bool, cond-true, cond-false, lt-ltb, le-ltb, le-leb, lt-leb, or_left, or_right, or_from, false≢true}
+use Rattle.std.proofs.lemmas.Option.{same_Some}
+use Rattle.std.proofs.lemmas.Bool.{cases_Bool, cond-true, cond-false, lt-ltb, le-ltb, le-leb, lt-leb, or_left, or_right, or_from}
 use Rattle.block_pool.specs.Blocks.{Blocks, IsPool, IsLive, reference_count, free_block_count}
 use Rattle.block_map.specs.TakenBlocks.{NamesLiveBlocks, GainsLow, group_blocks, pool_after_sharing, pool_after_giving}
 use Rattle.block_map.proofs.Counts.{Takes-free}
@@ -14,15 +13,14 @@ use Rattle.block_map.specs.declared.map.MapFault.{MapFault}
 use Rattle.block_map.specs.declared.map.MapFault.TheVariants.{NoSlot, NoBlock}
 use Rattle.proc_model.specs.declared.group.BlockId.{BlockId}
 use Rattle.proc_model.specs.declared.group.Group.{Group}
-use Rattle.proc_model.specs.declared.memory.MemoryFault.{MemoryFault}
 use Rattle.proc_model.specs.declared.memory.MemoryFault.TheVariants.{MemFull, NoRam}
 use Rattle.proc_model.specs.Group.{group_block_numbers}
 use Rattle.proc_model.specs.Memory.{MemoryState, map_at, with_map, group_at, free_blocks}
-use Rattle.proc_model.specs.MemoryChanges.{started, started_with, with_first_slots, has_most_links, cleared, new_numbers, with_new_objects}
+use Rattle.proc_model.specs.MemoryChanges.{started, started_with, with_first_slots, has_most_links, cleared}
 use Rattle.proc_model.specs.ModuleList.{ModuleEntry, module_entry_at}
 use Rattle.proc_model.specs.Objects.{zero_object}
 use Rattle.proc_model.specs.Slots.{Slots, IsMap, IsFreeRun, IsHighestFreeRun, NamesBlock, no_slots, block_at, blocks_in, filled_places, with_low, with_group, group_slot}
-use Rattle.memory_laws.specs.Memory.{RepresentMemory, memory_of}
+use Rattle.memory_laws.specs.Memory.{RepresentMemory}
 use Rattle.memory_laws.specs.Renaming.{numbered_map, renamed_map, renamed_entry}
 use Rattle.memory_laws.specs.Sound.{IsSound}
 use Rattle.memory_laws.proofs.Keeping.{map_of, group_live}
@@ -31,7 +29,7 @@ use Rattle.memory_laws.proofs.DataArea.{with_growth}
 use Rattle.memory_laws.proofs.Directory.{entry_at-renamed}
 use Rattle.memory_laws.proofs.MappedGroups.{block_slot-is, names_number, names_number-is, position-none}
 use Rattle.memory_laws.proofs.Starting.{free-cleared, free_at_first, last_run}
-use Rattle.guest_memory.proofs.LinkCalls.{IsFound, found_entry}
+use Rattle.guest_memory.proofs.LinkCalls.{found_entry}
 use Rattle.guest_memory.proofs.MapCalls.{is_map_of, live, sound-clear, tied-clear, sound-grow, grow-ok}
 use Rattle.guest_memory.proofs.GroupCalls.{many, same, some-len, map-different, map-live, map-countable, map-unnamed, sound-map_group, map-some}
 

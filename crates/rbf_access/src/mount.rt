@@ -65,7 +65,8 @@ fn read_identification(d: &mut dyn BlockDriver) -> Result<Ident, VolFault>
 
 // What an identification sector says, if it is that of a volume that fits the drive.
 fn identify(bytes: &[u8; 256], sectors: u32) -> Option<Ident>
-    ensures fits { MatchOption result (¬ FitsDrive bytes.now sectors) (λ _. FitsDrive bytes.now sectors) }
+    ensures fits { MatchOption result (¬ FitsDrive bytes.now sectors)
+        (λ _. FitsDrive bytes.now sectors) }
     ensures sizes { MatchOption result Unit (λ ident. geometry_of ident ≡ geometry bytes.now) }
 {
     let ident = read_ident(bytes);

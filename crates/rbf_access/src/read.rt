@@ -22,7 +22,8 @@ impl Volume {
     /// The descriptor number of the root directory.
     pub fn root(&self) -> u32
         ensures kept { result ≡ self.now.ident.root }
-        ensures volume { (image : List ℕ) (v : DiskVolume) → Agrees (kept self.now) image → Vol image v
+        ensures volume { (image : List ℕ) (v : DiskVolume) → Agrees (kept self.now) image
+            → Vol image v
             → result ≡ (shape v).root }
     {
         self.ident.root
@@ -31,7 +32,8 @@ impl Volume {
     /// How many clusters are free.
     pub fn free_count(&self) -> u32
         ensures kept { result ≡ length (map_free_clusters self.now.map) }
-        ensures volume { (image : List ℕ) (v : DiskVolume) → Agrees (kept self.now) image → Vol image v
+        ensures volume { (image : List ℕ) (v : DiskVolume) → Agrees (kept self.now) image
+            → Vol image v
             → result ≡ free_total v }
     {
         self.map.free_count()
@@ -72,7 +74,8 @@ impl Volume {
     ) -> Result<u32, FileFault>
         requires mounted { IsMounted self.old (media d.old) }
         requires file { HasFile (media d.old) fd }
-        ensures ok { OnFile (media d.old) fd (λ file. IfOk result (IsRead file at into.old into.new)) }
+        ensures ok { OnFile (media d.old) fd (λ file. IfOk result
+            (IsRead file at into.old into.new)) }
         ensures device { OnErr result (IsSome (file_fault result)) }
         ensures mounted { IsMounted self.new (media d.new) }
         ensures media_kept { media d.new ≡ media d.old }

@@ -48,7 +48,8 @@ pub fn read_name<M: UserMem>(memory: &M, at: u16) -> Result<Name, NameFault>
 fn read_run<M: UserMem>(memory: &M, at: u16, into: &mut [u8]) -> Option<usize>
     requires { length into.old ≡ 30 }
     ensures none { IfNone result (run_bytes (M.cells memory.now) at 30 ≡ None) }
-    ensures some { IfSome result (λ count. run_bytes (M.cells memory.now) at 30 ≡ Some (take count into.new)) }
+    ensures some { IfSome result (λ count. run_bytes (M.cells memory.now) at 30
+        ≡ Some (take count into.new)) }
     ensures short { IfSome result (λ count. count ≤ 30) }
     ensures room { length into.new ≡ 30 }
 {

@@ -1,4 +1,3 @@
-use Rattle.std.proofs.Common.{length, take, arith}
 use Rattle.block_map.specs.TakenBlocks.{group_blocks}
 use Rattle.guest_memory.proofs.LinkCalls.{next_given}
 use Rattle.guest_memory.proofs.links.give_group.Goals as goal

@@ -1,8 +1,4 @@
-use Rattle.std.proofs.Common.{◌≡◌, Result, Ok, Err, refl, sym, subst, ap, ◌∙◌}
-use Rattle.block_map.specs.declared.map.MapFault.{MapFault}
-use Rattle.proc_model.specs.declared.memory.MemoryFault.{MemoryFault}
-use Rattle.proc_model.specs.Memory.{MemoryState}
-use Rattle.guest_memory.specs.Tie.{Answers}
+use Rattle.std.proofs.Common.{Err, refl, ap, ◌∙◌}
 use Rattle.guest_memory.proofs.MapCalls.{live, sound-grow, grow-full, grow-no_ram, grow-ok}
 use Rattle.guest_memory.proofs.memory.Memory.grow.Goals as goal
 

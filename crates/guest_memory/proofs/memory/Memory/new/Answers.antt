@@ -1,4 +1,3 @@
-use Rattle.std.proofs.Common.{◌≡◌, replicate, sym, subst}
 use Rattle.guest_memory.proofs.First.{sound-first, tied-first}
 use Rattle.guest_memory.proofs.memory.Memory.new.Goals as goal
 

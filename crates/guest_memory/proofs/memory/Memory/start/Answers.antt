@@ -1,4 +1,4 @@
-use Rattle.std.proofs.Common.{◌≡◌, ◌+◌, ◌<◌, ◌≤◌, ℕ, List, length, refl, sym, ap, ◌∙◌, arith}
+use Rattle.std.proofs.Common.{◌≡◌, ◌+◌, ◌≤◌, ℕ, List, length, refl, ap, ◌∙◌, arith}
 use Rattle.std.proofs.lemmas.List.{length-map}
 use Rattle.block_map.specs.TakenBlocks.{group_blocks}
 use Rattle.block_pool.specs.Blocks.{free_block_count}
@@ -7,7 +7,7 @@ use Rattle.proc_model.specs.Slots.{Slots}
 use Rattle.memory_laws.proofs.Keeping.{map_of}
 use Rattle.guest_memory.proofs.MapCalls.{is_map_of, live}
 use Rattle.guest_memory.proofs.GroupCalls.{many, same, some-len}
-use Rattle.guest_memory.proofs.StartCalls.{links_of, started-no_ram, started-ok, live_two, start-different, start-live, start-countable, start-unnamed, sound-start, tied-start}
+use Rattle.guest_memory.proofs.StartCalls.{links_of, started-no_ram, started-ok, start-different, start-live, start-countable, start-unnamed, sound-start, tied-start}
 use Rattle.guest_memory.proofs.memory.Memory.start.Goals as goal
 
 pub returns-then-free_blocks-from : goal.returns-then-free_blocks-from

@@ -1,6 +1,6 @@
-use Rattle.std.proofs.Common.{sym, ◌∙◌}
+use Rattle.std.proofs.Common.{sym}
 use Rattle.guest_memory.proofs.MapCalls.{live}
-use Rattle.guest_memory.proofs.GroupCalls.{unmap-begins, sound-unmap, tied-unmap, tied-not_mapped}
+use Rattle.guest_memory.proofs.GroupCalls.{unmap-begins, sound-unmap, tied-unmap}
 use Rattle.guest_memory.proofs.memory.Memory.unmap.Goals as goal
 
 pub unmap-requires-clause-begins : goal.unmap-requires-clause-begins
