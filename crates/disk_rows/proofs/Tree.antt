@@ -11,7 +11,7 @@ use Rattle.rbf_access.specs.Mounted.{Represents, IsMounted, HasFile}
 use Rattle.rbf_access.specs.declared.volume.Volume.{Volume}
 
 pub on_image : (media : Option (List ℕ)) (image : List ℕ) (tree : Tree) → media ≡ Some image → (known : IsTreeOf image tree) → Represents media known.volume
-on_image media image tree is known = record { image = image; is = is; vol = known.stands }
+on_image media image tree is known = record { image = image; is = is; vol = known.represents }
 
 -- a mounted volume has a root
 pub has_root : (media : Option (List ℕ)) (volume : Volume) (n : ℕ) → (mounted : IsMounted volume media) → n ≡ (shape mounted.content).root → HasFile media n

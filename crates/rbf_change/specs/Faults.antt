@@ -35,6 +35,7 @@ with_front file at bytes count = record file { contents = put_at file.contents a
 
 -- a write to file n that was ended: a front of its bytes may be there, and clusters that it took may be lost
 pub record WriteEnds (v w : DiskVolume) (n at : ℕ) (bytes : List ℕ) : Type 0 where
+  pub some : 0 < length bytes
   pub old : DiskFile
   pub is : v.files n ≡ Some old
   pub count : ℕ
@@ -52,6 +53,11 @@ pub record LengthenEnds (v w : DiskVolume) (n size : ℕ) : Type 0 where
   pub planned : IsPlanned v old size taken
   pub volume : MayLose v w (has taken)
 
+-- of the clusters that were given up one is still marked, since the fault came before the call's last write: it is
+-- lost, if it is whole
+abbrev pub OneIsMarked : DiskVolume → DiskVolume → (ℕ → Bool) → Type 0
+OneIsMarked v w given_up = (c : ℕ) × (given_up c ≡ true) × (is_whole (shape v) c ≡ true → w.lost c ≡ true)
+
 -- a file that was to be cut and has been: whole clusters that it gave up may be lost
 pub record CutEnds (v w : DiskVolume) (n size : ℕ) (now : TimePacket) : Type 0 where
   pub old : DiskFile
@@ -60,6 +66,7 @@ pub record CutEnds (v w : DiskVolume) (n size : ℕ) (now : TimePacket) : Type 0
   pub new : DiskFile
   pub cut : new ≡ cut_file (cluster_size v) n old size (minute_of now)
   pub volume : MayLose (replaced v n (Some new)) w (λ c. is_whole (shape v) c && is_given_up (shape v) n old new c)
+  pub unfinished : OneIsMarked v w (is_given_up (shape v) n old new)
 
 -- a change of a size that was ended
 pub data SizeEnds (v w : DiskVolume) (n size : ℕ) (now : TimePacket) : Type 0 where
@@ -81,4 +88,5 @@ pub data NewFileEnds (v w : DiskVolume) (d : ℕ) (name : List ℕ) (plan : ℕ 
 pub data DeletionEnds (v w : DiskVolume) (d n : ℕ) (name : List ℕ) : Type 0 where
   before : w ≡ v → DeletionEnds v w d n name
   gone : {u : DiskVolume} {file : DiskFile} → Deletes v u d n name → v.files n ≡ Some file
-      → MayLose u w (λ c. is_whole (shape v) c && has_cluster (shape v) n file c) → DeletionEnds v w d n name
+      → MayLose u w (λ c. is_whole (shape v) c && has_cluster (shape v) n file c)
+      → OneIsMarked v w (has_cluster (shape v) n file) → DeletionEnds v w d n name

@@ -1,7 +1,7 @@
 -- New files and their entries, and files that go.
 use Rattle.std.specs.Prelude.{◌≡◌, ℕ, ◌+◌, ◌-◌, ◌*◌, ◌/◌, ◌%◌, ◌==◌, ◌&&◌, ◌||◌, nat_lt, Bool, true, not, List, [], ◌∷◌, length, Option, Some, None, is_some, if◌then◌else◌}
 use Rattle.os9_base.specs.declared.registers.TimePacket.{TimePacket}
-use Rattle.rbf_model.specs.Fields.{directory_entry}
+use Rattle.rbf_model.specs.Fields.{directory_entry, descriptor_field}
 use Rattle.rbf_model.specs.Geometry.{Geometry}
 use Rattle.rbf_model.specs.File.{DiskFile}
 use Rattle.rbf_model.specs.Space.{has_cluster}
@@ -111,6 +111,7 @@ entry_refusal k free dir name user execute size =
 pub record Drops (v w : DiskVolume) (d i n : ℕ) : Type 0 where
   pub old : DiskFile
   pub is : v.files d ≡ Some old
+  pub named : descriptor_field (directory_entry old.contents i) ≡ n
   pub volume : w
       ≡ replaced
       (replaced v d (Some (with_directory_entry old i (freed_entry (directory_entry old.contents i))))) n None

@@ -11,17 +11,20 @@ use Rattle.rbf_model.specs.Laws.{with_directory_entry}
 use Rattle.rbf_change.specs.Names.{freed_entry}
 use Rattle.rbf_change.specs.Calls.{shape, cluster_size, is_free_in, replaced, WritesFile}
 use Rattle.rbf_change.specs.NewFiles.{Plan, IsNewFile}
+use Rattle.rbf_change.specs.Tidy.{IsNewList}
 
 -- the descriptor of a new file n is on the disk, and the clusters that it took are lost
-pub record MakesFile (v w : DiskVolume) (disk : ℕ → List ℕ) (n : ℕ) (plan : Plan) : Type 0 where
+pub record FileIsMade (v w : DiskVolume) (disk : ℕ → List ℕ) (n : ℕ) (plan : Plan) : Type 0 where
   pub file : DiskFile
   pub made : IsNewFile (cluster_size v) (is_free_in v) n plan file
   pub shown : file_at disk n ≡ file
+  pub rest : IsNewList (disk n)
   pub volume : w ≡ with_lost v (λ c. v.lost c || has_cluster (shape v) n file c)
 
 -- an entry has been put into place i of directory d: the file that it names is in the volume, and its clusters are
 -- lost no more
-pub record PutsEntry (v w : DiskVolume) (disk : ℕ → List ℕ) (d i : ℕ) (entry : List ℕ) (now : TimePacket) : Type 0 where
+pub record EntryIsPut (v w : DiskVolume) (disk : ℕ
+    → List ℕ) (d i : ℕ) (entry : List ℕ) (now : TimePacket) : Type 0 where
   pub old : DiskFile
   pub new : DiskFile
   pub is : v.files d ≡ Some old
@@ -31,7 +34,7 @@ pub record PutsEntry (v w : DiskVolume) (disk : ℕ → List ℕ) (d i : ℕ) (e
 
 -- an entry in place i of directory d has been made free: the file that it named has gone, and its whole clusters are
 -- lost
-pub record FreesEntry (v w : DiskVolume) (d i : ℕ) : Type 0 where
+pub record EntryIsFreed (v w : DiskVolume) (d i : ℕ) : Type 0 where
   pub old : DiskFile
   pub is : v.files d ≡ Some old
   pub volume : w
@@ -40,5 +43,5 @@ pub record FreesEntry (v w : DiskVolume) (d i : ℕ) : Type 0 where
       (descriptor_field (directory_entry old.contents i)) None
 
 -- the clusters of file n, which has gone, are lost no more
-abbrev pub FreesClusters : DiskVolume → DiskVolume → ℕ → DiskFile → Type 0
-FreesClusters v w n file = w ≡ with_lost v (λ c. v.lost c && not (has_cluster (shape v) n file c))
+abbrev pub ClustersAreFreed : DiskVolume → DiskVolume → ℕ → DiskFile → Type 0
+ClustersAreFreed v w n file = w ≡ with_lost v (λ c. v.lost c && not (has_cluster (shape v) n file c))
