@@ -31,6 +31,16 @@ fn pipe_transfer(rt: HostRuntime) -> Result<(), Fail> {
     assert_eq!(rt; pipes.read(pipe, false, &mut into), PipeAns::Done(44));
     assert_eq!(rt; into[0], 3);
     assert_eq!(rt; into[43], 4);
+    Ok(())
+}
+
+#[test]
+fn pipe_without_a_writer(rt: HostRuntime) -> Result<(), Fail> {
+    let mut pipes = Pipes::new(rt.alloc())?;
+    let pipe = pipes.begin().ok_or("no pipe")?;
+    let mut into = [0; 512];
+    assert_eq!(rt; pipes.write(pipe, false, b"ab"), PipeAns::Done(2));
+    assert_eq!(rt; pipes.read(pipe, true, &mut into), PipeAns::Done(2));
     assert_eq!(rt; pipes.read(pipe, true, &mut into), PipeAns::End);
     Ok(())
 }
