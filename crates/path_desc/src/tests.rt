@@ -46,6 +46,7 @@ fn sixteen_numbers(rt: HostRuntime) -> Result<(), Fail> {
         assert_eq!(rt; paths.begin(Pid(2), PIPE), Ok(number));
     }
     assert_eq!(rt; paths.begin(Pid(2), PIPE), Err(PathsFull));
+    assert_eq!(rt; paths.slot(Pid(2), 15), Some(SysPath(16)));
     assert_eq!(rt; paths.dup(Pid(2), 15), Err(PathsFull));
     assert_eq!(rt; paths.slot(Pid(2), 16), None);
     assert_eq!(rt; paths.begin(Pid(32), PIPE), Ok(0));
@@ -61,6 +62,7 @@ fn system_paths(rt: HostRuntime) -> Result<(), Fail> {
         }
     }
     assert_eq!(rt; paths.begin(Pid(6), PIPE), Err(PathsFull));
+    assert_eq!(rt; paths.slot(Pid(3), 4), Some(SysPath(21)));
     assert_eq!(rt; paths.close(Pid(3), 4), Some(PIPE));
     assert_eq!(rt; paths.begin(Pid(6), PIPE), Ok(0));
     assert_eq!(rt; paths.slot(Pid(6), 0), Some(SysPath(21)));
