@@ -1,0 +1,39 @@
+-- What an attempt of a call comes to. A call that is refused leaves no state of its own.
+use Rattle.std.specs.Prelude.{ℕ, Bool, true, false, Option, Some, None, Result, Ok, Err, List}
+use Rattle.os9_base.specs.declared.errors.TheConstants.{E_BPADDR}
+use Rattle.proc_model.specs.declared.memory.MemoryFault.{MemoryFault}
+use Rattle.proc_model.specs.Memory.{MemoryState, memory_error}
+use Rattle.user_names.specs.declared.name_fault.NameFault.{NameFault}
+use Rattle.user_names.specs.declared.name_fault.NameFault.TheVariants.{Unreadable, NoName}
+use Rattle.call_rules.specs.Inner.{Inner}
+
+pub data CallResult : Type 0 where
+  -- it is done, and this is the state then
+  done : Inner → CallResult
+  -- it is refused with this number
+  refused : ℕ → CallResult
+  -- it waits, and this is the state then
+  waits : Inner → CallResult
+  -- the process ends with this status
+  ends : ℕ → CallResult
+
+-- the call goes on with what there is, or is refused with this number if there is nothing
+abbrev pub needs : {A : Type 0} → Option A → ℕ → (A → CallResult) → CallResult
+needs None number next = refused number
+needs (Some a) number next = next a
+
+-- the call is refused with this number if the test is true, and else goes on
+abbrev pub refuses : Bool → ℕ → CallResult → CallResult
+refuses true number next = refused number
+refuses false number next = next
+
+-- the call goes on with the memory as it is changed, or is refused as this change is
+abbrev pub changes : Result MemoryState MemoryFault → (MemoryState → CallResult) → CallResult
+changes (Ok memory) next = next memory
+changes (Err fault) next = refused (memory_error fault)
+
+-- the call goes on with a name, or is refused with E$BPAddr, or with this number if there is none
+abbrev pub reads_name : Result (List ℕ) NameFault → ℕ → (List ℕ → CallResult) → CallResult
+reads_name (Ok name) number next = next name
+reads_name (Err Unreadable) number next = refused E_BPADDR
+reads_name (Err NoName) number next = refused number

@@ -1,0 +1,32 @@
+-- F$Chain: starts another program in this process (System Programmer's Manual, F$Chain).
+-- Takes what F$Fork takes. The process keeps its number, parent, user, priority, age, children and a pending signal; it
+-- gives up its map, its intercept and one link to its old primary module, after the new one was linked.
+-- Errors: those of F$Fork but E$PrcFul. The blocks of its own data area count as free.
+use Rattle.std.specs.Prelude.{ℕ, nat_lt, None}
+use Rattle.os9_base.specs.declared.errors.TheConstants.{E_MEMFUL}
+use Rattle.proc_model.specs.Memory.{MemoryState}
+use Rattle.proc_model.specs.MemoryChanges.{linked, started}
+use Rattle.proc_rules.specs.Records.{with_regs}
+use Rattle.proc_rules.specs.Signals.{with_intercept}
+use Rattle.call_rules.specs.Inner.{Inner, own_at, with_memory, with_records, with_own}
+use Rattle.call_rules.specs.ModuleLinks.{without_primary_link}
+use Rattle.call_rules.specs.Program.{Program, most_pages, blocks_of_pages, start_regs, start_own, with_parameters, reads_program}
+use Rattle.call_rules.specs.CallResult.{CallResult, done, refuses, changes}
+
+-- the state where a process begins anew with this program in this memory
+abbrev pub begun_anew : Inner → ℕ → Program → Inner
+begun_anew s p program =
+    with_own (with_records s (with_intercept (with_regs s.records p (start_regs program)) p None)) p (start_own program)
+
+-- the state with the new program linked and its parameters stored
+abbrev pub with_program : Inner → ℕ → Program → MemoryState → Inner
+with_program s p program memory =
+    with_memory s (with_parameters (linked memory program.entered.number) p program)
+
+abbrev pub f_chain : Inner → ℕ → CallResult
+f_chain s p =
+    reads_program s p
+    (λ program. refuses (nat_lt most_pages program.pages) E_MEMFUL
+    (changes (started s.memory p program.entered.number (blocks_of_pages program.pages))
+    (λ memory.
+    done (begun_anew (without_primary_link (with_program s p program memory) (own_at s p)) p program))))

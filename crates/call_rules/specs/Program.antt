@@ -1,0 +1,135 @@
+-- The program that F$Fork and F$Chain start (System Programmer's Manual, F$Fork and F$Chain).
+-- A is its type and language, B the pages of its data area, X its name, Y and U the size and the address of its
+-- parameters.
+-- Errors, in this order: E$BPAddr; E$NEMod (of A); E$BNam and E$MNF, since no file is loaded; E$NEMod (of the module).
+use Rattle.std.specs.Prelude.{ℕ, ◌+◌, ◌-◌, ◌*◌, ◌/◌, ◌%◌, ◌==◌, ◌||◌, ◌&&◌, not, is_none, max, Bool, Option, Some, None, unwrap_or, option_map, option_and_then, List, length, slice_get, replicate, slice_set, if◌then◌else◌}
+use Rattle.os9_base.specs.Cells.{Cells}
+use Rattle.os9_base.specs.Name.{parsed_name}
+use Rattle.os9_base.specs.declared.errors.TheConstants.{E_BPADDR, E_NEMOD, E_BNAM, E_MNF}
+use Rattle.os9_base.specs.declared.registers.Regs.{Regs}
+use Rattle.proc_model.specs.ModuleList.{ModuleEntry}
+use Rattle.proc_model.specs.Memory.{MemoryState}
+use Rattle.proc_model.specs.MemoryChanges.{stored}
+use Rattle.proc_rules.specs.declared.own.Own.{Own}
+use Rattle.user_names.specs.UserNames.{user_cell, run_bytes}
+use Rattle.call_rules.specs.Inner.{Inner, no_own, regs_at, cells_at}
+use Rattle.call_rules.specs.ModuleLinks.{Entered, found_entry, header_address}
+use Rattle.call_rules.specs.CallResult.{CallResult, needs, refuses}
+use Rattle.call_rules.specs.UserBytes.{user_bytes}
+
+-- ---- its name
+
+-- the byte of a slash
+abbrev pub slash : ℕ
+slash = 47
+
+-- the bytes end in a slash
+abbrev pub ends_in_slash : List ℕ → Bool
+ends_in_slash bytes = unwrap_or (slice_get bytes (length bytes - 1)) 0 == slash
+
+-- The bytes of a run whose slash, if it ends in one, stands before a byte that is there.
+abbrev pub before_slash : Cells → ℕ → List ℕ → Option (List ℕ)
+before_slash cells at bytes =
+    if ends_in_slash bytes && is_none (user_cell cells (at + length bytes)) then None else Some bytes
+
+-- The name of a program at an address, if the bytes there are one; nothing at all if one that has to be read is not
+-- there. A name with a slash before or behind it is a path list, and no name of an entered module; the byte behind the
+-- slash is read too.
+abbrev pub program_name : Cells → ℕ → Option (Option (List ℕ))
+program_name cells at =
+    option_map (λ bytes. if ends_in_slash bytes then None else parsed_name bytes)
+    (option_and_then (before_slash cells at) (run_bytes cells at 30))
+
+-- ---- its type
+
+-- a type and language of 6809 programs
+abbrev pub program_kind : ℕ
+program_kind = 0x11
+
+-- what a call may ask for: any type and language, or a program in any language or in 6809 code
+abbrev pub asks_for_program : ℕ → Bool
+asks_for_program kind = (kind == 0) || (kind == 0x10) || (kind == program_kind)
+
+-- ---- its data area
+
+-- so many bytes in pages of 256
+abbrev pub page_count : ℕ → ℕ
+page_count bytes = (bytes + 255) / 256
+
+-- the pages of a new data area: one at least, those of the module's storage, those asked for, those of the parameters
+abbrev pub area_pages : ModuleEntry → ℕ → ℕ → ℕ
+area_pages entry pages parameters = max 1 (max (page_count entry.info.storage) (max pages (page_count parameters)))
+
+-- the most pages of a data area
+abbrev pub most_pages : ℕ
+most_pages = 224
+
+-- so many pages in blocks of 8,192 bytes
+abbrev pub blocks_of_pages : ℕ → ℕ
+blocks_of_pages pages = (pages + 31) / 32
+
+-- ---- what is started
+
+-- a program to be started: its module, the pages of its data area, the bytes of its parameters, and how many
+-- characters its name has
+pub record Program : Type 0 where
+  pub entered : Entered
+  pub pages : ℕ
+  pub parameters : List ℕ
+  pub count : ℕ
+
+-- the slot at which the group of the program begins in its map: the highest slots are the group's
+abbrev pub program_slot : Program → ℕ
+program_slot program = 8 - length program.entered.entry.group
+
+-- the size of its data area in bytes
+abbrev pub area_size : Program → ℕ
+area_size program = 256 * program.pages
+
+-- where its parameters begin: they end at the end of the data area
+abbrev pub parameters_at : Program → ℕ
+parameters_at program = area_size program - length program.parameters
+
+-- the registers with which it starts
+abbrev pub start_regs : Program → Regs
+start_regs program = record {
+  a = length program.parameters / 256;
+  b = length program.parameters % 256;
+  dp = 0;
+  cc = 0;
+  x = parameters_at program;
+  y = area_size program;
+  u = 0;
+  s = parameters_at program;
+  pc = header_address (program_slot program) program.entered.entry + program.entered.entry.info.entry;
+}
+
+-- what it has beside its record and its memory
+abbrev pub start_own : Program → Own
+start_own program =
+    record no_own {
+      size =
+          area_size program;
+      primary = Some (record { 0 = program.entered.number });
+      links = slice_set (replicate 8 0) (program_slot program) 1;
+    }
+
+-- the memory with its parameters at the end of its data area
+abbrev pub with_parameters : MemoryState → ℕ → Program → MemoryState
+with_parameters m p program = stored m p (parameters_at program) program.parameters
+
+-- the call goes on with the program that the registers of its process name
+abbrev pub reads_program : Inner → ℕ → (Program → CallResult) → CallResult
+reads_program s p next =
+    needs (program_name (cells_at s p) (regs_at s p).x) E_BPADDR
+    (λ read. needs (user_bytes (cells_at s p) (regs_at s p).u (regs_at s p).y) E_BPADDR
+    (λ parameters. refuses (not (asks_for_program (regs_at s p).a)) E_NEMOD
+    (needs read E_BNAM
+    (λ name. needs (found_entry s.memory.modules name (regs_at s p).a) E_MNF
+    (λ found. refuses (not (found.entry.info.kind == program_kind)) E_NEMOD
+    (next (record {
+      entered = found;
+      pages = area_pages found.entry (regs_at s p).b (length parameters);
+      parameters = parameters;
+      count = length name;
+    })))))))

@@ -1,0 +1,43 @@
+-- Who is Ready, and what a chosen process does next (Level Two manual, process scheduling).
+use Rattle.std.specs.Prelude.{ℕ, ◌&&◌, ◌||◌, not, is_some, Bool, true, false, Option, Some, None}
+use Rattle.proc_rules.specs.Ends.{ended_child}
+use Rattle.proc_rules.specs.Records.{record_at, is_living, is_waiting}
+use Rattle.call_rules.specs.Inner.{Inner, own_at}
+use Rattle.call_rules.specs.Sleep.{may_wake}
+use Rattle.call_rules.specs.Send.{is_call}
+use Rattle.os9_base.specs.declared.calls.TheConstants.{F_WAIT, F_SLEEP}
+
+-- a child of a process that waits for one has ended, or the sleep of a process may end
+abbrev pub may_go_on : Inner → ℕ → Bool
+may_go_on s p =
+    (is_call (own_at s p).call F_WAIT && is_some (ended_child s.records p))
+    || (is_call (own_at s p).call F_SLEEP && may_wake s.tick (own_at s p))
+
+-- a process is Ready by what it has of itself and of its children: it lives, and does not wait, or a signal is pending,
+-- or its wait for a child or its sleep may end
+abbrev pub is_ready : Inner → ℕ → Bool
+is_ready s p =
+    is_living s.records p
+    && (not (is_waiting (record_at s.records p).life) || (is_some (record_at s.records p).signal || may_go_on s p))
+
+-- what a chosen process does next
+pub data Act : Type 0 where
+  -- an attempt of the call with this code
+  attempts : ℕ → Act
+  -- the delivery of this signal
+  delivers : ℕ → Act
+  -- an instruction
+  executes : Act
+
+-- The next event of a process: the first that applies of the first attempt of its call, the delivery of a pending
+-- signal, a further attempt, an instruction. A call whose process waits was attempted.
+abbrev pub next_act : Option ℕ → Bool → Option ℕ → Act
+next_act (Some code) false signal = attempts code
+next_act (Some code) true (Some signal) = delivers signal
+next_act (Some code) true None = attempts code
+next_act None waits (Some signal) = delivers signal
+next_act None waits None = executes
+
+-- the next event of a process
+abbrev pub act_of : Inner → ℕ → Act
+act_of s p = next_act (own_at s p).call (is_waiting (record_at s.records p).life) (record_at s.records p).signal

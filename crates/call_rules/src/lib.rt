@@ -1,0 +1,6 @@
+//! What each call on processes and modules answers and changes: the definitions that the bodies of
+//! the calls cite, and the codes of these calls.
+#![tactic(auto)]
+
+pub mod proc_call;
+pub mod rows;

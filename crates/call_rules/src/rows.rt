@@ -1,0 +1,75 @@
+ghost use Rattle.std.specs.Prelude.{◌≡◌, ◌∷◌, ◌++◌, [], Some, replicate};
+ghost use Rattle.os9_base.specs.declared.errors.TheConstants.{E_BNAM, E_USIGP, E_PRCFUL, E_NORAM, E_BPADDR, E_PRCABT};
+ghost use Rattle.proc_model.specs.Memory.{free_blocks};
+ghost use Rattle.proc_rules.specs.Records.{zero_regs};
+ghost use Rattle.call_rules.specs.declared.proc_call.ProcCall.TheVariants as Call;
+ghost use Rattle.call_rules.specs.CmpNam.{f_cmpnam};
+ghost use Rattle.call_rules.specs.End.{ended};
+ghost use Rattle.call_rules.specs.Fork.{f_fork};
+ghost use Rattle.call_rules.specs.Inner.{regs_at, cells_at};
+ghost use Rattle.call_rules.specs.PrsNam.{f_prsnam};
+ghost use Rattle.call_rules.specs.Attempts.{refused_regs};
+ghost use Rattle.call_rules.specs.CallResult.{done, refused};
+ghost use Rattle.call_rules.specs.Send.{f_send};
+ghost use Rattle.call_rules.specs.UserBytes.{user_bytes};
+ghost use Rattle.call_rules.specs.Rows.{regs_after, parsing, comparing, sent_asleep, sent_seven, seven_delivered, forker, with_five, first_child, after_forks, both_linked, stored_by_one};
+
+/// F$PrsNam of `/D0/CMDS` answers its first name and the `/` behind it; a carriage return is no
+/// name. F$CmpNam finds `abc` and `ABC` the same by three characters, and not by two.
+pub fn names_are_parsed_and_compared()
+    ensures parsed { regs_after Call.PrsNam 2 (parsing 0x40)
+        ≡ record zero_regs { a = 0x2F; b = 2; x = 0x41; y = 0x43 } }
+    ensures no_name { f_prsnam (parsing 0x48) 2 ≡ refused E_BNAM }
+    ensures same { f_cmpnam (comparing 3) 2 ≡ done (comparing 3) }
+    ensures shorter { f_cmpnam (comparing 2) 2 ≡ refused E_BNAM }
+{}
+
+/// A sleep of 5 ticks that signal 1 ends at the second of them answers that 3 are left. A second
+/// signal is refused while the first one is pending. The routine that receives it finds it in B and
+/// the area in U, and the twelve bytes of the registers below the stack pointer.
+pub fn sleeps_and_signals_end()
+    ensures left { regs_after Call.Sleep 2 (sent_asleep 5 1)
+        ≡ record zero_regs { x = 3; s = 0x30; pc = 0x22 } }
+    ensures second { f_send sent_seven 3 ≡ refused E_USIGP }
+    ensures routine { regs_at seven_delivered 2
+        ≡ record (regs_at sent_seven 2) { b = 7; s = 0x24; u = 0x5678; pc = 0x1234 } }
+    ensures frame { user_bytes (cells_at seven_delivered 2) 0x24 12
+        ≡ Some (0x81 ∷ (replicate 10 0 ++ (0x22 ∷ []))) }
+{}
+
+/// A program whose storage is 200 bytes starts with a data area of one page, and with its
+/// parameters at the end of it; parameters that are not there are refused.
+pub fn programs_start_with_their_parameters()
+    ensures bare { regs_at (first_child (forker 64)) 3
+        ≡ record zero_regs { x = 0x100; y = 0x100; s = 0x100; pc = 0xE010 } }
+    ensures five { regs_at (first_child (with_five 1)) 3
+        ≡ record zero_regs { b = 5; x = 0xFB; y = 0x100; s = 0xFB; pc = 0xE010 } }
+    ensures stored { user_bytes (cells_at (first_child (with_five 1)) 3) 0xFB 5
+        ≡ Some (5 ∷ 6 ∷ 7 ∷ 8 ∷ 9 ∷ []) }
+    ensures unnamed { f_fork (with_five 2) 2 ≡ refused E_BPADDR }
+{}
+
+/// With 64 blocks process 2 has 30 children, and the next is refused; with 8 blocks, of which it
+/// uses two, it has six. A refusal changes B and the condition codes alone.
+pub fn forks_end_at_a_limit()
+    ensures last { (regs_at (after_forks 30 (forker 64)) 2).a ≡ 32 }
+    ensures full { regs_at (after_forks 31 (forker 64)) 2 ≡ refused_regs zero_regs E_PRCFUL }
+    ensures sixth { (regs_at (after_forks 6 (forker 8)) 2).a ≡ 8 }
+    ensures used { regs_at (after_forks 7 (forker 8)) 2 ≡ refused_regs zero_regs E_NORAM }
+    ensures none { free_blocks (after_forks 7 (forker 8)).memory ≡ 0 }
+{}
+
+/// Two processes that link a module see the same bytes of it, and after both have ended its block
+/// alone is in use.
+pub fn linked_modules_are_shared()
+    ensures linked { (regs_at both_linked 3).u ≡ 0xE020 }
+    ensures shared { cells_at stored_by_one 3 0xE022 ≡ Some 0x77 }
+    ensures before { free_blocks both_linked.memory ≡ 5 }
+    ensures after { free_blocks (ended (ended both_linked 2 0) 3 0).memory ≡ 7 }
+{}
+
+/// The parent of a process that ends with status 228, as one does by an unnamed slot, is given it.
+pub fn an_aborted_child_has_its_status()
+    ensures status { regs_after Call.Wait 2 (ended (after_forks 1 (forker 8)) 3 E_PRCABT)
+        ≡ record zero_regs { a = 3; b = 228; x = 1 } }
+{}
