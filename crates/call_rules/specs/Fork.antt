@@ -2,7 +2,7 @@
 -- Takes the type and language of the program in A, the pages of its data area in B, its name at X, and the size and the
 -- address of its parameters in Y and U; answers the number of the new process in A, and X past the name.
 -- Errors: those of a program that is to be started, then E$PrcFul, E$MemFul and E$NoRAM.
-use Rattle.std.specs.Prelude.{ℕ, ◌+◌, nat_lt, Option, List}
+use Rattle.std.specs.Prelude.{ℕ, ◌+◌, ◌%◌, nat_lt, Option, List}
 use Rattle.os9_base.specs.declared.errors.TheConstants.{E_MEMFUL, E_PRCFUL}
 use Rattle.os9_base.specs.declared.registers.Regs.{Regs}
 use Rattle.proc_model.specs.Memory.{MemoryState}
@@ -24,15 +24,14 @@ with_child_record records p child program =
 abbrev pub with_child : Inner → ℕ → ℕ → Program → MemoryState → Inner
 with_child s p child program memory =
     with_own (record s {
-      memory =
-          with_parameters (linked memory program.entered.number) child program;
+      memory = with_parameters (linked memory program.entered.number) child program;
       records = with_child_record s.records p child program;
       order = with_turn s.order (record { 0 = child }) (record_at s.records p).priority;
     }) child (start_own program)
 
--- the registers of the parent then
+-- the registers of the parent then; behind FFFF X is 0
 abbrev pub forked_regs : Regs → ℕ → Program → Regs
-forked_regs regs child program = record regs { a = child; x = regs.x + program.count }
+forked_regs regs child program = record regs { a = child; x = (regs.x + program.count) % 65536 }
 
 abbrev pub f_fork : Inner → ℕ → CallResult
 f_fork s p =

@@ -2,7 +2,7 @@
 -- Takes the type and language in A and the name at X; answers the module's type and language in A, its attributes and
 -- revision in B, X past the name, its entry in Y and its header's address in U.
 -- Errors: E$BPAddr, E$BNam, E$MNF, E$MemFul (no slots are left in the map, or no links).
-use Rattle.std.specs.Prelude.{ℕ, ◌+◌, nat_le, Option, Some, None, List, length, slice_index_or, slice_set}
+use Rattle.std.specs.Prelude.{ℕ, ◌+◌, ◌%◌, nat_le, Option, Some, None, List, length, slice_index_or, slice_set}
 use Rattle.std.specs.Option.{option_map_or}
 use Rattle.os9_base.specs.declared.errors.TheConstants.{E_BNAM, E_MNF, E_MEMFUL}
 use Rattle.os9_base.specs.declared.registers.Regs.{Regs}
@@ -36,14 +36,13 @@ links_at own slot = slice_index_or own.links slot 0
 abbrev pub with_links_at : Own → ℕ → ℕ → Own
 with_links_at own slot links = record own { links = slice_set own.links slot links }
 
--- the registers after a link: the name had so many characters
+-- the registers after a link: the name had so many characters; behind FFFF X is 0
 abbrev pub linked_regs : Regs → ModuleEntry → ℕ → ℕ → Regs
 linked_regs regs entry address count =
     record regs {
-      a =
-          entry.info.kind;
+      a = entry.info.kind;
       b = entry.info.attr;
-      x = regs.x + count;
+      x = (regs.x + count) % 65536;
       y = address + entry.info.entry;
       u = address;
     }
