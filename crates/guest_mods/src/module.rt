@@ -1,5 +1,6 @@
 ghost use Rattle.std.specs.Prelude.{◌≡◌, ◌≤◌, ◌<◌, ◌+◌, ◌-◌, ◌++◌, ◌∷◌, [], length, IfOk, slice_range};
 ghost use Rattle.os9_base.specs.Name.{IsName};
+ghost use Rattle.os9_base.specs.declared.limits.TheConstants.{MOST_GROUP_BYTES};
 ghost use Rattle.proc_model.specs.Module.{IsModule, info_at};
 ghost use Rattle.guest_mods.specs.GuestModule.{guest_module, guest_body, guest_info, guest_size, code_offset, is_program_kind, kind_header_length, header_front, parity_of, program_fields, marked_name, word_bytes, crc_bytes};
 
@@ -33,7 +34,7 @@ pub fn module(
     code: &[u8],
 ) -> Result<Vec<u8>, OutOfMemory>
     requires filled { 0 < length code.now }
-    requires short { guest_size name.now kind code.now ≤ 57344 }
+    requires short { guest_size name.now kind code.now ≤ MOST_GROUP_BYTES }
     ensures module { IfOk result (λ bytes. IsModule bytes.items) }
     ensures info { IfOk result (λ bytes. info_at 0 bytes.items
         ≡ guest_info name.now kind attr storage code.now) }
@@ -58,7 +59,7 @@ fn push_header(
     storage: u16,
     code_length: u16,
 ) -> Result<(), AllocError>
-    requires { code_offset name.now kind + code_length + 3 ≤ 57344 }
+    requires { code_offset name.now kind + code_length + 3 ≤ MOST_GROUP_BYTES }
     ensures { IfOk result (λ _. bytes.new.items ≡ bytes.old.items
         ++ (header_front (code_offset name.now kind + code_length + 3) kind attr
         ++ parity_of (header_front (code_offset name.now kind + code_length + 3) kind attr)

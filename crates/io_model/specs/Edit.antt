@@ -37,9 +37,13 @@ no_line = record { bytes = []; last = [] }
 abbrev pub still_typing : Editing → List ℕ → Edited
 still_typing line echo = record { line = line; echo = echo; end = None }
 
--- a byte of a line as it is shown: a dot for a control character
-abbrev pub shown : ℕ → ℕ
-shown byte = if nat_lt byte SPACE || (byte == DELETE) then DOT else byte
+-- the line is this now, these bytes are put, and it has ended
+abbrev pub line_ended : Editing → List ℕ → Edited
+line_ended line echo = record { line = line; echo = echo; end = Some Line }
+
+-- a byte of a line as the screen has it: a dot for a control character
+abbrev pub screen_byte : ℕ → ℕ
+screen_byte byte = if nat_lt byte SPACE || (byte == DELETE) then DOT else byte
 
 -- what takes the bytes of a line away on the screen
 abbrev pub rubouts : List ℕ → List ℕ
@@ -61,7 +65,7 @@ deleted line = still_typing (cleared line) (rubouts line.bytes)
 
 -- 04 shows the line again
 abbrev pub reprinted : Editing → Edited
-reprinted line = still_typing line (RETURN ∷ LINE_FEED ∷ map shown line.bytes)
+reprinted line = still_typing line (RETURN ∷ LINE_FEED ∷ map screen_byte line.bytes)
 
 -- as much of the last finished line as there is room for
 abbrev pub last_that_fits : ℕ → Editing → List ℕ
@@ -71,16 +75,12 @@ last_that_fits most line = take (most - 1) line.last
 abbrev pub duplicated : ℕ → Editing → Edited
 duplicated most line =
     still_typing (with_bytes line (last_that_fits most line))
-    (rubouts line.bytes ++ map shown (last_that_fits most line))
+    (rubouts line.bytes ++ map screen_byte (last_that_fits most line))
 
 -- 0D ends the line, which is then the last finished one
 abbrev pub returned : Editing → Edited
 returned line =
-    record {
-      line = record { bytes = line.bytes ++ RETURN ∷ []; last = line.bytes };
-      echo = RETURN ∷ LINE_FEED ∷ [];
-      end = Some Line;
-    }
+    line_ended (record { bytes = line.bytes ++ RETURN ∷ []; last = line.bytes }) (RETURN ∷ LINE_FEED ∷ [])
 
 -- the end of the file
 abbrev pub file_ended : Editing → Edited
@@ -98,7 +98,7 @@ escaped line = if is_empty_line line then file_ended line else refused_key line
 abbrev pub typed_key : ℕ → Editing → ℕ → Edited
 typed_key most line key =
     if nat_lt (length line.bytes) (most - 1)
-    then still_typing (with_bytes line (line.bytes ++ key ∷ [])) (shown key ∷ []) else refused_key line
+    then still_typing (with_bytes line (line.bytes ++ key ∷ [])) (screen_byte key ∷ []) else refused_key line
 
 -- a key of I$ReadLn, which asks for at most so many bytes
 unfoldable pub edited : ℕ → Editing → ℕ → Edited
@@ -132,6 +132,10 @@ pub record Typing : Type 0 where
   pub echo : List ℕ
   pub end : Option LineEnd
   pub left : List ℕ  -- the keys behind the one that ended it
+
+-- a line that has ended, with this echo, and no key left
+abbrev pub line_done : Editing → List ℕ → Typing
+line_done line echo = record { line = line; echo = echo; end = Some Line; left = [] }
 
 -- what was typed, with an echo before its own
 abbrev pub after_echo : List ℕ → Typing → Typing

@@ -1,6 +1,6 @@
 -- Calls that wait on a terminal or a pipe. A process has one of them at most: they are a list by number, where place p
 -- has that of process p, or nothing.
-use Rattle.std.specs.Prelude.{ℕ, ◌+◌, ◌-◌, ◌==◌, Bool, Option, Some, None, List, slice_index_or, slice_set}
+use Rattle.std.specs.Prelude.{ℕ, ◌+◌, ◌-◌, ◌==◌, Bool, Option, None, List, slice_index_or, slice_set}
 use Rattle.io_model.specs.declared.kept.Kept.{Kept}
 
 -- the call of a process that waits, if it has one

@@ -1,7 +1,7 @@
 -- Pipes (Level Two manual, "Pipes"; how many bytes a pipe holds and how many pipes there are is this project's own).
 -- They are a list by number: place n has the bytes of pipe n, the oldest first, or nothing. Pipes have numbers from 1
 -- to 16.
-use Rattle.std.specs.Prelude.{◌≡◌, ℕ, ◌+◌, ◌-◌, ◌<◌, ◌≤◌, ◌==◌, min, Bool, Option, Some, None, IsSome, is_none, option_map, unwrap_or, List, [], ◌∷◌, ◌++◌, length, take, drop, position, slice_index_or, slice_set, if◌then◌else◌}
+use Rattle.std.specs.Prelude.{◌≡◌, ℕ, ◌+◌, ◌-◌, ◌≤◌, ◌==◌, min, Bool, Option, Some, None, IsSome, is_none, option_map, unwrap_or, List, [], ◌∷◌, ◌++◌, length, take, drop, position, slice_index_or, slice_set, if◌then◌else◌}
 use Rattle.std.specs.Option.{option_map_or}
 use Rattle.io_model.specs.Line.{line_length}
 use Rattle.io_model.specs.declared.pipe.PipeAns.{PipeAns}

@@ -4,7 +4,7 @@ use Rattle.std.specs.Option.{option_map_or}
 use Rattle.std.specs.List.{filter_map}
 use Rattle.os9_base.specs.declared.registers.Pid.{Pid}
 use Rattle.os9_base.specs.Count.{Rose}
-use Rattle.os9_outer.specs.Stream.{stream_with}
+use Rattle.os9_outer.specs.Stream.{stream_with, GainsPart}
 use Rattle.os9_outer.specs.Terminal.{due_byte}
 use Rattle.os9_outer.specs.TerminalState.{TerminalState}
 use Rattle.os9_outer.specs.declared.terminal.Key.{Key}
@@ -103,6 +103,10 @@ pub record Arrives (tick : ℕ) (old new : Terminal) (before now : TerminalState
   pub last_bell : answer.memory ≡ false → bells + mute + 1 ≡ dropped_count old.ahead (key_bytes taken)
   pub all_taken : answer.memory ≡ true → broken ≡ 0 → due_byte now.keys tick ≡ None
 
+-- what a driver has that holds these keys, has put these bytes and failed so often
+abbrev pub driver_with : List Key → List ℕ → ℕ → TerminalState
+driver_with keys put faults = record { keys = keys; put = Some put; faults = faults }
+
 -- Reads.
 
 -- what a key makes of a line, by the kind of the read and how many bytes it asks for
@@ -127,7 +131,7 @@ abbrev pub IsSameCall : Reading → Terminal → Type 0
 IsSameCall request t = IfSome t.reading (λ reading. reading.process ≡ request.process → reading ≡ request)
 
 -- what an attempt of a read comes to where every byte of its echo is put
-pub record Attempt : Type 0 where
+pub record ReadAttempt : Type 0 where
   pub answer : Progress
   pub terminal : Terminal
   pub echo : List ℕ
@@ -144,7 +148,7 @@ after_reading request line left =
     record { ahead = left; line = cleared line; reading = None; user = Some request.process }
 
 -- the attempt of a read, by what its keys made of its line
-abbrev pub attempt_by : Option LineEnd → Typing → Reading → Attempt
+abbrev pub attempt_by : Option LineEnd → Typing → Reading → ReadAttempt
 attempt_by None it request =
     record { answer = Wait; terminal = still_reading request it; echo = it.echo; stored = [] }
 attempt_by (Some EndOfFile) it request =
@@ -158,22 +162,22 @@ attempt_by (Some Line) it request =
     }
 
 -- the attempt of a read that no other process's read keeps waiting
-abbrev pub typed_attempt : Reading → Terminal → Attempt
+abbrev pub typed_attempt : Reading → Terminal → ReadAttempt
 typed_attempt request t =
     attempt_by (typed request t.line t.ahead).end (typed request t.line t.ahead) request
 
 -- the attempt of a read while another process's read is unfinished
-abbrev pub kept_waiting : Reading → Terminal → Attempt
+abbrev pub kept_waiting : Reading → Terminal → ReadAttempt
 kept_waiting request t =
     record { answer = Wait; terminal = used_by request.process t; echo = []; stored = [] }
 
 -- an attempt of a read: it waits for another process's read, or types the keys of the type-ahead
-abbrev pub read_attempt : Reading → Terminal → Attempt
+abbrev pub read_attempt : Reading → Terminal → ReadAttempt
 read_attempt request t =
     if is_taken request.process t then kept_waiting request t else typed_attempt request t
 
 -- the attempt came to this
-pub record Attempted (attempt : Attempt) (answer : Progress) (new : Terminal) (before now : TerminalState)
+pub record Attempted (attempt : ReadAttempt) (answer : Progress) (new : Terminal) (before now : TerminalState)
     : Type 0 where
   pub answer_is : answer ≡ attempt.answer
   pub terminal : new ≡ attempt.terminal
@@ -238,8 +242,7 @@ stored_bytes answer request t = if is_refused answer then [] else (read_attempt 
 
 -- the terminal was given a part of these bytes: one of them at least was refused
 abbrev pub PutsPart : List ℕ → TerminalState → TerminalState → Type 0
-PutsPart bytes before now =
-    (count : ℕ) × (count < length bytes) × (now.put ≡ stream_with before.put (take count bytes))
+PutsPart bytes before now = GainsPart before.put bytes now.put
 
 -- a write was done: these bytes are out, and it answers this count
 pub record IsWritten (process : Pid) (bytes : List ℕ) (count : ℕ) (answer : Progress) (old new : Terminal)

@@ -1,7 +1,7 @@
 //! How a line ends, and line editing as laws over every list of keys.
 
 ghost use Rattle.std.specs.Prelude.{◌≡◌, ℕ, ◌<◌, Some, None, List, [], ◌∷◌, ◌++◌, length, codes};
-ghost use Rattle.io_model.specs.Edit.{Editing, Edited, HasRoom, typing, edited, copied, after_typing, used_up, no_line, refused_key, still_typing, file_ended};
+ghost use Rattle.io_model.specs.Edit.{Editing, Edited, HasRoom, typing, edited, copied, after_typing, used_up, no_line, refused_key, still_typing, file_ended, line_ended, line_done};
 
 /// What ends a read of a terminal.
 #[derive(Clone, Copy, Debug, PartialEq, Eq)]
@@ -41,25 +41,21 @@ pub fn typing_keeps_room()
         HasRoom most (copied most line key).end (copied most line key).line }
 {}
 
-/// Three lines that are typed one after another: one with a byte taken back, one that is deleted
-/// and typed again by one key, and the end of the file.
+/// Two lines that are typed one after another: one with a byte taken back, and one that is deleted
+/// and typed again by one key.
 pub fn line_editing()
     ensures first { typing (edited 80) no_line (97 ∷ 98 ∷ 120 ∷ 8 ∷ 99 ∷ 13 ∷ [])
-        ≡ record {
-          line = record { bytes = codes "abc" ++ 13 ∷ []; last = codes "abc" };
-          echo = 97 ∷ 98 ∷ 120 ∷ 8 ∷ 32 ∷ 8 ∷ 99 ∷ 13 ∷ 10 ∷ [];
-          end = Some LineEnd.Line;
-          left = [];
-        } }
+        ≡ line_done (record { bytes = codes "abc" ++ 13 ∷ []; last = codes "abc" })
+        (97 ∷ 98 ∷ 120 ∷ 8 ∷ 32 ∷ 8 ∷ 99 ∷ 13 ∷ 10 ∷ []) }
     ensures second { typing (edited 80) (record { bytes = []; last = codes "abc" })
         (122 ∷ 122 ∷ 24 ∷ 1 ∷ 13 ∷ [])
-        ≡ record {
-          line = record { bytes = codes "abc" ++ 13 ∷ []; last = codes "abc" };
-          echo = 122 ∷ 122 ∷ 8 ∷ 32 ∷ 8 ∷ 8 ∷ 32 ∷ 8 ∷ 97 ∷ 98 ∷ 99 ∷ 13 ∷ 10 ∷ [];
-          end = Some LineEnd.Line;
-          left = [];
-        } }
-    ensures third { typing (edited 80) (record { bytes = []; last = codes "abc" }) (27 ∷ [])
+        ≡ line_done (record { bytes = codes "abc" ++ 13 ∷ []; last = codes "abc" })
+        (122 ∷ 122 ∷ 8 ∷ 32 ∷ 8 ∷ 8 ∷ 32 ∷ 8 ∷ 97 ∷ 98 ∷ 99 ∷ 13 ∷ 10 ∷ []) }
+{}
+
+/// The key of the end of the file, where no byte is before it, ends the read. It keeps the last line.
+pub fn end_of_file_alone()
+    ensures { typing (edited 80) (record { bytes = []; last = codes "abc" }) (27 ∷ [])
         ≡ record {
           line = record { bytes = []; last = codes "abc" };
           echo = [];
@@ -68,14 +64,18 @@ pub fn line_editing()
         } }
 {}
 
-/// Each key of I$ReadLn on a line of two bytes, the second of which is shown as a dot, and on an
-/// empty line.
-pub fn editing_keys()
+/// The keys of I$ReadLn that take bytes back, on a line of two bytes, the second of which is shown
+/// as a dot, and on an empty line.
+pub fn taking_back_keys()
     ensures backspace { edited 80 (record { bytes = 97 ∷ 2 ∷ []; last = [] }) 8
         ≡ still_typing (record { bytes = 97 ∷ []; last = [] }) (8 ∷ 32 ∷ 8 ∷ []) }
     ensures backspace_on_none { edited 80 no_line 8 ≡ still_typing no_line [] }
     ensures delete_line { edited 80 (record { bytes = 97 ∷ 2 ∷ []; last = [] }) 24
         ≡ still_typing no_line (8 ∷ 32 ∷ 8 ∷ 8 ∷ 32 ∷ 8 ∷ []) }
+{}
+
+/// The keys of I$ReadLn that show the line again, or type the last one again as far as it has room.
+pub fn repeating_keys()
     ensures reprint { edited 80 (record { bytes = 97 ∷ 2 ∷ []; last = [] }) 4
         ≡ still_typing (record { bytes = 97 ∷ 2 ∷ []; last = [] }) (13 ∷ 10 ∷ 97 ∷ 46 ∷ []) }
     ensures duplicate { edited 80 (record { bytes = 97 ∷ []; last = 98 ∷ 127 ∷ [] }) 1
@@ -83,12 +83,17 @@ pub fn editing_keys()
         (8 ∷ 32 ∷ 8 ∷ 98 ∷ 46 ∷ []) }
     ensures duplicate_of_more { edited 3 (record { bytes = []; last = codes "wxyz" }) 1
         ≡ still_typing (record { bytes = codes "wx"; last = codes "wxyz" }) (codes "wx") }
+{}
+
+/// The key of the end of the file of I$ReadLn ends the read of an empty line, and is refused in a
+/// line that has bytes.
+pub fn end_of_file_key()
     ensures end_of_file { edited 80 no_line 27 ≡ file_ended no_line }
     ensures end_of_file_in_a_line { edited 80 (record { bytes = 97 ∷ []; last = [] }) 27
         ≡ refused_key (record { bytes = 97 ∷ []; last = [] }) }
 {}
 
-/// Any other key of I$ReadLn: it is typed while the line has room for it and a carriage return.
+/// Any other key of I$ReadLn is typed, and shown as a dot where it is a control key.
 pub fn typed_keys()
     ensures letter { edited 80 no_line 97
         ≡ still_typing (record { bytes = 97 ∷ []; last = [] }) (97 ∷ []) }
@@ -100,34 +105,33 @@ pub fn typed_keys()
         ≡ still_typing (record { bytes = 127 ∷ []; last = [] }) (46 ∷ []) }
     ensures above { edited 80 no_line 128
         ≡ still_typing (record { bytes = 128 ∷ []; last = [] }) (128 ∷ []) }
+{}
+
+/// A key of I$ReadLn is typed only while the line has room for it and a carriage return, which
+/// ends the line.
+pub fn typed_up_to_the_room()
     ensures last_place { edited 3 (record { bytes = 97 ∷ []; last = [] }) 98
         ≡ still_typing (record { bytes = codes "ab"; last = [] }) (98 ∷ []) }
     ensures full { edited 3 (record { bytes = codes "ab"; last = [] }) 99
         ≡ still_typing (record { bytes = codes "ab"; last = [] }) (7 ∷ []) }
     ensures return_alone { edited 1 no_line 13
-        ≡ record {
-          line = record { bytes = 13 ∷ []; last = [] };
-          echo = 13 ∷ 10 ∷ [];
-          end = Some LineEnd.Line;
-        } }
+        ≡ line_ended (record { bytes = 13 ∷ []; last = [] }) (13 ∷ 10 ∷ []) }
 {}
 
-/// The keys of I$Read are moved as they are, and the last finished line stays.
+/// The keys of I$Read are moved as they are, and the last finished line stays. A carriage return or
+/// the last byte ends the read.
 pub fn copied_keys()
     ensures control { copied 80 (record { bytes = []; last = codes "abc" }) 8
         ≡ still_typing (record { bytes = 8 ∷ []; last = codes "abc" }) (8 ∷ []) }
     ensures return_key { copied 80 (record { bytes = codes "x"; last = codes "abc" }) 13
-        ≡ record {
-          line = record { bytes = 120 ∷ 13 ∷ []; last = codes "abc" };
-          echo = 13 ∷ [];
-          end = Some LineEnd.Line;
-        } }
+        ≡ line_ended (record { bytes = 120 ∷ 13 ∷ []; last = codes "abc" }) (13 ∷ []) }
     ensures last_byte { copied 2 (record { bytes = codes "x"; last = codes "abc" }) 121
-        ≡ record {
-          line = record { bytes = codes "xy"; last = codes "abc" };
-          echo = 121 ∷ [];
-          end = Some LineEnd.Line;
-        } }
+        ≡ line_ended (record { bytes = codes "xy"; last = codes "abc" }) (121 ∷ []) }
+{}
+
+/// The key of the end of the file of I$Read ends the read where no byte is before it, and is moved as
+/// any other behind one.
+pub fn copied_end_of_file()
     ensures end_of_file { copied 80 (record { bytes = []; last = codes "abc" }) 27
         ≡ file_ended (record { bytes = []; last = codes "abc" }) }
     ensures later_end_of_file { copied 80 (record { bytes = codes "x"; last = [] }) 27

@@ -1,7 +1,7 @@
 //! What a terminal answers, and its worked cases.
 
 ghost use Rattle.std.specs.Prelude.{◌≡◌, true, Some, None, [], ◌∷◌, ◌++◌, codes};
-ghost use Rattle.io_model.specs.Terminal.{Arrives, Writes, read_attempt, new_terminal, used_by};
+ghost use Rattle.io_model.specs.Terminal.{Arrives, Writes, read_attempt, new_terminal, used_by, driver_with};
 
 use os9_base::registers::Pid;
 
@@ -57,11 +57,9 @@ pub fn waiting_line()
         (record new_terminal { ahead = 97 ∷ 98 ∷ 120 ∷ 8 ∷ 99 ∷ 13 ∷ 100 ∷ [] })
         ≡ record {
           answer = Progress.Done 4;
-          terminal = record {
+          terminal = record (used_by (record { 0 = 2 }) new_terminal) {
             ahead = 100 ∷ [];
             line = record { bytes = []; last = codes "abc" };
-            reading = None;
-            user = Some (record { 0 = 2 });
           };
           echo = 97 ∷ 98 ∷ 120 ∷ 8 ∷ 32 ∷ 8 ∷ 99 ∷ 13 ∷ 10 ∷ [];
           stored = codes "abc" ++ 13 ∷ [];
@@ -72,19 +70,17 @@ pub fn waiting_line()
 pub fn terminal_put_fault()
     ensures { Writes (record { 0 = 2 }) (97 ∷ 98 ∷ 99 ∷ []) 3 Progress.Fault
         new_terminal (used_by (record { 0 = 2 }) new_terminal)
-        (record { keys = []; put = Some []; faults = 0 })
-        (record { keys = []; put = Some (97 ∷ []); faults = 1 }) }
+        (driver_with [] [] 0) (driver_with [] (97 ∷ []) 1) }
 {}
 
 /// A terminal that fails to give a key ends the poll of that tick, and nothing else changes. The key
 /// arrives in the next one.
 pub fn key_fault()
     ensures first { Arrives 1 new_terminal new_terminal
-        (record { keys = record { tick = 1; byte = 97 } ∷ []; put = Some []; faults = 0 })
-        (record { keys = record { tick = 1; byte = 97 } ∷ []; put = Some []; faults = 1 })
+        (driver_with (record { tick = 1; byte = 97 } ∷ []) [] 0)
+        (driver_with (record { tick = 1; byte = 97 } ∷ []) [] 1)
         (record { signal = None; memory = true }) }
     ensures second { Arrives 2 new_terminal (record new_terminal { ahead = 97 ∷ [] })
-        (record { keys = record { tick = 1; byte = 97 } ∷ []; put = Some []; faults = 1 })
-        (record { keys = []; put = Some []; faults = 1 })
+        (driver_with (record { tick = 1; byte = 97 } ∷ []) [] 1) (driver_with [] [] 1)
         (record { signal = None; memory = true }) }
 {}

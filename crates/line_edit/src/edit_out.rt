@@ -1,5 +1,5 @@
 ghost use Rattle.std.specs.Prelude.{◌≡◌, ◌+◌, ◌*◌, ◌≤◌, ◌<◌, [], ◌∷◌, ◌++◌, None, length, map};
-ghost use Rattle.io_model.specs.Edit.{shown, rubouts};
+ghost use Rattle.io_model.specs.Edit.{screen_byte, rubouts};
 ghost use Rattle.line_edit.specs.Echo.{echoed};
 
 use io_model::edit::LineEnd;
@@ -86,7 +86,7 @@ impl EditOut {
     // Shows these bytes of a line.
     pub(crate) fn show(&mut self, bytes: &[u8])
         requires { self.old.echo_len + length bytes.now ≤ 1024 }
-        ensures put { echoed self.new ≡ echoed self.old ++ map shown bytes.now }
+        ensures put { echoed self.new ≡ echoed self.old ++ map screen_byte bytes.now }
         ensures len { self.new.echo_len ≡ self.old.echo_len + length bytes.now }
         ensures end { self.new.end ≡ self.old.end }
     {
@@ -96,9 +96,9 @@ impl EditOut {
     }
 }
 
-// A byte of a line as it is shown: a dot for a control character.
+// A byte of a line as the screen has it: a dot for a control character.
 pub(crate) fn shown_byte(byte: u8) -> u8
-    ensures { result ≡ shown byte }
+    ensures { result ≡ screen_byte byte }
 {
     if byte < SPACE || byte == DELETE {
         DOT

@@ -138,7 +138,8 @@ impl Dir {
     /// Is the group of an entered module the boot file's?
     pub fn is_boot(&self, id: ModId) -> bool
         requires { IsSome (module_entry_at self.now id.0) }
-        ensures { option_map (λ entry. entry.is_boot) (module_entry_at self.now id.0) ≡ Some result }
+        ensures { option_map (λ entry. entry.is_boot) (module_entry_at self.now id.0)
+            ≡ Some result }
     {
         self.entry(id).is_boot
     }

@@ -40,8 +40,8 @@ abbrev pub HasWait : List (Option Member) → ℕ → Type 0
 HasWait members p = IsSome (wait_at (member_of members p))
 
 -- a process is active without a cause
-abbrev pub IsGoing : List (Option Member) → ℕ → Type 0
-IsGoing members p = option_map (λ m. m.standing) (member_of members p) ≡ Some Going
+abbrev pub HasNoWait : List (Option Member) → ℕ → Type 0
+HasNoWait members p = option_map (λ m. m.standing) (member_of members p) ≡ Some Going
 
 -- a process waits for this
 abbrev pub WaitsFor : List (Option Member) → Cause → ℕ → Type 0

@@ -29,16 +29,16 @@ rested Going = Going
 rested (Woken wait) = Resting wait
 rested (Resting wait) = Resting wait
 
--- a tick is reached
-abbrev pub is_reached : ℕ → Option ℕ → Bool
-is_reached tick None = false
-is_reached tick (Some until) = nat_le until tick
+-- the tick of a wait is reached, if it has one
+abbrev pub is_tick_reached : ℕ → Option ℕ → Bool
+is_tick_reached tick None = false
+is_tick_reached tick (Some until) = nat_le until tick
 
 -- a process has a tick, and it is reached
 abbrev pub is_due : ℕ → Standing → Bool
 is_due tick Going = false
-is_due tick (Woken wait) = is_reached tick wait.until
-is_due tick (Resting wait) = is_reached tick wait.until
+is_due tick (Woken wait) = is_tick_reached tick wait.until
+is_due tick (Resting wait) = is_tick_reached tick wait.until
 
 -- a process made active if its tick is reached
 abbrev pub woken_at : ℕ → Member → Member

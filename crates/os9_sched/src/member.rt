@@ -1,6 +1,6 @@
 ghost use Rattle.std.specs.Prelude.{◌≡◌, ◌↔◌, IsTrue, Some, Option, option_map};
 ghost use Rattle.os9_sched.specs.Members.{wait_at};
-ghost use Rattle.os9_sched.specs.Waits.{is_active as is_active_lem, wait_of as wait_of_lem, woken as woken_lem, rested as rested_lem, is_reached as is_reached_lem, is_due as is_due_lem, woken_at as woken_at_lem};
+ghost use Rattle.os9_sched.specs.Waits.{is_active as is_active_lem, wait_of as wait_of_lem, woken as woken_lem, rested as rested_lem, is_due as is_due_lem, woken_at as woken_at_lem};
 
 /// What a process waits for.
 #[derive(Clone, Copy, Debug, PartialEq, Eq)]

@@ -2,7 +2,7 @@ ghost use Rattle.std.specs.Prelude.{◌≡◌, ◌<◌, ◌≤◌, ◌++◌, ◌
 ghost use Rattle.std.specs.Vec.{vec_capacity};
 ghost use Rattle.proc_rules.specs.Records.{IsProcess};
 ghost use Rattle.proc_rules.specs.Turns.{age_in as age_in_lem, without_turn};
-ghost use Rattle.os9_sched.specs.Members.{member_of, member_at, IsMember, HasWait, IsGoing, IsNextWaiting, NobodyWaits};
+ghost use Rattle.os9_sched.specs.Members.{member_of, member_at, IsMember, HasWait, HasNoWait, IsNextWaiting, NobodyWaits};
 ghost use Rattle.os9_sched.specs.Schedule.{IsSchedule, with_priority, with_standing, after_add, after_remove, after_wait, after_wake, after_rest, after_go, after_tick, chosen, after_dispatch};
 ghost use Rattle.os9_sched.specs.Dispatch.{grown_older, with_last};
 
@@ -100,7 +100,7 @@ impl Sched {
 
     /// Puts a process to rest that waits for this, until this tick if there is one.
     pub fn wait(&mut self, p: Pid, cause: Cause, until: Option<u32>)
-        requires { IsGoing self.old.members p.0 }
+        requires { HasNoWait self.old.members p.0 }
         ensures schedule { self.new
             ≡ after_wait self.old p.0 (record { cause = cause; until = until }) }
         ensures shape { IsSchedule self.new }

@@ -28,14 +28,14 @@ abbrev pub ended_child : List (Option Record) → ℕ → Option ℕ
 ended_child records parent = position (record_passes (is_ended_child parent)) records
 
 -- the status with which a process has ended
-abbrev pub status_of : Life → ℕ
-status_of Running = 0
-status_of Waiting = 0
-status_of (Ended status) = status
+abbrev pub end_status : Life → ℕ
+end_status Running = 0
+end_status Waiting = 0
+end_status (Ended status) = status
 
 -- the number and the status of a child that has ended
 abbrev pub child_and_status : List (Option Record) → ℕ → Pid × ℕ
-child_and_status records child = (record { 0 = child }, status_of (record_at records child).life)
+child_and_status records child = (record { 0 = child }, end_status (record_at records child).life)
 
 -- what a parent is given that waits: the ended child of least number, and its status
 abbrev pub reaped : List (Option Record) → ℕ → Result (Pid × ℕ) Reap
@@ -62,8 +62,14 @@ orphaned parent (Some r) =
 abbrev pub after_exit : List (Option Record) → ℕ → ℕ → List (Option Record)
 after_exit records p status = slice_set (map (orphaned p) records) p (ended_record (record_at records p) status)
 
+-- process 2 alone, which has no parent, of this user and priority
+abbrev pub first_alone : ℕ → ℕ → List (Option Record)
+first_alone user priority = after_make (replicate PROCESS_PLACES None) (record { 0 = 0 }) user priority
+
 -- process 2 of user 7, and its children 3 and 4
 abbrev pub family : List (Option Record)
-family =
-    after_make (after_make (after_make (replicate PROCESS_PLACES None) (record { 0 = 0 }) 7 128) (record { 0 = 2 }) 7 128)
-    (record { 0 = 2 }) 7 128
+family = after_make (after_make (first_alone 7 128) (record { 0 = 2 }) 7 128) (record { 0 = 2 }) 7 128
+
+-- the same after process 4 has ended with status 7, and then process 3 with 9
+abbrev pub family_ended : List (Option Record)
+family_ended = after_exit (after_exit family 4 7) 3 9

@@ -1,6 +1,6 @@
 ghost use Rattle.std.specs.Prelude.{◌≡◌, Some, None, Ok, Err, option_map};
 ghost use Rattle.proc_rules.specs.Records.{record_of, record_at, free_process};
-ghost use Rattle.proc_rules.specs.Ends.{family, reaped, after_reap, after_exit};
+ghost use Rattle.proc_rules.specs.Ends.{family, family_ended, reaped, after_reap, after_exit};
 ghost use Rattle.proc_rules.specs.Signals.{send_fault, after_send};
 
 use os9_base::registers::{Pid, Regs};
@@ -69,11 +69,9 @@ pub enum SendFault {
 /// again. Processes 3 and 4 are the children of process 2.
 pub fn an_ended_child_is_given_once()
     ensures not_yet { reaped family 2 ≡ Err Reap.NotYet }
-    ensures least_first { reaped (after_exit (after_exit family 4 7) 3 9) 2 ≡ Ok (record { 0 = 3 }, 9) }
-    ensures then_the_other { reaped (after_reap (after_exit (after_exit family 4 7) 3 9) 2) 2
-        ≡ Ok (record { 0 = 4 }, 7) }
-    ensures none_left { reaped (after_reap (after_reap (after_exit (after_exit family 4 7) 3 9) 2) 2) 2
-        ≡ Err Reap.NoChild }
+    ensures least_first { reaped family_ended 2 ≡ Ok (record { 0 = 3 }, 9) }
+    ensures then_the_other { reaped (after_reap family_ended 2) 2 ≡ Ok (record { 0 = 4 }, 7) }
+    ensures none_left { reaped (after_reap (after_reap family_ended 2) 2) 2 ≡ Err Reap.NoChild }
     ensures number_again { free_process (after_reap (after_exit family 3 9) 2) ≡ Some 3 }
 {}
 

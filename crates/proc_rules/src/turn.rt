@@ -1,4 +1,4 @@
-ghost use Rattle.std.specs.Prelude.{◌≡◌, ℕ, Bool, true, IfSome, IfNone, List, Some, [], ◌∷◌, ◌++◌, replicate};
+ghost use Rattle.std.specs.Prelude.{◌≡◌, ℕ, ◌+◌, Bool, true, IfSome, IfNone, List, Some, [], ◌∷◌, ◌++◌, replicate};
 ghost use Rattle.proc_rules.specs.Turns.{choose, IsToChoose, NobodyReady, choices, after_choices, age_in, two_turns, two_priorities};
 
 use os9_base::registers::Pid;
@@ -9,6 +9,9 @@ pub struct Turn {
     pub process: Pid,
     pub age: u8,
 }
+
+/// A priority beside which a process of priority 1 comes seldom.
+pub const HIGH_PRIORITY: u8 = 200;
 
 /// Who is chosen is Ready, no Ready process is older, and each one that was chosen longer ago is
 /// younger. Nobody is chosen only if nobody is Ready.
@@ -25,9 +28,10 @@ pub fn low_priority_comes_in_its_turn()
     ensures every_fourth { choices (λ p. true) (two_priorities 5 2) 8 (two_turns 5 2)
         ≡ (replicate 3 (Some (record { 0 = 2 })) ++ (Some (record { 0 = 3 }) ∷ []))
         ++ (replicate 3 (Some (record { 0 = 2 })) ++ (Some (record { 0 = 3 }) ∷ [])) }
-    ensures two_hundredth { choices (λ p. true) (two_priorities 200 1) 300 (two_turns 200 1)
+    ensures two_hundredth { choices (λ p. true) (two_priorities HIGH_PRIORITY 1) 300
+        (two_turns HIGH_PRIORITY 1)
         ≡ replicate 199 (Some (record { 0 = 2 }))
         ++ (Some (record { 0 = 3 }) ∷ replicate 100 (Some (record { 0 = 2 }))) }
-    ensures older_then { age_in (after_choices (λ p. true) (two_priorities 200 1) 200
-        (two_turns 200 1)) 2 ≡ Some 201 }
+    ensures older_then { age_in (after_choices (λ p. true) (two_priorities HIGH_PRIORITY 1)
+        HIGH_PRIORITY (two_turns HIGH_PRIORITY 1)) 2 ≡ Some (HIGH_PRIORITY + 1) }
 {}

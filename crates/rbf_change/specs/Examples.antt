@@ -12,12 +12,12 @@ short_file = replicate 255 7
 abbrev pub scattered : List (ℕ × ℕ)
 scattered = map (λ i. (2 * i + 4, 1)) (range_with_len 0 48)
 
--- cluster 200 alone is free, and so is the one after the last of these sectors
+-- cluster 120 alone is free, and so is the one after the last of these sectors
 abbrev pub only_far : ℕ → Bool
-only_far c = c == 200
+only_far c = c == 120
 
 abbrev pub near_and_far : ℕ → Bool
-near_and_far c = (c == 99) || (c == 200)
+near_and_far c = (c == 99) || (c == 120)
 
 -- the root of the smallest volume: descriptor 2 has sector 3, and the two entries that each directory has
 abbrev pub smallest_root : DiskFile

@@ -27,7 +27,7 @@ pub fn file_growth()
 /// place for another. Where no cluster is free, no file can be made.
 pub fn full_segment_list()
     ensures needs_one { clusters_needed 1 scattered (48 * 256 + 1) ≡ 1 }
-    ensures refused { IsOneTooMany 1 only_far scattered (48 * 256 + 1) (200 ∷ []) }
+    ensures refused { IsOneTooMany 1 only_far scattered (48 * 256 + 1) (120 ∷ []) }
     ensures joined { IsChoice 1 near_and_far scattered (48 * 256 + 1) (99 ∷ []) }
     ensures none_free { entry_refusal 1 0 smallest_root (65 ∷ []) 0 false 0 ≡ Some no_cluster }
 {}
@@ -59,6 +59,6 @@ pub fn clusters_of_four()
 /// A new entry: the name, bit 7 on its last character, zeros, and the descriptor's number. It goes
 /// behind the two entries of a directory that has no free one.
 pub fn new_entries()
-    ensures bytes { new_entry (65 ∷ 98 ∷ []) 66051 ≡ 65 ∷ 226 ∷ (replicate 27 0 ++ 1 ∷ 2 ∷ 3 ∷ []) }
+    ensures bytes { new_entry (65 ∷ 66 ∷ []) 66051 ≡ 65 ∷ 194 ∷ (replicate 27 0 ++ 1 ∷ 2 ∷ 3 ∷ []) }
     ensures place { entry_place smallest_root.contents ≡ 2 }
 {}

@@ -14,16 +14,25 @@ pub fn slice_texts_are_read()
     ensures empty { slices_of [] ≡ Ok [] }
 {}
 
-/// Slice texts that break a rule, each with its first line that does.
-pub fn slice_texts_are_refused()
+/// Slice texts with a number that is too small or too large, or too many instructions in all.
+pub fn slice_numbers_are_refused()
     ensures no_times { slices_of (codes "5*0") ≡ Err 1 }
     ensures no_instructions { slices_of (codes "0") ≡ Err 1 }
     ensures long_slice { slices_of (codes "1" ++ 10 ∷ codes "1000001") ≡ Err 2 }
+    ensures many_instructions { slices_of (codes "1000000*10" ++ 10 ∷ codes "1") ≡ Err 2 }
+{}
+
+/// The line of a refused slice text is the first that breaks a rule, counted from 1 with empty ones.
+pub fn slice_texts_are_refused_by_line()
     ensures skipped_lines_count { slices_of (10 ∷ 10 ∷ codes "x") ≡ Err 3 }
     ensures first_line { slices_of (codes "x" ++ 10 ∷ codes "y") ≡ Err 1 }
+    ensures spaces_alone { slices_of (codes "7" ++ 10 ∷ codes "  ") ≡ Err 2 }
+{}
+
+/// Slice texts with a character where none stands.
+pub fn slice_texts_are_refused()
     ensures space_before { slices_of (codes " 7") ≡ Err 1 }
     ensures space_behind { slices_of (codes "7 ") ≡ Err 1 }
-    ensures spaces_alone { slices_of (codes "7" ++ 10 ∷ codes "  ") ≡ Err 2 }
     ensures tab { slices_of (codes "7" ++ 9 ∷ codes "8") ≡ Err 1 }
     ensures carriage_return { slices_of (codes "7" ++ 13 ∷ 10 ∷ []) ≡ Err 1 }
     ensures two_asterisks { slices_of (codes "1*2*3") ≡ Err 1 }
@@ -31,7 +40,6 @@ pub fn slice_texts_are_refused()
     ensures nothing_before { slices_of (codes "*1") ≡ Err 1 }
     ensures sign { slices_of (codes "+1") ≡ Err 1 }
     ensures number_sign { slices_of (codes "# 1") ≡ Err 1 }
-    ensures many_instructions { slices_of (codes "1000000*10" ++ 10 ∷ codes "1") ≡ Err 2 }
 {}
 
 /// Scripts.
@@ -46,20 +54,28 @@ pub fn scripts_are_read()
     ensures empty { keys_of 4 [] ≡ Ok [] }
 {}
 
-/// Scripts that break a rule, each with its first line that does.
-pub fn scripts_are_refused()
+/// Scripts with a wrong tick or terminal.
+pub fn script_ticks_are_refused()
     ensures falling_ticks { keys_of 4 (codes "2 TERM 61 0D" ++ 10 ∷ codes "1 TERM 62") ≡ Err 2 }
     ensures late_tick { keys_of 4 (codes "1000001 TERM 61") ≡ Err 1 }
     ensures no_tick { keys_of 4 (codes "TERM 61") ≡ Err 1 }
     ensures other_terminal { keys_of 4 (codes "1 T4 61") ≡ Err 1 }
     ensures lower_case_terminal { keys_of 4 (codes "1 term 61") ≡ Err 1 }
     ensures absent_terminal { keys_of 2 (codes "1 T1 61" ++ 10 ∷ codes "1 T2 61") ≡ Err 2 }
+{}
+
+/// Scripts with a line that has no byte, or a word that is none.
+pub fn script_bytes_are_refused()
     ensures no_byte { keys_of 4 (codes "1 TERM") ≡ Err 1 }
     ensures tick_alone { keys_of 4 (codes "1") ≡ Err 1 }
     ensures one_digit { keys_of 4 (codes "1 TERM 6") ≡ Err 1 }
     ensures three_digits { keys_of 4 (codes "1 TERM 061") ≡ Err 1 }
     ensures no_digit { keys_of 4 (codes "1 TERM 6G") ≡ Err 1 }
     ensures bad_byte_last { keys_of 4 (codes "1 TERM 61 6x") ≡ Err 1 }
+{}
+
+/// Scripts with a character where none stands.
+pub fn scripts_are_refused()
     ensures space_before { keys_of 4 (codes " 1 TERM 61") ≡ Err 1 }
     ensures space_behind { keys_of 4 (codes "1 TERM 61 ") ≡ Err 1 }
     ensures space_before_sign { keys_of 4 (codes "# 1" ++ 10 ∷ codes " #") ≡ Err 2 }

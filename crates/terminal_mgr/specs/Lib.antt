@@ -1,4 +1,3 @@
-pub mod Driver
 pub mod Polling
 pub mod Term
 pub mod Typing

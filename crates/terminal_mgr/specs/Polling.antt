@@ -16,6 +16,10 @@ pub record Rings (bells mute : ℕ) (before now : TerminalState) : Type 0 where
   pub faults : RoseTimes mute before.faults now.faults
   pub keys : now.keys ≡ before.keys
 
+-- so many bells were due: each was put, or the driver failed to
+abbrev pub RingsInAll : ℕ → TerminalState → TerminalState → Type 0
+RingsInAll count before now = (bells mute : ℕ) × (bells + mute ≡ count) × Rings bells mute before now
+
 -- the keys of a tick that are due arrive, where a signal may have been sent before
 pub record Polls (tick : ℕ) (sent : Option ℕ) (old new : List ℕ) (before now : TerminalState)
     (answer : Arrival) : Type 0 where

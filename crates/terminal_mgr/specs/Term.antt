@@ -5,12 +5,17 @@ use Rattle.os9_outer.specs.TerminalState.{TerminalState, terminal_state}
 use Rattle.os9_outer.specs.declared.terminal.CharDriver.{Ghosts}
 use Rattle.io_model.specs.Edit.{Editing}
 use Rattle.io_model.specs.Terminal.{Terminal}
+use Rattle.io_model.specs.declared.terminal.ReadKind.{ReadKind}
 use Rattle.io_model.specs.declared.terminal.Reading.{Reading}
 
 -- the state of a terminal that is lent, as `dyn_state ⟦<dyn CharDriver as CharDriver>⟧ d.old`
 abbrev pub dyn_state : {Table : Type 0} {Driver : Table → Type 0} → ((table : Table) → Ghosts (Driver table))
     → ((table : Table) × Driver table) → TerminalState
 dyn_state members d = terminal_state (members d.0) d.1
+
+-- this process's read of this kind, of at most so many bytes
+abbrev pub read_of : Pid → ReadKind → ℕ → Reading
+read_of process kind most = record { process = process; kind = kind; most = most }
 
 -- a terminal by its parts
 abbrev pub terminal_of : List ℕ → Editing → Option Reading → Option Pid → Terminal

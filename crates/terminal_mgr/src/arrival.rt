@@ -1,7 +1,7 @@
-ghost use Rattle.std.specs.Prelude.{◌≡◌, ◌+◌, ◌≤◌, ℕ, IfOk, OnOk, OnErr, true, None, [], ◌∷◌, ◌++◌, length, take};
+ghost use Rattle.std.specs.Prelude.{◌≡◌, ◌≤◌, IfOk, OnOk, OnErr, true, None, [], ◌∷◌, ◌++◌, length, take};
 ghost use Rattle.io_model.specs.Terminal.{signal_of, typed_bytes, dropped_count};
 ghost use Rattle.terminal_mgr.specs.Term.{dyn_state};
-ghost use Rattle.terminal_mgr.specs.Polling.{Rings, Polls};
+ghost use Rattle.terminal_mgr.specs.Polling.{Rings, RingsInAll, Polls};
 
 use crate::driver::{next_key, put_byte};
 use crate::type_ahead::TypeAhead;
@@ -23,7 +23,7 @@ fn key_signal(key: u8) -> Option<u8>
 
 // Puts a bell. That the terminal fails to is ignored.
 fn ring(d: &mut dyn CharDriver) -> Result<(), OutOfMemory>
-    ensures rung { OnOk result ((bells mute : ℕ) × (bells + mute ≡ 1) × Rings bells mute
+    ensures rung { OnOk result (RingsInAll 1
         (dyn_state ⟦<dyn CharDriver as CharDriver>⟧ d.old)
         (dyn_state ⟦<dyn CharDriver as CharDriver>⟧ d.new)) }
     ensures no_memory { OnErr result (Rings 0 0
@@ -42,9 +42,7 @@ fn accept(ahead: &mut TypeAhead, key: u8, d: &mut dyn CharDriver) -> Result<Opti
     requires { length ahead.old ≤ 256 }
     ensures signal { IfOk result (λ signal. signal ≡ signal_of key) }
     ensures kept { ahead.new ≡ take 256 (ahead.old ++ typed_bytes (key ∷ [])) }
-    ensures rung { OnOk result ((bells mute : ℕ)
-        × (bells + mute ≡ dropped_count ahead.old (key ∷ []))
-        × Rings bells mute
+    ensures rung { OnOk result (RingsInAll (dropped_count ahead.old (key ∷ []))
         (dyn_state ⟦<dyn CharDriver as CharDriver>⟧ d.old)
         (dyn_state ⟦<dyn CharDriver as CharDriver>⟧ d.new)) }
     ensures no_signal { OnErr result (signal_of key ≡ None) }

@@ -1,9 +1,8 @@
 ghost use Rattle.std.specs.Prelude.{◌≡◌, ℕ, ◌≤◌, ◌<◌, length, Option, IfSome, IfOk, OnOk, OnErr, List, [], ◌∷◌};
 ghost use Rattle.os9_base.specs.Count.{Rose};
-ghost use Rattle.os9_outer.specs.Stream.{stream_with};
+ghost use Rattle.os9_outer.specs.Stream.{stream_with, GainsPart};
 ghost use Rattle.os9_outer.specs.Terminal.{due_byte, keys_after, OnFault, UnlessFault};
 ghost use Rattle.io_model.specs.Line.{return_place, line_length, line_put};
-ghost use Rattle.terminal_mgr.specs.Driver.{GainsPart};
 
 use io_model::keys::{LINE_FEED, RETURN};
 use os9_outer::terminal::{CharDriver, PutFault, TermFault};
@@ -36,7 +35,7 @@ pub(crate) fn put_byte(d: &mut dyn CharDriver, byte: u8) -> Result<(), PutFault>
 // Puts the bytes one after another, until one is refused.
 pub(crate) fn put_bytes(d: &mut dyn CharDriver, bytes: &[u8]) -> Result<(), PutFault>
     ensures all { OnOk result (bytes_put d.new ≡ stream_with (bytes_put d.old) bytes.now) }
-    ensures part { OnErr result (GainsPart bytes.now (bytes_put d.old) (bytes_put d.new)) }
+    ensures part { OnErr result (GainsPart (bytes_put d.old) bytes.now (bytes_put d.new)) }
     ensures fault_counted { OnFault result (Rose (term_faults d.old) (term_faults d.new)) }
     ensures faults_kept { UnlessFault result (term_faults d.new ≡ term_faults d.old) }
     ensures keys_kept { keys_left d.new ≡ keys_left d.old }
@@ -73,7 +72,7 @@ pub(crate) fn line_len(bytes: &[u8]) -> usize
 pub(crate) fn put_line(d: &mut dyn CharDriver, bytes: &[u8]) -> Result<(), PutFault>
     ensures all { OnOk result (bytes_put d.new
         ≡ stream_with (bytes_put d.old) (line_put bytes.now)) }
-    ensures part { OnErr result (GainsPart (line_put bytes.now) (bytes_put d.old)
+    ensures part { OnErr result (GainsPart (bytes_put d.old) (line_put bytes.now)
         (bytes_put d.new)) }
     ensures fault_counted { OnFault result (Rose (term_faults d.old) (term_faults d.new)) }
     ensures faults_kept { UnlessFault result (term_faults d.new ≡ term_faults d.old) }

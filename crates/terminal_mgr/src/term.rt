@@ -1,7 +1,7 @@
 ghost use Rattle.std.specs.Prelude.{◌≡◌, ◌<◌, ◌≤◌, IfOk, length};
 ghost use Rattle.io_model.specs.Line.{line_length, line_put};
 ghost use Rattle.io_model.specs.Terminal.{new_terminal, reader, released, forgotten, Arrives, Reads, Writes, IsSameCall, stored_over, stored_bytes};
-ghost use Rattle.terminal_mgr.specs.Term.{dyn_state};
+ghost use Rattle.terminal_mgr.specs.Term.{dyn_state, read_of};
 ghost use Rattle.io_model.specs.declared.terminal.ReadKind.TheVariants.{Bytes, WholeLine};
 
 use crate::arrival::poll;
@@ -95,13 +95,13 @@ impl Term {
         requires some { 1 ≤ most }
         requires most { most ≤ 256 }
         requires buffer { most ≤ length into.old }
-        requires same { IsSameCall (record { process = p; kind = Bytes; most = most }) self.old }
-        ensures read { Reads (record { process = p; kind = Bytes; most = most }) result
+        requires same { IsSameCall (read_of p Bytes most) self.old }
+        ensures read { Reads (read_of p Bytes most) result
             self.old self.new
             (dyn_state ⟦<dyn CharDriver as CharDriver>⟧ d.old)
             (dyn_state ⟦<dyn CharDriver as CharDriver>⟧ d.new) }
         ensures stored { into.new ≡ stored_over (stored_bytes result
-            (record { process = p; kind = Bytes; most = most }) self.old) into.old }
+            (read_of p Bytes most) self.old) into.old }
     {
         self.attempt(
             Reading {
@@ -126,18 +126,13 @@ impl Term {
         requires some { 1 ≤ most }
         requires most { most ≤ 256 }
         requires buffer { most ≤ length into.old }
-        requires same { IsSameCall (record {
-          process =
-              p;
-          kind = WholeLine;
-          most = most;
-        }) self.old }
-        ensures read { Reads (record { process = p; kind = WholeLine; most = most }) result
+        requires same { IsSameCall (read_of p WholeLine most) self.old }
+        ensures read { Reads (read_of p WholeLine most) result
             self.old self.new
             (dyn_state ⟦<dyn CharDriver as CharDriver>⟧ d.old)
             (dyn_state ⟦<dyn CharDriver as CharDriver>⟧ d.new) }
         ensures stored { into.new ≡ stored_over (stored_bytes result
-            (record { process = p; kind = WholeLine; most = most }) self.old) into.old }
+            (read_of p WholeLine most) self.old) into.old }
     {
         self.attempt(
             Reading {

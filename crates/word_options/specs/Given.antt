@@ -16,6 +16,11 @@ pub record Given : Type 0 where
 abbrev pub nothing_given : Given
 nothing_given = record { options = []; arguments = [] }
 
+-- one option with its value, and these arguments
+abbrev pub one_option : List ℕ → List ℕ → List (List ℕ) → Given
+one_option name value arguments =
+    record { options = record { name = name; value = value } ∷ []; arguments = arguments }
+
 -- the word begins with `-`
 abbrev pub is_dashed : List ℕ → Bool
 is_dashed [] = false

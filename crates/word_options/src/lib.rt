@@ -3,26 +3,21 @@
 #![tactic(auto)]
 
 ghost use Rattle.std.specs.Prelude.{◌≡◌, [], ◌∷◌, Some, None, codes};
-ghost use Rattle.word_options.specs.Given.{words_give};
+ghost use Rattle.word_options.specs.Given.{one_option, words_give};
 
-/// Options in both forms, in any order and between arguments.
-pub fn words_are_read()
+/// Options in both forms, before and behind an argument.
+pub fn options_are_read()
     ensures two_words { words_give (codes "slices" ∷ [])
         (codes "h" ∷ codes "--slices" ∷ codes "s" ∷ [])
-        ≡ Some (record {
-          options = record { name = codes "slices"; value = codes "s" } ∷ [];
-          arguments = codes "h" ∷ [];
-        }) }
+        ≡ Some (one_option (codes "slices") (codes "s") (codes "h" ∷ [])) }
     ensures one_word { words_give (codes "slices" ∷ []) (codes "--slices=s" ∷ codes "h" ∷ [])
-        ≡ Some (record {
-          options = record { name = codes "slices"; value = codes "s" } ∷ [];
-          arguments = codes "h" ∷ [];
-        }) }
+        ≡ Some (one_option (codes "slices") (codes "s") (codes "h" ∷ [])) }
     ensures dashed_value { words_give (codes "slices" ∷ []) (codes "--slices=-" ∷ [])
-        ≡ Some (record {
-          options = record { name = codes "slices"; value = codes "-" } ∷ [];
-          arguments = [];
-        }) }
+        ≡ Some (one_option (codes "slices") (codes "-") []) }
+{}
+
+/// Arguments without an option.
+pub fn arguments_are_read()
     ensures behind_dashes { words_give (codes "slices" ∷ [])
         (codes "-" ∷ codes "--" ∷ codes "--slices" ∷ [])
         ≡ Some (record { options = []; arguments = codes "-" ∷ codes "--slices" ∷ [] }) }

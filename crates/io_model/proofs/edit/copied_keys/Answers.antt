@@ -13,11 +13,3 @@ returns-clause-return_key c = refl
 pub returns-clause-last_byte : goal.returns-clause-last_byte
 unfolding copied
 returns-clause-last_byte c = refl
-
-pub returns-clause-end_of_file : goal.returns-clause-end_of_file
-unfolding copied
-returns-clause-end_of_file c = refl
-
-pub returns-clause-later_end_of_file : goal.returns-clause-later_end_of_file
-unfolding copied
-returns-clause-later_end_of_file c = refl

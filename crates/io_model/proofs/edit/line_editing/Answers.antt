@@ -9,7 +9,3 @@ returns-clause-first c = refl
 pub returns-clause-second : goal.returns-clause-second
 unfolding edited
 returns-clause-second c = refl
-
-pub returns-clause-third : goal.returns-clause-third
-unfolding edited
-returns-clause-third c = refl

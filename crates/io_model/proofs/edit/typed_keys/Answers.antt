@@ -21,15 +21,3 @@ returns-clause-delete c = refl
 pub returns-clause-above : goal.returns-clause-above
 unfolding edited
 returns-clause-above c = refl
-
-pub returns-clause-last_place : goal.returns-clause-last_place
-unfolding edited
-returns-clause-last_place c = refl
-
-pub returns-clause-full : goal.returns-clause-full
-unfolding edited
-returns-clause-full c = refl
-
-pub returns-clause-return_alone : goal.returns-clause-return_alone
-unfolding edited
-returns-clause-return_alone c = refl
