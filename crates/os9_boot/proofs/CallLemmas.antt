@@ -8,25 +8,29 @@ use Rattle.os9_outer.specs.TerminalState.{TerminalState}
 use Rattle.os9_outer.specs.declared.host.Host.{Ghosts}
 use Rattle.os9_outer.specs.declared.host.HostFault.{HostFault}
 use Rattle.rbf_model.specs.Faults.{IsFault}
+use Rattle.rbf_check.specs.declared.faults.CheckFault.{CheckFault}
 use Rattle.rbf_check.specs.declared.tree.Tree.{Tree}
 use Rattle.rbf_check.specs.Tree.{IsTreeOf}
 use Rattle.os9_words.specs.declared.command.Command.{Command}
 use Rattle.os9_words.specs.declared.command.Command.TheVariants.{Run as RunCommand, Check as CheckCommand}
 use Rattle.os9_words.specs.declared.command.RunWords.{RunWords}
 use Rattle.os9_words.specs.Command.{command_of}
+use Rattle.os9_words.specs.Lines.{no_memory_line, words_line}
 use Rattle.os9_words.specs.Streams.{ChangesErrOnly}
 use Rattle.script_text.specs.Slices.{slices_of}
 use Rattle.machine_model.specs.State.{State, is_living}
 use Rattle.machine_model.specs.Run.{status_of}
 use Rattle.os9_boot.specs.Console.{IsObserved}
-use Rattle.os9_boot.specs.End.{status_number}
+use Rattle.os9_boot.specs.End.{end_line, file_name, status_number}
 use Rattle.os9_boot.specs.declared.status.End.{End}
-use Rattle.os9_boot.specs.declared.status.End.TheVariants.{Ended, Living}
-use Rattle.os9_boot.specs.Commands.{Answers, Boots, Checks, IsAnswered, IsSilent, IsStopped, PerformsCommand, tree_line}
-use Rattle.os9_boot.specs.Partly.{AnswersPartly, BootsPartly, PerformsPartly}
+use Rattle.os9_boot.specs.declared.status.End.TheVariants.{Ended, Living, CannotRead, CannotWrite, NoMemory, BadImage, BadText, BadModule, NoFirst, TooLarge}
+use Rattle.os9_boot.specs.declared.status.Input.{Input}
+use Rattle.os9_boot.specs.declared.status.Input.TheVariants.{Slices as SlicesInput}
+use Rattle.os9_boot.specs.Commands.{PerformsWords, Boots, Checks, IsAnswered, IsSilent, IsStopped, PerformsCommand, tree_line}
+use Rattle.os9_boot.specs.Partly.{PerformsWordsPartly, BootsPartly, PerformsPartly}
 use Rattle.os9_boot.specs.ReadFile.{ReadsFile}
-use Rattle.os9_boot.specs.TopCall.{BootCall, CommandCall, PrintCall, TopCall}
-use Rattle.os9_boot.specs.World.{World, FailsToRead, HasNoFault, IfAllObserved, world_of}
+use Rattle.os9_boot.specs.TopCall.{BootCall, CommandCall, CommandReport, PrintCall, ReportsLine, TopCall}
+use Rattle.os9_boot.specs.World.{World, FailsToRead, FailsToReadFile, HasNoFault, IfAllObserved, world_of}
 use Rattle.os9_boot.proofs.RunLemmas.{any-none, any-some}
 
 -- ---- statuses of runs
@@ -66,19 +70,45 @@ always world fact holds = by_files world.files
     by_files None = tt
     by_files (Some files) = λ observed. holds files
 
+-- what holds of the files by each fact that follows from another
+observed-then : (world : World) (first second : Files → Type 0) → ((files : Files) → first files → second files) → IfAllObserved world first → IfAllObserved world second
+observed-then world first second follows = by_files world.files
+  where
+    by_files : (told : Option Files) → IfSome told (λ files. All IsObserved world.terms → first files) → IfSome told (λ files. All IsObserved world.terms → second files)
+    by_files None none = tt
+    by_files (Some files) holds = λ observed. follows files (holds observed)
+
+-- ---- ends by their numbers
+
+-- 2 is the status of no other end
+read-end : (end : End) → status_number end ≡ 2 → (input : Input) × (end ≡ CannotRead input)
+read-end Ended e = absurd (omega (arith, e))
+read-end Living e = absurd (omega (arith, e))
+read-end (CannotRead input) e = (input, refl)
+read-end CannotWrite e = absurd (omega (arith, e))
+read-end NoMemory e = absurd (omega (arith, e))
+read-end (BadImage fault) e = absurd (omega (arith, e))
+read-end (BadText input line) e = absurd (omega (arith, e))
+read-end (BadModule at error) e = absurd (omega (arith, e))
+read-end NoFirst e = absurd (omega (arith, e))
+read-end TooLarge e = absurd (omega (arith, e))
+
+same-input : (input other : Input) → CannotRead input ≡ CannotRead other → input ≡ other
+same-input input other same = cc
+
 -- ---- commands that end before anything ran
 
-partly-nothing : (command : Command) (files : Files) (before after : World) → after ≡ before → PerformsPartly files before after command
-partly-nothing (RunCommand run) files before after same = inl same
-partly-nothing (CheckCommand image) files before after same = (inl (ap (λ w. w.out) same), ap (λ w. w.terms) same)
+partly-nothing : (command : Command) (files : Files) (before after : World) → after ≡ before → PerformsPartly files before after NoMemory command
+partly-nothing (RunCommand run) files before after same = inl (refl, same)
+partly-nothing (CheckCommand image) files before after same = (inl (refl, same), ap (λ w. w.terms) same)
 
 -- nothing was changed, and no file was wanting
-pub nothing-done : (command : Command) (before after : World) (status : ℕ) → after ≡ before → status ≢ 1 → status ≢ 2 → status ≢ 3 → (IsAnswered status → IfAllObserved before (λ files. PerformsCommand files before after status command)) → CommandCall command before after status
-nothing-done command before after status same not1 not2 not3 performs = record {
+nothing-done : (command : Command) (before after : World) (end : End) → after ≡ before → status_number end ≢ 1 → status_number end ≢ 2 → status_number end ≢ 3 → (IsAnswered (status_number end) → IfAllObserved before (λ files. PerformsCommand files before after end command)) → (IsStopped (status_number end) → IfAllObserved before (λ files. PerformsPartly files before after end command)) → CommandCall command before after end
+nothing-done command before after end same not1 not2 not3 performs partly = record {
   performed = performs;
-  partial = λ stopped. always before (λ files. PerformsPartly files before after command) (λ files. partly-nothing command files before after same);
+  partial = partly;
   not_refused = not1;
-  read_fault = λ e. absurd (not2 e);
+  read_fault = λ input is. absurd (not2 (ap status_number is));
   output_fault = λ e. absurd (not3 e);
   count_kept = λ no2 no3. kept-counts before after same;
   silent = λ silent. ap (λ w. w.out) same;
@@ -88,17 +118,29 @@ nothing-done command before after status same not1 not2 not3 performs = record {
 }
 
 -- memory was out
-pub out-of-memory : (command : Command) (before after : World) → after ≡ before → CommandCall command before after 4
+pub out-of-memory : (command : Command) (before after : World) → after ≡ before → CommandCall command before after NoMemory
 out-of-memory command before after same =
-    nothing-done command before after 4 same (λ e. absurd (omega (arith, e))) (λ e. absurd (omega (arith, e))) (λ e. absurd (omega (arith, e))) (λ answered. absurd (answered.2 refl))
+    nothing-done command before after NoMemory same (λ e. omega (arith, e)) (λ e. omega (arith, e)) (λ e. omega (arith, e)) (λ answered. absurd (answered.2 refl)) (λ stopped. always before (λ files. PerformsPartly files before after NoMemory command) (λ files. partly-nothing command files before after same))
+
+no_stop-2 : IsStopped 2 → ⊥
+no_stop-2 (inl e) = omega (arith, e)
+no_stop-2 (inr e) = omega (arith, e)
+
+no_stop-6 : IsStopped 6 → ⊥
+no_stop-6 (inl e) = omega (arith, e)
+no_stop-6 (inr e) = omega (arith, e)
+
+no_stop-7 : IsStopped 7 → ⊥
+no_stop-7 (inl e) = omega (arith, e)
+no_stop-7 (inr e) = omega (arith, e)
 
 -- a file could not be read
-pub could-not-read : (command : Command) (before after : World) → FailsToRead command before after → after.files ≡ before.files → after.out ≡ before.out → after.terms ≡ before.terms → CommandCall command before after 2
-could-not-read command before after failed files out terms = record {
+pub could-not-read : (command : Command) (input : Input) (before after : World) → FailsToReadFile (file_name command input) before after → after.files ≡ before.files → after.out ≡ before.out → after.terms ≡ before.terms → CommandCall command before after (CannotRead input)
+could-not-read command input before after failed files out terms = record {
   performed = λ answered. absurd (answered.0 refl);
-  partial = λ stopped. absurd (no_stop stopped);
-  not_refused = λ e. absurd (omega (arith, e));
-  read_fault = λ e. failed;
+  partial = λ stopped. absurd (no_stop-2 stopped);
+  not_refused = λ e. omega (arith, e);
+  read_fault = λ other is. subst (λ i. FailsToReadFile (file_name command i) before after) (same-input input other is) failed;
   output_fault = λ e. absurd (omega (arith, e));
   count_kept = λ no2 no3. absurd (no2 refl);
   silent = λ silent. out;
@@ -106,44 +148,41 @@ could-not-read command before after failed files out terms = record {
   check_keeps = λ image is. terms;
   files_kept = files;
 }
-  where
-    no_stop : IsStopped 2 → ⊥
-    no_stop (inl e) = omega (arith, e)
-    no_stop (inr e) = omega (arith, e)
 
 -- ---- runs
 
 -- the two files of the words were read, and the slice text gives slices
 module _ (before after : World) (run : RunWords) (text file modules : List ℕ) (first : IfSome before.files (λ files. text ≡ file_contents files run.slices)) (second : IfSome before.files (λ files. file ≡ file_contents files modules)) (named : slice_get run.files 0 ≡ Some modules) where
-  pub refused-text : (line : ℕ) → slices_of text ≡ Err line → after ≡ before → IfAllObserved before (λ files. PerformsCommand files before after 7 (RunCommand run))
-  refused-text line refused same = by_files before.files first
+  pub text-refused : (line : ℕ) → slices_of text ≡ Err line → after ≡ before → CommandCall (RunCommand run) before after (BadText SlicesInput line)
+  text-refused line refused same =
+      nothing-done (RunCommand run) before after (BadText SlicesInput line) same (λ e. omega (arith, e)) (λ e. omega (arith, e)) (λ e. omega (arith, e)) (λ answered. by_files before.files first) (λ stopped. absurd (no_stop-7 stopped))
     where
-      by_files : (told : Option Files) → IfSome told (λ files. text ≡ file_contents files run.slices) → IfSome told (λ files. All IsObserved before.terms → PerformsCommand files before after 7 (RunCommand run))
+      by_files : (told : Option Files) → IfSome told (λ files. text ≡ file_contents files run.slices) → IfSome told (λ files. All IsObserved before.terms → PerformsCommand files before after (BadText SlicesInput line) (RunCommand run))
       by_files None text_is = tt
       by_files (Some files) text_is = λ observed. rw (named, ← text_is, refused) (refl, same)
 
-  module _ (slices : List ℕ) (status : ℕ) (read : slices_of text ≡ Ok slices) (call : BootCall file run.blocks slices before after status) where
-    performs : IsAnswered status → IfAllObserved before (λ files. PerformsCommand files before after status (RunCommand run))
+  module _ (slices : List ℕ) (end : End) (read : slices_of text ≡ Ok slices) (call : BootCall file run.blocks slices before after end) where
+    performs : IsAnswered (status_number end) → IfAllObserved before (λ files. PerformsCommand files before after end (RunCommand run))
     performs answered = by_files before.files first second
       where
-        by_files : (told : Option Files) → IfSome told (λ files. text ≡ file_contents files run.slices) → IfSome told (λ files. file ≡ file_contents files modules) → IfSome told (λ files. All IsObserved before.terms → PerformsCommand files before after status (RunCommand run))
+        by_files : (told : Option Files) → IfSome told (λ files. text ≡ file_contents files run.slices) → IfSome told (λ files. file ≡ file_contents files modules) → IfSome told (λ files. All IsObserved before.terms → PerformsCommand files before after end (RunCommand run))
         by_files None text_is file_is = tt
         by_files (Some files) text_is file_is = λ observed. rw (named, ← text_is, read, ← file_is) (call.booted answered observed)
 
-    performs-partly : IsStopped status → IfAllObserved before (λ files. PerformsPartly files before after (RunCommand run))
+    performs-partly : IsStopped (status_number end) → IfAllObserved before (λ files. PerformsPartly files before after end (RunCommand run))
     performs-partly stopped = by_files before.files first second
       where
-        by_files : (told : Option Files) → IfSome told (λ files. text ≡ file_contents files run.slices) → IfSome told (λ files. file ≡ file_contents files modules) → IfSome told (λ files. All IsObserved before.terms → PerformsPartly files before after (RunCommand run))
+        by_files : (told : Option Files) → IfSome told (λ files. text ≡ file_contents files run.slices) → IfSome told (λ files. file ≡ file_contents files modules) → IfSome told (λ files. All IsObserved before.terms → PerformsPartly files before after end (RunCommand run))
         by_files None text_is file_is = tt
         by_files (Some files) text_is file_is = λ observed.
             inr (modules, slices, named, rw (← text_is) read, rw (← file_is) (call.partial stopped observed))
 
-    pub command-booted : CommandCall (RunCommand run) before after status
+    pub command-booted : CommandCall (RunCommand run) before after end
     command-booted = record {
       performed = performs;
       partial = performs-partly;
       not_refused = call.not_refused;
-      read_fault = λ e. absurd (call.no_read e);
+      read_fault = λ input is. absurd (call.no_read (ap status_number is));
       output_fault = call.output_fault;
       count_kept = λ no2 no3. call.count_kept no3;
       silent = call.silent;
@@ -156,21 +195,21 @@ module _ (before after : World) (run : RunWords) (text file modules : List ℕ) 
 
 module _ (before after : World) (image bytes : List ℕ) (read : IfSome before.files (λ files. bytes ≡ file_contents files image)) where
   -- the image was read, and has a fault
-  pub command-faulted : (rule lsn : ℕ) → IsFault bytes rule lsn → after ≡ before → CommandCall (CheckCommand image) before after 6
-  command-faulted rule lsn is same =
-      nothing-done (CheckCommand image) before after 6 same (λ e. absurd (omega (arith, e))) (λ e. absurd (omega (arith, e))) (λ e. absurd (omega (arith, e))) (λ answered. by_files before.files read)
+  pub command-faulted : (fault : CheckFault) → IsFault bytes fault.rule fault.lsn → after ≡ before → CommandCall (CheckCommand image) before after (BadImage fault)
+  command-faulted fault is same =
+      nothing-done (CheckCommand image) before after (BadImage fault) same (λ e. omega (arith, e)) (λ e. omega (arith, e)) (λ e. omega (arith, e)) (λ answered. by_files before.files read) (λ stopped. absurd (no_stop-6 stopped))
     where
-      by_files : (told : Option Files) → IfSome told (λ files. bytes ≡ file_contents files image) → IfSome told (λ files. All IsObserved before.terms → PerformsCommand files before after 6 (CheckCommand image))
+      by_files : (told : Option Files) → IfSome told (λ files. bytes ≡ file_contents files image) → IfSome told (λ files. All IsObserved before.terms → PerformsCommand files before after (BadImage fault) (CheckCommand image))
       by_files None bytes_are = tt
       by_files (Some files) bytes_are = λ observed.
-          (rw (← bytes_are) (inr (rule, lsn, is, refl, ap (λ w. w.out) same)), ap (λ w. w.terms) same)
+          (rw (← bytes_are) (inr (fault, is, refl, ap (λ w. w.out) same)), ap (λ w. w.terms) same)
 
   -- its tree's counts were printed
-  module _ (tree : Tree) (status : ℕ) (is : IsTreeOf bytes tree) (call : PrintCall (tree_line tree) before after status) where
-    performs-check : IsAnswered status → IfAllObserved before (λ files. PerformsCommand files before after status (CheckCommand image))
+  module _ (tree : Tree) (end : End) (is : IsTreeOf bytes tree) (call : PrintCall (tree_line tree) before after end) where
+    performs-check : IsAnswered (status_number end) → IfAllObserved before (λ files. PerformsCommand files before after end (CheckCommand image))
     performs-check answered = by_files before.files read
       where
-        by_files : (told : Option Files) → IfSome told (λ files. bytes ≡ file_contents files image) → IfSome told (λ files. All IsObserved before.terms → PerformsCommand files before after status (CheckCommand image))
+        by_files : (told : Option Files) → IfSome told (λ files. bytes ≡ file_contents files image) → IfSome told (λ files. All IsObserved before.terms → PerformsCommand files before after end (CheckCommand image))
         by_files None bytes_are = tt
         by_files (Some files) bytes_are = λ observed.
             let printed = call.printed answered in (
@@ -178,22 +217,22 @@ module _ (before after : World) (image bytes : List ℕ) (read : IfSome before.f
               call.terms_kept,
             )
 
-    checks-partly : IsStopped status → IfAllObserved before (λ files. PerformsPartly files before after (CheckCommand image))
+    checks-partly : IsStopped (status_number end) → IfAllObserved before (λ files. PerformsPartly files before after end (CheckCommand image))
     checks-partly stopped = by_files before.files read
       where
-        by_files : (told : Option Files) → IfSome told (λ files. bytes ≡ file_contents files image) → IfSome told (λ files. All IsObserved before.terms → PerformsPartly files before after (CheckCommand image))
+        by_files : (told : Option Files) → IfSome told (λ files. bytes ≡ file_contents files image) → IfSome told (λ files. All IsObserved before.terms → PerformsPartly files before after end (CheckCommand image))
         by_files None bytes_are = tt
         by_files (Some files) bytes_are = λ observed. (
           inr (is.volume, rw (← bytes_are) is.represents, rw (← bytes_are, ← is.counts.files, ← is.counts.directories, ← is.tells.free, ← is.tells.lost) (call.partial stopped)),
           call.terms_kept,
         )
 
-    pub command-printed : CommandCall (CheckCommand image) before after status
+    pub command-printed : CommandCall (CheckCommand image) before after end
     command-printed = record {
       performed = performs-check;
       partial = checks-partly;
       not_refused = λ e. call.not_silent (inl e);
-      read_fault = λ e. absurd (call.not_silent (inr (inl e)));
+      read_fault = λ input is. absurd (call.not_silent (inr (inl (ap status_number is))));
       output_fault = call.output_fault;
       count_kept = λ no2 no3. call.count_kept no3;
       silent = λ silent. absurd (call.not_silent silent);
@@ -204,38 +243,51 @@ module _ (before after : World) (image bytes : List ℕ) (read : IfSome before.f
 
 -- ---- the top call
 
-module _ (words : List (List ℕ)) (before after : World) where
+module _ (words : List (List ℕ)) (before after : World) (err_before err_after : Option (List ℕ)) where
   -- the words are a command
-  pub top-command : (command : Command) (status : ℕ) → command_of words ≡ Some command → CommandCall command before after status → TopCall words before after status
-  top-command command status spelled call = record {
-    run_headline = answers;
-    complete = λ none not4. answers ((λ e. none (call.read_fault e).1.0), (λ e. none (call.output_fault e).0), not4);
-    partial = λ stopped. rw spelled (call.partial stopped);
-    refused_words = λ e. absurd (call.not_refused e);
-    words_refused = λ none. absurd (other none);
-    read_fault = λ e. (command, spelled, call.read_fault e);
-    output_fault = call.output_fault;
-    count_kept = call.count_kept;
-    silent = call.silent;
-    terminals_kept = call.terminals_kept;
-    check_keeps = λ image is. call.check_keeps image (same_command image is);
-    files_kept = call.files_kept;
-  }
-    where
-      answers : IsAnswered status → IfAllObserved before (λ files. Answers files words before after status)
-      answers answered = rw spelled (call.performed answered)
+  module _ (command : Command) (status : ℕ) (spelled : command_of words ≡ Some command) (report : CommandReport command before after err_before err_after status) where
+    number_is : (n : ℕ) → status ≡ n → status_number report.end ≡ n
+    number_is n is = sym report.status_is ∙ is
 
-      other : command_of words ≡ None → ⊥
-      other none = cc
+    answers : IsAnswered status → IfAllObserved before (λ files. PerformsWords files words before after status)
+    answers answered =
+        rw spelled (observed-then before (λ files. PerformsCommand files before after report.end command) (λ files. (end : End) × (status ≡ status_number end) × PerformsCommand files before after end command) (λ files done. (report.end, report.status_is, done)) (report.call.performed (subst IsAnswered report.status_is answered)))
 
-      same_command : (image : List ℕ) → command_of words ≡ Some (CheckCommand image) → command ≡ CheckCommand image
-      same_command image is = cc
+    answers-partly : IsStopped status → IfAllObserved before (λ files. PerformsWordsPartly files words before after status)
+    answers-partly stopped =
+        rw spelled (observed-then before (λ files. PerformsPartly files before after report.end command) (λ files. (end : End) × (status ≡ status_number end) × PerformsPartly files before after end command) (λ files done. (report.end, report.status_is, done)) (report.call.partial (subst IsStopped report.status_is stopped)))
+
+    fails-to-read : status ≡ 2 → FailsToRead command before after
+    fails-to-read e = let it = read-end report.end (number_is 2 e) in (it.0, report.call.read_fault it.0 it.1)
+
+    other : command_of words ≡ None → ⊥
+    other none = cc
+
+    same_command : (image : List ℕ) → command_of words ≡ Some (CheckCommand image) → command ≡ CheckCommand image
+    same_command image is = cc
+
+    pub top-command : TopCall words before after err_before err_after status
+    top-command = record {
+      run_headline = answers;
+      complete = λ none not4. answers ((λ e. none (fails-to-read e).1.0), (λ e. none (report.call.output_fault (number_is 3 e)).0), not4);
+      partial = answers-partly;
+      refused_words = λ e. absurd (report.call.not_refused (number_is 1 e));
+      words_refused = λ none. absurd (other none);
+      read_fault = λ e. (command, spelled, fails-to-read e);
+      output_fault = λ e. report.call.output_fault (number_is 3 e);
+      count_kept = λ no2 no3. report.call.count_kept (λ e. no2 (report.status_is ∙ e)) (λ e. no3 (report.status_is ∙ e));
+      silent = λ silent. report.call.silent (subst IsSilent report.status_is silent);
+      terminals_kept = λ silent. report.call.terminals_kept (subst IsSilent report.status_is silent);
+      check_keeps = λ image is. report.call.check_keeps image (same_command image is);
+      files_kept = report.call.files_kept;
+      line = rw spelled report;
+    }
 
   -- they are none
-  pub top-refused : command_of words ≡ None → after ≡ before → TopCall words before after 1
-  top-refused refused same = record {
-    run_headline = answers;
-    complete = λ none not4. answers ((λ e. absurd (omega (arith, e))), (λ e. absurd (omega (arith, e))), (λ e. absurd (omega (arith, e))));
+  pub top-refused : GainsPrefix err_before words_line err_after → command_of words ≡ None → after ≡ before → TopCall words before after err_before err_after 1
+  top-refused prefix refused same = record {
+    run_headline = answers-none;
+    complete = λ none not4. answers-none ((λ e. absurd (omega (arith, e))), (λ e. absurd (omega (arith, e))), (λ e. absurd (omega (arith, e))));
     partial = λ stopped. absurd (no_stop stopped);
     refused_words = λ e. refused;
     words_refused = λ none. inl refl;
@@ -246,18 +298,19 @@ module _ (words : List (List ℕ)) (before after : World) where
     terminals_kept = λ silent. ap (λ w. w.terms) same;
     check_keeps = λ image is. ap (λ w. w.terms) same;
     files_kept = ap (λ w. w.files) same;
+    line = rw refused (inl (refl, prefix));
   }
     where
-      answers : IsAnswered 1 → IfAllObserved before (λ files. Answers files words before after 1)
-      answers answered = always before (λ files. Answers files words before after 1) (λ files. rw refused (refl, same))
+      answers-none : IsAnswered 1 → IfAllObserved before (λ files. PerformsWords files words before after 1)
+      answers-none answered = always before (λ files. PerformsWords files words before after 1) (λ files. rw refused (refl, same))
 
       no_stop : IsStopped 1 → ⊥
       no_stop (inl e) = omega (arith, e)
       no_stop (inr e) = omega (arith, e)
 
   -- memory was out before it was known
-  pub top-memory : after ≡ before → TopCall words before after 4
-  top-memory same = record {
+  pub top-memory : GainsPrefix err_before no_memory_line err_after → after ≡ before → TopCall words before after err_before err_after 4
+  top-memory prefix same = record {
     run_headline = λ answered. absurd (answered.2 refl);
     complete = λ none not4. absurd (not4 refl);
     partial = λ stopped. by_command (command_of words) refl;
@@ -270,27 +323,37 @@ module _ (words : List (List ℕ)) (before after : World) where
     terminals_kept = λ silent. ap (λ w. w.terms) same;
     check_keeps = λ image is. ap (λ w. w.terms) same;
     files_kept = ap (λ w. w.files) same;
+    line = line_by (command_of words) refl;
   }
     where
-      by_command : (found : Option Command) → command_of words ≡ found → IfAllObserved before (λ files. AnswersPartly files words before after)
-      by_command None is = always before (λ files. AnswersPartly files words before after) (λ files. rw is same)
-      by_command (Some command) is = always before (λ files. AnswersPartly files words before after) (λ files. rw is (partly-nothing command files before after same))
+      by_command : (found : Option Command) → command_of words ≡ found → IfAllObserved before (λ files. PerformsWordsPartly files words before after 4)
+      by_command None is = always before (λ files. PerformsWordsPartly files words before after 4) (λ files. rw is (refl, same))
+      by_command (Some command) is = always before (λ files. PerformsWordsPartly files words before after 4) (λ files. rw is (NoMemory, refl, partly-nothing command files before after same))
+
+      line_by : (found : Option Command) → command_of words ≡ found → ReportsLine words before after err_before err_after 4
+      line_by None is = rw is (inr (refl, prefix))
+      line_by (Some command) is = rw is (record { end = NoMemory; status_is = refl; call = out-of-memory command before after same; line = prefix })
 
 -- ---- a part of a call that begins in the same world
 
-pub printed-after : (line : List ℕ) (before between after : World) (status : ℕ) → between ≡ before → PrintCall line between after status → PrintCall line before after status
-printed-after line before between after status same call = subst (λ world. PrintCall line world after status) same call
+pub printed-after : (line : List ℕ) (before between after : World) (end : End) → between ≡ before → PrintCall line between after end → PrintCall line before after end
+printed-after line before between after end same call = subst (λ world. PrintCall line world after end) same call
 
-pub booted-after : (file : List ℕ) (blocks : ℕ) (slices : List ℕ) (before between after : World) (status : ℕ) → between ≡ before → BootCall file blocks slices between after status → BootCall file blocks slices before after status
-booted-after file blocks slices before between after status same call =
-    subst (λ world. BootCall file blocks slices world after status) same call
+pub booted-after : (file : List ℕ) (blocks : ℕ) (slices : List ℕ) (before between after : World) (end : End) → between ≡ before → BootCall file blocks slices between after end → BootCall file blocks slices before after end
+booted-after file blocks slices before between after end same call =
+    subst (λ world. BootCall file blocks slices world after end) same call
 
 pub read-after : {Value : Type 0} (name : List ℕ) (answer : Result Value HostFault) (before between after : World) → between ≡ before → ReadsFile name answer between after → ReadsFile name answer before after
 read-after name answer before between after same read = subst (λ world. ReadsFile name answer world after) same read
 
 -- the same, of which only the error stream was written afterwards
-pub command-reported : (command : Command) (before between after : World) (status answer : ℕ) → after ≡ between → answer ≡ status → CommandCall command before between status → CommandCall command before after answer
-command-reported command before between after status answer same is call = rw (same, is) call
+pub command-reported : (command : Command) (before between after : World) (err_before err_between err_after : Option (List ℕ)) (end : End) (answer : ℕ) → after ≡ between → answer ≡ status_number end → CommandCall command before between end → err_between ≡ err_before → GainsPrefix err_between (end_line command end) err_after → CommandReport command before after err_before err_after answer
+command-reported command before between after err_before err_between err_after end answer same is call kept prefix = record {
+  end = end;
+  status_is = is;
+  call = rw same call;
+  line = subst (λ err. GainsPrefix err (end_line command end) err_after) kept prefix;
+}
 
 pub not_silent-3 : IsSilent 3 → ⊥
 not_silent-3 (inl e) = omega (arith, e)

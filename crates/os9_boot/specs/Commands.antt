@@ -12,39 +12,44 @@ use Rattle.rbf_model.specs.Geometry.{Geometry, image_geometry}
 use Rattle.rbf_model.specs.Volume.{DiskVolume, Vol, free_clusters, lost_clusters}
 use Rattle.rbf_model.specs.Counts.{file_count, directory_count}
 use Rattle.rbf_model.specs.Faults.{IsFault}
+use Rattle.rbf_check.specs.declared.faults.CheckFault.{CheckFault}
 use Rattle.rbf_check.specs.declared.tree.Tree.{Tree}
 use Rattle.rbf_check.specs.Tree.{is_directory_node}
 use Rattle.machine_model.specs.State.{State}
 use Rattle.machine_model.specs.declared.ends.BootFault.{BootFault}
 use Rattle.machine_model.specs.Start.{Starts, Refuses}
 use Rattle.machine_model.specs.Run.{Run, status_of}
+use Rattle.os9_boot.specs.declared.status.End.{End}
+use Rattle.os9_boot.specs.declared.status.End.TheVariants.{Ended, BadImage, BadText}
+use Rattle.os9_boot.specs.declared.status.Input.TheVariants.{Slices as SlicesInput}
+use Rattle.os9_boot.specs.End.{boot_end, status_number}
 use Rattle.os9_boot.specs.World.{World}
 
 -- the machine goes on from this state over these slices: the output gains what the run writes, the
--- terminals are those at its end, and the status is the run's
-abbrev pub Runs : State → List ℕ → World → World → ℕ → Type 0
-Runs s slices before after status =
-    (written : List ℕ) × (t : State) × Run slices s written t × (status ≡ status_of t)
+-- terminals are those at its end, and the command ends with the run's status
+abbrev pub Runs : State → List ℕ → World → World → End → Type 0
+Runs s slices before after end =
+    (written : List ℕ) × (t : State) × Run slices s written t × (status_number end ≡ status_of t)
     × (after.out ≡ stream_with before.out written) × (after.terms ≡ t.terms)
 
--- the boot file starts a machine with so many blocks, which is run; or it is refused with 8
-abbrev pub Boots : List ℕ → ℕ → List ℕ → World → World → ℕ → Type 0
-Boots file blocks slices before after status =
-    ((s : State) × Starts file blocks before.terms s × Runs s slices before after status)
-    ⊎ ((fault : BootFault) × Refuses file blocks fault × (status ≡ 8) × (after ≡ before))
+-- the boot file starts a machine with so many blocks, which is run; or it is refused, with its fault
+abbrev pub Boots : List ℕ → ℕ → List ℕ → World → World → End → Type 0
+Boots file blocks slices before after end =
+    ((s : State) × Starts file blocks before.terms s × Runs s slices before after end)
+    ⊎ ((fault : BootFault) × Refuses file blocks fault × (end ≡ boot_end fault) × (after ≡ before))
 
--- the slice text gives slices, or is refused with 7
-abbrev pub Slices : List ℕ → List ℕ → ℕ → World → World → ℕ → Type 0
-Slices text file blocks before after status =
+-- the slice text gives slices, or is refused, with its first line that breaks a rule
+abbrev pub Slices : List ℕ → List ℕ → ℕ → World → World → End → Type 0
+Slices text file blocks before after end =
     MatchResult (slices_of text)
-    (λ slices. Boots file blocks slices before after status)
-    (λ line. (status ≡ 7) × (after ≡ before))
+    (λ slices. Boots file blocks slices before after end)
+    (λ line. (end ≡ BadText SlicesInput line) × (after ≡ before))
 
 -- the files that the words name are those of the host
-abbrev pub Performs : Files → RunWords → World → World → ℕ → Type 0
-Performs files run before after status =
+abbrev pub Performs : Files → RunWords → World → World → End → Type 0
+Performs files run before after end =
     MatchOption (slice_get run.files 0) ⊥
-    (λ modules. Slices (file_contents files run.slices) (file_contents files modules) run.blocks before after status)
+    (λ modules. Slices (file_contents files run.slices) (file_contents files modules) run.blocks before after end)
 
 -- the line of the counts of a volume
 abbrev pub counts_of : Geometry → DiskVolume → List ℕ
@@ -57,22 +62,23 @@ tree_line tree =
     counts_line (count_by (λ node. not (is_directory_node node)) tree.nodes) (count_by is_directory_node tree.nodes)
     tree.free tree.lost
 
--- the image represents a volume, whose counts are printed; or it is refused with 6
-abbrev pub Checks : List ℕ → Option (List ℕ) → Option (List ℕ) → ℕ → Type 0
-Checks image before now status =
-    ((v : DiskVolume) × Vol image v × (status ≡ 0) × (now ≡ stream_with before (counts_of (image_geometry image) v)))
-    ⊎ ((rule : ℕ) × (lsn : ℕ) × IsFault image rule lsn × (status ≡ 6) × (now ≡ before))
+-- the image represents a volume, whose counts are printed; or it is refused, with its fault
+abbrev pub Checks : List ℕ → Option (List ℕ) → Option (List ℕ) → End → Type 0
+Checks image before now end =
+    ((v : DiskVolume) × Vol image v × (end ≡ Ended) × (now ≡ stream_with before (counts_of (image_geometry image) v)))
+    ⊎ ((fault : CheckFault) × IsFault image fault.rule fault.lsn × (end ≡ BadImage fault) × (now ≡ before))
 
--- what a command does with the files; a check leaves the terminals as they are
-abbrev pub PerformsCommand : Files → World → World → ℕ → Command → Type 0
-PerformsCommand files before after status (RunCommand run) = Performs files run before after status
-PerformsCommand files before after status (CheckCommand image) =
-    Checks (file_contents files image) before.out after.out status × (after.terms ≡ before.terms)
+-- what a command does with the files, and how it ends; a check leaves the terminals as they are
+abbrev pub PerformsCommand : Files → World → World → End → Command → Type 0
+PerformsCommand files before after end (RunCommand run) = Performs files run before after end
+PerformsCommand files before after end (CheckCommand image) =
+    Checks (file_contents files image) before.out after.out end × (after.terms ≡ before.terms)
 
--- the words spell a command, or are refused with 1
-abbrev pub Answers : Files → List (List ℕ) → World → World → ℕ → Type 0
-Answers files words before after status =
-    MatchOption (command_of words) ((status ≡ 1) × (after ≡ before)) (PerformsCommand files before after status)
+-- the words spell a command, which ends with this status, or are refused with 1
+abbrev pub PerformsWords : Files → List (List ℕ) → World → World → ℕ → Type 0
+PerformsWords files words before after status =
+    MatchOption (command_of words) ((status ≡ 1) × (after ≡ before))
+    (λ command. (end : End) × (status ≡ status_number end) × PerformsCommand files before after end command)
 
 -- nothing failed, and memory sufficed
 abbrev pub IsAnswered : ℕ → Type 0

@@ -3,7 +3,9 @@ use Rattle.std.specs.Prelude.{ℕ, Option, Some, None, List, [], slice_index_or}
 use Rattle.os9_words.specs.declared.command.Command.{Command}
 use Rattle.os9_words.specs.declared.command.Command.TheVariants.{Run, Check}
 use Rattle.os9_words.specs.declared.message.Message.{Message}
-use Rattle.os9_words.specs.Lines.{message_line, cannot_read_line, cannot_write_output_line, no_memory_line, image_fault_line, boot_module_line, boot_too_large_line, no_first_line}
+use Rattle.os9_words.specs.Lines.{message_line, cannot_read_line, cannot_write_output_line, no_memory_line, image_fault_line, text_fault_line, boot_module_line, boot_too_large_line, no_first_line}
+use Rattle.machine_model.specs.declared.ends.BootFault.{BootFault}
+use Rattle.machine_model.specs.declared.ends.BootFault.TheVariants.{OutOfMemory, BadModule as BadModuleFault, NoFirst as NoFirstFault, TooLarge as TooLargeFault}
 use Rattle.os9_boot.specs.declared.status.Input.{Input}
 use Rattle.os9_boot.specs.declared.status.Input.TheVariants.{Slices, Modules, Image}
 use Rattle.os9_boot.specs.declared.status.End.{End}
@@ -17,10 +19,17 @@ status_number (CannotRead _) = 2
 status_number CannotWrite = 3
 status_number NoMemory = 4
 status_number (BadImage _) = 6
-status_number BadText = 7
+status_number (BadText _ _) = 7
 status_number (BadModule _ _) = 8
 status_number NoFirst = 8
 status_number TooLarge = 8
+
+-- how a refused boot file ends a command
+abbrev pub boot_end : BootFault → End
+boot_end OutOfMemory = NoMemory
+boot_end (BadModuleFault at error) = BadModule at error
+boot_end NoFirstFault = NoFirst
+boot_end TooLargeFault = TooLarge
 
 -- the name of a file that the words give
 abbrev pub file_name : Command → Input → List ℕ
@@ -35,12 +44,12 @@ end_line command (CannotRead input) = cannot_read_line (file_name command input)
 end_line command CannotWrite = cannot_write_output_line
 end_line command NoMemory = no_memory_line
 end_line command (BadImage fault) = image_fault_line (file_name command Image) fault.rule fault.lsn
+end_line command (BadText input line) = text_fault_line (file_name command input) line
 end_line command (BadModule at error) = boot_module_line at error
 end_line command NoFirst = no_first_line
 end_line command TooLarge = boot_too_large_line
 end_line command Ended = []
 end_line command Living = []
-end_line command BadText = []
 
 -- the line of a message, if there is one
 abbrev pub text_of : Option Message → List ℕ

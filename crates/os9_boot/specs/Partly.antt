@@ -11,34 +11,43 @@ use Rattle.rbf_model.specs.Geometry.{image_geometry}
 use Rattle.rbf_model.specs.Volume.{DiskVolume, Vol}
 use Rattle.machine_model.specs.State.{State}
 use Rattle.machine_model.specs.Start.{Starts}
+use Rattle.os9_boot.specs.declared.status.End.{End}
+use Rattle.os9_boot.specs.declared.status.End.TheVariants.{NoMemory}
 use Rattle.os9_boot.specs.Commands.{counts_of}
+use Rattle.os9_boot.specs.End.{status_number}
 use Rattle.os9_boot.specs.Slices.{RunsPartly}
 use Rattle.os9_boot.specs.World.{World}
 
+-- memory was out before anything changed
+abbrev pub IsUndone : World → World → End → Type 0
+IsUndone before after end = (end ≡ NoMemory) × (after ≡ before)
+
 -- nothing was run; or the boot file starts a machine with so many blocks, which is run over the first of the slices
-abbrev pub BootsPartly : List ℕ → ℕ → List ℕ → World → World → Type 0
-BootsPartly file blocks slices before after =
-    (after ≡ before) ⊎ ((s : State) × Starts file blocks before.terms s × RunsPartly slices s before after)
+abbrev pub BootsPartly : List ℕ → ℕ → List ℕ → World → World → End → Type 0
+BootsPartly file blocks slices before after end =
+    IsUndone before after end ⊎ ((s : State) × Starts file blocks before.terms s × RunsPartly slices s before after)
 
 -- nothing was run; or the slice text gives slices, and the boot file that the words name is run over the first of them
-abbrev pub RunsFilesPartly : Files → RunWords → World → World → Type 0
-RunsFilesPartly files run before after =
-    (after ≡ before) ⊎ ((modules : List ℕ) × (slices : List ℕ) × (slice_get run.files 0 ≡ Some modules)
+abbrev pub RunsFilesPartly : Files → RunWords → World → World → End → Type 0
+RunsFilesPartly files run before after end =
+    IsUndone before after end ⊎ ((modules : List ℕ) × (slices : List ℕ) × (slice_get run.files 0 ≡ Some modules)
     × (slices_of (file_contents files run.slices) ≡ Ok slices)
-    × BootsPartly (file_contents files modules) run.blocks slices before after)
+    × BootsPartly (file_contents files modules) run.blocks slices before after end)
 
--- nothing was printed; or the image represents a volume, and the output gained the beginning of its counts
-abbrev pub ChecksPartly : List ℕ → Option (List ℕ) → Option (List ℕ) → Type 0
-ChecksPartly image before now =
-    (now ≡ before) ⊎ ((v : DiskVolume) × Vol image v × GainsPrefix before (counts_of (image_geometry image) v) now)
+-- the image represents a volume, and the output gained the beginning of its counts
+abbrev pub PrintsPartly : List ℕ → Option (List ℕ) → Option (List ℕ) → Type 0
+PrintsPartly image before now =
+    (v : DiskVolume) × Vol image v × GainsPrefix before (counts_of (image_geometry image) v) now
 
 -- a part of what a command does; a check leaves the terminals as they are
-abbrev pub PerformsPartly : Files → World → World → Command → Type 0
-PerformsPartly files before after (RunCommand run) = RunsFilesPartly files run before after
-PerformsPartly files before after (CheckCommand image) =
-    ChecksPartly (file_contents files image) before.out after.out × (after.terms ≡ before.terms)
+abbrev pub PerformsPartly : Files → World → World → End → Command → Type 0
+PerformsPartly files before after end (RunCommand run) = RunsFilesPartly files run before after end
+PerformsPartly files before after end (CheckCommand image) =
+    (IsUndone before after end ⊎ PrintsPartly (file_contents files image) before.out after.out)
+    × (after.terms ≡ before.terms)
 
--- the words spell a command, which was performed so far
-abbrev pub AnswersPartly : Files → List (List ℕ) → World → World → Type 0
-AnswersPartly files words before after =
-    MatchOption (command_of words) (after ≡ before) (PerformsPartly files before after)
+-- the words spell a command, which was performed so far; or memory was out before they were read
+abbrev pub PerformsWordsPartly : Files → List (List ℕ) → World → World → ℕ → Type 0
+PerformsWordsPartly files words before after status =
+    MatchOption (command_of words) ((status ≡ 4) × (after ≡ before))
+    (λ command. (end : End) × (status ≡ status_number end) × PerformsPartly files before after end command)

@@ -1,7 +1,6 @@
-ghost use Rattle.std.specs.Prelude.{List};
+ghost use Rattle.std.specs.Prelude.{◌≡◌, List};
 ghost use Rattle.os9_outer.specs.TerminalState.{TerminalState};
 ghost use Rattle.os9_boot.specs.Commands.{tree_line};
-ghost use Rattle.os9_boot.specs.End.{status_number};
 ghost use Rattle.os9_boot.specs.TopCall.{CommandCall, PrintCall};
 ghost use Rattle.os9_boot.specs.World.{world_of};
 
@@ -17,8 +16,9 @@ use std::alloc::Global;
 /// `check IMAGE`: reads the image of a disk, and passes the counts of its volume to the output
 /// stream.
 pub fn check_image<H: Host>(alloc: Global, image: &Word, host: &mut H) -> End
-    ensures { (terms : List TerminalState) → CommandCall (Command.Check image.now)
-        (world_of H.Host host.old terms) (world_of H.Host host.new terms) (status_number result) }
+    ensures call { (terms : List TerminalState) → CommandCall (Command.Check image.now)
+        (world_of H.Host host.old terms) (world_of H.Host host.new terms) result }
+    ensures err_kept { H.bytes_err host.new ≡ H.bytes_err host.old }
 {
     let bytes = match read_input(host, image) {
         Ok(bytes) => bytes,
@@ -34,8 +34,9 @@ pub fn check_image<H: Host>(alloc: Global, image: &Word, host: &mut H) -> End
 
 /// Passes the counts of a volume to the output stream.
 fn print_counts<H: Host>(tree: &Tree, host: &mut H) -> End
-    ensures { (terms : List TerminalState) → PrintCall (tree_line tree.now)
-        (world_of H.Host host.old terms) (world_of H.Host host.new terms) (status_number result) }
+    ensures call { (terms : List TerminalState) → PrintCall (tree_line tree.now)
+        (world_of H.Host host.old terms) (world_of H.Host host.new terms) result }
+    ensures err_kept { H.bytes_err host.new ≡ H.bytes_err host.old }
 {
     let counts = Counts {
         files: tree.files(),

@@ -53,6 +53,7 @@ pub fn pass_on<H: Host>(devices: &mut Devices, host: &mut H) -> Result<(), HostF
         (terminal_states ⟦<dyn CharDriver as CharDriver>⟧ devices.old.terms.items))
         (world_of H.Host host.new
         (terminal_states ⟦<dyn CharDriver as CharDriver>⟧ devices.new.terms.items)) }
+    ensures err_kept { H.bytes_err host.new ≡ H.bytes_err host.old }
     ensures terminals { vec_len devices.new.terms ≡ vec_len devices.old.terms }
     ensures drives_kept { devices.new.drives ≡ devices.old.drives }
 {

@@ -17,6 +17,7 @@ pub fn read_input<H: Host>(host: &mut H, name: &Word) -> Result<Vec<u8>, HostFau
         bytes.items ≡ file_contents files name.now)) }
     ensures read { (terms : List TerminalState) → ReadsFile name.now result
         (world_of H.Host host.old terms) (world_of H.Host host.new terms) }
+    ensures err_kept { H.bytes_err host.new ≡ H.bytes_err host.old }
 {
     host.read_file(name.text())
 }

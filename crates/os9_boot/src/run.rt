@@ -39,6 +39,7 @@ pub fn run_slices<H: Host>(
         (terminal_states ⟦<dyn CharDriver as CharDriver>⟧ devices.old.terms.items))
         (world_of H.Host host.new
         (terminal_states ⟦<dyn CharDriver as CharDriver>⟧ devices.new.terms.items)) }
+    ensures err_kept { H.bytes_err host.new ≡ H.bytes_err host.old }
     ensures drives_kept { devices.new.drives ≡ devices.old.drives }
 {
     for n in slices {

@@ -34,8 +34,8 @@ pub enum End {
     NoMemory,
     /// The image is not well formed.
     BadImage(CheckFault),
-    /// The slice text is refused.
-    BadText,
+    /// The text in a file is refused: the first line, from 1, that breaks a rule.
+    BadText(Input, u64),
     /// A module of the boot file is refused: where it begins, and the number of the error.
     BadModule(u32, u8),
     /// The boot file has no program `SysGo`.
@@ -56,7 +56,7 @@ impl End {
             End::CannotWrite => 3,
             End::NoMemory => 4,
             End::BadImage(_) => 6,
-            End::BadText => 7,
+            End::BadText(..) => 7,
             End::BadModule(..) | End::NoFirst | End::TooLarge => 8,
         }
     }
@@ -90,10 +90,11 @@ fn message_of<'a>(end: End, command: &'a Command) -> Option<Message<'a>>
             let name = name_of(command, Input::Image);
             Some(Message::BadImage(name, fault.rule, fault.lsn))
         }
+        End::BadText(input, line) => Some(Message::BadText(name_of(command, input), line)),
         End::BadModule(at, error) => Some(Message::BadModule(at, error)),
         End::NoFirst => Some(Message::NoFirst),
         End::TooLarge => Some(Message::TooLarge),
-        End::Ended | End::Living | End::BadText => None,
+        End::Ended | End::Living => None,
     }
 }
 

@@ -79,12 +79,11 @@ const LINE: &[u8] = b"Hello\r\n";
 
 #[test]
 fn hello_and_slice_budget(rt: HostRuntime) -> Result<(), Fail> {
-    let rows: [(&[u8], u8, &[u8]); 5] = [
+    let rows: [(&[u8], u8, &[u8]); 4] = [
         (b"100", 0, LINE),
         (b"4", 5, b""),
         (b"6\n", 5, LINE),
         (b"7", 0, LINE),
-        (b"0", 7, b""),
     ];
     for (slices, status, out) in rows {
         let shown = call(rt.alloc(), &RUN, &HELLO, slices, &[])?;
@@ -118,7 +117,23 @@ fn order_of_causes(rt: HostRuntime) -> Result<(), Fail> {
     assert!(rt; unread.err.as_slice() == b"os9: cannot read h\n".as_slice());
     let bad_text = call(rt.alloc(), &RUN, &changed(&[(0, 0x86)]), b"0", &[])?;
     assert_eq!(rt; bad_text.status, 7);
-    assert!(rt; bad_text.err.is_empty());
+    assert!(rt; bad_text.err.as_slice() == b"os9: s: line 1\n".as_slice());
+    Ok(())
+}
+
+#[test]
+fn refused_slices(rt: HostRuntime) -> Result<(), Fail> {
+    let rows: [(&[u8], &[u8]); 3] = [
+        (b"5*0", b"os9: s: line 1\n"),
+        (b"1\n1000001", b"os9: s: line 2\n"),
+        (b"\n\nx", b"os9: s: line 3\n"),
+    ];
+    for (slices, line) in rows {
+        let refused = call(rt.alloc(), &RUN, &HELLO, slices, &[])?;
+        assert_eq!(rt; refused.status, 7);
+        assert!(rt; refused.err.as_slice() == line);
+        assert!(rt; refused.out.is_empty());
+    }
     Ok(())
 }
 

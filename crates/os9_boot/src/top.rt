@@ -3,7 +3,7 @@ ghost use Rattle.os9_words.specs.Command.{HasOneFile, HasBlocks};
 ghost use Rattle.os9_outer.specs.TerminalState.{terminal_states};
 ghost use Rattle.os9_boot.specs.Commands.{IsAnswered, IsSilent, IsStopped};
 ghost use Rattle.os9_boot.specs.End.{status_number};
-ghost use Rattle.os9_boot.specs.TopCall.{BootCall, CommandCall, TopCall};
+ghost use Rattle.os9_boot.specs.TopCall.{BootCall, CommandCall, CommandReport, TopCall};
 ghost use Rattle.os9_boot.specs.World.{world_of};
 
 use crate::check::check_image;
@@ -38,8 +38,10 @@ use std::alloc::Global;
 /// call. If nothing runs, at 1, 2, 6, 7 and 8 and in a `check` that is done, the terminals are
 /// as they were. No drive is touched.
 ///
-/// At 3 and 4 a `run` has written nothing, or a prefix of what the machine writes over some first
-/// slices, and a `check` a prefix of its line.
+/// At 3 a `run` has written a prefix of what the machine writes over some first slices, and a `check`
+/// a prefix of the line of its image; at 4 that, or nothing was done.
+///
+/// The line that says why the call ended goes to the error stream, as far as that takes it.
 pub fn os9_main<H: Host>(alloc: Global, words: &[String], host: &mut H, devices: &mut Devices) -> u8
     requires { 0 < vec_len devices.old.terms }
     ensures call { TopCall (map string_bytes words.now)
@@ -47,6 +49,7 @@ pub fn os9_main<H: Host>(alloc: Global, words: &[String], host: &mut H, devices:
         (terminal_states ⟦<dyn CharDriver as CharDriver>⟧ devices.old.terms.items))
         (world_of H.Host host.new
         (terminal_states ⟦<dyn CharDriver as CharDriver>⟧ devices.new.terms.items))
+        (H.bytes_err host.old) (H.bytes_err host.new)
         result }
     ensures drives_kept { devices.new.drives ≡ devices.old.drives }
 {
@@ -68,11 +71,12 @@ fn do_command<H: Host>(alloc: Global, command: &Command, host: &mut H, devices: 
     requires terminals { 0 < vec_len devices.old.terms }
     requires files { HasOneFile command.now }
     requires blocks { HasBlocks command.now }
-    ensures call { CommandCall command.now
+    ensures call { CommandReport command.now
         (world_of H.Host host.old
         (terminal_states ⟦<dyn CharDriver as CharDriver>⟧ devices.old.terms.items))
         (world_of H.Host host.new
         (terminal_states ⟦<dyn CharDriver as CharDriver>⟧ devices.new.terms.items))
+        (H.bytes_err host.old) (H.bytes_err host.new)
         result }
     ensures drives_kept { devices.new.drives ≡ devices.old.drives }
 {
@@ -91,7 +95,8 @@ fn perform<H: Host>(alloc: Global, command: &Command, host: &mut H, devices: &mu
         (terminal_states ⟦<dyn CharDriver as CharDriver>⟧ devices.old.terms.items))
         (world_of H.Host host.new
         (terminal_states ⟦<dyn CharDriver as CharDriver>⟧ devices.new.terms.items))
-        (status_number result) }
+        result }
+    ensures err_kept { H.bytes_err host.new ≡ H.bytes_err host.old }
     ensures drives_kept { devices.new.drives ≡ devices.old.drives }
 {
     match command {
@@ -111,7 +116,8 @@ fn run_modules<H: Host>(alloc: Global, run: &RunWords, host: &mut H, devices: &m
         (terminal_states ⟦<dyn CharDriver as CharDriver>⟧ devices.old.terms.items))
         (world_of H.Host host.new
         (terminal_states ⟦<dyn CharDriver as CharDriver>⟧ devices.new.terms.items))
-        (status_number result) }
+        result }
+    ensures err_kept { H.bytes_err host.new ≡ H.bytes_err host.old }
     ensures drives_kept { devices.new.drives ≡ devices.old.drives }
 {
     let text = match read_input(host, &run.slices) {
@@ -126,7 +132,7 @@ fn run_modules<H: Host>(alloc: Global, run: &RunWords, host: &mut H, devices: &m
     };
     let slices = match read_slices(alloc, text.as_slice()) {
         Ok(slices) => slices,
-        Err(LineFault::Line(_)) => return End::BadText,
+        Err(LineFault::Line(line)) => return End::BadText(Input::Slices, line),
         Err(LineFault::OutOfMemory) => return End::NoMemory,
     };
     let config = Config { blocks: run.blocks };
@@ -158,7 +164,8 @@ fn boot<H: Host>(
         (terminal_states ⟦<dyn CharDriver as CharDriver>⟧ devices.old.terms.items))
         (world_of H.Host host.new
         (terminal_states ⟦<dyn CharDriver as CharDriver>⟧ devices.new.terms.items))
-        (status_number result) }
+        result }
+    ensures err_kept { H.bytes_err host.new ≡ H.bytes_err host.old }
     ensures drives_kept { devices.new.drives ≡ devices.old.drives }
 {
     let mut kernel = match Kernel::new(alloc, config, file) {

@@ -1,23 +1,11 @@
 -- Which words are a command line (this project's own).
-use Rattle.std.specs.Prelude.{◌≡◌, ℕ, ◌≤◌, length, ◌==◌, ◌&&◌, ◌||◌, not, Bool, false, Option, Some, None, option_and_then, Result, Ok, Err, ⊤, List, [], ◌∷◌, bytes_eq, codes, if◌then◌else◌}
+use Rattle.std.specs.Prelude.{◌≡◌, ℕ, ◌≤◌, length, ◌&&◌, Option, Some, None, option_and_then, Result, Ok, Err, ⊤, List, [], ◌∷◌, bytes_eq, codes, if◌then◌else◌}
 use Rattle.number_text.specs.Number.{number_of, within}
+use Rattle.word_options.specs.Given.{is_argument, is_value}
 use Rattle.os9_words.specs.declared.command.Command.{Command}
 use Rattle.os9_words.specs.declared.command.Command.TheVariants.{Run, Check}
 use Rattle.os9_words.specs.declared.command.WordsFault.{WordsFault}
 use Rattle.os9_words.specs.declared.command.WordsFault.TheVariants.{Refused, OutOfMemory}
-
--- the word begins with `-`
-abbrev pub is_dashed : List ℕ → Bool
-is_dashed [] = false
-is_dashed (byte ∷ bytes) = byte == 45
-
--- the word is an argument: it does not begin with `-`, or is `-` alone
-abbrev pub is_argument : List ℕ → Bool
-is_argument word = not (is_dashed word) || bytes_eq word (codes "-")
-
--- the word is an option's value in the form of two words: it is not empty and does not begin with `-`
-abbrev pub is_value : List ℕ → Bool
-is_value word = not (bytes_eq word []) && not (is_dashed word)
 
 -- `check IMAGE`
 abbrev pub check_of : List ℕ → List ℕ → Option Command

@@ -1,7 +1,7 @@
 -- The lines on the error stream, and the line of `check` on the output stream.
 use Rattle.std.specs.Prelude.{ℕ, List, [], ◌∷◌, ◌++◌, codes, decimal}
 use Rattle.os9_words.specs.declared.message.Message.{Message}
-use Rattle.os9_words.specs.declared.message.Message.TheVariants.{Words, CannotRead, CannotWrite, NoMemory, BadImage, BadModule, TooLarge, NoFirst}
+use Rattle.os9_words.specs.declared.message.Message.TheVariants.{Words, CannotRead, CannotWrite, NoMemory, BadImage, BadText, BadModule, TooLarge, NoFirst}
 
 -- the line with this text
 abbrev pub line_of : List ℕ → List ℕ
@@ -28,6 +28,10 @@ abbrev pub image_fault_line : List ℕ → ℕ → ℕ → List ℕ
 image_fault_line name rule lsn =
     line_of (codes "os9: " ++ name ++ codes ": rule " ++ decimal rule ++ codes " at LSN " ++ decimal lsn)
 
+-- the line of this number of the text in the file of this name is the first that breaks a rule
+abbrev pub text_fault_line : List ℕ → ℕ → List ℕ
+text_fault_line name line = line_of (codes "os9: " ++ name ++ codes ": line " ++ decimal line)
+
 -- the module at this byte of the boot file is refused with this error
 abbrev pub boot_module_line : ℕ → ℕ → List ℕ
 boot_module_line at error = line_of (codes "os9: boot module " ++ decimal error ++ codes " at " ++ decimal at)
@@ -47,6 +51,7 @@ message_line (CannotRead name) = cannot_read_line name.now
 message_line CannotWrite = cannot_write_output_line
 message_line NoMemory = no_memory_line
 message_line (BadImage name rule lsn) = image_fault_line name.now rule lsn
+message_line (BadText name line) = text_fault_line name.now line
 message_line (BadModule at error) = boot_module_line at error
 message_line TooLarge = boot_too_large_line
 message_line NoFirst = no_first_line

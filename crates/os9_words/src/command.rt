@@ -1,5 +1,6 @@
 ghost use Rattle.std.specs.Prelude.{◌≡◌, None, Some, IfOk, [], ◌∷◌, map, string_bytes};
-ghost use Rattle.os9_words.specs.Command.{command_of, check_of, run_of, blocks_of, is_argument as is_argument_lem, is_value as is_value_lem, HasOneFile, HasBlocks, OnRefused};
+ghost use Rattle.os9_words.specs.Command.{command_of, check_of, run_of, blocks_of, HasOneFile, HasBlocks, OnRefused};
+ghost use Rattle.word_options.specs.Given.{is_argument as is_argument_lem, is_value as is_value_lem};
 
 use crate::word::{Word, Words};
 use number_text::read_number;

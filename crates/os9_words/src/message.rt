@@ -1,4 +1,4 @@
-ghost use Rattle.os9_words.specs.Lines.{boot_module_line, image_fault_line, message_line};
+ghost use Rattle.os9_words.specs.Lines.{boot_module_line, image_fault_line, text_fault_line, message_line};
 ghost use Rattle.os9_words.specs.Streams.{WritesErr};
 
 use crate::pieces::{report_pieces, report_text};
@@ -20,6 +20,9 @@ pub enum Message<'a> {
     /// The image in the file of this name breaks this rule at the sector of this number:
     /// `os9: NAME: rule R at LSN L`.
     BadImage(&'a str, u8, u32),
+    /// The line of this number, from 1, of the text in the file of this name is the first that
+    /// breaks a rule: `os9: NAME: line L`.
+    BadText(&'a str, u64),
     /// The module that begins at this byte of the boot file is refused with this error:
     /// `os9: boot module E at O`.
     BadModule(u32, u8),
@@ -46,6 +49,7 @@ pub fn report<H: Host>(host: &mut H, message: &Message) -> Result<(), HostFault>
         Message::CannotWrite => report_text(host, b"os9: cannot write output\n"),
         Message::NoMemory => report_text(host, b"os9: no memory\n"),
         Message::BadImage(name, rule, lsn) => report_bad_image(host, name, *rule, *lsn),
+        Message::BadText(name, line) => report_bad_text(host, name, *line),
         Message::BadModule(at, error) => report_bad_module(host, *at, *error),
         Message::TooLarge => report_text(host, b"os9: boot too large\n"),
         Message::NoFirst => report_text(host, b"os9: boot no SysGo\n"),
@@ -67,6 +71,23 @@ fn report_bad_image<H: Host>(host: &mut H, name: &str, rule: u8, lsn: u32) -> Re
             rule_text.format(rule).as_bytes(),
             b" at LSN ",
             lsn_text.format(lsn).as_bytes(),
+            b"\n",
+        ],
+    )
+}
+
+/// Writes that a text breaks a rule.
+fn report_bad_text<H: Host>(host: &mut H, name: &str, line: u64) -> Result<(), HostFault>
+    ensures { WritesErr H.Host (text_fault_line name.now line) result host.old host.new }
+{
+    let mut line_text = Buffer::new();
+    report_pieces(
+        host,
+        &[
+            b"os9: ",
+            name.as_bytes(),
+            b": line ",
+            line_text.format(line).as_bytes(),
             b"\n",
         ],
     )
@@ -106,6 +127,7 @@ mod tests {
             Message::CannotWrite,
             Message::NoMemory,
             Message::BadImage("e", 4, 1000),
+            Message::BadText("s", 2),
             Message::BadModule(0, 232),
             Message::TooLarge,
             Message::NoFirst,
@@ -117,6 +139,7 @@ mod tests {
             os9: cannot write output\n\
             os9: no memory\n\
             os9: e: rule 4 at LSN 1000\n\
+            os9: s: line 2\n\
             os9: boot module 232 at 0\n\
             os9: boot too large\n\
             os9: boot no SysGo\n";

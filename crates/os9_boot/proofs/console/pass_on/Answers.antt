@@ -21,6 +21,7 @@ loop-n-preserved g c =
       emptied = passed.emptied;
       written = written-more c.loop-n.n c.take_from-bytes.result.items _ _ _ _ _ passed so_far.written (rw (← c.as_slice.ensures.value) wrote.whole);
       count = (wrote.count_kept ∙ so_far.count.0, wrote.name_kept ∙ so_far.count.1, wrote.read_kept ∙ so_far.count.2);
+      err = wrote.err_kept ∙ so_far.err;
       files = wrote.files_kept ∙ so_far.files;
     }
 

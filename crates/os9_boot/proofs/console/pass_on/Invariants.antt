@@ -18,5 +18,6 @@ invariant-loop-n g l =
       emptied : terminal_states (λ table. (g.dyn-2.0.entry table).1) l.devices.terms.items ≡ emptied_front l.n before;
       written : All IsObserved before → g.H.Host.bytes_out l.host ≡ stream_with (g.H.Host.bytes_out l.initial.host) (console_bytes (take l.n before));
       count : HasNoFault (world_of g.H.Host l.initial.host before) (world_of g.H.Host l.host before);
+      err : g.H.Host.bytes_err l.host ≡ g.H.Host.bytes_err l.initial.host;
       files : g.H.Host.file_map l.host ≡ g.H.Host.file_map l.initial.host;
     }

@@ -15,5 +15,6 @@ invariant-loop-n g l = record {
   reaches : (s : State) → All IsObserved (terminal_states (λ table. (g.dyn-2.0.entry table).1) l.initial.devices.terms.items) → Represents l.initial.kernel (terminal_states (λ table. (g.dyn-2.0.entry table).1) l.initial.devices.terms.items) s → Reaches (g.H.Host.bytes_out l.initial.host) (take l.n-index l.slices) s l.kernel (terminal_states (λ table. (g.dyn-2.0.entry table).1) l.devices.terms.items) (g.H.Host.bytes_out l.host);
   count : HasNoFault (world_of g.H.Host l.initial.host []) (world_of g.H.Host l.host []);
   files : g.H.Host.file_map l.host ≡ g.H.Host.file_map l.initial.host;
+  err : g.H.Host.bytes_err l.host ≡ g.H.Host.bytes_err l.initial.host;
   drives : l.devices.drives ≡ l.initial.devices.drives;
 }
