@@ -1,3 +1,4 @@
 pub mod Writes
 pub mod Window
 pub mod Together
+pub mod Following

@@ -19,9 +19,9 @@ use os9_base::registers::Regs;
 pub(crate) fn unary_on(r: &mut Regs, operation: Unary, on: Accumulator)
     ensures { r.new ≡ model.unary_on r.old operation on }
 {
-    let (after, flags) = unary(operation, accumulator(r, on), flags_of(r.cc));
+    let (after, cc) = unary(operation, accumulator(r, on), r.cc);
     set_accumulator(r, on, after);
-    set_flags(r, flags);
+    r.cc = cc;
 }
 
 /// SUBA to ADDB.
@@ -29,9 +29,9 @@ pub(crate) fn unary_on(r: &mut Regs, operation: Unary, on: Accumulator)
 pub(crate) fn binary_on(r: &mut Regs, operation: Binary, on: Accumulator, value: u8)
     ensures { r.new ≡ model.binary_on operation on (byte_with r.old value) }
 {
-    let (after, flags) = binary(operation, accumulator(r, on), value, flags_of(r.cc));
+    let (after, cc) = binary(operation, accumulator(r, on), value, r.cc);
     set_accumulator(r, on, after);
-    set_flags(r, flags);
+    r.cc = cc;
 }
 
 /// SUBD, ADDD, and the compares and loads of words.
@@ -39,9 +39,9 @@ pub(crate) fn binary_on(r: &mut Regs, operation: Binary, on: Accumulator, value:
 pub(crate) fn word_on(r: &mut Regs, operation: WordBinary, on: WordRegister, value: u16)
     ensures { r.new ≡ model.word_on operation on (word_with r.old value) }
 {
-    let (after, flags) = word_binary(operation, word_register(r, on), value, flags_of(r.cc));
+    let (after, cc) = word_binary(operation, word_register(r, on), value, r.cc);
     set_word_register(r, on, after);
-    set_flags(r, flags);
+    r.cc = cc;
 }
 
 /// LEAX and LEAY set Z, LEAU and LEAS no flag.

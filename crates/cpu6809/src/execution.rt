@@ -3,6 +3,7 @@ ghost use Rattle.cpu_model.specs.Reading.{reading};
 ghost use Rattle.cpu_model.specs.Step as model;
 ghost use Rattle.cpu_table.specs.Decoded.{reading_of, HasItsRow};
 ghost use Rattle.cpu6809.specs.Does.{Does};
+ghost use Rattle.cpu6809.specs.Running.{Runs};
 
 use crate::effect::{abx, branch, daa, exchange, mul, sex, transfer, unary_on};
 use crate::memory_effect::{
@@ -22,16 +23,45 @@ use os9_base::registers::Regs;
 /// The most bytes that an instruction has.
 const LONGEST: usize = 5;
 
-/// The effect of an operation.
+/// The bytes at an address, up to the first that is not named, and no more than an instruction has.
+fn fetch<B: Bus>(b: &B, mut at: u16) -> ArrayVec<u8, LONGEST>
+    ensures { result.items ≡ model.window (B.cells b.now) at 5 }
+{
+    let mut bytes = ArrayVec::new();
+    for _k in 0..LONGEST {
+        match b.read(at) {
+            Some(byte) => bytes.push(byte),
+            None => return bytes,
+        }
+        at = at.wrapping_add(1);
+    }
+    bytes
+}
+
+/// SWI2: the code byte follows.
+fn system_call<B: Bus>(r: &mut Regs, b: &B) -> Stop
+    ensures { Does (model.call_outcome r.old (B.cells b.now r.old.pc)) result r.new
+        (B.cells b.now) (B.cells b.now) }
+{
+    match b.read(r.pc) {
+        Some(code) => {
+            r.pc = r.pc.wrapping_add(1);
+            Stop::Call(code)
+        }
+        None => Stop::Abort(E_PRCABT),
+    }
+}
+
+/// Executes an instruction whose own bytes PC is past.
 #[inline(always)]
-#[tactic(auto, unfolding(cpu_model::specs::Step::effect_of))]
-fn change<B: Bus>(r: &mut Regs, b: &mut B, mode: Mode, i: Instr, operation: Operation) -> Stop
+#[tactic(auto, unfolding(cpu_model::specs::Step::outcome_of, cpu_model::specs::Step::effect_of))]
+fn execute<B: Bus>(r: &mut Regs, b: &mut B, i: Instr, row: Row) -> Stop
     ensures step { Does
-        (model.outcome_of_effect (B.cells b.old)
-        (model.effect_of (B.cells b.old) r.old i mode operation))
+        (model.outcome_of (B.cells b.old) r.old i row.1 row.0)
         result r.new (B.cells b.old) (B.cells b.new) }
     ensures beside { B.same_beside b.old b.new }
 {
+    let Row(operation, mode) = row;
     match operation {
         Operation::Unary(unary) => return unary_at(r, b, mode, i, unary),
         Operation::Binary(binary, on) => return binary_from(r, b, mode, i, binary, on),
@@ -63,26 +93,12 @@ fn change<B: Bus>(r: &mut Regs, b: &mut B, mode: Mode, i: Instr, operation: Oper
         Operation::Mul => mul(r),
         Operation::Sex => sex(r),
         Operation::Nop => {}
-        Operation::Swi | Operation::Swi2 | Operation::Swi3 | Operation::Sync | Operation::Cwai => {
-            return Stop::Abort(E_PRCABT);
+        Operation::Swi2 => return system_call(r, b),
+        Operation::Swi | Operation::Swi3 | Operation::Sync | Operation::Cwai => {
+            return Stop::Abort(E_ISWI);
         }
     }
     Stop::Next
-}
-
-/// The bytes at an address, up to the first that is not named, and no more than an instruction has.
-fn fetch<B: Bus>(b: &B, mut at: u16) -> ArrayVec<u8, LONGEST>
-    ensures { result.items ≡ model.window (B.cells b.now) at 5 }
-{
-    let mut bytes = ArrayVec::new();
-    for _k in 0..LONGEST {
-        match b.read(at) {
-            Some(byte) => bytes.push(byte),
-            None => return bytes,
-        }
-        at = at.wrapping_add(1);
-    }
-    bytes
 }
 
 /// The instruction at an address whose bytes do not lie together.
@@ -108,40 +124,10 @@ fn instruction_at<B: Bus>(b: &B, at: u16) -> Result<Decoded, DecodeFault>
     decode_with_row(&bytes[..LONGEST])
 }
 
-/// SWI2: the code byte follows.
-fn system_call<B: Bus>(r: &mut Regs, b: &B) -> Stop
-    ensures { Does (model.call_outcome r.old (B.cells b.now r.old.pc)) result r.new
-        (B.cells b.now) (B.cells b.now) }
-{
-    match b.read(r.pc) {
-        Some(code) => {
-            r.pc = r.pc.wrapping_add(1);
-            Stop::Call(code)
-        }
-        None => Stop::Abort(E_PRCABT),
-    }
-}
-
-#[inline(always)]
-#[tactic(auto, unfolding(cpu_model::specs::Step::outcome_of))]
-fn execute<B: Bus>(r: &mut Regs, b: &mut B, i: Instr, row: Row) -> Stop
-    ensures step { Does
-        (model.outcome_of (B.cells b.old) r.old i row.1 row.0)
-        result r.new (B.cells b.old) (B.cells b.new) }
-    ensures beside { B.same_beside b.old b.new }
-{
-    let Row(operation, mode) = row;
-    match operation {
-        Operation::Swi2 => system_call(r, b),
-        Operation::Swi | Operation::Swi3 | Operation::Sync | Operation::Cwai => Stop::Abort(E_ISWI),
-        _ => change(r, b, mode, i, operation),
-    }
-}
-
-/// Executes the instruction at PC, and leaves any registers at an `Abort`.
+/// Carries out the instruction at PC, and leaves any registers at an `Abort`.
 #[inline(always)]
 #[tactic(auto, unfolding(cpu_model::specs::Step::step_of))]
-fn run<B: Bus>(r: &mut Regs, b: &mut B) -> Stop
+fn carry_out<B: Bus>(r: &mut Regs, b: &mut B) -> Stop
     ensures step { Does
         (model.step_of (B.cells b.old) r.old)
         result r.new (B.cells b.old) (B.cells b.new) }
@@ -163,6 +149,7 @@ fn run<B: Bus>(r: &mut Regs, b: &mut B) -> Stop
 /// instruction is documented, and where an address is not named that is read or written, those of
 /// the instruction's own bytes included; this comes before a call and before 227. At an `Abort`
 /// nothing has changed.
+#[inline(always)]
 pub fn step<B: Bus>(r: &mut Regs, b: &mut B) -> Stop
     ensures step { model.Leaves
         (model.step_of (B.cells b.old) r.old)
@@ -170,9 +157,36 @@ pub fn step<B: Bus>(r: &mut Regs, b: &mut B) -> Stop
     ensures beside { B.same_beside b.old b.new }
 {
     let before = *r;
-    let stop = run(r, b);
+    let stop = carry_out(r, b);
     if let Stop::Abort(_) = stop {
         *r = before;
     }
     stop
+}
+
+/// How a run of instructions ended.
+#[derive(Clone, Copy, Debug, PartialEq, Eq)]
+pub struct Ran {
+    /// The instructions that the next one followed.
+    pub followed: u32,
+    /// `Next`, or what the instruction after those stopped with.
+    pub stop: Stop,
+}
+
+/// Executes `n` instructions one after another from PC on, or fewer, up to the first after which the
+/// next one does not follow: it stops with what [`step`] answers there.
+pub fn run<B: Bus>(r: &mut Regs, b: &mut B, n: u32) -> Ran
+    ensures ran { Runs n result r.old (B.cells b.old) r.new (B.cells b.new) }
+    ensures beside { B.same_beside b.old b.new }
+{
+    for followed in 0..n {
+        let stop = step(r, b);
+        if stop != Stop::Next {
+            return Ran { followed, stop };
+        }
+    }
+    Ran {
+        followed: n,
+        stop: Stop::Next,
+    }
 }

@@ -1,8 +1,8 @@
-//! The MC6809 processor: one instruction at a time, over a bus.
+//! The MC6809 processor: instruction by instruction, over a bus.
 #![tactic(auto)]
 
 pub use cpu_model::stop::Stop;
-pub use execution::step;
+pub use execution::{Ran, run, step};
 pub use os9_base::memory::Bus;
 
 mod bytes;

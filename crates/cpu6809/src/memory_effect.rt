@@ -40,8 +40,8 @@ pub(crate) fn unary_at<B: Bus>(
     let Some(value) = b.read(at) else {
         return Stop::Abort(E_PRCABT);
     };
-    let (after, flags) = unary(operation, value, flags_of(r.cc));
-    set_flags(r, flags);
+    let (after, cc) = unary(operation, value, r.cc);
+    r.cc = cc;
     if let Unary::Tst = operation {
         return Stop::Next;
     }

@@ -37,11 +37,7 @@ fn tail_word(tail: Tail) -> u16
 fn extend(byte: u8) -> u16
     ensures { result ≡ extended byte }
 {
-    if byte > 0x7F {
-        0xFF00 + byte as u16
-    } else {
-        byte as u16
-    }
+    (byte.wrapping_add(0x80) as u16).wrapping_add(0xFF80)
 }
 
 /// The signed five bits of a postbyte, as a word.

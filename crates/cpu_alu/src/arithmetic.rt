@@ -6,6 +6,7 @@ use crate::logic::{result8_flags, result16_flags};
 use cpu_model::flags::Flags;
 
 /// ADD and ADC of bytes: the sum with the carry in, modulo 256.
+#[inline(always)]
 pub fn add8(a: u8, b: u8, carry: bool, f: Flags) -> (u8, Flags)
     ensures value { result.0 ≡ sum8 a b carry }
     ensures flags { result.1 ≡ add8_flags a b carry f }
@@ -26,6 +27,7 @@ pub fn add8(a: u8, b: u8, carry: bool, f: Flags) -> (u8, Flags)
 }
 
 /// SUB, SBC and CMP of bytes: the difference less the borrow in, modulo 256.
+#[inline(always)]
 pub fn sub8(a: u8, b: u8, borrow: bool, f: Flags) -> (u8, Flags)
     ensures value { result.0 ≡ difference8 a b borrow }
     ensures flags { result.1 ≡ sub8_flags a b borrow f }
@@ -44,6 +46,7 @@ pub fn sub8(a: u8, b: u8, borrow: bool, f: Flags) -> (u8, Flags)
 }
 
 /// ADDD: the sum modulo 65,536.
+#[inline(always)]
 pub fn add16(a: u16, b: u16, f: Flags) -> (u16, Flags)
     ensures value { result.0 ≡ sum16 a b }
     ensures flags { result.1 ≡ add16_flags a b f }
@@ -60,6 +63,7 @@ pub fn add16(a: u16, b: u16, f: Flags) -> (u16, Flags)
 }
 
 /// SUBD and CMP of words: the difference modulo 65,536.
+#[inline(always)]
 pub fn sub16(a: u16, b: u16, f: Flags) -> (u16, Flags)
     ensures value { result.0 ≡ difference16 a b }
     ensures flags { result.1 ≡ sub16_flags a b f }
@@ -76,6 +80,7 @@ pub fn sub16(a: u16, b: u16, f: Flags) -> (u16, Flags)
 }
 
 /// NEG: the operand taken from 0, modulo 256.
+#[inline(always)]
 pub fn neg8(a: u8, f: Flags) -> (u8, Flags)
     ensures value { result.0 ≡ negative8 a }
     ensures flags { result.1 ≡ neg8_flags a f }
@@ -90,6 +95,7 @@ pub fn neg8(a: u8, f: Flags) -> (u8, Flags)
 }
 
 /// INC: one more, modulo 256.
+#[inline(always)]
 pub fn inc8(a: u8, f: Flags) -> (u8, Flags)
     ensures value { result.0 ≡ next8 a }
     ensures flags { result.1 ≡ inc8_flags a f }
@@ -103,6 +109,7 @@ pub fn inc8(a: u8, f: Flags) -> (u8, Flags)
 }
 
 /// DEC: one less, modulo 256.
+#[inline(always)]
 pub fn dec8(a: u8, f: Flags) -> (u8, Flags)
     ensures value { result.0 ≡ previous8 a }
     ensures flags { result.1 ≡ dec8_flags a f }

@@ -5,6 +5,7 @@ ghost use Rattle.cpu_model.specs.Flags as model;
 use cpu_model::flags::Flags;
 
 /// N and Z of a byte, and the other flags as they were.
+#[inline(always)]
 pub(crate) fn result8_flags(r: u8, f: Flags) -> Flags
     ensures { result ≡ model.result8_flags r f }
 {
@@ -16,6 +17,7 @@ pub(crate) fn result8_flags(r: u8, f: Flags) -> Flags
 }
 
 /// N and Z of a word, and the other flags as they were.
+#[inline(always)]
 pub(crate) fn result16_flags(r: u16, f: Flags) -> Flags
     ensures { result ≡ model.result16_flags r f }
 {
@@ -27,6 +29,7 @@ pub(crate) fn result16_flags(r: u16, f: Flags) -> Flags
 }
 
 /// AND, OR, EOR, BIT, LD, ST and TST of bytes: the flags of their result.
+#[inline(always)]
 pub fn logic8(r: u8, f: Flags) -> Flags
     ensures { result ≡ model.logic8_flags r f }
 {
@@ -37,6 +40,7 @@ pub fn logic8(r: u8, f: Flags) -> Flags
 }
 
 /// LD and ST of words: the flags of the word.
+#[inline(always)]
 pub fn logic16(r: u16, f: Flags) -> Flags
     ensures { result ≡ model.logic16_flags r f }
 {
@@ -47,6 +51,7 @@ pub fn logic16(r: u16, f: Flags) -> Flags
 }
 
 /// COM: each bit turned.
+#[inline(always)]
 pub fn com8(a: u8, f: Flags) -> (u8, Flags)
     ensures value { result.0 ≡ complement8 a }
     ensures flags { result.1 ≡ model.com8_flags a f }
@@ -61,6 +66,7 @@ pub fn com8(a: u8, f: Flags) -> (u8, Flags)
 }
 
 /// CLR: zero.
+#[inline(always)]
 pub fn clr8(f: Flags) -> (u8, Flags)
     ensures value { result.0 ≡ 0 }
     ensures flags { result.1 ≡ model.clr_flags f }
@@ -76,6 +82,7 @@ pub fn clr8(f: Flags) -> (u8, Flags)
 }
 
 /// LEAX and LEAY: the flags of the address.
+#[inline(always)]
 pub fn lea(address: u16, f: Flags) -> Flags
     ensures { result ≡ model.lea_flags address f }
 {

@@ -33,6 +33,7 @@ fn shift_right(a: u8, high: bool, f: Flags) -> (u8, Flags)
 }
 
 /// ASL, which is LSL too: to the left, with 0 coming in.
+#[inline(always)]
 pub fn asl8(a: u8, f: Flags) -> (u8, Flags)
     ensures value { result.0 ≡ left8 a false }
     ensures flags { result.1 ≡ left8_flags a false f }
@@ -41,6 +42,7 @@ pub fn asl8(a: u8, f: Flags) -> (u8, Flags)
 }
 
 /// ROL: to the left, with the carry coming in.
+#[inline(always)]
 pub fn rol8(a: u8, f: Flags) -> (u8, Flags)
     ensures value { result.0 ≡ left8 a f.c }
     ensures flags { result.1 ≡ left8_flags a f.c f }
@@ -49,6 +51,7 @@ pub fn rol8(a: u8, f: Flags) -> (u8, Flags)
 }
 
 /// LSR: to the right, with 0 coming in.
+#[inline(always)]
 pub fn lsr8(a: u8, f: Flags) -> (u8, Flags)
     ensures value { result.0 ≡ right8 a false }
     ensures flags { result.1 ≡ right8_flags a false f }
@@ -57,6 +60,7 @@ pub fn lsr8(a: u8, f: Flags) -> (u8, Flags)
 }
 
 /// ROR: to the right, with the carry coming in.
+#[inline(always)]
 pub fn ror8(a: u8, f: Flags) -> (u8, Flags)
     ensures value { result.0 ≡ right8 a f.c }
     ensures flags { result.1 ≡ right8_flags a f.c f }
@@ -65,6 +69,7 @@ pub fn ror8(a: u8, f: Flags) -> (u8, Flags)
 }
 
 /// ASR: to the right, with the sign staying.
+#[inline(always)]
 pub fn asr8(a: u8, f: Flags) -> (u8, Flags)
     ensures value { result.0 ≡ right8 a (is_negative8 a) }
     ensures flags { result.1 ≡ right8_flags a (is_negative8 a) f }

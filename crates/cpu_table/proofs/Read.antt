@@ -108,6 +108,13 @@ page_read Base opcode rest h =
 page_read Ten opcode rest h = refl
 page_read Eleven opcode rest h = refl
 
+-- an opcode of the first page is read by its row
+pub first_read : (opcode : ℕ) (rest : List ℕ) (line : Row) → row Base opcode ≡ Some line →
+    reading (opcode ∷ rest) ≡ read_operand Base opcode 1 line.1 rest
+first_read opcode rest line e =
+    let some : IsSome (row Base opcode) = rw e refl in
+    page_read Base opcode rest some ∙ rw e refl
+
 -- every documented instruction is read from its spelling, whatever follows
 pub spelling_read : (i : Instr) (rest : List ℕ) → IsDocumented i → reading (spelling i ++ rest) ≡ Ok (plain i, length (spelling i))
 spelling_read i rest h =

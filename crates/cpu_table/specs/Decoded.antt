@@ -1,6 +1,5 @@
 -- An instruction that was read, with its row of the opcode map.
-use Rattle.std.specs.Prelude.{◌≡◌, ℕ, Some, Result, Ok, Err, IfOk}
-use Rattle.cpu_model.specs.declared.instruction.Instr.{Instr}
+use Rattle.std.specs.Prelude.{◌≡◌, Some, Result, Ok, Err, IfOk}
 use Rattle.cpu_model.specs.declared.instruction.DecodeFault.{DecodeFault}
 use Rattle.cpu_model.specs.Table.{row}
 use Rattle.cpu_model.specs.Reading.{Reading}

@@ -1,4 +1,4 @@
-ghost use Rattle.std.specs.Prelude.{◌≡◌, ◌↔◌, ℕ, ◌≤◌, None, IfOk, []};
+ghost use Rattle.std.specs.Prelude.{◌≡◌, ◌↔◌, ℕ, ◌≤◌, None, IfOk, [], ◌∷◌};
 ghost use Rattle.cpu_model.specs.Reading as model;
 ghost use Rattle.cpu_model.specs.Table as tables;
 ghost use Rattle.cpu_model.specs.declared.instruction.Instr.{Instr};
@@ -180,29 +180,73 @@ pub struct Decoded {
     pub row: Row,
 }
 
-/// The instruction whose opcode, of this page, is the first of `bytes`, with `length` bytes up to
-/// and with it.
+/// The instruction of this row of the opcode map, whose bytes after the opcode are the first of
+/// `rest`, with `length` bytes up to and with the opcode.
 #[inline(always)]
-fn from_opcode(page: Page, length: u8, bytes: &[u8]) -> Result<Decoded, DecodeFault>
+fn from_row(
+    page: Page,
+    opcode: u8,
+    length: u8,
+    row: Row,
+    rest: &[u8],
+) -> Result<Decoded, DecodeFault>
     requires { length ≤ 2 }
-    ensures value { reading_of result ≡ model.read_opcode page length bytes.now }
+    ensures value { reading_of result ≡ model.read_operand page opcode length row.1 rest.now }
+    ensures row { IfOk result (λ found. found.row ≡ row) }
+    ensures head { IfOk result
+        (λ found. (found.instr.page ≡ page) × (found.instr.opcode ≡ opcode)) }
+{
+    let head = Head {
+        page,
+        opcode,
+        post: None,
+        length,
+    };
+    let (instr, length) = with_operand(head, row.1, rest)?;
+    Ok(Decoded { instr, length, row })
+}
+
+/// The instruction whose opcode, of a page with a prefix, is the first of `bytes`.
+#[inline(always)]
+fn from_opcode(page: Page, bytes: &[u8]) -> Result<Decoded, DecodeFault>
+    ensures value { reading_of result ≡ model.read_opcode page 2 bytes.now }
     ensures row { IfOk result HasItsRow }
 {
     match bytes {
         [opcode, rest @ ..] => match row(page, *opcode) {
-            Some(row) => {
-                let head = Head {
-                    page,
-                    opcode: *opcode,
-                    post: None,
-                    length,
-                };
-                let (instr, length) = with_operand(head, row.1, rest)?;
-                Ok(Decoded { instr, length, row })
-            }
+            Some(row) => from_row(page, *opcode, 2, row, rest),
             None => Err(DecodeFault::NotDocumented),
         },
         [] => Err(DecodeFault::Short),
+    }
+}
+
+/// The instruction that begins with this prefix or with an opcode that is not documented, and goes
+/// on with these bytes.
+#[inline(always)]
+#[tactic(auto, unfolding(cpu_model::specs::Reading::reading))]
+fn from_prefix(first: u8, rest: &[u8]) -> Result<Decoded, DecodeFault>
+    requires { tables.row Page.Base first ≡ None }
+    ensures value { reading_of result ≡ model.reading (first ∷ rest.now) }
+    ensures row { IfOk result HasItsRow }
+{
+    let page = match first {
+        0x10 => Page::Ten,
+        0x11 => Page::Eleven,
+        _ => return Err(DecodeFault::NotDocumented),
+    };
+    from_opcode(page, rest)
+}
+
+/// The instruction that begins with this byte and goes on with these.
+#[inline(always)]
+fn from_first(first: u8, rest: &[u8]) -> Result<Decoded, DecodeFault>
+    ensures value { reading_of result ≡ model.reading (first ∷ rest.now) }
+    ensures row { IfOk result HasItsRow }
+{
+    match row(Page::Base, first) {
+        Some(row) => from_row(Page::Base, first, 1, row, rest),
+        None => from_prefix(first, rest),
     }
 }
 
@@ -216,11 +260,7 @@ pub fn decode_with_row(bytes: &[u8]) -> Result<Decoded, DecodeFault>
 {
     match bytes {
         [] => Err(DecodeFault::Short),
-        [first, rest @ ..] => match *first {
-            0x10 => from_opcode(Page::Ten, 2, rest),
-            0x11 => from_opcode(Page::Eleven, 2, rest),
-            _ => from_opcode(Page::Base, 1, bytes),
-        },
+        [first, rest @ ..] => from_first(*first, rest),
     }
 }
 

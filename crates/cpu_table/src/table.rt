@@ -28,5 +28,5 @@ pub fn row(page: Page, opcode: u8) -> Option<Row>
 pub fn postbyte(post: u8) -> Option<Indexing>
     ensures { result ≡ model.postbyte post }
 {
-    POSTBYTES[(post >> 4) as usize][(post & 0x0F) as usize]
+    POSTBYTES[post as usize]
 }

@@ -1,0 +1,25 @@
+-- Instructions one after another.
+use Rattle.std.specs.Prelude.{◌≡◌, ℕ, zero, suc, ◌<◌}
+use Rattle.os9_base.specs.declared.registers.Regs.{Regs}
+use Rattle.os9_base.specs.Cells.{Cells}
+use Rattle.cpu_model.specs.declared.stop.Stop.{Stop}
+use Rattle.cpu_model.specs.declared.stop.Stop.TheVariants.{Next}
+use Rattle.cpu_model.specs.Step.{step_of, Leaves}
+use Rattle.cpu6809.specs.declared.execution.Ran.{Ran}
+
+-- so many instructions, each followed by the next one, lead from registers and cells to others
+abbrev pub FollowOn : ℕ → Regs → Cells → Regs → Cells → Type 0
+FollowOn zero r cells after now = (after ≡ r) × (now ≡ cells)
+FollowOn (suc k) r cells after now =
+    (next : Regs) × (held : Cells) × Leaves (step_of cells r) Next r next cells held × FollowOn k next held after now
+
+-- so many of n instructions were followed by the next one; the run ended there, with all of them or with one that stops
+abbrev pub EndsAfter : ℕ → ℕ → Stop → Regs → Cells → Regs → Cells → Type 0
+EndsAfter n followed Next r cells after now = (followed ≡ n) × (after ≡ r) × (now ≡ cells)
+EndsAfter n followed stop r cells after now = (followed < n) × Leaves (step_of cells r) stop r after cells now
+
+-- a run of at most n instructions from registers and cells to others
+abbrev pub Runs : ℕ → Ran → Regs → Cells → Regs → Cells → Type 0
+Runs n ran r cells after now =
+    (last : Regs) × (held : Cells) × FollowOn ran.followed r cells last held
+    × EndsAfter n ran.followed ran.stop last held after now
