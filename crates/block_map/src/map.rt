@@ -200,8 +200,9 @@ impl Map {
         len <= SLOTS - first && name_nothing(&self.places[first..first + len])
     }
 
-    // The first slot of the highest run of so many slots that name nothing.
-    fn highest_free_run(&self, len: u8) -> Option<u8>
+    /// The first slot of the highest run of so many slots that name nothing; None if there is no
+    /// such run.
+    pub fn highest_free_run(&self, len: u8) -> Option<u8>
         requires { 1 ≤ len }
         ensures none { IfNone result ((first : ℕ) → IsFreeRun self.now first len → ⊥) }
         ensures highest { IfSome result (IsHighestFreeRun self.now len) }

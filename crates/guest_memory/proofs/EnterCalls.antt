@@ -1,5 +1,5 @@
 -- What a module that is entered comes to for the whole memory.
-use Rattle.std.proofs.Common.{◌≡◌, ℕ, ◌+◌, ◌*◌, ◌≤◌, Bool, Option, Some, None, IsSome, option_map, List, ◌++◌, length, sym, ap, ◌∙◌, subst}
+use Rattle.std.proofs.Common.{◌<◌, ◌≡◌, ℕ, ◌+◌, ◌*◌, ◌≤◌, Bool, Option, Some, None, IsSome, option_map, List, ◌++◌, length, sym, ap, ◌∙◌, subst}
 use Rattle.std.specs.Prelude.{IsSomeAnd}
 use Rattle.std.proofs.lemmas.Option.{same_Some}
 use Rattle.block_pool.specs.Blocks.{Blocks, IsPool}
@@ -40,10 +40,10 @@ module _ (pool : Blocks) (maps : List (Slots BlockId)) (entries : List (Option M
     later_is : later ≡ with_module_entry entries place (beside pool maps entries sound number entry is place free info)
     later_is = list ∙ sym (λ i. with_module_entry entries place (new_entry info (same_group i) (same_boot i)))
 
-    pub sound-beside : IsSomeAnd (module_entry_at entries number) (λ entry. info.at + info.size ≤ 8192 * length entry.group) → IsSound pool maps later
-    sound-beside inside =
+    pub sound-beside : IsSomeAnd (module_entry_at entries number) (λ entry. info.at + info.size ≤ 8192 * length entry.group) → info.entry < info.size → IsSound pool maps later
+    sound-beside inside runs =
         subst (IsSound pool maps) (sym later_is)
-        (IsSound-beside pool maps entries sound number entry is place free info (some_and (λ entry. info.at + info.size ≤ 8192 * length entry.group) (module_entry_at entries number) entry is inside))
+        (IsSound-beside pool maps entries sound number entry is place free info (some_and (λ entry. info.at + info.size ≤ 8192 * length entry.group) (module_entry_at entries number) entry is inside) runs)
 
     pub tied-beside : (m : MemoryState) → RepresentMemory pool maps entries m → RepresentMemory pool maps later (entered_beside m number info)
     tied-beside m tied =
@@ -52,9 +52,9 @@ module _ (pool : Blocks) (maps : List (Slots BlockId)) (entries : List (Option M
 
 -- the file is loaded and its module is entered
 module _ (pool after : Blocks) (maps : List (Slots BlockId)) (entries : List (Option ModuleEntry)) (sound : IsSound pool maps entries) (file : List ℕ) (ids : List BlockId) (gains : GainsBlocks pool ids (file_objects file) after) (place : ℕ) (free : free_number entries ≡ Some place) (info : ModuleInfo) (is_boot : Bool) (later : List (Option ModuleEntry)) (list : later ≡ with_module_entry entries place (new_entry info (numbers_of ids) is_boot)) where
-  pub sound-enter : 1 ≤ length ids → length ids ≤ 7 → info.at + info.size ≤ 8192 * length ids → IsPool after → IsSound after maps later
-  sound-enter some few inside shape =
-      subst (IsSound after maps) (sym list) (IsSound-entered pool after maps entries sound file ids gains place free info is_boot some few inside shape)
+  pub sound-enter : 1 ≤ length ids → length ids ≤ 7 → info.at + info.size ≤ 8192 * length ids → info.entry < info.size → IsPool after → IsSound after maps later
+  sound-enter some few inside runs shape =
+      subst (IsSound after maps) (sym list) (IsSound-entered pool after maps entries sound file ids gains place free info is_boot some few inside runs shape)
 
   pub tied-enter : length ids ≡ file_blocks file → (m : MemoryState) → RepresentMemory pool maps entries m → RepresentMemory after maps later (record m { objects = m.objects ++ file_objects file; modules = with_module m.modules info (new_numbers m (file_blocks file)) is_boot })
   tied-enter size m tied =

@@ -37,7 +37,7 @@ module _ (pool : Blocks) (maps : List (Slots BlockId)) (entries : List (Option M
   abbrev slot_is : Option ℕ
   slot_is = option_and_then (λ entry. group_slot (numbered_map (get_or maps process no_slots)) entry.group) (module_entry_at entries number)
 
-  slot_of_entry : option_and_then (λ entry. group_slot (numbered_map (get_or maps process no_slots)) entry.group) (module_entry_at entries number) ≡ block_slot slots entry.group
+  pub slot_of_entry : option_and_then (λ entry. group_slot (numbered_map (get_or maps process no_slots)) entry.group) (module_entry_at entries number) ≡ block_slot slots entry.group
   slot_of_entry = ap (option_and_then (λ (entry : ModuleEntry). group_slot (numbered_map (get_or maps process no_slots)) entry.group)) is
 
   pub slot-tied : (m : MemoryState) → RepresentMemory pool maps entries m → option_and_then (λ entry. group_slot (numbered_map (get_or maps process no_slots)) entry.group) (module_entry_at entries number) ≡ group_slot (map_at m process) (group_at m number)

@@ -1,1 +1,2 @@
 pub mod Tie
+pub mod Running

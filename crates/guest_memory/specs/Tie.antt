@@ -1,9 +1,12 @@
 -- How the kernel's memory is tied to that of the machine.
-use Rattle.std.specs.Prelude.{◌≡◌, ℕ, Option, Some, None, option_and_then, Result, Ok, Err, IsOk, List, slice_index_or}
+use Rattle.std.specs.Prelude.{◌≡◌, ℕ, Option, Some, None, option_and_then, Result, Ok, Err, IsOk, List, length, slice_index_or}
+use Rattle.std.specs.Option.{option_map_or}
+use Rattle.os9_base.specs.Cells.{Cells}
 use Rattle.block_map.specs.Window.{map_cells}
 use Rattle.proc_model.specs.declared.memory.MemoryFault.{MemoryFault}
-use Rattle.proc_model.specs.Memory.{MemoryState}
+use Rattle.proc_model.specs.Memory.{MemoryState, map_at}
 use Rattle.proc_model.specs.ModuleList.{ModuleEntry, module_entry_at}
+use Rattle.proc_model.specs.Objects.{object_cells}
 use Rattle.proc_model.specs.Slots.{no_slots, group_slot}
 use Rattle.memory_laws.specs.Memory.{RepresentMemory}
 use Rattle.memory_laws.specs.Renaming.{numbered_map}
@@ -26,6 +29,10 @@ Answers (Err fault) before result new = (result ≡ Err fault) × Represents new
 abbrev pub modules_of : Memory → List (Option ModuleEntry)
 modules_of memory = memory.dir
 
+-- how many blocks the group of an entered module has
+abbrev pub group_len : Memory → ℕ → ℕ
+group_len memory number = option_map_or (λ entry. length entry.group) (module_entry_at memory.dir number) 0
+
 -- the slot at which the group of an entered module begins in the map of a process, if it is mapped there
 abbrev pub slot_of_group : Memory → ℕ → ℕ → Option ℕ
 slot_of_group memory process number =
@@ -40,3 +47,13 @@ MapsGroup None before result new = (result ≡ None) × Represents new before
 -- the byte that a process sees at each address, or nothing where the address is not named
 abbrev pub cells_of : Memory → ℕ → ℕ → Option ℕ
 cells_of memory process = map_cells (slice_index_or memory.maps.items process no_slots) memory.pool
+
+-- the byte that a process of the machine sees at each address
+abbrev pub seen_cells : MemoryState → ℕ → Cells
+seen_cells m process = object_cells m.objects (map_at m process).places
+
+-- memory is the same for all that callers may know of it
+pub record IsSame (before after : Memory) : Type 0 where
+  pub modules : modules_of after ≡ modules_of before
+  pub cells : (process : ℕ) → cells_of after process ≡ cells_of before process
+  pub represents : (m : MemoryState) → Represents before m → Represents after m

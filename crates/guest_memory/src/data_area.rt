@@ -1,7 +1,7 @@
-ghost use Rattle.std.specs.Prelude.{◌<◌};
+ghost use Rattle.std.specs.Prelude.{◌≡◌, ◌<◌};
 ghost use Rattle.proc_model.specs.Memory.{MemoryState};
 ghost use Rattle.proc_model.specs.MemoryChanges.{grown, cut as cut_lem, cleared};
-ghost use Rattle.guest_memory.specs.Tie.{Represents, Answers};
+ghost use Rattle.guest_memory.specs.Tie.{Represents, Answers, modules_of};
 
 use crate::memory::Memory;
 use block_map::map::MapFault;
@@ -17,8 +17,9 @@ impl Memory {
     /// fewer; else `NoRam` exactly where fewer blocks are free. Nothing has changed then.
     pub fn grow(&mut self, p: Pid, count: u8) -> Result<(), MemoryFault>
         requires { p.0 < 33 }
-        ensures { (m : MemoryState) → Represents self.old m
+        ensures grows { (m : MemoryState) → Represents self.old m
             → Answers (grown m p.0 count) m result self.new }
+        ensures modules { modules_of self.new ≡ modules_of self.old }
     {
         let map = &mut self.maps[p.0 as usize];
         match map.map_low(&mut self.pool, count) {
@@ -31,8 +32,9 @@ impl Memory {
     /// At most so many blocks of a process's data area are kept, the first ones (F$Mem).
     pub fn cut(&mut self, p: Pid, count: u8)
         requires { p.0 < 33 }
-        ensures { (m : MemoryState) → Represents self.old m
+        ensures cuts { (m : MemoryState) → Represents self.old m
             → Represents self.new (cut_lem m p.0 count) }
+        ensures modules { modules_of self.new ≡ modules_of self.old }
     {
         self.maps[p.0 as usize].cut_low(&mut self.pool, count);
     }

@@ -22,8 +22,8 @@ use proc_model::module::{ModId, ModuleInfo};
 
 impl Memory {
     /// Loads the file of a module into new blocks, zeros behind it, and enters the module
-    /// (F$Load). The file has at most 57,344 bytes, the module lies in it, and the directory does
-    /// not know the module and has room for it.
+    /// (F$Load). The file has at most 57,344 bytes, the module lies in it and begins to run in itself,
+    /// and the directory does not know the module and has room for it.
     ///
     /// # Errors
     ///
@@ -37,6 +37,7 @@ impl Memory {
         requires some { 0 < length file.now }
         requires short { length file.now ≤ MOST_GROUP_BYTES }
         requires inside { info.at + info.size ≤ length file.now }
+        requires runs { info.entry < info.size }
         requires accepted { entry_refusal (modules_of self.old) info ≡ None }
         ensures enters { (m : MemoryState) → Represents self.old m
             → Answers (entered m file.now info is_boot) m result self.new }
@@ -49,12 +50,13 @@ impl Memory {
         Ok(enter_module(&mut self.dir, info, group, is_boot))
     }
 
-    /// Enters one more module of the file of an entered module (F$Load). It lies in the file, and
-    /// the directory does not know it and has room for it.
+    /// Enters one more module of the file of an entered module (F$Load). It lies in the file and
+    /// begins to run in itself, and the directory does not know it and has room for it.
     pub fn enter_beside(&mut self, id: ModId, info: ModuleInfo) -> ModId
         requires entered { IsSome (module_entry_at (modules_of self.old) id.0) }
         requires inside { IsSomeAnd (module_entry_at (modules_of self.old) id.0)
             (λ entry. info.at + info.size ≤ 8192 * length entry.group) }
+        requires runs { info.entry < info.size }
         requires accepted { entry_refusal (modules_of self.old) info ≡ None }
         ensures enters { (m : MemoryState) → Represents self.old m
             → Represents self.new (entered_beside m id.0 info) }

@@ -1,12 +1,12 @@
 //! The groups of entered modules in the maps of processes.
 
-ghost use Rattle.std.specs.Prelude.{◌≡◌, ◌<◌, None, IsSome, option_map, position};
+ghost use Rattle.std.specs.Prelude.{◌≡◌, ◌+◌, ◌<◌, ◌≤◌, None, IsSome, IfSome, option_map, position};
 ghost use Rattle.proc_model.specs.declared.group.BlockId.{BlockId};
 ghost use Rattle.proc_model.specs.Memory.{MemoryState, map_at, group_at};
 ghost use Rattle.proc_model.specs.MemoryChanges.{group_mapped, group_unmapped};
 ghost use Rattle.proc_model.specs.ModuleList.{module_entry_at};
 ghost use Rattle.proc_model.specs.Slots.{place_names, group_slot as group_slot_lem};
-ghost use Rattle.guest_memory.specs.Tie.{Represents, MapsGroup, modules_of, slot_of_group};
+ghost use Rattle.guest_memory.specs.Tie.{Represents, MapsGroup, modules_of, group_len, slot_of_group};
 
 use crate::memory::Memory;
 use block_map::map::Map;
@@ -24,6 +24,8 @@ impl Memory {
         ensures slot { result ≡ slot_of_group self.now p.0 id.0 }
         ensures tied { (m : MemoryState) → Represents self.now m
             → result ≡ group_slot_lem (map_at m p.0) (group_at m id.0) }
+        ensures fits { IfSome result (λ slot. slot + group_len self.now id.0 ≤ 8) }
+        ensures some { 1 ≤ group_len self.now id.0 }
     {
         let first = self.dir.group(id).blocks[0];
         slot_of(&self.maps[p.0 as usize], first)
@@ -36,8 +38,9 @@ impl Memory {
         requires process { p.0 < 33 }
         requires entered { IsSome (module_entry_at (modules_of self.old) id.0) }
         requires unmapped { slot_of_group self.old p.0 id.0 ≡ None }
-        ensures { (m : MemoryState) → Represents self.old m
+        ensures maps { (m : MemoryState) → Represents self.old m
             → MapsGroup (group_mapped m p.0 (group_at m id.0)) m result self.new }
+        ensures modules { modules_of self.new ≡ modules_of self.old }
     {
         let group = self.dir.group(id);
         match self.maps[p.0 as usize].map_group(&mut self.pool, &group) {
@@ -51,8 +54,9 @@ impl Memory {
     pub fn unmap(&mut self, p: Pid, id: ModId)
         requires process { p.0 < 33 }
         requires entered { IsSome (module_entry_at (modules_of self.old) id.0) }
-        ensures { (m : MemoryState) → Represents self.old m
+        ensures unmaps { (m : MemoryState) → Represents self.old m
             → Represents self.new (group_unmapped m p.0 (group_at m id.0)) }
+        ensures modules { modules_of self.new ≡ modules_of self.old }
     {
         if let Some(slot) = self.group_slot(p, id) {
             self.maps[p.0 as usize].unmap(&mut self.pool, slot);

@@ -9,6 +9,8 @@ mod groups;
 mod links;
 pub mod memory;
 mod new;
+mod reading;
+mod running;
 mod start;
 
 #[cfg(test)]

@@ -1,4 +1,4 @@
-ghost use Rattle.std.specs.Prelude.{◌≡◌, ◌≢◌, ◌<◌, IsSome, IsSomeAnd, All, AllPairs};
+ghost use Rattle.std.specs.Prelude.{◌≡◌, ◌≢◌, ℕ, ◌<◌, is_some, IsSome, IsSomeAnd, All, AllPairs};
 ghost use Rattle.block_map.specs.TakenBlocks.{group_blocks, pool_after_giving};
 ghost use Rattle.block_pool.specs.Blocks.{IsPool, IsLive};
 ghost use Rattle.proc_model.specs.Memory.{MemoryState};
@@ -24,7 +24,10 @@ impl Memory {
     pub fn link(&mut self, id: ModId)
         requires { IsSomeAnd (module_entry_at (modules_of self.old) id.0)
             (λ entry. entry.links < 65535) }
-        ensures { (m : MemoryState) → Represents self.old m → Represents self.new (linked m id.0) }
+        ensures links { (m : MemoryState) → Represents self.old m
+            → Represents self.new (linked m id.0) }
+        ensures entered { (number : ℕ) → is_some (module_entry_at (modules_of self.new) number)
+            ≡ is_some (module_entry_at (modules_of self.old) number) }
     {
         self.dir.link(id);
     }

@@ -25,8 +25,9 @@ impl Memory {
     pub fn start(&mut self, p: Pid, id: ModId, blocks: u8) -> Result<(), MemoryFault>
         requires process { p.0 < 33 }
         requires entered { IsSome (module_entry_at (modules_of self.old) id.0) }
-        ensures { (m : MemoryState) → Represents self.old m
+        ensures starts { (m : MemoryState) → Represents self.old m
             → Answers (started m p.0 id.0 blocks) m result self.new }
+        ensures modules { modules_of self.new ≡ modules_of self.old }
     {
         let group = self.dir.group(id);
         if self.dir.links(id) >= u32::from(MOST_LINKS) {

@@ -53,6 +53,7 @@ IsGrouped-as entry was group_is info_is grouped = record {
   few = subst (λ (g : List ℕ). length g ≤ 7) (sym group_is) grouped.few;
   once = subst (λ (g : List ℕ). (one other : ℕ) → one < length g → other < length g → get_or g one 0 ≡ get_or g other 0 → one ≡ other) (sym group_is) grouped.once;
   inside = omega (arith, grouped.inside, ap (λ (g : List ℕ). length g) group_is, ap (λ (i : ModuleInfo). i.at) info_is, ap (λ (i : ModuleInfo). i.size) info_is);
+  runs = subst (λ (i : ModuleInfo). i.entry < i.size) (sym info_is) grouped.runs;
 }
 
 pub AreGrouped-kept : (entries later : List (Option ModuleEntry)) → AreGrouped entries → AreKept entries later → AreGrouped later

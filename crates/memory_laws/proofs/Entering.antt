@@ -114,11 +114,11 @@ module _ (pool : Blocks) (maps : List (Slots BlockId)) (entries : List (Option M
   abbrev pub beside : ModuleEntry
   beside = new_entry info entry.group entry.is_boot
 
-  pub IsSound-beside : info.at + info.size ≤ 8192 * length entry.group → IsSound pool maps (with_module_entry entries place beside)
-  IsSound-beside inside =
+  pub IsSound-beside : info.at + info.size ≤ 8192 * length entry.group → info.entry < info.size → IsSound pool maps (with_module_entry entries place beside)
+  IsSound-beside inside runs =
       let later = with_module_entry entries place beside in
       let was = sound.groups.each number entry is in
-      let grouped : IsGrouped beside = record { some = was.some; few = was.few; once = was.once; inside = inside } in
+      let grouped : IsGrouped beside = record { some = was.some; few = was.few; once = was.once; inside = inside; runs = runs } in
       let all = AreGrouped-entry entries place free beside sound.groups grouped (λ other another at block has has_too. sound.groups.same number other entry another is at block has has_too) in
       let back = λ (block : ℕ) (has : HasBlock later block).
       elim (HasBlock-either entries place free beside block has) as (λ _. HasBlock entries block) [
@@ -188,9 +188,9 @@ module _ (pool after : Blocks) (maps : List (Slots BlockId)) (entries : List (Op
             ]
       ]
 
-  module _ (some : 1 ≤ length ids) (few : length ids ≤ 7) (inside : info.at + info.size ≤ 8192 * length ids) where
+  module _ (some : 1 ≤ length ids) (few : length ids ≤ 7) (inside : info.at + info.size ≤ 8192 * length ids) (runs : info.entry < info.size) where
     grouped : IsGrouped (new_entry info (numbers_of ids) is_boot)
-    grouped = record { some = omega (arith, many); few = omega (arith, many); once = new_once; inside = omega (arith, many) }
+    grouped = record { some = omega (arith, many); few = omega (arith, many); once = new_once; inside = omega (arith, many); runs = runs }
 
     all_after : AreGrouped (with_module_entry entries place (new_entry info (numbers_of ids) is_boot))
     all_after =

@@ -149,7 +149,7 @@ module _ (number : ℕ → ℕ) (slots : Slots BlockId) (pool : Blocks) (objects
           rw (slot_of-renamed number slots.places (address / 8192), is, stand_for.same_bytes id.0 alive, live) refl
 
   -- the objects make a map where the blocks do
-  IsMap-renamed : IsSlotMap slots → NamesObjects objects places
+  pub IsMap-renamed : IsSlotMap slots → NamesObjects objects places
   IsMap-renamed map = record {
     there = λ slot object named.
         let here = names slot object named in

@@ -30,6 +30,8 @@ pub record IsGrouped (entry : ModuleEntry) : Type 0 where
       → slice_index entry.group one ≡ slice_index entry.group other → one ≡ other
   -- the module lies in it
   pub inside : entry.info.at + entry.info.size ≤ 8192 * length entry.group
+  -- it begins to run in itself
+  pub runs : entry.info.entry < entry.info.size
 
 -- what holds of all entered modules
 pub record AreGrouped (entries : List (Option ModuleEntry)) : Type 0 where

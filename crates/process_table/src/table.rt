@@ -1,7 +1,7 @@
 ghost use Rattle.std.specs.Prelude.{◌≡◌, ◌<◌, IsSome, IfOk, IfSome, Some, None, option_map, is_some, map, replicate, slice_set};
 ghost use Rattle.std.specs.Result.{result_err};
 ghost use Rattle.proc_rules.specs.Records.{IsLiving, AreRecords, record_of, record_at, after_make, free_process as free_process_lem, with_user, with_priority, with_regs, with_waiting, IsProcess};
-ghost use Rattle.proc_rules.specs.Ends.{reaped, after_reap, after_exit, orphaned, status_of};
+ghost use Rattle.proc_rules.specs.Ends.{reaped, after_reap, after_exit, orphaned, end_status};
 ghost use Rattle.proc_rules.specs.Signals.{is_reached, send_fault, after_send, intercept_of, with_intercept, with_signal};
 
 use crate::list::{empty_places, ended_child, free_process, has_child, orphan};
@@ -58,6 +58,15 @@ impl Table {
         let p = free_process(&self.records)?;
         self.put(p, Some(new_record(parent, user, priority)));
         Some(p)
+    }
+
+    /// The least number from 2 to 32 that no record has; None if there are 31 records.
+    pub fn free(&self) -> Option<Pid>
+        ensures number { option_map (λ p. p.0) result ≡ free_process_lem self.now }
+        ensures process { IfSome result (λ p. IsProcess p.0) }
+        ensures shape { AreRecords self.now }
+    {
+        free_process(&self.records)
     }
 
     /// What a process is doing; None if it has no record.
@@ -311,7 +320,7 @@ impl Table {
     /// The status with which a process has ended.
     fn status(&self, p: Pid) -> u8
         requires { IsSome (record_of self.now p.0) }
-        ensures status { result ≡ status_of (record_at self.now p.0).life }
+        ensures status { result ≡ end_status (record_at self.now p.0).life }
         ensures shape { AreRecords self.now }
     {
         match self.record(p).life {

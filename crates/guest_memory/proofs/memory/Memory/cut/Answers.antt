@@ -11,8 +11,8 @@ invariant_of-self c =
       sound = sound-cut m.pool m.maps.items m.dir m.sound c.args.p.0 c.requires c.index_mut.result.now c.index_mut.ensures.value c.args.count c.cut_low.new.self c.cut_low.new.pool done.whole done.cut done.given done.live done.shape done.pool;
     }
 
-pub returns : goal.returns
-returns c =
+pub returns-clause-cuts : goal.returns-clause-cuts
+returns-clause-cuts c =
     let m = c.args.self.now in
     let done = c.cut_low.ensures in
     tied-cut m.pool m.maps.items m.dir m.sound c.args.p.0 c.requires c.index_mut.result.now c.index_mut.ensures.value c.args.count c.cut_low.new.self c.cut_low.new.pool done.whole done.cut done.given

@@ -18,7 +18,7 @@ invariant_of-self c =
     let m = c.args.self.now in
     let group = c.load_group-group.result in
     let size : length (group_blocks group) ≡ group.len = length-take-le group.len group.blocks (omega (arith, group.in_range)) in record {
-      sound = sound-enter m.pool c.load_group-group.new.pool m.maps.items m.dir m.sound c.args.file.now (group_blocks group) c.load_group-group.ensures.loaded c.enter_module.result.0 c.enter_module.ensures.number c.args.info c.args.is_boot c.enter_module.new.dir c.enter_module.ensures.list (omega arith) (omega arith) (omega arith) c.load_group-group.ensures.shape;
+      sound = sound-enter m.pool c.load_group-group.new.pool m.maps.items m.dir m.sound c.args.file.now (group_blocks group) c.load_group-group.ensures.loaded c.enter_module.result.0 c.enter_module.ensures.number c.args.info c.args.is_boot c.enter_module.new.dir c.enter_module.ensures.list (omega arith) (omega arith) (omega arith) c.requires.runs c.load_group-group.ensures.shape;
     }
 
 pub returns-clause-enters : goal.returns-clause-enters

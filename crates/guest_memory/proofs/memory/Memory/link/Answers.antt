@@ -9,7 +9,7 @@ invariant_of-self c =
       sound = sound-link m.pool m.maps.items m.dir m.sound c.args.id.0 (some_from (λ entry. entry.links < 65535) (module_entry_at m.dir c.args.id.0) c.requires) c.link.new.self c.link.ensures;
     }
 
-pub returns : goal.returns
-returns c =
+pub returns-clause-links : goal.returns-clause-links
+returns-clause-links c =
     let m = c.args.self.now in
     tied-link m.pool m.maps.items m.dir m.sound c.args.id.0 (some_from (λ entry. entry.links < 65535) (module_entry_at m.dir c.args.id.0) c.requires) c.link.new.self c.link.ensures

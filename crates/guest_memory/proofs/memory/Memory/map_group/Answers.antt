@@ -33,16 +33,16 @@ invariant_of-self c =
       sound = sound-map_group m.pool m.maps.items m.dir m.sound c.args.p.0 c.requires.process c.args.id.0 c.requires.entered c.group-group.result (omega arith) c.group-group.ensures c.requires.unmapped c.index_mut.result.now c.index_mut.ensures.value c.map_group.result c.map_group.new.self c.map_group.new.pool done.no_slot done.no_other_fault done.refused done.highest done.grouped done.shared done.live done.shape done.pool;
     }
 
-pub returns-in-Ok : goal.returns-in-Ok
-returns-in-Ok c =
+pub returns-in-Ok-clause-maps : goal.returns-in-Ok-clause-maps
+returns-in-Ok-clause-maps c =
     let m = c.args.self.now in
     let done = c.map_group.ensures in
     λ before tied.
     let comes = map-some m.pool m.maps.items m.dir m.sound c.args.p.0 c.requires.process c.args.id.0 c.requires.entered c.group-group.result (omega arith) c.group-group.ensures c.requires.unmapped c.index_mut.result.now c.index_mut.ensures.value c.map_group.result c.map_group.new.self c.map_group.new.pool done.no_slot done.no_other_fault done.refused done.highest done.grouped done.shared c.in-Ok.first c.in-Ok.is before tied in
     rw comes.0 (refl, comes.1)
 
-pub returns-in-Err : goal.returns-in-Err
-returns-in-Err c =
+pub returns-in-Err-clause-maps : goal.returns-in-Err-clause-maps
+returns-in-Err-clause-maps c =
     let m = c.args.self.now in
     let done = c.map_group.ensures in
     λ before tied.

@@ -10,8 +10,8 @@ use Rattle.guest_memory.proofs.GroupCalls.{many, same, some-len}
 use Rattle.guest_memory.proofs.StartCalls.{links_of, started-no_ram, started-ok, start-different, start-live, start-countable, start-unnamed, sound-start, tied-start}
 use Rattle.guest_memory.proofs.memory.Memory.start.Goals as goal
 
-pub returns-then-free_blocks-from : goal.returns-then-free_blocks-from
-returns-then-free_blocks-from c =
+pub returns-then-free_blocks-from-clause-starts : goal.returns-then-free_blocks-from-clause-starts
+returns-then-free_blocks-from-clause-starts c =
     let m = c.args.self.now in
     let area : c.index.result.now.low ≡ (map_of m.pool m.maps.items m.dir m.sound c.args.p.0).low = ap (λ (s : Slots BlockId). s.low) (is_map_of m.pool m.maps.items m.dir m.sound c.args.p.0 c.requires.process c.index.result.now c.index.ensures) in
     let size = many m.pool m.maps.items m.dir m.sound c.args.p.0 c.requires.process c.args.id.0 c.requires.entered c.group-group.result (omega arith) c.group-group.ensures in
@@ -71,8 +71,8 @@ invariant_of-self-2 c =
       sound = sound-start m.pool m.maps.items m.dir m.sound c.args.p.0 c.requires.process c.args.id.0 c.requires.entered c.group-group.result (omega arith) c.group-group.ensures c.args.blocks fits enough c.index_mut-map.result.now c.index_mut-map.ensures.value c.clear.new.self c.clear.new.pool c.clear.ensures.empty c.clear.ensures.given c.clear.ensures.shape c.clear.ensures.pool c.map_low.result c.map_low.new.self c.map_low.new.pool c.map_low.ensures.no_slot c.map_low.ensures.no_block c.map_low.ensures.refused c.map_low.ensures.gains c.map_low.ensures.shape c.map_group.result c.map_group.new.self c.map_group.new.pool c.map_group.ensures.no_slot c.map_group.ensures.no_other_fault c.map_group.ensures.refused c.map_group.ensures.highest c.map_group.ensures.grouped c.map_group.ensures.shared c.map_group.ensures.live c.map_group.ensures.shape c.map_group.ensures.pool;
     }
 
-pub returns : goal.returns
-returns c =
+pub returns-clause-starts : goal.returns-clause-starts
+returns-clause-starts c =
     let m = c.args.self.now in
     let area : c.index.result.now.low ≡ (map_of m.pool m.maps.items m.dir m.sound c.args.p.0).low = ap (λ (s : Slots BlockId). s.low) (is_map_of m.pool m.maps.items m.dir m.sound c.args.p.0 c.requires.process c.index.result.now c.index.ensures) in
     let enough : c.args.blocks ≤ free_block_count m.pool + (map_of m.pool m.maps.items m.dir m.sound c.args.p.0).low = omega arith in

@@ -9,8 +9,8 @@ invariant_of-self c =
       sound = sound-store m.pool c.store.new.self.pool.now m.maps.items m.dir m.sound c.args.p.0 c.requires.process c.index.result.now c.view.result.map.now c.store.new.self.map.now c.index.ensures (ap (λ map. map.now) c.view.ensures.map) (ap (λ map. map.now) beside.map) c.view.result.pool.now c.view.ensures.bytes beside.beyond;
     }
 
-pub returns : goal.returns
-returns c =
+pub returns-clause-stores : goal.returns-clause-stores
+returns-clause-stores c =
     let m = c.args.self.now in
     let beside = c.store.ensures.beside in
     tied-store m.pool c.store.new.self.pool.now m.maps.items m.dir m.sound c.args.p.0 c.requires.process c.index.result.now c.view.result.map.now c.store.new.self.map.now c.index.ensures (ap (λ map. map.now) c.view.ensures.map) (ap (λ map. map.now) beside.map) c.view.result.pool.now c.view.ensures.bytes beside.beyond c.args.at c.args.bytes.now c.requires.fits c.store.ensures.changed

@@ -18,8 +18,8 @@ invariant_of-self c =
       sound = sound-unmap m.pool m.maps.items m.dir m.sound c.args.p.0 c.requires.process c.args.id.0 c.requires.entered c.in-Some.slot (sym c.in-Some.ensures.slot) c.index_mut.result.now c.index_mut.ensures.value c.unmap.new.self c.unmap.new.pool done.cut done.given done.live done.shape done.pool;
     }
 
-pub returns-in-Some : goal.returns-in-Some
-returns-in-Some c =
+pub returns-in-Some-clause-unmaps : goal.returns-in-Some-clause-unmaps
+returns-in-Some-clause-unmaps c =
     let m = c.args.self.now in
     let done = c.unmap.ensures in
     tied-unmap m.pool m.maps.items m.dir m.sound c.args.p.0 c.requires.process c.args.id.0 c.requires.entered c.in-Some.slot (sym c.in-Some.ensures.slot) c.index_mut.result.now c.index_mut.ensures.value c.unmap.new.self c.unmap.new.pool done.cut done.given
