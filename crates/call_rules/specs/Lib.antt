@@ -1,6 +1,7 @@
 pub mod Attempts
 pub mod CallResult
 pub mod Chain
+pub mod Choice
 pub mod CmpNam
 pub mod Codes
 pub mod Crc

@@ -6,6 +6,7 @@ use Rattle.std.specs.Prelude.{ℕ, ◌+◌, ◌-◌, ◌*◌, ◌/◌, ◌%◌, 
 use Rattle.os9_base.specs.Cells.{Cells}
 use Rattle.os9_base.specs.Name.{parsed_name}
 use Rattle.os9_base.specs.declared.errors.TheConstants.{E_BPADDR, E_NEMOD, E_BNAM, E_MNF}
+use Rattle.os9_base.specs.declared.limits.TheConstants.{MOST_GROUP_BYTES}
 use Rattle.os9_base.specs.declared.registers.Regs.{Regs}
 use Rattle.proc_model.specs.ModuleList.{ModuleEntry}
 use Rattle.proc_model.specs.Memory.{MemoryState}
@@ -62,7 +63,7 @@ area_pages entry pages parameters = max 1 (max (page_count entry.info.storage) (
 
 -- the most pages of a data area
 abbrev pub most_pages : ℕ
-most_pages = 224
+most_pages = MOST_GROUP_BYTES / 256
 
 -- so many pages in blocks of 8,192 bytes
 abbrev pub blocks_of_pages : ℕ → ℕ

@@ -71,5 +71,5 @@ pub fn linked_modules_are_shared()
 /// The parent of a process that ends with status 228, as one does by an unnamed slot, is given it.
 pub fn an_aborted_child_has_its_status()
     ensures status { regs_after Call.Wait 2 (ended (after_forks 1 (forker 8)) 3 E_PRCABT)
-        ≡ record zero_regs { a = 3; b = 228; x = 1 } }
+        ≡ record zero_regs { a = 3; b = E_PRCABT; x = 1 } }
 {}

@@ -1,0 +1,21 @@
+-- The processes of a machine before the first one begins, and how many live.
+use Rattle.std.specs.Prelude.{ℕ, Option, None, List, [], replicate, count_by, not}
+use Rattle.os9_base.specs.declared.limits.TheConstants.{PROCESS_PLACES}
+use Rattle.proc_model.specs.Memory.{first_memory}
+use Rattle.proc_rules.specs.declared.record.Record.{Record}
+use Rattle.proc_rules.specs.Records.{record_passes, has_ended}
+use Rattle.call_rules.specs.Inner.{Inner, no_own}
+
+-- the state of a machine with so many blocks, in which there is no process and no slice was begun
+abbrev pub first_inner : ℕ → Inner
+first_inner blocks = record {
+  memory = first_memory blocks;
+  records = replicate PROCESS_PLACES None;
+  own = replicate PROCESS_PLACES no_own;
+  order = [];
+  tick = 0;
+}
+
+-- how many processes live
+abbrev pub living_count : List (Option Record) → ℕ
+living_count records = count_by (record_passes (λ r. not (has_ended r.life))) records

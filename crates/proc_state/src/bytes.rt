@@ -1,0 +1,44 @@
+//! The bytes of a process that a call reads.
+
+ghost use Rattle.std.specs.Prelude.{◌≡◌, ◌<◌, ◌≤◌, length};
+ghost use Rattle.std.specs.Bool.{OnTrue};
+ghost use Rattle.os9_base.specs.Cells.{FitsIn};
+ghost use Rattle.call_rules.specs.Inner.{Inner, cells_at};
+ghost use Rattle.call_rules.specs.UserBytes.{user_bytes};
+ghost use Rattle.guest_memory.specs.Tie.{IsSame as IsSameMemory, cells_of};
+ghost use Rattle.proc_state.specs.Tie.{Represents, IsSame, bytes_read};
+
+use crate::state::ProcState;
+use guest_memory::memory::Memory;
+use os9_base::registers::Pid;
+
+impl ProcState {
+    /// Reads so many bytes of a process from an address on into the front of the buffer, and
+    /// answers whether each of them is in a named slot and none past `FFFF`.
+    pub fn read_bytes(&mut self, p: Pid, at: u16, count: u16) -> bool
+        requires { p.0 < 33 }
+        ensures read { (m : Inner) → Represents self.old m
+            → user_bytes (cells_at m p.0) at count ≡ bytes_read result count self.new.buffer.items }
+        ensures fits { OnTrue result (FitsIn (cells_of self.new.memory p.0) at count) }
+        ensures same { IsSame self.old self.new }
+    {
+        read_front(&mut self.memory, p, at, count, &mut self.buffer)
+    }
+}
+
+/// Reads so many bytes of a process from an address on into the front of a buffer, if each of them
+/// is in a named slot and none past `FFFF`.
+fn read_front(memory: &mut Memory, p: Pid, at: u16, count: u16, into: &mut [u8]) -> bool
+    requires process { p.0 < 33 }
+    requires room { count ≤ length into.old }
+    ensures read { user_bytes (cells_of memory.old p.0) at count
+        ≡ bytes_read result count into.new }
+    ensures fits { OnTrue result (FitsIn (cells_of memory.new p.0) at count) }
+    ensures same { IsSameMemory memory.old memory.new }
+{
+    if !memory.fits(p, at, count) {
+        return false;
+    }
+    memory.load(p, at, &mut into[..count as usize]);
+    true
+}

@@ -1,0 +1,63 @@
+//! The end of a process.
+
+ghost use Rattle.std.specs.Prelude.{◌≡◌, IsSome};
+ghost use Rattle.std.specs.Option.{ForSome};
+ghost use Rattle.guest_memory.specs.Tie.{modules_of};
+ghost use Rattle.proc_model.specs.ModuleList.{module_entry_at};
+ghost use Rattle.proc_rules.specs.Records.{IsLiving};
+ghost use Rattle.call_rules.specs.End.{ended, without_process};
+ghost use Rattle.call_rules.specs.Inner.{Inner, no_own};
+ghost use Rattle.call_rules.specs.ModuleLinks.{without_primary_link};
+ghost use Rattle.proc_state.specs.Tie.{Represents};
+
+use crate::state::ProcState;
+use os9_base::registers::Pid;
+use proc_rules::own::Own;
+
+/// What a process has that is none.
+pub(crate) const NO_OWN: Own = Own {
+    size: 0,
+    primary: None,
+    links: [0; 8],
+    call: None,
+    until: None,
+    woken: false,
+};
+
+impl ProcState {
+    /// Ends a process with this status (F$Exit): it gives up one link of its primary module and its
+    /// whole map, and has no turn any more. Its parent may wait for its status.
+    pub fn end(&mut self, p: Pid, status: u8)
+        requires { IsLiving self.old.table p.0 }
+        ensures { (m : Inner) → Represents self.old m → Represents self.new (ended m p.0 status) }
+    {
+        let own = self.own(p);
+        self.unlink_primary(own);
+        self.leave(p, status);
+    }
+
+    /// Gives up the link of a process that has this to its primary module, if it has one.
+    pub fn unlink_primary(&mut self, own: Own)
+        requires { ForSome own.primary
+            (λ id. IsSome (module_entry_at (modules_of self.old.memory) id.0)) }
+        ensures tied { (m : Inner) → Represents self.old m
+            → Represents self.new (without_primary_link m own) }
+        ensures records { self.new.table ≡ self.old.table }
+    {
+        if let Some(id) = own.primary {
+            self.unlink_module(id);
+        }
+    }
+
+    /// A process lives no more, and has nothing.
+    fn leave(&mut self, p: Pid, status: u8)
+        requires { IsLiving self.old.table p.0 }
+        ensures { (m : Inner) → Represents self.old m
+            → Represents self.new (without_process m p.0 status) }
+    {
+        self.memory.clear(p);
+        self.table.exit(p, status);
+        self.sched.remove(p);
+        self.own[p.0 as usize] = NO_OWN;
+    }
+}

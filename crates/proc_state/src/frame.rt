@@ -1,0 +1,85 @@
+//! The frame of a delivery, and the registers before and after it.
+
+ghost use Rattle.std.specs.Prelude.{◌≡◌, ◌/◌, ◌%◌};
+ghost use Rattle.call_rules.specs.Attempts.{refused_regs as refused_regs_lem};
+ghost use Rattle.call_rules.specs.Delivery.{frame_bytes as frame_bytes_lem, routine_regs as routine_regs_lem, stack_top as stack_top_lem};
+
+use os9_base::registers::Regs;
+use proc_rules::record::Intercept;
+
+/// The bytes of a frame.
+pub const FRAME_BYTES: u16 = 12;
+
+/// The condition code E, of a frame with all registers.
+const ENTIRE: u8 = 128;
+
+/// The end of what lies below a stack pointer: that of 0 is at the end of memory.
+pub fn stack_top(stack: u16) -> u32
+    ensures { result ≡ stack_top_lem stack }
+{
+    if stack == 0 { 65_536 } else { u32::from(stack) }
+}
+
+/// The bytes of a frame, as they lie from its lowest address on: E is set in it.
+pub fn frame_bytes(regs: Regs) -> [u8; 12]
+    ensures { result ≡ frame_bytes_lem regs }
+{
+    let cc = if regs.cc < ENTIRE {
+        regs.cc + ENTIRE
+    } else {
+        regs.cc
+    };
+    [
+        cc,
+        regs.a,
+        regs.b,
+        regs.dp,
+        high(regs.x),
+        low(regs.x),
+        high(regs.y),
+        low(regs.y),
+        high(regs.u),
+        low(regs.u),
+        high(regs.pc),
+        low(regs.pc),
+    ]
+}
+
+/// The high byte of a word.
+fn high(word: u16) -> u8
+    ensures { result ≡ word / 256 }
+{
+    (word / 256) as u8
+}
+
+/// The low byte of a word.
+fn low(word: u16) -> u8
+    ensures { result ≡ word % 256 }
+{
+    (word % 256) as u8
+}
+
+/// The registers after a call that is refused with this number.
+pub fn refused_regs(regs: Regs, number: u8) -> Regs
+    ensures { result ≡ refused_regs_lem regs number }
+{
+    let cc = regs.cc - regs.cc % 2 + 1;
+    Regs {
+        cc,
+        b: number,
+        ..regs
+    }
+}
+
+/// The registers with which the routine of an intercept begins.
+pub fn routine_regs(regs: Regs, intercept: Intercept, signal: u8, frame: u16) -> Regs
+    ensures { result ≡ routine_regs_lem regs intercept signal frame }
+{
+    Regs {
+        b: signal,
+        u: intercept.area,
+        s: frame,
+        pc: intercept.routine,
+        ..regs
+    }
+}

@@ -1,0 +1,49 @@
+//! Links to modules, as all processes have them.
+
+ghost use Rattle.std.specs.Prelude.{◌≡◌, IsSome, map};
+ghost use Rattle.guest_memory.specs.Tie.{modules_of};
+ghost use Rattle.proc_model.specs.ModuleList.{module_entry_at};
+ghost use Rattle.call_rules.specs.Inner.{Inner};
+ghost use Rattle.call_rules.specs.ModuleLinks.{still_primary as still_primary_lem, without_module_link};
+ghost use Rattle.proc_state.specs.Tie.{Represents};
+
+use crate::state::ProcState;
+use module_dir::Dir;
+use proc_model::module::ModId;
+use proc_rules::own::Own;
+
+impl ProcState {
+    /// Gives up one link of an entered module, if it has one (F$UnLink, F$UnLoad). Where its group
+    /// leaves memory with it, no process has a primary module of the group any more.
+    pub fn unlink_module(&mut self, id: ModId)
+        requires { IsSome (module_entry_at (modules_of self.old.memory) id.0) }
+        ensures tied { (m : Inner) → Represents self.old m
+            → Represents self.new (without_module_link m id.0) }
+        ensures records { self.new.table ≡ self.old.table }
+    {
+        self.memory.unlink(id);
+        keep_entered(&mut self.own, self.memory.modules());
+    }
+}
+
+/// Takes from each process a primary module that is not entered.
+fn keep_entered(owns: &mut [Own], modules: &Dir)
+    ensures { owns.new ≡ map (still_primary_lem modules.now) owns.old }
+{
+    for own in owns.iter_mut() {
+        *own = still_primary(*own, modules);
+    }
+}
+
+/// What a process has without a primary module that is not entered.
+fn still_primary(own: Own, modules: &Dir) -> Own
+    ensures { result ≡ still_primary_lem modules.now own }
+{
+    match own.primary {
+        Some(id) if !modules.is_entered(id) => Own {
+            primary: None,
+            ..own
+        },
+        _ => own,
+    }
+}

@@ -1,0 +1,89 @@
+//! Who is Ready (Level Two manual, process scheduling).
+
+ghost use Rattle.std.specs.Prelude.{◌≡◌, ◌<◌, is_some, length};
+ghost use Rattle.proc_rules.specs.Records.{record_of, record_passes};
+ghost use Rattle.proc_rules.specs.Ends.{ended_child, is_ended_child as is_ended_child_lem};
+ghost use Rattle.call_rules.specs.Inner.{Inner, own_at, no_own};
+ghost use Rattle.call_rules.specs.Ready.{is_ready, may_go_on as may_go_on_lem};
+ghost use Rattle.call_rules.specs.Send.{is_call as is_call_lem};
+ghost use Rattle.call_rules.specs.Sleep.{may_wake as may_wake_lem};
+ghost use Rattle.proc_model.specs.Memory.{first_memory};
+ghost use Rattle.proc_state.specs.Ready.{ready_in};
+ghost use Rattle.proc_state.specs.Tie.{Represents, inner_of};
+
+use crate::state::ProcState;
+use os9_base::calls::{F_SLEEP, F_WAIT};
+use os9_base::limits::PROCESS_PLACES;
+use os9_base::registers::Pid;
+use proc_rules::own::Own;
+use proc_rules::record::Life;
+use process_table::Table;
+
+impl ProcState {
+    /// Is this process Ready: does it live, and not wait, or is a signal pending, or may its wait
+    /// for a child or its sleep end?
+    pub fn ready(&self, p: Pid) -> bool
+        requires { p.0 < 33 }
+        ensures here { result ≡ ready_in self.now p.0 }
+        ensures tied { (m : Inner) → Represents self.now m → result ≡ is_ready m p.0 }
+    {
+        match self.table.life(p) {
+            Some(Life::Running) => true,
+            Some(Life::Waiting) => self.table.due_signal(p).is_some() || self.may_go_on(p),
+            Some(Life::Ended(_)) | None => false,
+        }
+    }
+
+    /// Has a child of this process ended for which it waits, or may its sleep end?
+    fn may_go_on(&self, p: Pid) -> bool
+        requires { p.0 < 33 }
+        ensures { result ≡ may_go_on_lem (inner_of self.now (first_memory 0)) p.0 }
+    {
+        let own = self.own(p);
+        if is_call(own.call, F_WAIT) && has_ended_child(&self.table, p) {
+            return true;
+        }
+        is_call(own.call, F_SLEEP) && may_wake(self.tick, own)
+    }
+}
+
+/// Is this the code of the call that is not done?
+fn is_call(call: Option<u8>, code: u8) -> bool
+    ensures { result ≡ is_call_lem call code }
+{
+    match call {
+        Some(other) => other == code,
+        None => false,
+    }
+}
+
+/// May the sleep of a process end: is its tick reached, or did a wake come?
+fn may_wake(tick: u32, own: Own) -> bool
+    ensures { result ≡ may_wake_lem tick own }
+{
+    own.woken || own.until.is_some_and(|until| until <= tick)
+}
+
+/// Has a child of this process ended?
+fn has_ended_child(table: &Table, parent: Pid) -> bool
+    requires { length table.now ≡ PROCESS_PLACES }
+    ensures { result ≡ is_some (ended_child table.now parent.0) }
+{
+    for number in 0..PROCESS_PLACES {
+        if is_ended_child(table, Pid(number), parent) {
+            return true;
+        }
+    }
+    false
+}
+
+/// Is this a child of this process, and has it ended?
+fn is_ended_child(table: &Table, child: Pid, parent: Pid) -> bool
+    ensures { result
+        ≡ record_passes (is_ended_child_lem parent.0) (record_of table.now child.0) }
+{
+    match table.life(child) {
+        Some(Life::Ended(_)) => table.parent(child) == parent,
+        Some(Life::Running) | Some(Life::Waiting) | None => false,
+    }
+}
