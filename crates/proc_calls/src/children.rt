@@ -1,0 +1,65 @@
+//! Calls on the ends of processes.
+
+ghost use Rattle.std.specs.Prelude.{◌≡◌};
+ghost use Rattle.proc_rules.specs.Ends.{reaped, after_reap};
+ghost use Rattle.proc_rules.specs.Records.{IsLiving, record_at};
+ghost use Rattle.call_rules.specs.Exit.{f_exit as f_exit_lem};
+ghost use Rattle.call_rules.specs.Inner.{Inner, with_records};
+ghost use Rattle.call_rules.specs.Wait.{f_wait as f_wait_lem};
+ghost use Rattle.proc_state.specs.Tie.{Represents, Comes};
+
+use os9_base::call::CallEnd;
+use os9_base::errors::E_NOCHLD;
+use os9_base::registers::{Pid, Regs};
+use proc_rules::record::Reap;
+use proc_state::state::ProcState;
+
+/// F$Wait: waits for the end of a child (System Programmer's Manual, F$Wait). Answers the number of
+/// the ended child of least number in A and its status in B, and the child's record goes. The call
+/// waits while no child has ended.
+///
+/// # Errors
+///
+/// E$NoChld exactly if the process has no children.
+pub fn f_wait(s: &mut ProcState, p: Pid) -> CallEnd
+    requires lives { IsLiving s.old.table p.0 }
+    ensures call { (m : Inner) → Represents s.old m
+        → Comes m p.0 (f_wait_lem m p.0) result s.new }
+    ensures lives { IsLiving s.new.table p.0 }
+{
+    let regs = s.regs(p);
+    match reap(s, p) {
+        Ok((child, status)) => {
+            let a = child.0;
+            let b = status;
+            s.set_regs(p, Regs { a, b, ..regs });
+            CallEnd::Done
+        }
+        Err(Reap::NoChild) => CallEnd::Error(E_NOCHLD),
+        Err(Reap::NotYet) => CallEnd::Wait,
+    }
+}
+
+/// F$Exit: ends the process with the status in B (System Programmer's Manual, F$Exit). Its parent
+/// may wait for the status.
+pub fn f_exit(s: &mut ProcState, p: Pid) -> CallEnd
+    requires lives { IsLiving s.old.table p.0 }
+    ensures call { (m : Inner) → Represents s.old m
+        → Comes m p.0 (f_exit_lem m p.0) result s.new }
+{
+    let regs = s.regs(p);
+    s.end(p, regs.b);
+    CallEnd::Ended
+}
+
+/// The ended child of least number, and its status. The child's record goes.
+fn reap(s: &mut ProcState, p: Pid) -> Result<(Pid, u8), Reap>
+    requires lives { IsLiving s.old.table p.0 }
+    ensures child { result ≡ reaped s.old.table p.0 }
+    ensures tied { (m : Inner) → Represents s.old m
+        → Represents s.new (with_records m (after_reap s.old.table p.0)) }
+    ensures record { record_at s.new.table p.0 ≡ record_at s.old.table p.0 }
+    ensures lives { IsLiving s.new.table p.0 }
+{
+    s.table.reap(p)
+}

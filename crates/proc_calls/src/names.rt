@@ -1,0 +1,145 @@
+//! Calls on names.
+
+ghost use Rattle.std.specs.Prelude.{◌≡◌, ◌<◌, IfNone, IfSome};
+ghost use Rattle.os9_base.specs.Name.{lower as lower_lem};
+ghost use Rattle.proc_rules.specs.Records.{IsLiving};
+ghost use Rattle.call_rules.specs.CmpNam.{f_cmpnam as f_cmpnam_lem, agrees as agrees_lem, same_names as same_names_lem};
+ghost use Rattle.call_rules.specs.Inner.{Inner, cells_at, regs_at};
+ghost use Rattle.call_rules.specs.PrsNam.{f_prsnam as f_prsnam_lem, past_slash as past_slash_lem, parses_name as parses_name_lem};
+ghost use Rattle.guest_memory.specs.Tie.{cells_of};
+ghost use Rattle.proc_state.specs.Tie.{Represents, Comes};
+
+use guest_memory::memory::Memory;
+use os9_base::call::CallEnd;
+use os9_base::errors::{E_BNAM, E_BPADDR};
+use os9_base::registers::{Pid, Regs};
+use proc_state::state::ProcState;
+use user_names::name_fault::NameFault;
+
+/// F$PrsNam: parses the name at the address in X; one slash before it is passed (System Programmer's
+/// Manual, F$PrsNam). Answers the address of its first character in X, that behind its last one in
+/// Y, its length in B, and the byte at Y in A.
+///
+/// # Errors
+///
+/// E$BPAddr exactly if a byte that has to be read is in no named slot or past `FFFF`, else E$BNam
+/// exactly if the bytes are no name; else E$BPAddr exactly if the byte at Y is not there.
+pub fn f_prsnam(s: &mut ProcState, p: Pid) -> CallEnd
+    requires lives { IsLiving s.old.table p.0 }
+    ensures call { (m : Inner) → Represents s.old m
+        → Comes m p.0 (f_prsnam_lem m p.0) result s.new }
+    ensures lives { IsLiving s.new.table p.0 }
+{
+    let regs = s.table.regs(p);
+    match past_slash(&s.memory, p, regs.x) {
+        None => CallEnd::Error(E_BPADDR),
+        Some(first) => parses_name(s, p, first),
+    }
+}
+
+/// The name at this address is parsed.
+fn parses_name(s: &mut ProcState, p: Pid, first: u16) -> CallEnd
+    requires lives { IsLiving s.old.table p.0 }
+    ensures call { (m : Inner) → Represents s.old m
+        → Comes m p.0 (parses_name_lem m p.0 first) result s.new }
+    ensures lives { IsLiving s.new.table p.0 }
+{
+    let regs = s.table.regs(p);
+    match s.memory.name(p, first) {
+        Err(NameFault::Unreadable) => CallEnd::Error(E_BPADDR),
+        Err(NameFault::NoName) => CallEnd::Error(E_BNAM),
+        Ok(name) => {
+            let b = name.len();
+            let Some(a) = s.memory.byte(p, first, b as u16) else {
+                return CallEnd::Error(E_BPADDR);
+            };
+            let x = first;
+            let y = first + b as u16;
+            s.set_regs(p, Regs { a, b, x, y, ..regs });
+            CallEnd::Done
+        }
+    }
+}
+
+/// The address behind one slash, if there is one; None if it would be past `FFFF`.
+fn past_slash(memory: &Memory, p: Pid, at: u16) -> Option<u16>
+    requires { p.0 < 33 }
+    ensures some { IfSome result
+        (λ first. past_slash_lem (cells_of memory.now p.0) at ≡ first) }
+    ensures none { IfNone result (past_slash_lem (cells_of memory.now p.0) at ≡ 65536) }
+{
+    match memory.byte(p, at, 0) {
+        Some(b'/') => at.checked_add(1),
+        _ => Some(at),
+    }
+}
+
+/// F$CmpNam: compares two names, the case of letters ignored (System Programmer's Manual,
+/// F$CmpNam). Takes the length of the first name in B, its address in X, and the address of the
+/// second one, whose last character has bit 7, in Y. The bytes are read pair by pair until the
+/// answer is known.
+///
+/// # Errors
+///
+/// E$BPAddr exactly if a byte that has to be read is in no named slot or past `FFFF`, else E$BNam
+/// exactly if the names differ or B is 0.
+pub fn f_cmpnam(s: &mut ProcState, p: Pid) -> CallEnd
+    requires lives { IsLiving s.old.table p.0 }
+    ensures call { (m : Inner) → Represents s.old m
+        → Comes m p.0 (f_cmpnam_lem m p.0) result s.new }
+    ensures lives { IsLiving s.new.table p.0 }
+{
+    match compares(s, p) {
+        None => CallEnd::Error(E_BPADDR),
+        Some(false) => CallEnd::Error(E_BNAM),
+        Some(true) => CallEnd::Done,
+    }
+}
+
+/// Is the name at X, of the length in B, that at Y? None if a byte that has to be read is not
+/// there.
+fn compares(s: &ProcState, p: Pid) -> Option<bool>
+    requires lives { IsLiving s.now.table p.0 }
+    ensures { (m : Inner) → Represents s.now m → result
+        ≡ same_names_lem (cells_at m p.0) (regs_at m p.0).x (regs_at m p.0).y (regs_at m p.0).b }
+{
+    let regs = s.table.regs(p);
+    same_names(&s.memory, p, regs.x, regs.y, regs.b)
+}
+
+/// Is the first name, of this length, the second one? None if a byte that has to be read is not
+/// there.
+fn same_names(memory: &Memory, p: Pid, one: u16, other: u16, length: u8) -> Option<bool>
+    requires { p.0 < 33 }
+    ensures { result ≡ same_names_lem (cells_of memory.now p.0) one other length }
+{
+    for place in 0..length {
+        let a = memory.byte(p, one, place as u16)?;
+        let b = memory.byte(p, other, place as u16)?;
+        if !agrees(a, b) {
+            return Some(false);
+        }
+        if b >= 128 {
+            return Some(place + 1 == length);
+        }
+    }
+    Some(false)
+}
+
+/// Is a character of the first name that of the second one?
+fn agrees(one: u8, other: u8) -> bool
+    ensures { result ≡ agrees_lem one other }
+{
+    lower(one) == lower(other % 128)
+}
+
+/// A letter in lower case, any other character as it is.
+fn lower(character: u8) -> u8
+    ensures { result ≡ lower_lem character }
+{
+    if character >= b'A' && character <= b'Z' {
+        character + 32
+    } else {
+        character
+    }
+}

@@ -1,0 +1,83 @@
+//! Calls on signals.
+
+ghost use Rattle.std.specs.Prelude.{◌≡◌};
+ghost use Rattle.proc_rules.specs.Records.{IsLiving};
+ghost use Rattle.call_rules.specs.Inner.{Inner};
+ghost use Rattle.call_rules.specs.Icpt.{f_icpt as f_icpt_lem};
+ghost use Rattle.call_rules.specs.Send.{f_send as f_send_lem, is_call as is_call_lem, woken};
+ghost use Rattle.proc_state.specs.Tie.{Represents, Comes};
+
+use os9_base::call::CallEnd;
+use os9_base::calls::F_SLEEP;
+use os9_base::errors::{E_IPRCID, E_USIGP};
+use os9_base::registers::Pid;
+use proc_rules::own::Own;
+use proc_rules::record::{Life, SendFault};
+use proc_state::state::ProcState;
+
+/// The signal that ends a sleep, S$Wake. It is never pending.
+const WAKE: u8 = 1;
+
+/// F$Icpt: gives the process a routine for its signals, at the address in X, and the address that
+/// it finds in U (System Programmer's Manual, F$Icpt). A routine of 0 takes the intercept away.
+pub fn f_icpt(s: &mut ProcState, p: Pid) -> CallEnd
+    requires lives { IsLiving s.old.table p.0 }
+    ensures call { (m : Inner) → Represents s.old m
+        → Comes m p.0 (f_icpt_lem m p.0) result s.new }
+    ensures lives { IsLiving s.new.table p.0 }
+{
+    let regs = s.regs(p);
+    s.table.intercept(p, regs.x, regs.u);
+    CallEnd::Done
+}
+
+/// F$Send: sends the signal in B to the process in A (System Programmer's Manual, F$Send). Signal 1
+/// wakes the process if it sleeps, and is dropped if it does not; any other is pending from then on.
+///
+/// # Errors
+///
+/// E$IPrcID exactly if no such process lives, or it is another user's and the caller is not user 0;
+/// else E$USigP exactly if a signal is pending there and the one that is sent is not 1.
+pub fn f_send(s: &mut ProcState, p: Pid) -> CallEnd
+    requires lives { IsLiving s.old.table p.0 }
+    ensures call { (m : Inner) → Represents s.old m
+        → Comes m p.0 (f_send_lem m p.0) result s.new }
+    ensures lives { IsLiving s.new.table p.0 }
+{
+    let regs = s.regs(p);
+    let user = s.table.user(p);
+    let to = Pid(regs.a);
+    match s.table.send(user, to, regs.b) {
+        Ok(()) => {
+            if regs.b == WAKE {
+                wake(s, to);
+            }
+            CallEnd::Done
+        }
+        Err(SendFault::NoProcess) => CallEnd::Error(E_IPRCID),
+        Err(SendFault::Pending) => CallEnd::Error(E_USIGP),
+    }
+}
+
+/// A wake comes for a process, if it sleeps.
+fn wake(s: &mut ProcState, p: Pid)
+    requires lives { IsLiving s.old.table p.0 }
+    ensures tied { (m : Inner) → Represents s.old m → Represents s.new (woken m p.0) }
+    ensures records { s.new.table ≡ s.old.table }
+{
+    let waits = matches!(s.table.life(p), Some(Life::Waiting));
+    if waits && is_call(s.own(p).call, F_SLEEP) {
+        let own = s.own(p);
+        s.set_own(p, Own { woken: true, ..own });
+    }
+}
+
+/// Has the call that is not done this code?
+fn is_call(call: Option<u8>, code: u8) -> bool
+    ensures { result ≡ is_call_lem call code }
+{
+    match call {
+        None => false,
+        Some(other) => other == code,
+    }
+}

@@ -1,0 +1,97 @@
+//! F$Sleep.
+
+ghost use Rattle.std.specs.Prelude.{◌≡◌, ◌+◌, ◌≤◌};
+ghost use Rattle.std.specs.Option.{ForSome};
+ghost use Rattle.proc_rules.specs.Records.{IsLiving};
+ghost use Rattle.call_rules.specs.Inner.{Inner};
+ghost use Rattle.call_rules.specs.Sleep.{f_sleep as f_sleep_lem, falls_asleep as falls_asleep_lem, sleeps_on as sleeps_on_lem, may_wake as may_wake_lem, sleep_end as sleep_end_lem, ticks_left as ticks_left_lem};
+ghost use Rattle.os9_base.specs.declared.limits.TheConstants.{LAST_TICK};
+ghost use Rattle.proc_state.specs.Tie.{Represents, Comes};
+
+use os9_base::call::CallEnd;
+use os9_base::registers::{Pid, Regs};
+use proc_rules::own::Own;
+use proc_rules::record::Life;
+use proc_state::state::ProcState;
+
+/// F$Sleep: sleeps for the ticks in X, or for ever if X is 0 (System Programmer's Manual,
+/// F$Sleep). The sleep ends at its tick or with signal 1, and answers in X the ticks that were left
+/// then, 0 of a sleep for ever.
+pub fn f_sleep(s: &mut ProcState, p: Pid) -> CallEnd
+    requires lives { IsLiving s.old.table p.0 }
+    ensures call { (m : Inner) → Represents s.old m
+        → Comes m p.0 (f_sleep_lem m p.0) result s.new }
+    ensures lives { IsLiving s.new.table p.0 }
+{
+    match s.table.life(p) {
+        Some(Life::Waiting) => sleeps_on(s, p),
+        _ => falls_asleep(s, p),
+    }
+}
+
+/// The first attempt: the sleep begins.
+fn falls_asleep(s: &mut ProcState, p: Pid) -> CallEnd
+    requires lives { IsLiving s.old.table p.0 }
+    ensures call { (m : Inner) → Represents s.old m
+        → Comes m p.0 (falls_asleep_lem m p.0) result s.new }
+    ensures lives { IsLiving s.new.table p.0 }
+{
+    let until = sleep_end(s.tick, s.table.regs(p).x);
+    let own = s.own(p);
+    s.set_own(
+        p,
+        Own {
+            until,
+            woken: false,
+            ..own
+        },
+    );
+    CallEnd::Wait
+}
+
+/// A further attempt.
+fn sleeps_on(s: &mut ProcState, p: Pid) -> CallEnd
+    requires lives { IsLiving s.old.table p.0 }
+    ensures call { (m : Inner) → Represents s.old m
+        → Comes m p.0 (sleeps_on_lem m p.0) result s.new }
+    ensures lives { IsLiving s.new.table p.0 }
+{
+    let regs = s.table.regs(p);
+    let own = s.own(p);
+    if !may_wake(s.tick, own) {
+        return CallEnd::Wait;
+    }
+    let x = ticks_left(s.tick, own);
+    s.set_regs(p, Regs { x, ..regs });
+    CallEnd::Done
+}
+
+/// The tick that ends a sleep of so many ticks that begins now; None if it is for ever.
+fn sleep_end(tick: u32, ticks: u16) -> Option<u32>
+    requires { tick ≤ LAST_TICK }
+    ensures end { result ≡ sleep_end_lem tick ticks }
+    ensures soon { ForSome result (λ until. until ≤ tick + 65535) }
+{
+    if ticks == 0 {
+        return None;
+    }
+    Some(tick + u32::from(ticks))
+}
+
+/// May a sleep end? Its tick is reached, or a wake came.
+fn may_wake(tick: u32, own: Own) -> bool
+    ensures { result ≡ may_wake_lem tick own }
+{
+    own.woken || own.until.is_some_and(|until| until <= tick)
+}
+
+/// The ticks that are left of a sleep.
+fn ticks_left(tick: u32, own: Own) -> u16
+    requires { ForSome own.until (λ until. until ≤ tick + 65535) }
+    ensures { result ≡ ticks_left_lem tick own }
+{
+    match own.until {
+        None => 0,
+        Some(until) => until.saturating_sub(tick) as u16,
+    }
+}
