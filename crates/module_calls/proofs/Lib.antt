@@ -1,0 +1,5 @@
+pub mod Addresses
+pub mod Linking
+pub mod Naming
+pub mod Steps
+pub mod Unlinking

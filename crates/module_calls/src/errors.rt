@@ -1,0 +1,17 @@
+//! The numbers of errors of what is refused below a call.
+
+ghost use Rattle.std.specs.Prelude.{◌≡◌};
+ghost use Rattle.proc_model.specs.Memory.{memory_error as memory_error_lem};
+
+use os9_base::errors::{E_MEMFUL, E_NORAM};
+use proc_model::memory::MemoryFault;
+
+/// The error of a change of memory that is refused.
+pub fn memory_error(fault: MemoryFault) -> u8
+    ensures { result ≡ memory_error_lem fault }
+{
+    match fault {
+        MemoryFault::MemFull => E_MEMFUL,
+        MemoryFault::NoRam => E_NORAM,
+    }
+}

@@ -1,0 +1,10 @@
+//! Calls on memory and modules: F$Mem, F$Link, F$UnLink, F$UnLoad and F$CRC.
+#![tactic(auto)]
+
+pub mod crc;
+mod errors;
+pub mod links;
+pub mod memory;
+mod named;
+mod program;
+pub mod unlink;

@@ -1,0 +1,19 @@
+//! Programs that are started.
+
+ghost use Rattle.std.specs.Prelude.{◌≡◌, ◌≤◌};
+ghost use Rattle.call_rules.specs.Program.{blocks_of_pages as blocks_of_pages_lem};
+
+/// Bytes in a page (Level Two manual, "Memory management").
+pub const PAGE_BYTES: u16 = 256;
+/// Pages in a block.
+pub const BLOCK_PAGES: u16 = 32;
+/// The most pages of a data area: those of seven slots.
+pub const MOST_PAGES: u16 = 224;
+
+/// So many pages in blocks.
+pub fn blocks_of_pages(pages: u16) -> u8
+    requires { pages ≤ MOST_PAGES }
+    ensures { result ≡ blocks_of_pages_lem pages }
+{
+    pages.div_ceil(BLOCK_PAGES) as u8
+}
