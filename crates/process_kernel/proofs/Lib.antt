@@ -1,0 +1,13 @@
+mod Acting
+mod Calling
+mod Columns
+mod Delivering
+mod Executing
+mod LineLemmas
+mod Lines
+mod Pending
+mod PutLemmas
+mod Represented
+mod Running
+mod Turning
+mod Turns

@@ -1,0 +1,69 @@
+use Rattle.std.proofs.Common.{◌≡◌, ◌+◌, ◌-◌, ◌*◌, ℕ, false, refl, sym, ap, ◌∙◌, inl, inr, ◌⊎◌, arith}
+use Rattle.os9_outer.specs.TerminalState.{fault_counts}
+use Rattle.machine_model.specs.declared.ends.EventEnd.{EventEnd}
+use Rattle.machine_model.specs.declared.ends.EventEnd.TheVariants.{Ran, Waits, Ended, NoMemory}
+use Rattle.process_machine.specs.Run.{is_going}
+use Rattle.process_kernel.proofs.Turns.{turn-continues, turn-begins, turn-ends, used-up, begun-here}
+use Rattle.process_kernel.proofs.kernel.Kernel.events.Goals as goal
+
+stops : (end : EventEnd) → (end ≡ Waits) ⊎ (end ≡ Ended) → is_going end ≡ false
+stops end (inl is) = ap is_going is
+stops end (inr is) = ap is_going is
+
+other : (end : EventEnd) → (end ≡ Waits) ⊎ (end ≡ Ended) → end ≡ NoMemory → ⊥
+other end (inl is) out = let no : Waits ≡ NoMemory = sym is ∙ out in cc
+other end (inr is) out = let no : Ended ≡ NoMemory = sym is ∙ out in cc
+
+pub loop-left-preserved : goal.loop-left-preserved
+loop-left-preserved g c =
+    let turn = c.turn-turn.ensures.turn in record {
+      going = turn.going c.in-Ran.is;
+      terminal = c.turn-turn.ensures.terminals ∙ c.loop-left.invariant.terminal;
+      count = turn.count ∙ c.loop-left.invariant.count;
+      drives = c.turn-turn.ensures.drives_kept ∙ c.loop-left.invariant.drives;
+      tied = λ s tied.
+          let (m, there, continues, begins) = c.loop-left.invariant.tied s tied in
+          let (t, events, now) = turn.step (λ out. let no : Ran ≡ NoMemory = sym c.in-Ran.is ∙ out in cc) m there in (
+            t,
+            now,
+            turn-continues events c.in-Ran.is c.args.n s continues,
+            turn-begins events c.in-Ran.is c.args.n s begins,
+          );
+    }
+
+pub returns-in-Waits-clause-events : goal.returns-in-Waits-clause-events
+returns-in-Waits-clause-events g c =
+    let turn = c.turn-turn.ensures.turn in record {
+      step = λ _ s tied.
+          let (m, there, continues, begins) = c.loop-left.invariant.tied s tied in
+          let (t, events, now) = turn.step (other c.turn-turn.result.end c.in-Waits.is) m there in
+          let (all, steps) = turn-ends events (stops c.turn-turn.result.end c.in-Waits.is) c.args.n s continues in
+          (all, t, steps, now);
+      ran = λ _. refl;
+      part = λ is. cc;
+      count = turn.count ∙ c.loop-left.invariant.count;
+    }
+
+pub returns-in-NoMemory-clause-events : goal.returns-in-NoMemory-clause-events
+returns-in-NoMemory-clause-events g c =
+    let turn = c.turn-turn.ensures.turn in record {
+      step = λ e. absurd (e refl);
+      ran = λ e. absurd (e refl);
+      part = λ _ s tied.
+          let (m, there, continues, begins) = c.loop-left.invariant.tied s tied in
+          let (puts, unfaulted) = turn.memory c.in-NoMemory.is in
+          let (all, first) = begun-here c.args.n c.loop-left.left s m (omega arith) begins in
+          (all, m, first, puts m there, ap fault_counts (ap (λ s. s.terms) there.is) ∙ sym unfaulted);
+      count = turn.count ∙ c.loop-left.invariant.count;
+    }
+
+pub returns-clause-events : goal.returns-clause-events
+returns-clause-events g c = record {
+  step = λ _ s tied.
+      let (m, there, continues, begins) = c.loop-left.invariant.tied s tied in
+      let (all, steps) = used-up c.args.n c.loop-left.left s m (omega arith) continues in
+      (all, m, steps, there);
+  ran = λ _. refl;
+  part = λ is. cc;
+  count = c.loop-left.invariant.count;
+}

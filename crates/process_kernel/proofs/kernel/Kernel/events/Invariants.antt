@@ -1,0 +1,19 @@
+use Rattle.std.proofs.Common.{◌≡◌, ◌+◌, ◌*◌}
+use Rattle.std.specs.Vec.{vec_len}
+use Rattle.os9_outer.specs.TerminalState.{terminal_states}
+use Rattle.process_machine.specs.State.{State}
+use Rattle.process_kernel.specs.Tie.{Represents, IsGoing, ticks, pending}
+use Rattle.process_kernel.specs.Slice.{BeginsFrom, ContinuesFrom}
+use Rattle.process_kernel.proofs.kernel.Kernel.events.Given as goal
+
+abbrev pub invariant-loop-left : goal.invariant-loop-left
+invariant-loop-left g l = record {
+  going : IsGoing l.self;
+  terminal : vec_len l.devices.terms ≡ vec_len l.initial.devices.terms;
+  count : ticks l.self ≡ ticks l.initial.self;
+  drives : l.devices.drives ≡ l.initial.devices.drives;
+  tied : (s : State) → Represents l.initial.self (terminal_states (λ table. (g.dyn-2.0.entry table).1) l.initial.devices.terms.items) s → (m : State) × Represents l.self (terminal_states (λ table. (g.dyn-2.0.entry table).1) l.devices.terms.items) m × ContinuesFrom l.n s l.left m × BeginsFrom l.n s l.left m;
+}
+
+abbrev pub decreases-loop-left : goal.decreases-loop-left
+decreases-loop-left g l = 4 * l.left + pending l.self
