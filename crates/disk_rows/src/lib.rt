@@ -2,4 +2,8 @@
 #![tactic(auto)]
 
 #[cfg(test)]
+mod change;
+#[cfg(test)]
 mod tests;
+#[cfg(test)]
+mod walks;

@@ -36,7 +36,7 @@ fn smallest(alloc: Global) -> Result<Vec<u8>, AllocError> {
 }
 
 // A drive that has this image, and of whose calls this one fails.
-fn drive_with(alloc: Global, image: &[u8], failing: u64) -> Result<RamDrive, Fail>
+pub fn drive_with(alloc: Global, image: &[u8], failing: u64) -> Result<RamDrive, Fail>
     ensures { IfOk result (λ drive. ⟦<RamDrive as BlockDriver>⟧.media drive ≡ Some image.now) }
 {
     let fault = DriveFault::SeekFault;

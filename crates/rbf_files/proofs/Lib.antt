@@ -1,0 +1,7 @@
+pub mod Descriptors
+pub mod Segments
+pub mod Described
+pub mod Redated
+pub mod LaidBytes
+pub mod FilledFile
+pub mod Filling

@@ -1,0 +1,74 @@
+-- Bytes that are laid over those of a file, sector by sector.
+use Rattle.std.specs.Prelude.{◌≡◌, ℕ, ◌+◌, ◌-◌, ◌*◌, ◌/◌, ◌<◌, ◌≤◌, nat_le, nat_lt, min, true, false, Option, Some, List, ◌++◌, length, take, drop, replicate, slice_index, if◌then◌else◌}
+use Rattle.os9_outer.specs.Drive.{sector_at, with_sector}
+use Rattle.rbf_model.specs.Geometry.{sector, map_sectors}
+use Rattle.rbf_model.specs.Segments.{sectors_of, has, AreDistinct}
+use Rattle.rbf_model.specs.File.{DiskFile, is_directory, segment_bytes}
+use Rattle.rbf_model.specs.Volume.{DiskVolume, Vol}
+use Rattle.rbf_model.specs.Writes.{put_at, with_file_in_place}
+use Rattle.rbf_change.specs.Calls.{shape, cluster_size}
+use Rattle.rbf_access.specs.Mounted.{Represents}
+
+-- the byte in a place of a file, where bytes are laid over it from another place on, and zeros from its size up to that
+abbrev pub laid_byte : ℕ → ℕ → List ℕ → ℕ → ℕ → ℕ
+laid_byte size at from place old =
+    if nat_le at place then (if nat_lt (place - at) (length from) then slice_index from (place - at) else old)
+    else (if nat_le size place then 0 else old)
+
+-- all bytes of its sectors then
+abbrev pub laid_bytes : List ℕ → ℕ → ℕ → List ℕ → List ℕ
+laid_bytes whole size at from = put_at (put_at whole size (replicate (at - size) 0)) at from
+
+-- the same where only the sectors before a place have been written
+abbrev pub laid_front : List ℕ → List ℕ → ℕ → List ℕ
+laid_front target whole place = take (256 * place) target ++ drop (256 * place) whole
+
+-- a sector has been read, laid over and written
+pub record LaysSector (size at : ℕ) (from : List ℕ) (start lsn : ℕ) (old new : Option (List ℕ)) : Type 0 where
+  pub bytes : List ℕ
+  pub whole : length bytes ≡ 256
+  pub each : (q : ℕ) → q < 256 → slice_index bytes q
+      ≡ laid_byte size at from (start + q) (slice_index (sector_at old lsn) q)
+  pub media : new ≡ with_sector old lsn bytes
+
+-- segments of file n, which is no directory: its own, and behind them those of clusters that are lost
+pub record IsDataOf (u : DiskVolume) (n : ℕ) (file : DiskFile) (segments : List (ℕ × ℕ)) (size : ℕ) : Type 0 where
+  pub is : u.files n ≡ Some file
+  pub not_directory : is_directory file ≡ false
+  pub size_is : size ≡ length file.contents
+  pub room : size ≤ 256 * length (sectors_of file.segments)
+  pub more : List ℕ
+  pub sectors_are : sectors_of segments ≡ sectors_of file.segments ++ more
+  pub behind : (s : ℕ) → has more s ≡ true → u.lost (s / cluster_size u) ≡ true
+  pub distinct : AreDistinct (sectors_of segments)
+  pub past_map : (s : ℕ) → has (sectors_of segments) s ≡ true → map_sectors (shape u) < s
+  pub below : (s : ℕ) → has (sectors_of segments) s ≡ true → s < (shape u).total
+
+-- the media has such a file
+pub record HasData (media : Option (List ℕ)) (segments : List (ℕ × ℕ)) (size : ℕ) : Type 0 where
+  pub volume : DiskVolume
+  pub on : Represents media volume
+  pub number : ℕ
+  pub file : DiskFile
+  pub is : IsDataOf volume number file segments size
+
+-- the sectors have these bytes now, and the file the first of them; no other sector has changed
+pub record IsLaid (u : DiskVolume) (n : ℕ) (file : DiskFile) (segments : List (ℕ × ℕ)) (old new : Option (List ℕ))
+    (bytes : List ℕ) : Type 0 where
+  pub image : List ℕ
+  pub now : List ℕ
+  pub was : old ≡ Some image
+  pub is : new ≡ Some now
+  pub vol : Vol now (with_file_in_place u n (record file { contents = take (length file.contents) bytes }))
+  pub bytes_are : segment_bytes (sector now) segments ≡ bytes
+  pub others : (s : ℕ) → has (sectors_of segments) s ≡ false → sector now s ≡ sector image s
+
+-- so far as a sector of which one has a byte that is laid
+pub record IsPartLaid (u : DiskVolume) (n : ℕ) (file : DiskFile) (segments : List (ℕ × ℕ)) (old new : Option (List ℕ))
+    (size at : ℕ) (from : List ℕ) : Type 0 where
+  pub place : ℕ
+  pub first : min size at / 256 ≤ place
+  pub unfinished : 256 * place < at + length from
+  pub laid : IsLaid u n file segments old new
+      (laid_front (laid_bytes (segment_bytes (sector_at old) segments) size at from)
+      (segment_bytes (sector_at old) segments) place)

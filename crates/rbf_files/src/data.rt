@@ -1,0 +1,108 @@
+ghost use Rattle.std.specs.Prelude.{◌≡◌, ℕ, ◌+◌, ◌-◌, ◌*◌, ◌/◌, ◌^◌, ◌<◌, ◌≤◌, length, min, slice_index, OnOk, OnErr, IsSome};
+ghost use Rattle.os9_outer.specs.Drive.{sector_count, sector_at};
+ghost use Rattle.rbf_model.specs.File.{DiskFile, segment_bytes};
+ghost use Rattle.rbf_model.specs.Segments.{sectors_of};
+ghost use Rattle.rbf_model.specs.Volume.{DiskVolume};
+ghost use Rattle.rbf_change.specs.Contents.{sector_span};
+ghost use Rattle.rbf_access.specs.Drive.{Counts};
+ghost use Rattle.rbf_access.specs.Faults.{file_fault};
+ghost use Rattle.rbf_access.specs.Mounted.{IsMounted, Represents, kept};
+ghost use Rattle.rbf_files.specs.Laid.{HasData, IsDataOf, IsLaid, IsPartLaid, LaysSector, laid_byte, laid_bytes};
+
+use os9_outer::drive::BlockDriver;
+use rbf_access::{FileFault, Volume};
+use rbf_segs::Segs;
+
+/// Lays bytes over those of a file from `at` on, and zeros from its `size` up to there, sector by
+/// sector upwards. The segments are the file's own and, behind them, those of lost clusters that it
+/// is to have; its size stays, so what lies past it is not seen yet.
+///
+/// # Errors
+///
+/// `Device` if a call of the drive fails: then the sectors before some place have their bytes.
+pub fn fill(
+    volume: &mut Volume,
+    d: &mut dyn BlockDriver,
+    segs: &Segs,
+    size: u32,
+    at: u32,
+    from: &[u8],
+) -> Result<(), FileFault>
+    requires mounted { IsMounted volume.old (media d.old) }
+    requires data { HasData (media d.old) segs.now size }
+    requires room { at + length from.now ≤ 256 * length (sectors_of segs.now) }
+    requires some { min size at < at + length from.now }
+    requires fits { at + length from.now < 2 ^ 32 }
+    ensures laid { (u : DiskVolume) (n : ℕ) (file : DiskFile) → Represents (media d.old) u
+        → IsDataOf u n file segs.now size → OnOk result
+        (IsLaid u n file segs.now (media d.old) (media d.new) (laid_bytes
+        (segment_bytes (sector_at (media d.old)) segs.now) size at from.now)) }
+    ensures part { (u : DiskVolume) (n : ℕ) (file : DiskFile) → Represents (media d.old) u
+        → IsDataOf u n file segs.now size → OnErr result
+        (IsPartLaid u n file segs.now (media d.old) (media d.new) size at from.now) }
+    ensures device { OnErr result (IsSome (file_fault result)) }
+    ensures mounted { IsMounted volume.new (media d.new) }
+    ensures volume_kept { kept volume.new ≡ kept volume.old }
+    ensures counts { Counts ⟦<dyn BlockDriver as BlockDriver>⟧ (file_fault result)
+        (2 * sector_span (min size at) (at + length from.now)) d.old d.new }
+{
+    let first = size.min(at) / 256;
+    let end = (at as usize + from.len()).div_ceil(256) as u32;
+    for place in first..end {
+        let lsn = segs.lsn_of(place).unwrap();
+        fill_sector(volume, d, lsn, 256 * place, size, at, from)?;
+    }
+    Ok(())
+}
+
+// Lays bytes over those of one sector, whose first byte is the one in place `start` of the file.
+fn fill_sector(
+    volume: &mut Volume,
+    d: &mut dyn BlockDriver,
+    lsn: u32,
+    start: u32,
+    size: u32,
+    at: u32,
+    from: &[u8],
+) -> Result<(), FileFault>
+    requires { lsn < sector_count (media d.old) }
+    ensures lays { OnOk result
+        (LaysSector size at from.now start lsn (media d.old) (media d.new)) }
+    ensures media_kept { OnErr result (media d.new ≡ media d.old) }
+    ensures device { OnErr result (IsSome (file_fault result)) }
+    ensures volume_kept { kept volume.new ≡ kept volume.old }
+    ensures counts { Counts ⟦<dyn BlockDriver as BlockDriver>⟧ (file_fault result) 2 d.old d.new }
+{
+    let mut bytes = volume.load(d, lsn)?;
+    lay(&mut bytes, start, size, at, from);
+    volume.store(d, lsn, &bytes)?;
+    Ok(())
+}
+
+// Lays bytes over those of a sector.
+fn lay(bytes: &mut [u8; 256], start: u32, size: u32, at: u32, from: &[u8])
+    ensures { (q : ℕ) → q < 256 → slice_index bytes.new q
+        ≡ laid_byte size at from.now (start + q) (slice_index bytes.old q) }
+{
+    for (q, byte) in bytes.iter_mut().enumerate() {
+        *byte = one_byte(start as usize + q, size, at, from, *byte);
+    }
+}
+
+// The byte in a place.
+fn one_byte(place: usize, size: u32, at: u32, from: &[u8], old: u8) -> u8
+    ensures { result ≡ laid_byte size at from.now place old }
+{
+    let (size, at) = (size as usize, at as usize);
+    if at <= place {
+        if place - at < from.len() {
+            from[place - at]
+        } else {
+            old
+        }
+    } else if size <= place {
+        0
+    } else {
+        old
+    }
+}

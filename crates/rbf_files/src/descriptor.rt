@@ -1,0 +1,35 @@
+ghost use Rattle.std.specs.Prelude.{◌≡◌, ℕ, ◌<◌, ◌≤◌, length, slice_index};
+ghost use Rattle.rbf_model.specs.Fields.{attributes_field, owner_field, modified_field, links_field, size_field, created_field, segments_field};
+ghost use Rattle.rbf_change.specs.Calls.{minute_of};
+ghost use Rattle.rbf_files.specs.Changed.{HasFields};
+
+use os9_base::registers::TimePacket;
+use rbf_sector::{Fd, write_fd};
+
+// A descriptor with these fields, in which the list of segments and all behind it stays.
+pub fn with_fields(old: &[u8; 256], file: &Fd) -> [u8; 256]
+    ensures whole { length result ≡ 256 }
+    ensures fields { HasFields file.now result }
+    ensures list { segments_field result ≡ segments_field old.now }
+    ensures behind { (i : ℕ) → 16 ≤ i → slice_index result i ≡ slice_index old.now i }
+{
+    let mut bytes = *old;
+    write_fd(file, &mut bytes);
+    keep_list(&mut bytes, old);
+    bytes
+}
+
+// Takes the list of segments, and all behind it, from another descriptor.
+fn keep_list(bytes: &mut [u8; 256], old: &[u8; 256])
+    ensures fields { (i : ℕ) → i < 16 → slice_index bytes.new i ≡ slice_index bytes.old i }
+    ensures list { (i : ℕ) → 16 ≤ i → slice_index bytes.new i ≡ slice_index old.now i }
+{
+    bytes[16..].copy_from_slice(&old[16..]);
+}
+
+// The date and time of a descriptor (FD.DAT).
+pub fn minute(now: &TimePacket) -> [u8; 5]
+    ensures { result ≡ minute_of now.now }
+{
+    [now.year, now.month, now.day, now.hour, now.minute]
+}

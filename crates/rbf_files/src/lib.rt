@@ -1,0 +1,9 @@
+//! Files of a mounted RBF volume that are changed, over a drive that may fail.
+#![tactic(auto)]
+
+pub use attributes::set_fd_attr;
+pub use data::fill;
+
+mod attributes;
+mod data;
+mod descriptor;

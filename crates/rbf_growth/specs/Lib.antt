@@ -1,0 +1,3 @@
+pub mod Gained
+pub mod Marked
+pub mod Grown

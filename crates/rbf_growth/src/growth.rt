@@ -1,0 +1,64 @@
+ghost use Rattle.std.specs.Prelude.{◌≡◌, ◌↔◌, ℕ, ◌<◌, ◌≤◌, true, false, length, None, IfOk, IfSome, OnErr, IsErrOf, IsNone};
+ghost use Rattle.rbf_model.specs.Volume.{DiskVolume};
+ghost use Rattle.rbf_change.specs.Calls.{cluster_size, free_total, is_free_in};
+ghost use Rattle.rbf_change.specs.Growth.{uses};
+ghost use Rattle.rbf_access.specs.Drive.{Counts};
+ghost use Rattle.rbf_access.specs.Faults.{file_fault};
+ghost use Rattle.rbf_access.specs.Mounted.{IsMounted, Represents};
+ghost use Rattle.rbf_growth.specs.Gained.{IsTooMany};
+ghost use Rattle.rbf_growth.specs.Grown.{IsGrown, GrowthEnds};
+
+use crate::marks::write_marks;
+use crate::returned::give_back;
+use crate::taken::gain;
+use os9_outer::drive::BlockDriver;
+use rbf_access::{FileFault, Volume};
+use rbf_segs::Segs;
+
+/// Takes clusters for a file with these segments, on the media too, and answers its segments with
+/// the sectors of those clusters behind them. In the volume the clusters are lost until a
+/// descriptor has them (OS-9 Technical Reference, Random Block File Manager, "Disk Allocation
+/// Map").
+///
+/// # Errors
+///
+/// `NoCluster` exactly if fewer are free, and `TooManyRuns` if a chosen one does not fit the list:
+/// then nothing has changed. `Device` if a write of the drive fails: then some of the clusters may
+/// be lost.
+pub fn grow(
+    volume: &mut Volume,
+    d: &mut dyn BlockDriver,
+    segs: &Segs,
+    count: u32,
+) -> Result<Segs, FileFault>
+    requires mounted { IsMounted volume.old (media d.old) }
+    requires few { length segs.now ≤ 48 }
+    requires apart { (v : DiskVolume) → Represents (media d.old) v → (c : ℕ)
+        → uses (cluster_size v) segs.now c ≡ true → is_free_in v c ≡ false }
+    ensures ok { (v : DiskVolume) → Represents (media d.old) v
+        → IfOk result (IsGrown v count (media d.old) (media d.new) segs.now) }
+    ensures full { (v : DiskVolume) → Represents (media d.old) v
+        → IsErrOf result FileFault.NoCluster ↔ (free_total v < count) }
+    ensures runs { (v : DiskVolume) → Represents (media d.old) v
+        → IsErrOf result FileFault.TooManyRuns
+        → IsTooMany (cluster_size v) count (is_free_in v) segs.now }
+    ensures refused { OnErr result (IsNone (file_fault result) → media d.new ≡ media d.old) }
+    ensures fault { (v : DiskVolume) → Represents (media d.old) v
+        → IfSome (file_fault result)
+        (λ _. GrowthEnds v count (media d.old) (media d.new) segs.now) }
+    ensures mounted { IsMounted volume.new (media d.new) }
+    ensures counts { Counts ⟦<dyn BlockDriver as BlockDriver>⟧
+        (file_fault result) count d.old d.new }
+{
+    let k = volume.ident.cluster;
+    let longer = gain(&mut volume.map, k, segs, count)?;
+    let first = segs.sectors();
+    let mut written = [false; 256];
+    match write_marks(volume, d, &longer, first, count, &mut written) {
+        Ok(()) => Ok(longer),
+        Err(fault) => {
+            give_back(&mut volume.map, k, &longer, first, count, &written);
+            Err(fault)
+        }
+    }
+}

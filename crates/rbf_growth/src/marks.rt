@@ -1,0 +1,84 @@
+ghost use Rattle.std.specs.Prelude.{◌≡◌, ℕ, ◌+◌, ◌*◌, ◌/◌, ◌<◌, ◌≤◌, List, true, false, length, replicate, OnOk, OnErr, IsSome};
+ghost use Rattle.os9_outer.specs.Drive.{sector_count};
+ghost use Rattle.rbf_model.specs.Volume.{DiskVolume};
+ghost use Rattle.rbf_access.specs.Drive.{Counts};
+ghost use Rattle.rbf_access.specs.Faults.{file_fault};
+ghost use Rattle.rbf_access.specs.Mounted.{kept};
+ghost use Rattle.rbf_growth.specs.Gained.{ArePlaces, AreSizes, is_written, clusters_from};
+ghost use Rattle.rbf_growth.specs.Marked.{WritesMapSector, IsMarkedOn, IsMarking, AllWritten};
+
+use crate::returned::cluster_of;
+use os9_outer::drive::BlockDriver;
+use rbf_access::{FileFault, Volume};
+use rbf_segs::Segs;
+
+// Writes the sectors of the map that have a mark of these clusters, each once.
+pub fn write_marks(
+    volume: &mut Volume,
+    d: &mut dyn BlockDriver,
+    segs: &Segs,
+    first: u32,
+    count: u32,
+    written: &mut [bool; 256],
+) -> Result<(), FileFault>
+    requires marking { IsMarking (kept volume.old) (media d.old) written.old }
+    requires places { ArePlaces volume.old.ident.cluster volume.old.map segs.now first count }
+    ensures on { (v : DiskVolume) (old : List ℕ)
+        → IsMarkedOn v old (media d.old) (kept volume.old) written.old
+        → IsMarkedOn v old (media d.new) (kept volume.old) written.new }
+    ensures all { OnOk result
+        (AllWritten (clusters_from volume.old.ident.cluster segs.now first count) written.new) }
+    ensures device { OnErr result (IsSome (file_fault result)) }
+    ensures volume_kept { kept volume.new ≡ kept volume.old }
+    ensures counts { Counts ⟦<dyn BlockDriver as BlockDriver>⟧
+        (file_fault result) count d.old d.new }
+{
+    let k = volume.ident.cluster;
+    for i in 0..count {
+        let cluster = cluster_of(segs, k, first + i * u32::from(k));
+        write_mark(volume, d, cluster, written)?;
+    }
+    Ok(())
+}
+
+// Writes the sector of the map that has the mark of a cluster, unless it was written.
+fn write_mark(
+    volume: &mut Volume,
+    d: &mut dyn BlockDriver,
+    cluster: u32,
+    written: &mut [bool; 256],
+) -> Result<(), FileFault>
+    requires marking { IsMarking (kept volume.old) (media d.old) written.old }
+    requires in_map { cluster < volume.old.map.whole }
+    ensures on { (v : DiskVolume) (old : List ℕ)
+        → IsMarkedOn v old (media d.old) (kept volume.old) written.old
+        → IsMarkedOn v old (media d.new) (kept volume.old) written.new }
+    ensures there { OnOk result (is_written written.new cluster ≡ true) }
+    ensures still { (c : ℕ) → is_written written.old c ≡ true → is_written written.new c ≡ true }
+    ensures device { OnErr result (IsSome (file_fault result)) }
+    ensures volume_kept { kept volume.new ≡ kept volume.old }
+    ensures counts { Counts ⟦<dyn BlockDriver as BlockDriver>⟧ (file_fault result) 1 d.old d.new }
+{
+    let place = cluster / 2048;
+    if written[place as usize] {
+        return Ok(());
+    }
+    write_map_sector(volume, d, place as u16)?;
+    written[place as usize] = true;
+    Ok(())
+}
+
+// Writes a sector of the map, counted from 0.
+fn write_map_sector(volume: &mut Volume, d: &mut dyn BlockDriver, n: u16) -> Result<(), FileFault>
+    requires { 1 + n < sector_count (media d.old) }
+    ensures written { OnOk result
+        (WritesMapSector volume.old.map n (media d.old) (media d.new)) }
+    ensures media_kept { OnErr result (media d.new ≡ media d.old) }
+    ensures device { OnErr result (IsSome (file_fault result)) }
+    ensures volume_kept { kept volume.new ≡ kept volume.old }
+    ensures counts { Counts ⟦<dyn BlockDriver as BlockDriver>⟧ (file_fault result) 1 d.old d.new }
+{
+    let mut bytes = [0; 256];
+    volume.map.sector(n, &mut bytes);
+    volume.store(d, 1 + u32::from(n), &bytes)
+}
