@@ -1,0 +1,4 @@
+pub mod Stored
+pub mod Puts
+pub mod Attributed
+pub mod Deleting

@@ -1,0 +1,51 @@
+-- Entries of a directory that are written in their places.
+use Rattle.std.specs.Prelude.{◌≡◌, ℕ, ◌+◌, ◌*◌, ◌/◌, ◌%◌, ◌≤◌, true, false, Option, Some, List, length, get_or}
+use Rattle.os9_outer.specs.Drive.{sector_at}
+use Rattle.rbf_model.specs.Disk.{image_disk}
+use Rattle.rbf_model.specs.Fields.{directory_entry, descriptor_field, is_used}
+use Rattle.rbf_model.specs.File.{DiskFile, is_directory}
+use Rattle.rbf_model.specs.Laws.{IsReady}
+use Rattle.rbf_model.specs.Segments.{sectors_of}
+use Rattle.rbf_model.specs.Volume.{DiskVolume}
+use Rattle.rbf_model.specs.Writes.{IsNewEntry}
+use Rattle.rbf_access.specs.Mounted.{Represents}
+use Rattle.rbf_update.specs.Becomes.{with_piece}
+use Rattle.rbf_update.specs.declared.sector.EntrySector.{EntrySector}
+
+-- the sector that holds the entry in place i of a directory: there are 8 in each
+abbrev pub sector_of_entry : DiskFile → ℕ → ℕ
+sector_of_entry dir i = get_or (sectors_of dir.segments) (i / 8) 0
+
+-- the sector, and its bytes
+pub record IsEntrySector (media : Option (List ℕ)) (dir : DiskFile) (i : ℕ) (sector : EntrySector) : Type 0 where
+  pub lsn_is : sector.lsn ≡ sector_of_entry dir i
+  pub bytes_are : sector.bytes ≡ sector_at media (sector_of_entry dir i)
+
+-- the media with bytes written over the front of that entry
+abbrev pub with_entry_bytes : Option (List ℕ) → DiskFile → ℕ → List ℕ → Option (List ℕ)
+with_entry_bytes media dir i bytes = with_piece media (sector_of_entry dir i) (32 * (i % 8)) bytes
+
+-- a place behind the first two of directory d of the volume that the media represents
+pub record IsPlace (media : Option (List ℕ)) (d i : ℕ) : Type 0 where
+  pub content : DiskVolume
+  pub on : Represents media content
+  pub dir : DiskFile
+  pub is : content.files d ≡ Some dir
+  pub directory : is_directory dir ≡ true
+  pub after : 2 ≤ i
+  pub within : 32 * (i + 1) ≤ length dir.contents
+
+-- a free place, and the entry of a new file, which stands on the disk, by a name that is not in the directory
+pub record MayFill (media : Option (List ℕ)) (d i : ℕ) (entry : List ℕ) : Type 0 where
+  pub place : IsPlace media d i
+  pub free : is_used (directory_entry place.dir.contents i) ≡ false
+  pub new : IsNewEntry place.dir.contents i entry (descriptor_field entry)
+  pub ready : IsReady (image_disk place.on.image) place.content d (descriptor_field entry)
+
+-- the place of a used entry that names a file which is no directory
+pub record MayFree (media : Option (List ℕ)) (d i : ℕ) : Type 0 where
+  pub place : IsPlace media d i
+  pub used : is_used (directory_entry place.dir.contents i) ≡ true
+  pub file : DiskFile
+  pub names : place.content.files (descriptor_field (directory_entry place.dir.contents i)) ≡ Some file
+  pub not_directory : is_directory file ≡ false

@@ -1,0 +1,4 @@
+pub mod Becomes
+pub mod Entries
+pub mod Attributes
+pub mod Deletions

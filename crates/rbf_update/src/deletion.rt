@@ -1,0 +1,110 @@
+ghost use Rattle.std.specs.Prelude.{◌≡◌, ◌+◌, IfOk, OnOk, OnErr, Some};
+ghost use Rattle.rbf_model.specs.File.{DiskFile};
+ghost use Rattle.rbf_change.specs.Names.{deletion_end, may_change as may_change_lem, may_delete as may_delete_lem};
+ghost use Rattle.rbf_access.specs.Drive.{Counts};
+ghost use Rattle.rbf_access.specs.Mounted.{kept, HasFile, IsMounted};
+ghost use Rattle.rbf_access.specs.Reading.{IsFdOf, OnFile};
+ghost use Rattle.rbf_walk.specs.Walk.{AnswersWalk, directory_fault};
+ghost use Rattle.rbf_update.specs.Becomes.{Becomes};
+ghost use Rattle.rbf_update.specs.Deletions.{FreesName, IsDeletable, OnNumbered, deletion_calls, descriptor_found};
+
+use crate::entry::free_entry;
+use os9_base::name::Name;
+use os9_outer::drive::BlockDriver;
+use rbf_access::Volume;
+use rbf_sector::Fd;
+use rbf_walk::{DirError, Searched, is_open, may, search};
+
+const WRITE: u8 = 2;
+
+/// An entry that may be deleted: its place in the directory, and the descriptor that it names.
+#[derive(Clone, Copy, Debug)]
+pub struct Deletable {
+    pub place: u32,
+    pub descriptor: u32,
+}
+
+/// Deletes the name of a file from a directory, for a user, and answers the descriptor that it
+/// named. The file has gone from the volume then, and its whole clusters are lost until they are
+/// given back.
+///
+/// # Errors
+///
+/// `NotAllowed` if the user may not search or may not write the directory, and for a directory or
+/// a file that the user may not write; `NotFound` if the name is not there; `Device` if an access
+/// of the drive fails. The media is as it was then.
+pub fn delete_entry(
+    v: &mut Volume,
+    d: &mut dyn BlockDriver,
+    dir: u32,
+    name: &Name,
+    user: u16,
+    execute: bool,
+) -> Result<u32, DirError>
+    requires mounted { IsMounted v.old (media d.old) }
+    requires file { HasFile (media d.old) dir }
+    ensures answer { OnNumbered (media d.old) dir (λ on file.
+        AnswersWalk (deletion_end on.files file name.now user execute) result) }
+    ensures ok { OnOk result (Becomes (media d.old) (media d.new) (λ old new.
+        FreesName old new dir name.now)) }
+    ensures media_kept { OnErr result (media d.new ≡ media d.old) }
+    ensures mounted { IsMounted v.new (media d.new) }
+    ensures volume_kept { kept v.new ≡ kept v.old }
+    ensures counts { OnFile (media d.old) dir (λ file. Counts ⟦<dyn BlockDriver as BlockDriver>⟧
+        (directory_fault result) (3 + deletion_calls file) d.old d.new) }
+{
+    let found = find_deletable(v, d, dir, name, user, execute)?;
+    free_entry(v, d, dir, found.place)?;
+    Ok(found.descriptor)
+}
+
+// The entry of a directory that has a name, if a user may delete it.
+fn find_deletable(
+    v: &mut Volume,
+    d: &mut dyn BlockDriver,
+    dir: u32,
+    name: &Name,
+    user: u16,
+    execute: bool,
+) -> Result<Deletable, DirError>
+    requires mounted { IsMounted v.old (media d.old) }
+    requires file { HasFile (media d.old) dir }
+    ensures answer { OnNumbered (media d.old) dir (λ on file. AnswersWalk
+        (deletion_end on.files file name.now user execute)
+        (descriptor_found result)) }
+    ensures ok { IfOk result (IsDeletable (media d.old) dir name.now) }
+    ensures mounted { IsMounted v.new (media d.new) }
+    ensures media_kept { media d.new ≡ media d.old }
+    ensures volume_kept { kept v.new ≡ kept v.old }
+    ensures counts { OnFile (media d.old) dir (λ file. Counts ⟦<dyn BlockDriver as BlockDriver>⟧
+        (directory_fault result) (deletion_calls file) d.old d.new) }
+{
+    let fd = v.fd(d, dir)?;
+    if !may_change(&fd, user, execute) {
+        return Err(DirError::NotAllowed);
+    }
+    match search(v, d, &fd, name)? {
+        Searched::Absent { .. } => Err(DirError::NotFound),
+        Searched::Found { place, descriptor } => {
+            let file = v.fd(d, descriptor)?;
+            if !may_delete(&file, user) {
+                return Err(DirError::NotAllowed);
+            }
+            Ok(Deletable { place, descriptor })
+        }
+    }
+}
+
+// Is it a directory that a user may search and change?
+fn may_change(fd: &Fd, user: u16, execute: bool) -> bool
+    ensures { (file : DiskFile) → IsFdOf file fd.now → result ≡ may_change_lem file user execute }
+{
+    is_open(fd, user, execute) && may(fd, user, WRITE)
+}
+
+// Is it a file, and no directory, that a user may delete?
+fn may_delete(fd: &Fd, user: u16) -> bool
+    ensures { (file : DiskFile) → IsFdOf file fd.now → result ≡ may_delete_lem (Some file) user }
+{
+    fd.attr >> 7 == 0 && may(fd, user, WRITE)
+}

@@ -1,0 +1,12 @@
+//! Changes of a mounted RBF volume by one sector, over a drive that may fail: an entry of a
+//! directory that is filled or made free in its place, and the attributes of a file.
+#![tactic(auto)]
+
+pub use attributes::{set_attr, set_fd_attr};
+pub use deletion::delete_entry;
+pub use entry::{fill_entry, free_entry};
+
+mod attributes;
+mod deletion;
+mod entry;
+mod sector;

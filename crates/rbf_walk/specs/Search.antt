@@ -1,0 +1,56 @@
+-- A directory that is searched for a name.
+use Rattle.std.specs.Prelude.{◌≡◌, ℕ, ◌+◌, ◌*◌, ◌<◌, ◌≤◌, Bool, true, false, Option, Some, None, List, length}
+use Rattle.rbf_model.specs.Fields.{directory_entry, descriptor_field}
+use Rattle.rbf_model.specs.File.{DiskFile}
+use Rattle.rbf_model.specs.Walk.{entry_has_name, look_up}
+use Rattle.rbf_model.specs.Volume.{DiskVolume}
+use Rattle.rbf_change.specs.Names.{entry_place, place_of}
+use Rattle.rbf_sector.specs.declared.fd.Fd.{Fd}
+use Rattle.rbf_access.specs.Mounted.{Represents}
+use Rattle.rbf_access.specs.Reading.{IsFdOf}
+use Rattle.rbf_walk.specs.declared.directory.Searched.{Searched}
+use Rattle.rbf_walk.specs.declared.directory.Searched.TheVariants.{Found, Absent}
+
+-- none of the first entries of these bytes passes a test
+abbrev pub NonePasses : (List ℕ → Bool) → List ℕ → ℕ → Type 0
+NonePasses test bytes count = (k : ℕ) → k < count → test (directory_entry bytes k) ≡ false
+
+-- of so many, the entry in place i is the first that passes
+pub record IsFirst (test : List ℕ → Bool) (bytes : List ℕ) (count i : ℕ) : Type 0 where
+  pub below : i < count
+  pub passes : test (directory_entry bytes i) ≡ true
+  pub before : NonePasses test bytes i
+
+-- the descriptor is that of a file of the volume that the media represents
+pub record IsFdOn (media : Option (List ℕ)) (fd : Fd) : Type 0 where
+  pub content : DiskVolume
+  pub on : Represents media content
+  pub number : ℕ
+  pub file : DiskFile
+  pub is : content.files number ≡ Some file
+  pub fields : IsFdOf file fd
+
+-- what holds of each file that has this descriptor
+abbrev pub OnFd : Option (List ℕ) → Fd → (DiskFile → Type 0) → Type 0
+OnFd media fd fact =
+    (v : DiskVolume) (n : ℕ) (file : DiskFile) → Represents media v → v.files n ≡ Some file → IsFdOf file fd
+    → fact file
+
+-- the entry with the name is in this place and names this descriptor
+pub record IsFoundAt (contents name : List ℕ) (place descriptor : ℕ) : Type 0 where
+  pub there : place_of contents name ≡ Some place
+  pub within : 32 * (place + 1) ≤ length contents
+  pub has : entry_has_name name (directory_entry contents place) ≡ true
+  pub descriptor_is : descriptor ≡ descriptor_field (directory_entry contents place)
+  pub names : look_up contents name ≡ Some descriptor
+
+-- no entry has the name, and a new one goes to this place
+pub record IsAbsent (contents name : List ℕ) (free : ℕ) : Type 0 where
+  pub nowhere : place_of contents name ≡ None
+  pub names_none : look_up contents name ≡ None
+  pub free_is : free ≡ entry_place contents
+
+-- what a search of these bytes for a name answers
+abbrev pub IsSearched : List ℕ → List ℕ → Searched → Type 0
+IsSearched contents name (Found place descriptor) = IsFoundAt contents name place descriptor
+IsSearched contents name (Absent free) = IsAbsent contents name free

@@ -1,0 +1,55 @@
+-- What a walk answers, and how many calls of the drive it makes.
+use Rattle.std.specs.Prelude.{◌≡◌, ℕ, ◌+◌, Bool, Option, Some, None, List, [], ◌∷◌, length, Result, Ok, Err, if◌then◌else◌}
+use Rattle.rbf_model.specs.File.{DiskFile}
+use Rattle.rbf_model.specs.Volume.{DiskVolume}
+use Rattle.rbf_model.specs.Walk.{WalkEnd, arrives, not_allowed, not_found, may_search, step}
+use Rattle.rbf_change.specs.Contents.{sector_count}
+use Rattle.rbf_access.specs.declared.faults.FileFault.TheVariants.{Device, NoCluster, TooManyRuns}
+use Rattle.rbf_access.specs.Mounted.{Represents}
+use Rattle.rbf_walk.specs.declared.error.DirError.{DirError}
+use Rattle.rbf_walk.specs.declared.error.DirError.TheVariants.{NotAllowed, BadPath, NotFound, Exists, File}
+
+-- what holds of the volume that the media represents
+abbrev pub OnVolume : Option (List ℕ) → (DiskVolume → Type 0) → Type 0
+OnVolume media fact = (v : DiskVolume) → Represents media v → fact v
+
+-- the number of the drive's fault that a call answers, if it answers one
+abbrev pub directory_fault : {A : Type 0} → Result A DirError → Option ℕ
+directory_fault (Ok a) = None
+directory_fault (Err NotAllowed) = None
+directory_fault (Err BadPath) = None
+directory_fault (Err NotFound) = None
+directory_fault (Err Exists) = None
+directory_fault (Err (File (Device n))) = Some n
+directory_fault (Err (File NoCluster)) = None
+directory_fault (Err (File TooManyRuns)) = None
+
+-- the answer of a walk that ends so, where no fault of the drive ended it before
+abbrev pub AnswersWalk : WalkEnd → Result ℕ DirError → Type 0
+AnswersWalk end (Ok n) = end ≡ arrives n
+AnswersWalk end (Err NotAllowed) = end ≡ not_allowed
+AnswersWalk end (Err BadPath) = ⊥
+AnswersWalk end (Err NotFound) = end ≡ not_found
+AnswersWalk end (Err Exists) = ⊥
+AnswersWalk end (Err (File (Device n))) = Unit
+AnswersWalk end (Err (File NoCluster)) = ⊥
+AnswersWalk end (Err (File TooManyRuns)) = ⊥
+
+-- how many calls the search of a file for a name makes at most: its descriptor's, and its sectors' if it is searched
+abbrev pub step_calls : Option DiskFile → ℕ → Bool → ℕ
+step_calls None user execute = 1
+step_calls (Some dir) user execute =
+    1 + (if may_search dir user execute then sector_count (length dir.contents) else 0)
+
+-- the calls from where one name leads
+abbrev pub calls_on : WalkEnd → (ℕ → ℕ) → ℕ
+calls_on (arrives n) next = next n
+calls_on not_allowed next = 0
+calls_on not_found next = 0
+
+-- how many a walk makes at most: no file after the one at which it ends is read
+abbrev pub walk_calls : (ℕ → Option DiskFile) → ℕ → Bool → ℕ → List (List ℕ) → ℕ
+walk_calls files user execute d [] = 0
+walk_calls files user execute d (name ∷ names) =
+    step_calls (files d) user execute
+    + calls_on (step (files d) user execute name) (λ n. walk_calls files user execute n names)

@@ -1,0 +1,82 @@
+ghost use Rattle.std.specs.Prelude.{◌≡◌, ℕ, ◌+◌, ◌-◌, ◌*◌, ◌^◌, ◌<◌, ◌≤◌, not, IfOk, OnErr, IsSome, MatchOption, Some, None, length};
+ghost use Rattle.rbf_model.specs.Fields.{is_used};
+ghost use Rattle.rbf_change.specs.Contents.{sector_count};
+ghost use Rattle.rbf_access.specs.Drive.{Counts};
+ghost use Rattle.rbf_access.specs.Faults.{file_fault};
+ghost use Rattle.rbf_access.specs.Mounted.{kept, IsMounted};
+ghost use Rattle.rbf_walk.specs.Search.{NonePasses, IsFirst, IsFdOn, OnFd, IsSearched};
+
+use crate::sector::{descriptor_in, entries_in, free_in, named_in};
+use os9_base::name::Name;
+use os9_outer::drive::BlockDriver;
+use rbf_access::{FileFault, Volume};
+use rbf_sector::Fd;
+
+/// What a search of a directory finds: the entry that has the name, by its place, and the
+/// descriptor that it names; or that no entry has it, and the place of the first free entry, which
+/// is that behind the last where none is free.
+#[derive(Clone, Copy, Debug, PartialEq, Eq)]
+pub enum Searched {
+    Found { place: u32, descriptor: u32 },
+    Absent { free: u32 },
+}
+
+/// Searches a directory, whose descriptor is given, for a name; the case of letters is ignored. No
+/// sector is read twice, and none after the one that has the name.
+///
+/// # Errors
+///
+/// `Device` if a read of the drive fails.
+pub fn search(
+    v: &mut Volume,
+    d: &mut dyn BlockDriver,
+    dir: &Fd,
+    name: &Name,
+) -> Result<Searched, FileFault>
+    requires mounted { IsMounted v.old (media d.old) }
+    requires directory { IsFdOn (media d.old) dir.now }
+    ensures ok { OnFd (media d.old) dir.now (λ file. IfOk result
+        (IsSearched file.contents name.now)) }
+    ensures device { OnErr result (IsSome (file_fault result)) }
+    ensures mounted { IsMounted v.new (media d.new) }
+    ensures media_kept { media d.new ≡ media d.old }
+    ensures volume_kept { kept v.new ≡ kept v.old }
+    ensures counts { Counts ⟦<dyn BlockDriver as BlockDriver>⟧
+        (file_fault result) (sector_count dir.now.size) d.old d.new }
+{
+    let entries = dir.size / 32;
+    let mut free = None;
+    for place in 0..entries.div_ceil(8) {
+        let bytes = v.load(d, dir.segs.lsn_of(place).unwrap())?;
+        let count = entries_in(entries, place);
+        if let Some(i) = named_in(&bytes, count, name) {
+            return Ok(Searched::Found {
+                place: 8 * place + i,
+                descriptor: descriptor_in(&bytes, i),
+            });
+        }
+        free = first_free(free, &bytes, count, place);
+    }
+    Ok(Searched::Absent {
+        free: free.unwrap_or(entries),
+    })
+}
+
+// The first free entry so far: the one before, or else one of the sector in this place.
+fn first_free(before: Option<u32>, sector: &[u8; 256], count: u32, place: u32) -> Option<u32>
+    requires few { count ≤ 8 }
+    requires low { place < 2 ^ 27 }
+    ensures kept { IsSome before → result ≡ before }
+    ensures none { before ≡ None → MatchOption result
+        (NonePasses (λ entry. not (is_used entry)) sector.now count)
+        (λ at. (8 * place ≤ at)
+        × IsFirst (λ entry. not (is_used entry)) sector.now count (at - 8 * place)) }
+{
+    if before.is_some() {
+        return before;
+    }
+    match free_in(sector, count) {
+        None => None,
+        Some(i) => Some(8 * place + i),
+    }
+}

@@ -1,0 +1,76 @@
+ghost use Rattle.std.specs.Prelude.{◌≡◌, ℕ, IfOk};
+ghost use Rattle.rbf_model.specs.Walk.{step as step_lem, walk as walk_lem};
+ghost use Rattle.rbf_access.specs.Drive.{Counts};
+ghost use Rattle.rbf_access.specs.Mounted.{kept, HasFile, IsMounted};
+ghost use Rattle.rbf_walk.specs.Walk.{OnVolume, AnswersWalk, directory_fault, step_calls, walk_calls};
+
+use crate::directory::{Searched, search};
+use crate::error::DirError;
+use crate::permission::is_open;
+use os9_base::name::Name;
+use os9_outer::drive::BlockDriver;
+use rbf_access::Volume;
+
+/// Goes from a directory along the names of a path list, for a user, and answers the descriptor
+/// that is reached. Each directory that is searched must let the user read it, or execute it in
+/// search of a file to execute (OS-9 Technical Reference, I$Open).
+///
+/// # Errors
+///
+/// `NotAllowed` at the first name that is looked up in a file that is no directory or may not be
+/// searched, `NotFound` at the first that is not there, `Device` if a read of the drive fails.
+pub fn walk(
+    v: &mut Volume,
+    d: &mut dyn BlockDriver,
+    from: u32,
+    names: &[Name],
+    user: u16,
+    execute: bool,
+) -> Result<u32, DirError>
+    requires mounted { IsMounted v.old (media d.old) }
+    requires file { HasFile (media d.old) from }
+    ensures walked { OnVolume (media d.old) (λ on.
+        AnswersWalk (walk_lem on.files user execute from names.now) result) }
+    ensures file { IfOk result (HasFile (media d.old)) }
+    ensures mounted { IsMounted v.new (media d.new) }
+    ensures media_kept { media d.new ≡ media d.old }
+    ensures volume_kept { kept v.new ≡ kept v.old }
+    ensures counts { OnVolume (media d.old) (λ on. Counts ⟦<dyn BlockDriver as BlockDriver>⟧
+        (directory_fault result) (walk_calls on.files user execute from names.now) d.old d.new) }
+{
+    let mut at = from;
+    for name in names {
+        at = step(v, d, at, name, user, execute)?;
+    }
+    Ok(at)
+}
+
+// Where a directory's name leads a user.
+fn step(
+    v: &mut Volume,
+    d: &mut dyn BlockDriver,
+    dir: u32,
+    name: &Name,
+    user: u16,
+    execute: bool,
+) -> Result<u32, DirError>
+    requires mounted { IsMounted v.old (media d.old) }
+    requires file { HasFile (media d.old) dir }
+    ensures walked { OnVolume (media d.old) (λ on.
+        AnswersWalk (step_lem (on.files dir) user execute name.now) result) }
+    ensures file { IfOk result (HasFile (media d.old)) }
+    ensures mounted { IsMounted v.new (media d.new) }
+    ensures media_kept { media d.new ≡ media d.old }
+    ensures volume_kept { kept v.new ≡ kept v.old }
+    ensures counts { OnVolume (media d.old) (λ on. Counts ⟦<dyn BlockDriver as BlockDriver>⟧
+        (directory_fault result) (step_calls (on.files dir) user execute) d.old d.new) }
+{
+    let fd = v.fd(d, dir)?;
+    if !is_open(&fd, user, execute) {
+        return Err(DirError::NotAllowed);
+    }
+    match search(v, d, &fd, name)? {
+        Searched::Found { descriptor, .. } => Ok(descriptor),
+        Searched::Absent { .. } => Err(DirError::NotFound),
+    }
+}

@@ -1,0 +1,77 @@
+ghost use Rattle.std.specs.Prelude.{◌≡◌, ◌-◌, ◌*◌, ◌^◌, ◌<◌, ◌≤◌, ◌+◌, min, not, IfSome, MatchOption, Some, None};
+ghost use Rattle.rbf_model.specs.Fields.{directory_entry, descriptor_field, is_used};
+ghost use Rattle.rbf_model.specs.Walk.{entry_has_name};
+ghost use Rattle.rbf_walk.specs.Search.{NonePasses, IsFirst};
+
+use os9_base::name::{Name, header_name, same_name};
+use rbf_sector::read_entry;
+
+// How many of a directory's entries are in the sector in this place.
+pub fn entries_in(entries: u32, place: u32) -> u32
+    requires { place < 2 ^ 27 }
+    ensures { result ≡ min 8 (entries - 8 * place) }
+{
+    entries.saturating_sub(8 * place).min(8)
+}
+
+// The first of the entries of a sector that has the name.
+pub fn named_in(sector: &[u8; 256], count: u32, name: &Name) -> Option<u32>
+    requires { count ≤ 8 }
+    ensures { MatchOption result
+        (NonePasses (entry_has_name name.now) sector.now count)
+        (IsFirst (entry_has_name name.now) sector.now count) }
+{
+    for i in 0..count {
+        if has_name(&entry_at(sector, i), name) {
+            return Some(i);
+        }
+    }
+    None
+}
+
+// The first of the entries of a sector that is free.
+pub fn free_in(sector: &[u8; 256], count: u32) -> Option<u32>
+    requires { count ≤ 8 }
+    ensures { MatchOption result
+        (NonePasses (λ entry. not (is_used entry)) sector.now count)
+        (IsFirst (λ entry. not (is_used entry)) sector.now count) }
+{
+    for i in 0..count {
+        if entry_at(sector, i)[0] == 0 {
+            return Some(i);
+        }
+    }
+    None
+}
+
+// The descriptor that an entry of a sector names.
+pub fn descriptor_in(sector: &[u8; 256], i: u32) -> u32
+    requires { i < 8 }
+    ensures { result ≡ descriptor_field (directory_entry sector.now i) }
+{
+    read_entry(&entry_at(sector, i)).lsn
+}
+
+// The entry in a place of a sector.
+fn entry_at(sector: &[u8; 256], i: u32) -> [u8; 32]
+    requires { i < 8 }
+    ensures { result ≡ directory_entry sector.now i }
+{
+    let at = 32 * i as usize;
+    let mut entry = [0; 32];
+    entry.copy_from_slice(&sector[at..at + 32]);
+    entry
+}
+
+// Is the entry used, and has it this name, with the case of letters ignored?
+fn has_name(entry: &[u8; 32], name: &Name) -> bool
+    ensures { result ≡ entry_has_name name.now entry.now }
+{
+    if entry[0] == 0 {
+        return false;
+    }
+    match header_name(&entry[..29]) {
+        Err(_) => false,
+        Ok(other) => same_name(name, &other),
+    }
+}
