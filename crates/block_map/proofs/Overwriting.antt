@@ -1,10 +1,10 @@
 -- Bytes of a block that are overwritten together.
-use Rattle.std.proofs.Common.{◌≡◌, ◌≢◌, ℕ, ◌+◌, ◌-◌, ◌*◌, ◌/◌, ◌%◌, ◌<◌, ◌≤◌, Option, Some, None, List, [], ◌∷◌, ◌++◌, length, take, drop, get_or, set, cond, slice_get, arith, sym, ap, ◌∙◌, subst, inl, inr, option_and_then, nat_le, nat_lt, length-append, ◌⊎◌, refl, IsSome, IsSomeAnd}
+use Rattle.std.proofs.Common.{◌≡◌, ℕ, ◌+◌, ◌-◌, ◌/◌, ◌%◌, ◌<◌, ◌≤◌, Option, Some, None, List, [], ◌++◌, length, take, drop, get_or, set, cond, slice_get, arith, sym, ap, ◌∙◌, subst, inl, inr, option_and_then, length-append, ◌⊎◌, refl, IsSome, IsSomeAnd}
 use Rattle.std.proofs.Math.Path.{fun_ext}
-use Rattle.std.proofs.lemmas.List.{get_or_append_left, get_or-append_right, get_or-take, get_or-drop, get_or_past, set_past, get_or-set_same, get_or-set_other, length-take-le, length-drop}
+use Rattle.std.proofs.lemmas.List.{get_or_append_left, get_or-append_right, get_or-take, get_or-drop, get_or-set_same, get_or-set_other, length-take-le, length-drop}
 use Rattle.std.proofs.lemmas.Option.{slice_get-get_or}
 use Rattle.std.proofs.lemmas.Bool.{cond-true, cond-false, cases_eq, cases_lt, lt-ltb}
-use Rattle.os9_base.specs.Cells.{Cells, store_cells, is_in_range}
+use Rattle.os9_base.specs.Cells.{store_cells, is_in_range}
 use Rattle.block_pool.specs.Blocks.{Blocks, IsPool, IsLive, is_live, reference_count, block_bytes, with_block_bytes, overwritten}
 use Rattle.proc_model.specs.declared.group.BlockId.{BlockId}
 use Rattle.proc_model.specs.Slots.{Slots, IsMap, block_at}

@@ -1,9 +1,10 @@
 -- What the calls on a map do to the pool.
-use Rattle.std.specs.Prelude.{◌≡◌, ℕ, List, [], ◌∷◌, length, take, fold, Option, Some}
-use Rattle.block_pool.specs.Blocks.{Blocks, IsLive, IsFreeBlock, pool_after_take, pool_after_share, pool_after_give}
+use Rattle.std.specs.Prelude.{◌≡◌, ◌≢◌, ℕ, ◌<◌, ◌≤◌, List, [], ◌∷◌, All, AllPairs, length, take, fold, Option, Some}
+use Rattle.block_pool.specs.Blocks.{Blocks, IsLive, IsFreeBlock, reference_count, pool_after_take, pool_after_share, pool_after_give}
+use Rattle.block_pool.specs.declared.pool.TheConstants.{MOST_SHARED}
 use Rattle.proc_model.specs.declared.group.BlockId.{BlockId}
 use Rattle.proc_model.specs.declared.group.Group.{Group}
-use Rattle.proc_model.specs.Slots.{Slots, block_at, filled_places, with_low}
+use Rattle.proc_model.specs.Slots.{Slots, IsHighestFreeRun, NamesBlock, block_at, filled_places, with_group, with_low}
 
 -- these blocks are taken one after another, each of them free at its turn
 abbrev pub TakesBlocks : Blocks → List BlockId → Blocks → Type 0
@@ -39,3 +40,26 @@ pub record GainsLow (len : ℕ) (old : Slots BlockId) (before : Blocks) (new : S
     pub all : length blocks ≡ len
     pub taken : TakesBlocks before blocks after
     pub low : new ≡ with_low old blocks
+
+-- a group that may come into the map
+pub record MayMap (group : Group) (slots : Slots BlockId) (pool : Blocks) : Type 0 where
+  -- it has a block or more
+  pub some : 1 ≤ group.len
+  -- no two of its blocks are one
+  pub different : AllPairs (λ a b. a ≢ b) (group_blocks group)
+  -- each of them is live
+  pub group_live : All (λ id. IsLive pool id.0) (group_blocks group)
+  -- each can be named once more
+  pub countable : All (λ id. reference_count pool id.0 < MOST_SHARED) (group_blocks group)
+  -- the map names none of them yet
+  pub unnamed : All (λ id. NamesBlock slots id → ⊥) (group_blocks group)
+
+-- the group stands in the map from the slot `first` on
+pub record GainsGroup (group : Group) (old : Slots BlockId) (before : Blocks) (new : Slots BlockId) (after : Blocks)
+    (first : ℕ) : Type 0 where
+  -- there begins the highest run of so many free slots
+  pub highest : IsHighestFreeRun old group.len first
+  -- its slots name the blocks in order, and all others name what they did
+  pub grouped : new ≡ with_group old first (group_blocks group)
+  -- each block is named once more
+  pub shared : after ≡ pool_after_sharing before (group_blocks group)

@@ -3,7 +3,7 @@ ghost use Rattle.std.specs.Option.{ForSome};
 ghost use Rattle.proc_model.specs.declared.group.BlockId.{BlockId};
 ghost use Rattle.block_pool.specs.Blocks.{Blocks, IsPool, IsLive, reference_count, free_block_count};
 ghost use Rattle.proc_model.specs.Slots.{Slots, filled_places, blocks_in};
-ghost use Rattle.block_map.specs.TakenBlocks.{AreNewBlocks, pool_after_sharing, pool_after_giving, NamesLiveBlocks, GainsLow, group_blocks};
+ghost use Rattle.block_map.specs.TakenBlocks.{AreNewBlocks, pool_after_sharing, pool_after_giving, NamesLiveBlocks, GainsLow, MayMap, GainsGroup, group_blocks};
 
 use block_pool::pool::{MOST_SHARED, Pool};
 use proc_model::group::{BlockId, Group};
@@ -128,12 +128,7 @@ impl Map {
     ///
     /// `NoSlot` where there is no such run, and nothing has changed then. It is never `NoBlock`.
     pub fn map_group(&mut self, pool: &mut Pool, g: &Group) -> Result<u8, MapFault>
-        requires some { 1 ≤ g.now.len }
-        requires different { AllPairs (λ a b. a ≢ b) (group_blocks g.now) }
-        requires group_live { All (λ id. IsLive pool.old id.0) (group_blocks g.now) }
-        requires countable { All (λ id. reference_count pool.old id.0 < MOST_SHARED)
-            (group_blocks g.now) }
-        requires unnamed { All (λ id. NamesBlock self.old id → ⊥) (group_blocks g.now) }
+        requires may { MayMap g.now self.old pool.old }
         requires live { NamesLiveBlocks self.old pool.old }
 
         ensures no_slot { (result ≡ Err MapFault.NoSlot)
@@ -141,10 +136,7 @@ impl Map {
         ensures no_other_fault { result ≢ Err MapFault.NoBlock }
         ensures refused { OnErr result ((self.new ≡ self.old) × (pool.new ≡ pool.old)) }
 
-        ensures highest { IfOk result (IsHighestFreeRun self.old g.now.len) }
-        ensures grouped { IfOk result (λ first. self.new
-            ≡ with_group self.old first (group_blocks g.now)) }
-        ensures shared { OnOk result (pool.new ≡ pool_after_sharing pool.old (group_blocks g.now)) }
+        ensures mapped { IfOk result (GainsGroup g.now self.old pool.old self.new pool.new) }
         ensures live { NamesLiveBlocks self.new pool.new }
         ensures shape { IsMap self.new }
         ensures pool { IsPool pool.old → IsPool pool.new }

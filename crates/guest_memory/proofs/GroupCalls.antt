@@ -1,9 +1,9 @@
 -- What it comes to for the whole memory that a group is mapped, or leaves a map.
-use Rattle.std.proofs.Common.{◌≡◌, ◌≢◌, ℕ, ◌+◌, ◌<◌, ◌≤◌, ◌↔◌, Option, Some, None, IsSome, is_some, IfSome, option_map, option_and_then, Result, Ok, Err, IfOk, OnOk, OnErr, List, length, get_or, set, position, All, AllPairs, sym, ap, ◌∙◌, subst, arith}
+use Rattle.std.proofs.Common.{◌≡◌, ◌≢◌, ℕ, ◌+◌, ◌<◌, ◌≤◌, ◌↔◌, Option, Some, None, IsSome, is_some, IfSome, option_map, option_and_then, Result, Ok, Err, IfOk, OnErr, List, length, get_or, set, position, All, AllPairs, sym, ap, ◌∙◌, subst, arith}
 use Rattle.std.proofs.lemmas.List.{length-take-le, get_or-take, get_or-map, length-map}
 use Rattle.std.proofs.lemmas.Option.{same_Some}
 use Rattle.block_pool.specs.Blocks.{Blocks, IsPool, IsLive, reference_count}
-use Rattle.block_map.specs.TakenBlocks.{NamesLiveBlocks, group_blocks, pool_after_sharing, pool_after_giving}
+use Rattle.block_map.specs.TakenBlocks.{NamesLiveBlocks, MayMap, GainsGroup, group_blocks, pool_after_giving}
 use Rattle.block_map.specs.declared.map.MapFault.{MapFault}
 use Rattle.block_map.specs.declared.map.MapFault.TheVariants.{NoSlot, NoBlock}
 use Rattle.proc_model.specs.declared.group.BlockId.{BlockId}
@@ -70,19 +70,22 @@ module _ (pool : Blocks) (maps : List (Slots BlockId)) (entries : List (Option M
       borrowed : old ≡ slots
       borrowed = is_map_of pool maps entries sound process within old at
 
-      pub map-different : AllPairs (λ a b. a ≢ b) (group_blocks group)
+      map-different : AllPairs (λ a b. a ≢ b) (group_blocks group)
       map-different = group-different pool maps entries sound number entry is (group_blocks group) same
 
-      pub map-live : All (λ id. IsLive pool id.0) (group_blocks group)
+      map-live : All (λ id. IsLive pool id.0) (group_blocks group)
       map-live = group-live pool maps entries sound number entry is (group_blocks group) same
 
-      pub map-countable : All (λ id. reference_count pool id.0 < 65000) (group_blocks group)
+      map-countable : All (λ id. reference_count pool id.0 < 65000) (group_blocks group)
       map-countable = group-countable pool maps entries sound process within number entry is (group_blocks group) same unmapped
 
-      pub map-unnamed : All (λ id. NamesBlock old id → ⊥) (group_blocks group)
+      map-unnamed : All (λ id. NamesBlock old id → ⊥) (group_blocks group)
       map-unnamed = subst (λ (s : Slots BlockId). All (λ id. NamesBlock s id → ⊥) (group_blocks group)) (sym borrowed) (group-unnamed pool maps entries sound process within number entry is (group_blocks group) same unmapped)
 
-      module _ (result : Result ℕ MapFault) (new : Slots BlockId) (after : Blocks) (no_slot : (result ≡ Err NoSlot) ↔ ((first : ℕ) → IsFreeRun old first group.len → ⊥)) (no_other : result ≢ Err NoBlock) (refused : OnErr result ((new ≡ old) × (after ≡ pool))) (highest : IfOk result (IsHighestFreeRun old group.len)) (grouped : IfOk result (λ first. new ≡ with_group old first (group_blocks group))) (shared : OnOk result (after ≡ pool_after_sharing pool (group_blocks group))) where
+      pub map-may : MayMap group old pool
+      map-may = record { some = some-len; different = map-different; group_live = map-live; countable = map-countable; unnamed = map-unnamed }
+
+      module _ (result : Result ℕ MapFault) (new : Slots BlockId) (after : Blocks) (no_slot : (result ≡ Err NoSlot) ↔ ((first : ℕ) → IsFreeRun old first group.len → ⊥)) (no_other : result ≢ Err NoBlock) (refused : OnErr result ((new ≡ old) × (after ≡ pool))) (mapped : IfOk result (GainsGroup group old pool new after)) where
         run_of : (first : ℕ) → IsHighestFreeRun old group.len first → IsHighestFreeRun slots (length (group_blocks group)) first
         run_of first run = subst (λ (n : ℕ). IsHighestFreeRun slots n first) (sym many) (subst (λ (s : Slots BlockId). IsHighestFreeRun s group.len first) borrowed run)
 
@@ -90,26 +93,26 @@ module _ (pool : Blocks) (maps : List (Slots BlockId)) (entries : List (Option M
         new_of first is_new = is_new ∙ ap (λ (s : Slots BlockId). with_group s first (group_blocks group)) borrowed
 
         pub sound-map_group : NamesLiveBlocks new after → IsMap new → (IsPool pool → IsPool after) → IsSound after (set maps process new) entries
-        sound-map_group live shape pool_is = by_result result refused highest grouped shared
+        sound-map_group live shape pool_is = by_result result refused mapped
           where
-            by_result : (answer : Result ℕ MapFault) → OnErr answer ((new ≡ old) × (after ≡ pool)) → IfOk answer (IsHighestFreeRun old group.len) → IfOk answer (λ first. new ≡ with_group old first (group_blocks group)) → OnOk answer (after ≡ pool_after_sharing pool (group_blocks group)) → IsSound after (set maps process new) entries
-            by_result (Ok first) refused highest grouped shared =
-                let is_new = new_of first grouped in
+            by_result : (answer : Result ℕ MapFault) → OnErr answer ((new ≡ old) × (after ≡ pool)) → IfOk answer (GainsGroup group old pool new after) → IsSound after (set maps process new) entries
+            by_result (Ok first) refused mapped =
+                let is_new = new_of first mapped.grouped in
                 subst (λ (s : Slots BlockId). IsSound after (set maps process s) entries) (sym is_new)
-                (IsSound-mapped pool maps entries sound process within number entry is (group_blocks group) same unmapped first (run_of first highest) after shared (pool_is sound.shape) (subst IsMap is_new shape) (subst (λ (s : Slots BlockId). NamesLiveBlocks s after) is_new live))
-            by_result (Err fault) kept highest grouped shared =
+                (IsSound-mapped pool maps entries sound process within number entry is (group_blocks group) same unmapped first (run_of first mapped.highest) after mapped.shared (pool_is sound.shape) (subst IsMap is_new shape) (subst (λ (s : Slots BlockId). NamesLiveBlocks s after) is_new live))
+            by_result (Err fault) kept mapped =
                 subst (λ (p : Blocks). IsSound p (set maps process new) entries) (sym kept.1)
                 (subst (λ (all : List (Slots BlockId)). IsSound pool all entries) (sym (ap (set maps process) kept.0 ∙ unchanged pool maps entries sound process within old at)) sound)
 
         pub map-some : (first : ℕ) → result ≡ Ok first → (m : MemoryState) (tied : RepresentMemory pool maps entries m)
             → (group_mapped m process (group_at m number) ≡ Some (first, with_map m process (with_group (map_at m process) first (group_at m number)))) × RepresentMemory after (set maps process new) entries (with_map m process (with_group (map_at m process) first (group_at m number)))
         map-some first is_ok m tied =
-            let run = run_of first (subst (λ (r : Result ℕ MapFault). IfOk r (IsHighestFreeRun old group.len)) is_ok highest) in
-            let is_new = new_of first (subst (λ (r : Result ℕ MapFault). IfOk r (λ first. new ≡ with_group old first (group_blocks group))) is_ok grouped) in
-            let is_shared = subst (λ (r : Result ℕ MapFault). OnOk r (after ≡ pool_after_sharing pool (group_blocks group))) is_ok shared in (
-              group_mapped-some pool maps entries sound process within number entry is (group_blocks group) same unmapped first run after is_shared m tied,
+            let gains = subst (λ (r : Result ℕ MapFault). IfOk r (GainsGroup group old pool new after)) is_ok mapped in
+            let run = run_of first gains.highest in
+            let is_new = new_of first gains.grouped in (
+              group_mapped-some pool maps entries sound process within number entry is (group_blocks group) same unmapped first run after gains.shared m tied,
               subst (λ (s : Slots BlockId). RepresentMemory after (set maps process s) entries (with_map m process (with_group (map_at m process) first (group_at m number)))) (sym is_new)
-                  (represent-mapped pool maps entries sound process within number entry is (group_blocks group) same unmapped first run after is_shared m tied),
+                  (represent-mapped pool maps entries sound process within number entry is (group_blocks group) same unmapped first run after gains.shared m tied),
             )
 
         pub map-none : (fault : MapFault) → result ≡ Err fault → (m : MemoryState) (tied : RepresentMemory pool maps entries m) → (group_mapped m process (group_at m number) ≡ None) × RepresentMemory after (set maps process new) entries m

@@ -1,3 +1,4 @@
+mod Areas
 mod ByteCalls
 mod EnterCalls
 mod First

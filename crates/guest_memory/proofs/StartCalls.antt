@@ -1,12 +1,12 @@
 -- What it comes to for the whole memory that the map of a process is cleared and filled anew.
-use Rattle.std.proofs.Common.{◌≡◌, ◌≢◌, ℕ, ◌+◌, ◌-◌, ◌<◌, ◌≤◌, ◌↔◌, ◌||◌, nat_lt, false, Option, Some, None, IsSome, option_map, option_and_then, Result, Ok, Err, IfOk, OnOk, OnErr, List, [], ◌++◌, length, get_or, set, replicate, All, AllPairs, ◌⊎◌, inl, inr, refl, sym, ap, ◌∙◌, subst, arith}
+use Rattle.std.proofs.Common.{◌≡◌, ◌≢◌, ℕ, ◌+◌, ◌-◌, ◌<◌, ◌≤◌, ◌↔◌, ◌||◌, nat_lt, false, Option, Some, None, IsSome, option_map, option_and_then, Result, Ok, Err, IfOk, OnOk, OnErr, List, [], ◌++◌, length, get_or, set, replicate, ◌⊎◌, inl, inr, refl, sym, ap, ◌∙◌, subst, arith}
 use Rattle.std.specs.List.{range_with_len}
 use Rattle.std.specs.Option.{option_map_or}
 use Rattle.std.proofs.lemmas.List.{length-map, length-set, set-set, get_or-set_same}
 use Rattle.std.proofs.lemmas.Option.{same_Some}
 use Rattle.std.proofs.lemmas.Bool.{cases_Bool, cond-true, cond-false, lt-ltb, le-ltb, le-leb, lt-leb, or_left, or_right, or_from}
-use Rattle.block_pool.specs.Blocks.{Blocks, IsPool, IsLive, reference_count, free_block_count}
-use Rattle.block_map.specs.TakenBlocks.{NamesLiveBlocks, GainsLow, group_blocks, pool_after_sharing, pool_after_giving}
+use Rattle.block_pool.specs.Blocks.{Blocks, IsPool, reference_count, free_block_count}
+use Rattle.block_map.specs.TakenBlocks.{MayMap, GainsGroup, NamesLiveBlocks, GainsLow, group_blocks, pool_after_giving}
 use Rattle.block_map.proofs.Counts.{Takes-free}
 use Rattle.block_map.proofs.Places.{at-put, at-cleared}
 use Rattle.block_map.specs.declared.map.MapFault.{MapFault}
@@ -19,7 +19,7 @@ use Rattle.proc_model.specs.Memory.{MemoryState, map_at, with_map, group_at, fre
 use Rattle.proc_model.specs.MemoryChanges.{started, started_with, with_first_slots, has_most_links, cleared}
 use Rattle.proc_model.specs.ModuleList.{ModuleEntry, module_entry_at}
 use Rattle.proc_model.specs.Objects.{zero_object}
-use Rattle.proc_model.specs.Slots.{Slots, IsMap, IsFreeRun, IsHighestFreeRun, NamesBlock, no_slots, block_at, blocks_in, filled_places, with_low, with_group, group_slot}
+use Rattle.proc_model.specs.Slots.{Slots, IsMap, IsFreeRun, IsHighestFreeRun, no_slots, block_at, blocks_in, filled_places, with_low, with_group, group_slot}
 use Rattle.memory_laws.specs.Memory.{RepresentMemory}
 use Rattle.memory_laws.specs.Renaming.{numbered_map, renamed_map, renamed_entry}
 use Rattle.memory_laws.specs.Sound.{IsSound}
@@ -31,7 +31,7 @@ use Rattle.memory_laws.proofs.MappedGroups.{block_slot-is, names_number, names_n
 use Rattle.memory_laws.proofs.Starting.{free-cleared, free_at_first, last_run}
 use Rattle.guest_memory.proofs.LinkCalls.{found_entry}
 use Rattle.guest_memory.proofs.MapCalls.{is_map_of, live, sound-clear, tied-clear, sound-grow, grow-ok}
-use Rattle.guest_memory.proofs.GroupCalls.{many, same, some-len, map-different, map-live, map-countable, map-unnamed, sound-map_group, map-some}
+use Rattle.guest_memory.proofs.GroupCalls.{many, same, some-len, map-may, sound-map_group, map-some}
 
 module _ (pool : Blocks) (maps : List (Slots BlockId)) (entries : List (Option ModuleEntry)) (sound : IsSound pool maps entries) (process : ℕ) (within : process < 33) (number : ℕ) (some : IsSome (module_entry_at entries number)) where
   abbrev entry : ModuleEntry
@@ -156,23 +156,14 @@ module _ (pool : Blocks) (maps : List (Slots BlockId)) (entries : List (Option M
             | inr failed ↦ failed
           ])
 
-      pub start-different : AllPairs (λ a b. a ≢ b) (group_blocks group)
-      start-different = map-different pool_two (set (set maps process one) process two) entries sound_two process within number some group seven group_is nowhere two at_two
+      pub start-may : MayMap group two pool_two
+      start-may = map-may pool_two (set (set maps process one) process two) entries sound_two process within number some group seven group_is nowhere two at_two
 
-      pub start-live : All (λ id. IsLive pool_two id.0) (group_blocks group)
-      start-live = map-live pool_two (set (set maps process one) process two) entries sound_two process within number some group seven group_is nowhere two at_two
-
-      pub start-countable : All (λ id. reference_count pool_two id.0 < 65000) (group_blocks group)
-      start-countable = map-countable pool_two (set (set maps process one) process two) entries sound_two process within number some group seven group_is nowhere two at_two
-
-      pub start-unnamed : All (λ id. NamesBlock two id → ⊥) (group_blocks group)
-      start-unnamed = map-unnamed pool_two (set (set maps process one) process two) entries sound_two process within number some group seven group_is nowhere two at_two
-
-      module _ (result : Result ℕ MapFault) (new : Slots BlockId) (after : Blocks) (no_run : (result ≡ Err NoSlot) ↔ ((first : ℕ) → IsFreeRun two first group.len → ⊥)) (no_other : result ≢ Err NoBlock) (kept : OnErr result ((new ≡ two) × (after ≡ pool_two))) (highest : IfOk result (IsHighestFreeRun two group.len)) (grouped : IfOk result (λ first. new ≡ with_group two first (group_blocks group))) (shared : OnOk result (after ≡ pool_after_sharing pool_two (group_blocks group))) where
+      module _ (result : Result ℕ MapFault) (new : Slots BlockId) (after : Blocks) (no_run : (result ≡ Err NoSlot) ↔ ((first : ℕ) → IsFreeRun two first group.len → ⊥)) (no_other : result ≢ Err NoBlock) (kept : OnErr result ((new ≡ two) × (after ≡ pool_two))) (mapped : IfOk result (GainsGroup group two pool_two new after)) where
         pub sound-start : NamesLiveBlocks new after → IsMap new → (IsPool pool_two → IsPool after) → IsSound after (set maps process new) entries
         sound-start live_new shape pool_is =
             subst (λ (all : List (Slots BlockId)). IsSound after all entries) (set-set (set maps process one) process two new ∙ set-set maps process one new)
-            (sound-map_group pool_two (set (set maps process one) process two) entries sound_two process within number some group seven group_is nowhere two at_two result new after no_run no_other kept highest grouped shared live_new shape pool_is)
+            (sound-map_group pool_two (set (set maps process one) process two) entries sound_two process within number some group seven group_is nowhere two at_two result new after no_run no_other kept mapped live_new shape pool_is)
 
         len_some : 1 ≤ group.len
         len_some = some-len pool maps entries sound process within number some group seven group_is
@@ -181,12 +172,20 @@ module _ (pool : Blocks) (maps : List (Slots BlockId)) (entries : List (Option M
         last = subst (λ (s : Slots BlockId). IsHighestFreeRun s group.len (8 - group.len)) (sym two_is) (last_run gained.blocks (omega (arith, gained.all)) group.len len_some (omega (arith, gained.all)))
 
         mapped_ok : result ≡ Ok (8 - group.len)
-        mapped_ok = by_result result refl highest
+        mapped_ok = by_result result refl mapped
           where
-            by_result : (answer : Result ℕ MapFault) → result ≡ answer → IfOk answer (IsHighestFreeRun two group.len) → answer ≡ Ok (8 - group.len)
-            by_result (Ok first) is_it highest = ap Ok (omega (arith, highest.1 (8 - group.len) last.0, last.1 first highest.0))
-            by_result (Err NoSlot) is_it highest = absurd (no_run.0 is_it (8 - group.len) last.0)
-            by_result (Err NoBlock) is_it highest = absurd (no_other is_it)
+            by_result : (answer : Result ℕ MapFault) → result ≡ answer → IfOk answer (GainsGroup group two pool_two new after) → answer ≡ Ok (8 - group.len)
+            by_result (Ok first) is_it gains = ap Ok (omega (arith, gains.highest.1 (8 - group.len) last.0, last.1 first gains.highest.0))
+            by_result (Err NoSlot) is_it gains = absurd (no_run.0 is_it (8 - group.len) last.0)
+            by_result (Err NoBlock) is_it gains = absurd (no_other is_it)
+
+        -- the data area has as many blocks as are wanted
+        pub start-low : (get_or (set maps process new) process no_slots).low ≡ count
+        start-low =
+            let grouped_is : new ≡ with_group two (8 - group.len) (group_blocks group) = (subst (λ (answer : Result ℕ MapFault). IfOk answer (GainsGroup group two pool_two new after)) mapped_ok mapped).grouped in
+            let low_new : (get_or (set maps process new) process no_slots).low ≡ two.low = ap (λ (s : Slots BlockId). s.low) (get_or-set_same maps process new no_slots in_maps ∙ grouped_is) in
+            let low_two : two.low ≡ 0 + length gained.blocks = ap (λ (s : Slots BlockId). s.low) two_is in
+            omega (arith, low_new, low_two, gained.all)
 
         pub tied-start : (m : MemoryState) (tied : RepresentMemory pool maps entries m) → RepresentMemory after (set maps process new) entries (with_first_slots m process (renamed_entry tied.number entry).group count)
         tied-start m tied =
@@ -194,7 +193,7 @@ module _ (pool : Blocks) (maps : List (Slots BlockId)) (entries : List (Option M
             let m_one = cleared m process in
             let tied_two = (grow-ok pool_one (set maps process one) entries sound_one process within one at_one count result_two two pool_two no_slot no_block refused gains grown_ok m_one tied_one).1 in
             let m_two = with_growth pool_one (set maps process one) entries sound_one process within m_one count in
-            let tied_three = (map-some pool_two (set (set maps process one) process two) entries sound_two process within number some group seven group_is nowhere two at_two result new after no_run no_other kept highest grouped shared (8 - group.len) mapped_ok m_two tied_two).1 in
+            let tied_three = (map-some pool_two (set (set maps process one) process two) entries sound_two process within number some group seven group_is nowhere two at_two result new after no_run no_other kept mapped (8 - group.len) mapped_ok m_two tied_two).1 in
             let m_maps : process < length m.maps = omega (arith, ap (λ (s : MemoryState). length s.maps) tied.is, length-map maps (renamed_map tied.number), in_maps) in
             let numbers : List ℕ = range_with_len (length m.objects) count in
             let low : Slots ℕ = with_low no_slots numbers in

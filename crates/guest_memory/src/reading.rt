@@ -1,12 +1,12 @@
 //! Bytes and names that are read in the memory of a process.
 
-ghost use Rattle.std.specs.Prelude.{◌≡◌, ◌+◌, ◌*◌, ◌<◌, ◌≤◌, ◌↔◌, Some, IsTrue, IsSome, IfSome, option_map, length};
+ghost use Rattle.std.specs.Prelude.{◌≡◌, ◌+◌, ◌*◌, ◌<◌, ◌≤◌, ◌↔◌, Some, IsTrue, IsSome, IfSome, option_map, length, take};
 ghost use Rattle.os9_base.specs.Cells.{FitsIn, Holds};
 ghost use Rattle.proc_model.specs.Memory.{MemoryState, map_at, group_at};
 ghost use Rattle.proc_model.specs.ModuleList.{module_entry_at};
 ghost use Rattle.proc_model.specs.Slots.{highest_free_run};
-ghost use Rattle.user_names.specs.UserNames.{user_cell, name_at};
-ghost use Rattle.guest_memory.specs.Tie.{Represents, IsSame, cells_of, modules_of, group_len, seen_cells};
+ghost use Rattle.user_names.specs.UserNames.{user_cell, run_bytes, name_at};
+ghost use Rattle.guest_memory.specs.Tie.{Represents, IsSame, cells_of, modules_of, group_len as group_len_lem, seen_cells};
 
 use crate::memory::Memory;
 use os9_base::limits::BLOCK_BYTES;
@@ -15,7 +15,7 @@ use os9_base::name::Name;
 use os9_base::registers::Pid;
 use proc_model::module::{ModId, ModuleInfo};
 use user_names::name_fault::NameFault;
-use user_names::read::read_name;
+use user_names::read::{read_name, read_run};
 
 impl Memory {
     /// The byte of a process at an offset from an address; None if it is in no named slot or past
@@ -69,6 +69,25 @@ impl Memory {
         read_name(&view, at)
     }
 
+    /// Reads the bytes of a run of name characters from an address of a process on into the front
+    /// of a buffer, at most 30, and answers how many they are; None if one of them is in no named
+    /// slot or past `FFFF`.
+    pub fn name_run(&mut self, p: Pid, at: u16, into: &mut [u8]) -> Option<usize>
+        requires process { p.0 < 33 }
+        requires room { length into.old ≡ 30 }
+        ensures run { run_bytes (cells_of self.old p.0) at 30
+            ≡ option_map (λ count. take count into.new) result }
+        ensures tied { (m : MemoryState) → Represents self.old m
+            → run_bytes (seen_cells m p.0) at 30
+            ≡ option_map (λ count. take count into.new) result }
+        ensures short { IfSome result (λ count. count ≤ 30) }
+        ensures room { length into.new ≡ 30 }
+        ensures same { IsSame self.old self.new }
+    {
+        let view = self.maps[p.0 as usize].view(&mut self.pool);
+        read_run(&view, at, into)
+    }
+
     /// How many blocks the data area of a process has.
     pub fn area(&self, p: Pid) -> u8
         requires { p.0 < 33 }
@@ -85,10 +104,22 @@ impl Memory {
         requires entered { IsSome (module_entry_at (modules_of self.now) id.0) }
         ensures slot { (m : MemoryState) → Represents self.now m
             → result ≡ highest_free_run (map_at m p.0) (length (group_at m id.0)) }
-        ensures fits { IfSome result (λ slot. slot + group_len self.now id.0 ≤ 8) }
+        ensures fits { IfSome result (λ slot. slot + group_len_lem self.now id.0 ≤ 8) }
     {
         let group = self.dir.group(id);
         self.maps[p.0 as usize].highest_free_run(group.len)
+    }
+
+    /// How many blocks the group of an entered module has: 1 to 7.
+    pub fn group_len(&self, id: ModId) -> u8
+        requires { IsSome (module_entry_at (modules_of self.now) id.0) }
+        ensures len { result ≡ group_len_lem self.now id.0 }
+        ensures tied { (m : MemoryState) → Represents self.now m
+            → result ≡ length (group_at m id.0) }
+        ensures some { 1 ≤ result }
+        ensures few { result ≤ 7 }
+    {
+        self.dir.group(id).len
     }
 
     /// What the header of an entered module says; its `at` is the module's offset in its group.
@@ -96,9 +127,9 @@ impl Memory {
         requires { IsSome (module_entry_at (modules_of self.now) id.0) }
         ensures tied { (m : MemoryState) → Represents self.now m
             → option_map (λ entry. entry.info) (module_entry_at m.modules id.0) ≡ Some result }
-        ensures inside { result.at + result.size ≤ 8192 * group_len self.now id.0 }
+        ensures inside { result.at + result.size ≤ 8192 * group_len_lem self.now id.0 }
         ensures runs { result.entry < result.size }
-        ensures few { group_len self.now id.0 ≤ 7 }
+        ensures few { group_len_lem self.now id.0 ≤ 7 }
     {
         self.dir.info(id)
     }

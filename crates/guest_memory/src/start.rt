@@ -1,10 +1,11 @@
 //! The memory of a process that begins.
 
-ghost use Rattle.std.specs.Prelude.{◌≡◌, ◌<◌, IsSome};
+ghost use Rattle.std.specs.Prelude.{◌≡◌, ◌*◌, ◌<◌, IsSome, IsSomeAnd, OnOk};
+ghost use Rattle.os9_base.specs.Cells.{FitsIn};
 ghost use Rattle.proc_model.specs.Memory.{MemoryState};
 ghost use Rattle.proc_model.specs.MemoryChanges.{started};
 ghost use Rattle.proc_model.specs.ModuleList.{module_entry_at};
-ghost use Rattle.guest_memory.specs.Tie.{Represents, Answers, modules_of};
+ghost use Rattle.guest_memory.specs.Tie.{Represents, Answers, cells_of, modules_of};
 
 use crate::memory::Memory;
 use os9_base::limits::MAP_SLOTS;
@@ -27,6 +28,9 @@ impl Memory {
         requires entered { IsSome (module_entry_at (modules_of self.old) id.0) }
         ensures starts { (m : MemoryState) → Represents self.old m
             → Answers (started m p.0 id.0 blocks) m result self.new }
+        ensures area { OnOk result (FitsIn (cells_of self.new p.0) 0 (8192 * blocks)) }
+        ensures links { OnOk result (IsSomeAnd (module_entry_at (modules_of self.new) id.0)
+            (λ entry. entry.links < 65535)) }
         ensures modules { modules_of self.new ≡ modules_of self.old }
     {
         let group = self.dir.group(id);

@@ -45,7 +45,7 @@ pub fn read_name<M: UserMem>(memory: &M, at: u16) -> Result<Name, NameFault>
 
 /// Reads the bytes of a run from an address on into the front of a buffer, and answers how many
 /// they are; None if one of them is in no named slot or past `FFFF`.
-fn read_run<M: UserMem>(memory: &M, at: u16, into: &mut [u8]) -> Option<usize>
+pub fn read_run<M: UserMem>(memory: &M, at: u16, into: &mut [u8]) -> Option<usize>
     requires { length into.old ≡ 30 }
     ensures none { IfNone result (run_bytes (M.cells memory.now) at 30 ≡ None) }
     ensures some { IfSome result (λ count. run_bytes (M.cells memory.now) at 30

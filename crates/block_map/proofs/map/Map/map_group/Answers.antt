@@ -14,8 +14,8 @@ invariant_of-self c =
     let ids = group_blocks c.args.g.now in
     let count : length ids ≡ c.args.g.now.len = grind (arith, common_steps) in
     let named : c.name_shared.new.places ≡ filled_places ids = grind (arith, common_steps) in
-    let unnamed = subst (λ (slots : Slots BlockId). All (λ id. NamesBlock slots id → ⊥) ids) (sym c.self.view_is) c.requires.unnamed in
-    IsMap-group (slots_of c.self.inside.places c.self.inside.low c.self.inside.groups) c.name_shared.new.places ids c.in-Some.slot c.args.g.now.len c.self.invariant c.requires.some c.in-Some.ensures.highest.0.0 named count c.requires.different unnamed
+    let unnamed = subst (λ (slots : Slots BlockId). All (λ id. NamesBlock slots id → ⊥) ids) (sym c.self.view_is) c.requires.may.unnamed in
+    IsMap-group (slots_of c.self.inside.places c.self.inside.low c.self.inside.groups) c.name_shared.new.places ids c.in-Some.slot c.args.g.now.len c.self.invariant c.requires.may.some c.in-Some.ensures.highest.0.0 named count c.requires.may.different unnamed
 
 pub returns-clause-no_slot : goal.returns-clause-no_slot
 returns-clause-no_slot c = (λ same. absurd (cc), λ none. absurd (none c.in-Some.slot (search rules)))
@@ -35,12 +35,12 @@ returns-clause-live c =
     let live = λ (slot : ℕ) (id : BlockId) (here : at places slot ≡ Some id). c.requires.live slot id (ap (λ (slots : Slots BlockId). block_at slots slot) (sym c.self.view_is) ∙ here) in
     let shared_is : c.name_shared.new.pool ≡ pool_after_sharing c.args.pool.now ids = grind (arith, common_steps) in
     subst (λ (list : List (Option BlockId)). (slot : ℕ) (id : BlockId) → at list slot ≡ Some id → IsLive c.name_shared.new.pool id.0) (sym mid)
-    (λ slot id here. subst (λ (pool : Blocks). IsLive pool id.0) (sym shared_is) (live-group places ids c.args.pool.now first (omega arith) live c.requires.group_live slot id here))
+    (λ slot id here. subst (λ (pool : Blocks). IsLive pool id.0) (sym shared_is) (live-group places ids c.args.pool.now first (omega arith) live c.requires.may.group_live slot id here))
 
 pub returns-clause-shape : goal.returns-clause-shape
 returns-clause-shape c =
     let ids = group_blocks c.args.g.now in
     let count : length ids ≡ c.args.g.now.len = grind (arith, common_steps) in
     let named : c.name_shared.new.places ≡ filled_places ids = grind (arith, common_steps) in
-    let unnamed = subst (λ (slots : Slots BlockId). All (λ id. NamesBlock slots id → ⊥) ids) (sym c.self.view_is) c.requires.unnamed in
-    IsMap-group (slots_of c.self.inside.places c.self.inside.low c.self.inside.groups) c.name_shared.new.places ids c.in-Some.slot c.args.g.now.len c.self.invariant c.requires.some c.in-Some.ensures.highest.0.0 named count c.requires.different unnamed
+    let unnamed = subst (λ (slots : Slots BlockId). All (λ id. NamesBlock slots id → ⊥) ids) (sym c.self.view_is) c.requires.may.unnamed in
+    IsMap-group (slots_of c.self.inside.places c.self.inside.low c.self.inside.groups) c.name_shared.new.places ids c.in-Some.slot c.args.g.now.len c.self.invariant c.requires.may.some c.in-Some.ensures.highest.0.0 named count c.requires.may.different unnamed
