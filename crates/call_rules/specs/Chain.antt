@@ -29,4 +29,4 @@ f_chain s p =
     (λ program. refuses (nat_lt most_pages program.pages) E_MEMFUL
     (changes (started s.memory p program.entered.number (blocks_of_pages program.pages))
     (λ memory.
-    done (begun_anew (without_primary_link (with_program s p program memory) (own_at s p)) p program))))
+    done (without_primary_link (begun_anew (with_program s p program memory) p program) (own_at s p)))))

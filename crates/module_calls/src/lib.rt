@@ -2,9 +2,9 @@
 #![tactic(auto)]
 
 pub mod crc;
-mod errors;
+pub mod errors;
 pub mod links;
 pub mod memory;
 mod named;
-mod program;
+pub mod program;
 pub mod unlink;

@@ -1,12 +1,13 @@
 //! Calls on the ends of processes.
 
-ghost use Rattle.std.specs.Prelude.{◌≡◌};
+ghost use Rattle.std.specs.Prelude.{◌≡◌, OnErr};
 ghost use Rattle.proc_rules.specs.Ends.{reaped, after_reap};
 ghost use Rattle.proc_rules.specs.Records.{IsLiving, record_at};
 ghost use Rattle.call_rules.specs.Exit.{f_exit as f_exit_lem};
 ghost use Rattle.call_rules.specs.Inner.{Inner, with_records};
 ghost use Rattle.call_rules.specs.Wait.{f_wait as f_wait_lem};
 ghost use Rattle.proc_state.specs.Tie.{Represents, Comes};
+ghost use Rattle.proc_calls.specs.Telling.{KeepsTurns};
 
 use os9_base::call::CallEnd;
 use os9_base::errors::E_NOCHLD;
@@ -26,6 +27,7 @@ pub fn f_wait(s: &mut ProcState, p: Pid) -> CallEnd
     ensures call { (m : Inner) → Represents s.old m
         → Comes m p.0 (f_wait_lem m p.0) result s.new }
     ensures lives { IsLiving s.new.table p.0 }
+    ensures still { result ≡ CallEnd.Wait → KeepsTurns s.old s.new }
 {
     let regs = s.regs(p);
     match reap(s, p) {
@@ -60,6 +62,7 @@ fn reap(s: &mut ProcState, p: Pid) -> Result<(Pid, u8), Reap>
         → Represents s.new (with_records m (after_reap s.old.table p.0)) }
     ensures record { record_at s.new.table p.0 ≡ record_at s.old.table p.0 }
     ensures lives { IsLiving s.new.table p.0 }
+    ensures none { OnErr result (KeepsTurns s.old s.new) }
 {
     s.table.reap(p)
 }

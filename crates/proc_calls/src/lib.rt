@@ -10,7 +10,7 @@ pub mod names;
 pub mod records;
 pub mod signals;
 pub mod sleep;
-mod telling;
+pub mod telling;
 
 #[cfg(test)]
 mod tests {

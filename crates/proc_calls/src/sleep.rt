@@ -7,6 +7,7 @@ ghost use Rattle.call_rules.specs.Inner.{Inner};
 ghost use Rattle.call_rules.specs.Sleep.{f_sleep as f_sleep_lem, falls_asleep as falls_asleep_lem, sleeps_on as sleeps_on_lem, may_wake as may_wake_lem, sleep_end as sleep_end_lem, ticks_left as ticks_left_lem};
 ghost use Rattle.os9_base.specs.declared.limits.TheConstants.{LAST_TICK};
 ghost use Rattle.proc_state.specs.Tie.{Represents, Comes};
+ghost use Rattle.proc_calls.specs.Telling.{KeepsTurns};
 
 use os9_base::call::CallEnd;
 use os9_base::registers::{Pid, Regs};
@@ -22,6 +23,7 @@ pub fn f_sleep(s: &mut ProcState, p: Pid) -> CallEnd
     ensures call { (m : Inner) → Represents s.old m
         → Comes m p.0 (f_sleep_lem m p.0) result s.new }
     ensures lives { IsLiving s.new.table p.0 }
+    ensures still { result ≡ CallEnd.Wait → KeepsTurns s.old s.new }
 {
     match s.table.life(p) {
         Some(Life::Waiting) => sleeps_on(s, p),
@@ -35,6 +37,7 @@ fn falls_asleep(s: &mut ProcState, p: Pid) -> CallEnd
     ensures call { (m : Inner) → Represents s.old m
         → Comes m p.0 (falls_asleep_lem m p.0) result s.new }
     ensures lives { IsLiving s.new.table p.0 }
+    ensures still { result ≡ CallEnd.Wait → KeepsTurns s.old s.new }
 {
     let until = sleep_end(s.tick, s.table.regs(p).x);
     let own = s.own(p);
@@ -55,6 +58,7 @@ fn sleeps_on(s: &mut ProcState, p: Pid) -> CallEnd
     ensures call { (m : Inner) → Represents s.old m
         → Comes m p.0 (sleeps_on_lem m p.0) result s.new }
     ensures lives { IsLiving s.new.table p.0 }
+    ensures still { result ≡ CallEnd.Wait → KeepsTurns s.old s.new }
 {
     let regs = s.table.regs(p);
     let own = s.own(p);

@@ -1,14 +1,12 @@
 //! A call tells its end to its process.
 
-ghost use Rattle.std.specs.Prelude.{◌≡◌, false};
+ghost use Rattle.std.specs.Prelude.{◌≡◌};
 ghost use Rattle.os9_base.specs.declared.call.CallEnd.TheVariants.{Wait};
-ghost use Rattle.os9_sched.specs.Schedule.{after_wait};
-ghost use Rattle.proc_rules.specs.Records.{record_at, is_waiting};
 ghost use Rattle.call_rules.specs.Attempts.{after_attempt, attempt_end};
 ghost use Rattle.call_rules.specs.CallResult.{CallResult};
 ghost use Rattle.call_rules.specs.Inner.{Inner};
 ghost use Rattle.proc_state.specs.Tie.{Represents, Comes};
-ghost use Rattle.proc_calls.specs.Telling.{LivesOn};
+ghost use Rattle.proc_calls.specs.Telling.{LivesOn, WaitsFor};
 
 use os9_base::call::CallEnd;
 use os9_base::registers::Pid;
@@ -23,8 +21,9 @@ pub fn tell(s: &mut ProcState, p: Pid, end: CallEnd, wait: Waiting)
         → Represents s.new (after_attempt m p.0 call) }
     ensures same { (m : Inner) (call : CallResult) → Comes m p.0 call end s.old
         → end ≡ attempt_end call }
-    ensures waits { end ≡ Wait → is_waiting (record_at s.old.table p.0).life ≡ false
-        → s.new.sched ≡ after_wait s.old.sched p.0 wait }
+    ensures lives { LivesOn end s.new.table p.0 }
+    ensures waits { end ≡ Wait → WaitsFor s.old s.new p.0 wait }
+    ensures own { end ≡ Wait → s.new.own ≡ s.old.own }
 {
     match end {
         CallEnd::Done => s.succeed(p),

@@ -2,9 +2,9 @@ mod Children
 mod Choosing
 mod Delivering
 pub mod Entered
-mod First
+pub mod First
 mod Leaving
-mod Living
+pub mod Living
 pub mod Primaries
 mod Sleeps
 pub mod UserBytes

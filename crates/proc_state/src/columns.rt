@@ -1,6 +1,6 @@
 //! What there is of one process.
 
-ghost use Rattle.std.specs.Prelude.{◌≡◌, ◌+◌, ◌<◌, ◌≤◌, IsSome, slice_index_or};
+ghost use Rattle.std.specs.Prelude.{◌≡◌, ℕ, ◌+◌, ◌<◌, ◌≤◌, IsSome, slice_index_or};
 ghost use Rattle.std.specs.Option.{ForSome};
 ghost use Rattle.guest_memory.specs.Tie.{modules_of};
 ghost use Rattle.proc_model.specs.ModuleList.{module_entry_at};
@@ -28,6 +28,7 @@ impl ProcState {
         ensures tied { (m : Inner) → Represents self.old m
             → Represents self.new (with_regs_of m p.0 regs) }
         ensures lives { IsLiving self.new.table p.0 }
+        ensures others { (q : ℕ) → IsLiving self.old.table q → IsLiving self.new.table q }
         ensures process { IsProcess p.0 }
     {
         self.table.set_regs(p, regs);
@@ -56,6 +57,7 @@ impl ProcState {
         ensures tied { (m : Inner) → Represents self.old m
             → Represents self.new (with_own m p.0 own) }
         ensures records { self.new.table ≡ self.old.table }
+        ensures turns { self.new.sched ≡ self.old.sched }
         ensures modules { modules_of self.new.memory ≡ modules_of self.old.memory }
     {
         self.own[p.0 as usize] = own;

@@ -51,6 +51,7 @@ impl ProcState {
             ≡ after_wait self.old.sched p.0 (record { cause = cause; until = until }) }
         ensures further { is_waiting (record_at self.old.table p.0).life ≡ true
             → self.new.sched ≡ self.old.sched }
+        ensures own { self.new.own ≡ self.old.own }
     {
         let waits = self.waits(p);
         self.table.set_waiting(p, true);
