@@ -1,0 +1,5 @@
+mod EnteredModules
+mod Forking
+mod LoadedPrograms
+mod Programs
+mod Chaining

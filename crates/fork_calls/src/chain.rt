@@ -1,0 +1,84 @@
+//! F$Chain: another program in the same process.
+
+ghost use Rattle.std.specs.Prelude.{◌≡◌, None, IsSome};
+ghost use Rattle.std.specs.Option.{ForSome};
+ghost use Rattle.guest_memory.specs.Tie.{modules_of};
+ghost use Rattle.proc_model.specs.ModuleList.{module_entry_at};
+ghost use Rattle.proc_rules.specs.Records.{IsLiving, with_regs};
+ghost use Rattle.proc_rules.specs.Signals.{with_intercept};
+ghost use Rattle.call_rules.specs.Chain.{f_chain as f_chain_lem};
+ghost use Rattle.call_rules.specs.Inner.{Inner, own_at, with_records};
+ghost use Rattle.call_rules.specs.ModuleLinks.{without_primary_link};
+ghost use Rattle.proc_state.specs.Tie.{Represents, Answers, Comes};
+ghost use Rattle.fork_calls.specs.Chaining.{begun_so};
+
+use crate::loading::load_program;
+use crate::reading::read_program;
+use crate::starting::Beginning;
+use os9_base::call::CallEnd;
+use os9_base::registers::{Pid, Regs};
+use proc_state::outcome::call_end;
+use proc_state::state::ProcState;
+
+/// F$Chain: starts another program in this process (System Programmer's Manual, F$Chain). Takes the
+/// type and language of the program in A, the pages of its data area in B, its name at X, and the
+/// size and the address of its parameters in Y and U. The process keeps its number, its parent, its
+/// user, its priority, its children and a pending signal; it gives up its map, its intercept and,
+/// once the new program is linked, a link to its old primary module.
+///
+/// # Errors
+///
+/// Those of the name, the parameters and the program, as [`read_program`] has them; else E$MemFul
+/// and E$NoRAM exactly if there is no room for its memory, as [`load_program`] has them, where the
+/// blocks of its own data area count as free. Nothing has changed then.
+pub fn f_chain(s: &mut ProcState, p: Pid) -> CallEnd
+    requires lives { IsLiving s.old.table p.0 }
+    ensures call { (m : Inner) → Represents s.old m
+        → Comes m p.0 (f_chain_lem m p.0) result s.new }
+    ensures lives { IsLiving s.new.table p.0 }
+{
+    call_end(chain(s, p))
+}
+
+fn chain(s: &mut ProcState, p: Pid) -> Result<(), u8>
+    requires lives { IsLiving s.old.table p.0 }
+    ensures call { (m : Inner) → Represents s.old m
+        → Answers m (f_chain_lem m p.0) result s.new }
+    ensures lives { IsLiving s.new.table p.0 }
+{
+    let program = read_program(s, p)?;
+    let start = load_program(s, p, program)?;
+    begin_anew(s, p, start);
+    Ok(())
+}
+
+/// A process begins anew with a program in its memory, and gives up the link to its old primary
+/// module, if it has one.
+fn begin_anew(s: &mut ProcState, p: Pid, start: Beginning)
+    requires lives { IsLiving s.old.table p.0 }
+    requires entered { ForSome start.own.primary
+        (λ id. IsSome (module_entry_at (modules_of s.old.memory) id.0)) }
+    requires until { start.own.until ≡ None }
+    ensures tied { (m : Inner) → Represents s.old m
+        → Represents s.new (without_primary_link (begun_so m p.0 start) (own_at m p.0)) }
+    ensures lives { IsLiving s.new.table p.0 }
+{
+    let old = s.own(p);
+    renew_record(s, p, start.regs);
+    s.set_own(p, start.own);
+    s.unlink_primary(old);
+}
+
+/// The record of a process has these registers, and no intercept any more.
+fn renew_record(s: &mut ProcState, p: Pid, regs: Regs)
+    requires lives { IsLiving s.old.table p.0 }
+    ensures tied { (m : Inner) → Represents s.old m → Represents s.new
+        (with_records m (with_intercept (with_regs m.records p.0 regs) p.0 None)) }
+    ensures lives { IsLiving s.new.table p.0 }
+    ensures modules { modules_of s.new.memory ≡ modules_of s.old.memory }
+    ensures own { s.new.own ≡ s.old.own }
+    ensures tick { s.new.tick ≡ s.old.tick }
+{
+    s.table.set_regs(p, regs);
+    s.table.intercept(p, 0, 0);
+}

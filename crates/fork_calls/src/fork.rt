@@ -1,0 +1,88 @@
+//! F$Fork: the beginning of a process.
+
+ghost use Rattle.std.specs.Prelude.{◌≡◌, None, Some, IsSome};
+ghost use Rattle.std.specs.Option.{ForSome};
+ghost use Rattle.guest_memory.specs.Tie.{modules_of};
+ghost use Rattle.proc_model.specs.ModuleList.{module_entry_at};
+ghost use Rattle.proc_rules.specs.Records.{IsLiving, free_process};
+ghost use Rattle.call_rules.specs.Fork.{f_fork as f_fork_lem, forked_regs as forked_regs_lem};
+ghost use Rattle.call_rules.specs.Inner.{Inner};
+ghost use Rattle.call_rules.specs.Program.{Program};
+ghost use Rattle.proc_state.specs.Tie.{Represents, Answers, Comes};
+ghost use Rattle.fork_calls.specs.Loading.{with_new_child};
+
+use crate::loading::load_program;
+use crate::reading::read_program;
+use crate::starting::Beginning;
+use os9_base::call::CallEnd;
+use os9_base::errors::E_PRCFUL;
+use os9_base::registers::{Pid, Regs};
+use proc_state::outcome::call_end;
+use proc_state::state::ProcState;
+
+/// F$Fork: starts a process (System Programmer's Manual, F$Fork). Takes the type and language of the
+/// program in A, the pages of its data area in B, its name at X, and the size and the address of its
+/// parameters in Y and U; answers the number of the new process in A, and X past the name. The new
+/// process is a child of this one and has its user and its priority.
+///
+/// # Errors
+///
+/// Those of the name, the parameters and the program, as [`read_program`] has them; else E$PrcFul
+/// exactly if there are 31 records; else E$MemFul and E$NoRAM exactly if there is no room for its
+/// memory, as [`load_program`] has them. Nothing has changed then.
+pub fn f_fork(s: &mut ProcState, p: Pid) -> CallEnd
+    requires lives { IsLiving s.old.table p.0 }
+    ensures call { (m : Inner) → Represents s.old m
+        → Comes m p.0 (f_fork_lem m p.0) result s.new }
+    ensures lives { IsLiving s.new.table p.0 }
+{
+    call_end(fork(s, p))
+}
+
+fn fork(s: &mut ProcState, p: Pid) -> Result<(), u8>
+    requires lives { IsLiving s.old.table p.0 }
+    ensures call { (m : Inner) → Represents s.old m
+        → Answers m (f_fork_lem m p.0) result s.new }
+    ensures lives { IsLiving s.new.table p.0 }
+{
+    let program = read_program(s, p)?;
+    let Some(child) = s.table.free() else {
+        return Err(E_PRCFUL);
+    };
+    let regs = s.regs(p);
+    let start = load_program(s, child, program)?;
+    add_child(s, p, child, start);
+    s.set_regs(p, forked_regs(regs, child, program.count));
+    Ok(())
+}
+
+/// A process gets a child, whose number is the least that is free and which begins so.
+fn add_child(s: &mut ProcState, p: Pid, child: Pid, start: Beginning)
+    requires lives { IsLiving s.old.table p.0 }
+    requires free { free_process s.old.table ≡ Some child.0 }
+    requires entered { ForSome start.own.primary
+        (λ id. IsSome (module_entry_at (modules_of s.old.memory) id.0)) }
+    requires until { start.own.until ≡ None }
+    ensures tied { (m : Inner) → Represents s.old m
+        → Represents s.new (with_new_child m p.0 child.0 start) }
+    ensures lives { IsLiving s.new.table p.0 }
+{
+    let user = s.table.user(p);
+    let priority = s.table.priority(p);
+    s.set_own(child, start.own);
+    let made = s.make(p, user, priority).unwrap();
+    s.set_regs(made, start.regs);
+}
+
+/// The registers of a process that has forked this child with a program whose name has so many
+/// characters.
+pub fn forked_regs(regs: Regs, child: Pid, count: u8) -> Regs
+    ensures { (program : Program) → program.count ≡ count
+        → result ≡ forked_regs_lem regs child.0 program }
+{
+    Regs {
+        a: child.0,
+        x: regs.x.wrapping_add(u16::from(count)),
+        ..regs
+    }
+}

@@ -1,0 +1,100 @@
+//! The names of programs, and what they name.
+
+ghost use Rattle.std.specs.Prelude.{◌≡◌, ℕ, ◌*◌, ◌<◌, ◌≤◌, IsSome, IfOk, MatchResult};
+ghost use Rattle.guest_memory.specs.Tie.{Represents, IsSame, modules_of, cells_of, seen_cells};
+ghost use Rattle.proc_model.specs.Memory.{MemoryState};
+ghost use Rattle.proc_model.specs.ModuleList.{ModuleEntry, module_entry_at};
+ghost use Rattle.call_rules.specs.Program.{program_name, ends_in_slash as ends_in_slash_lem, asks_for_program as asks_for_program_lem, area_pages as area_pages_lem};
+ghost use Rattle.fork_calls.specs.Naming.{IsFound, IsUnfound};
+
+use guest_memory::memory::Memory;
+use module_calls::program::PAGE_BYTES;
+use os9_base::errors::{E_BNAM, E_MNF, E_NEMOD};
+use os9_base::name::{Name, parse_name};
+use os9_base::registers::Pid;
+use proc_model::module::ModId;
+
+/// The type and language of a program in 6809 code (Level Two manual, "Memory modules").
+const PROGRAM: u8 = 0x11;
+
+/// The type of a program, in any language.
+const ANY_PROGRAM: u8 = 0x10;
+
+/// Reads the name of a program at an address of a process, of which at most 30 bytes are read, and
+/// the byte behind a `/` that ends it. The answer is None if one of these bytes is in no named slot
+/// or past `FFFF`, and `Some(None)` if they are no name: so is a path list.
+pub fn read_name(memory: &mut Memory, p: Pid, at: u16) -> Option<Option<Name>>
+    requires { p.0 < 33 }
+    ensures name { (m : MemoryState) → Represents memory.old m
+        → result ≡ program_name (seen_cells m p.0) at }
+    ensures same { IsSame memory.old memory.new }
+{
+    let mut run = [0; 30];
+    let count = memory.name_run(p, at, &mut run)?;
+    let bytes = &run[..count];
+    if ends_in_slash(bytes) {
+        memory.byte(p, at, count as u16)?;
+        return Some(None);
+    }
+    Some(parse_name(bytes).ok())
+}
+
+/// Do the bytes end in a slash?
+fn ends_in_slash(bytes: &[u8]) -> bool
+    ensures { result ≡ ends_in_slash_lem bytes.now }
+{
+    match bytes.last() {
+        Some(byte) => *byte == b'/',
+        None => false,
+    }
+}
+
+/// The entered program with a name and this type and language, and how many characters the name
+/// has.
+///
+/// # Errors
+///
+/// E$NEMod if no program is asked for; else E$BNam if there is no name; else E$MNF if no such module
+/// is entered; else E$NEMod if the module is no program in 6809 code.
+pub fn find_program(memory: &Memory, kind: u8, name: Option<Name>) -> Result<(ModId, u8), u8>
+    ensures found { (m : MemoryState) → Represents memory.now m
+        → MatchResult result (λ found. IsFound m.modules kind name found.0.0 found.1)
+        (IsUnfound m.modules kind name) }
+    ensures entered { IfOk result
+        (λ found. IsSome (module_entry_at (modules_of memory.now) found.0.0)) }
+{
+    if !asks_for_program(kind) {
+        return Err(E_NEMOD);
+    }
+    let Some(name) = name else {
+        return Err(E_BNAM);
+    };
+    let Some(id) = memory.modules().find(&name, kind) else {
+        return Err(E_MNF);
+    };
+    if memory.info(id).kind != PROGRAM {
+        return Err(E_NEMOD);
+    }
+    Ok((id, name.len()))
+}
+
+/// May a call ask for this type and language: any, a program in any language, or in 6809 code?
+fn asks_for_program(kind: u8) -> bool
+    ensures { result ≡ asks_for_program_lem kind }
+{
+    matches!(kind, 0 | ANY_PROGRAM | PROGRAM)
+}
+
+/// The pages of a new data area: one at least, those of the module's storage, those asked for, and
+/// those of the parameters.
+pub fn area_pages(storage: u16, pages: u8, parameters: u16) -> u16
+    ensures pages { (entry : ModuleEntry) → entry.info.storage ≡ storage
+        → result ≡ area_pages_lem entry pages parameters }
+    ensures some { 1 ≤ result }
+    ensures most { result ≤ 256 }
+    ensures fits { parameters ≤ 256 * result }
+{
+    let stored = storage.div_ceil(PAGE_BYTES);
+    let passed = parameters.div_ceil(PAGE_BYTES);
+    stored.max(u16::from(pages).max(passed)).max(1)
+}

@@ -1,0 +1,20 @@
+ghost use Rattle.std.specs.Prelude.{◌*◌, ◌≤◌};
+
+use proc_model::module::ModId;
+
+/// A program that a call names (System Programmer's Manual, F$Fork). The bytes of its parameters
+/// stand at the front of the buffer of the processes.
+#[derive(Clone, Copy, Debug)]
+pub struct NamedProgram {
+    /// Its module.
+    pub id: ModId,
+    /// The pages of 256 bytes of its data area.
+    pub pages: u16,
+    /// The bytes of its parameters.
+    pub parameters: u16,
+    /// The characters of its name.
+    pub count: u8,
+    ghost some: { 1 ≤ pages },
+    ghost most: { pages ≤ 256 },
+    ghost fits: { parameters ≤ 256 * pages },
+}
