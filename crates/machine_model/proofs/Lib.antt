@@ -1,4 +1,3 @@
-pub mod ObjectLemmas
 pub mod StartLaws
-pub mod StepLemmas
 pub mod TerminalLaws
+pub mod Ticks

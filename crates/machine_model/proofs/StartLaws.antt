@@ -1,6 +1,7 @@
 -- A boot file comes to an end, and to one only.
-use Rattle.std.proofs.Common.{◌≡◌, ◌<◌, ◌≤◌, ◌+◌, ◌⊎◌, ℕ, true, Option, Some, None, Result, Ok, Err, List, length, codes, refl, sym, ap, ◌∙◌, inl, inr, arith}
+use Rattle.std.proofs.Common.{◌≡◌, ◌<◌, ◌≤◌, ◌+◌, ◌⊎◌, ℕ, true, Option, Some, None, Result, Ok, Err, List, length, codes, refl, sym, ap, ◌∙◌, inl, inr, arith, subst}
 use Rattle.std.proofs.lemmas.Bool.{cases_lt}
+use Rattle.std.specs.Prelude.{IsErr}
 use Rattle.proc_model.specs.ModuleList.{ModuleEntry, module_entry_at, answers_to}
 use Rattle.proc_model.specs.Loading.{no_entries}
 use Rattle.proc_model.proofs.LoadingLemmas.{Enters-one, Enters-some}
@@ -9,7 +10,9 @@ use Rattle.os9_outer.specs.TerminalState.{TerminalState}
 use Rattle.machine_model.specs.declared.ends.BootFault.{BootFault}
 use Rattle.machine_model.specs.declared.ends.BootFault.TheVariants.{OutOfMemory, BadModule, NoFirst, TooLarge}
 use Rattle.machine_model.specs.State.{State}
-use Rattle.machine_model.specs.Start.{EntersBoot, HasFirst, Starts, Refuses, boot_group, first_program, data_blocks, file_blocks, room_for, longest_file, start_of}
+use Rattle.proc_model.specs.declared.memory.MemoryFault.{MemoryFault}
+use Rattle.proc_model.specs.Memory.{MemoryState}
+use Rattle.machine_model.specs.Start.{EntersBoot, HasFirst, Starts, Refuses, boot_group, first_program, first_start, first_started, only_process, longest_file}
 
 -- a file enters one list of entries
 entries-one : (file : List ℕ) (entries others : List (Option ModuleEntry)) → EntersBoot file (Ok entries) → EntersBoot file (Ok others) → entries ≡ others
@@ -40,23 +43,30 @@ never-without file entries others number program has ending without =
     let programs : first_program entries ≡ first_program others = ap first_program lists in
     cc (has.found_it, without, programs)
 
+-- what a file starts with comes to one end
+started-one : (file : List ℕ) (blocks : ℕ) (entries others : List (Option ModuleEntry)) (number other : ℕ) (entry second : ModuleEntry) → HasFirst file entries number entry → HasFirst file others other second → first_started file blocks entries number entry ≡ first_started file blocks others other second
+started-one file blocks entries others number other entry second one two =
+    let same = first-one file entries others number other entry second one two in
+    λ i. first_started file blocks (same.one_list i) (same.one_number i) (same.one_program i)
+
 pub Starts-one : (file : List ℕ) (blocks : ℕ) (terms : List TerminalState) (s t : State) → Starts file blocks terms s → Starts file blocks terms t → s ≡ t
 Starts-one file blocks terms s t one other =
-    let same = first-one file one.entries other.entries one.number other.number one.program other.program one.has other.has in
-    one.is ∙ rw (same.one_list, same.one_number, same.one_program) (sym other.is)
+    let same = first-one file one.entries other.entries one.number other.number one.entry other.entry one.has other.has in
+    let ends : first_started file blocks one.entries one.number one.entry ≡ first_started file blocks other.entries other.number other.entry = started-one file blocks one.entries other.entries one.number other.number one.entry other.entry one.has other.has in
+    let memories : one.memory ≡ other.memory = cc (one.begins, other.begins, ends) in
+    one.is ∙ rw (memories, same.one_number, same.one_program) (sym other.is)
 
--- a file that fits does not need too much
-fits-one : (file : List ℕ) (blocks : ℕ) (entries others : List (Option ModuleEntry)) (number other : ℕ) (program second : ModuleEntry) → HasFirst file entries number program → HasFirst file others other second → data_blocks program + file_blocks file ≤ room_for blocks → room_for blocks < data_blocks second + file_blocks file → ⊥
-fits-one file blocks entries others number other program second one two fits wants =
-    let same = first-one file entries others number other program second one two in
-    let areas : data_blocks program ≡ data_blocks second = ap data_blocks same.one_program in
-    absurd (omega arith)
+-- a program that begins is not one that does not
+begins-once : (file : List ℕ) (blocks : ℕ) (entries others : List (Option ModuleEntry)) (number other : ℕ) (entry second : ModuleEntry) (memory : MemoryState) → HasFirst file entries number entry → HasFirst file others other second → first_started file blocks entries number entry ≡ Ok memory → IsErr (first_started file blocks others other second) → ⊥
+begins-once file blocks entries others number other entry second memory one two begins fails =
+    let ends : first_started file blocks entries number entry ≡ first_started file blocks others other second = started-one file blocks entries others number other entry second one two in
+    let ok : first_started file blocks others other second ≡ Ok memory = sym ends ∙ begins in cc (ok, fails)
 
 pub never-both : (file : List ℕ) (blocks : ℕ) (terms : List TerminalState) (s : State) (fault : BootFault) → Starts file blocks terms s → Refuses file blocks fault → ⊥
 never-both file blocks terms s TooLarge starts (inl long) = let short : length file ≤ longest_file = starts.has.short in absurd (omega arith)
-never-both file blocks terms s TooLarge starts (inr (entries, number, program, has, wants)) = fits-one file blocks starts.entries entries starts.number number starts.program program starts.has has starts.fits wants
+never-both file blocks terms s TooLarge starts (inr (entries, number, program, has, wants)) = begins-once file blocks starts.entries entries starts.number number starts.entry program starts.memory starts.has has starts.begins wants
 never-both file blocks terms s (BadModule at error) starts (short, refusal) = never-refused file starts.entries at error starts.has.entered refusal
-never-both file blocks terms s NoFirst starts (short, (entries, ending, without)) = never-without file starts.entries entries starts.number starts.program starts.has ending without
+never-both file blocks terms s NoFirst starts (short, (entries, ending, without)) = never-without file starts.entries entries starts.number starts.entry starts.has ending without
 never-both file blocks terms s OutOfMemory starts refusal = refusal
 
 -- one place and one error are one fault
@@ -92,13 +102,16 @@ first_entry entries number found_it = found_entry (answers_to entries (codes "Sy
 abbrev Ends : List ℕ → ℕ → List TerminalState → Type 0
 Ends file blocks terms = ((s : State) × Starts file blocks terms s) ⊎ ((fault : BootFault) × Refuses file blocks fault)
 
--- a file with a first program starts where there is room for both
-by_room : (file : List ℕ) (blocks : ℕ) (terms : List TerminalState) (entries : List (Option ModuleEntry)) (number : ℕ) (program : ModuleEntry) → HasFirst file entries number program → Ends file blocks terms
-by_room file blocks terms entries number program has =
-    elim (cases_lt (room_for blocks) (data_blocks program + file_blocks file)) [
-      | inl wants ↦ inr (TooLarge, inr (entries, number, program, has, wants))
-      | inr fits ↦ inl (start_of file entries number program terms, record { entries = entries; number = number; program = program; has = has; fits = fits; is = refl })
-    ]
+-- a file with a first program starts where that can begin
+by_start : (file : List ℕ) (blocks : ℕ) (terms : List TerminalState) (entries : List (Option ModuleEntry)) (number : ℕ) (entry : ModuleEntry) (began : Result MemoryState MemoryFault) → first_started file blocks entries number entry ≡ began → HasFirst file entries number entry → Ends file blocks terms
+by_start file blocks terms entries number entry (Err fault) is has =
+    inr (TooLarge, inr (entries, number, entry, has, rw is refl))
+by_start file blocks terms entries number entry (Ok memory) is has =
+    inl (record { inner = only_process memory (first_start number entry); chosen = None; terms = terms }, record { entries = entries; number = number; entry = entry; memory = memory; has = has; begins = is; is = refl })
+
+by_room : (file : List ℕ) (blocks : ℕ) (terms : List TerminalState) (entries : List (Option ModuleEntry)) (number : ℕ) (entry : ModuleEntry) → HasFirst file entries number entry → Ends file blocks terms
+by_room file blocks terms entries number entry has =
+    by_start file blocks terms entries number entry (first_started file blocks entries number entry) refl has
 
 by_first : (file : List ℕ) (blocks : ℕ) (terms : List TerminalState) (entries : List (Option ModuleEntry)) (first : Option ℕ) → length file ≤ longest_file → EntersBoot file (Ok entries) → first_program entries ≡ first → Ends file blocks terms
 by_first file blocks terms entries None short entering without = inr (NoFirst, (short, (entries, entering, without)))

@@ -1,21 +1,26 @@
 -- The terminals only gain: event by event, slice by slice, in a whole run.
-use Rattle.std.proofs.Common.{◌≡◌, ℕ, ◌-◌, Bool, true, false, Option, Some, None, List, [], ◌∷◌, ◌++◌, slice_get, slice_set, eqb, refl, sym, ap, ◌∙◌, append_assoc, subst, inl, inr, arith}
-use Rattle.std.specs.Prelude.{is_some, option_map, MatchBool, MatchOption}
-use Rattle.cpu_model.specs.Step.{Outcome, Done, Calls, Aborts, step_of}
+use Rattle.std.proofs.Common.{◌≡◌, ℕ, ◌-◌, ◌<◌, Bool, true, false, Option, Some, None, List, [], ◌∷◌, ◌++◌, slice_get, slice_set, eqb, refl, sym, ap, ◌∙◌, append_assoc, subst, inl, inr, arith}
+use Rattle.std.specs.Prelude.{is_some, MatchBool, MatchOption}
 use Rattle.os9_base.specs.declared.errors.TheConstants.{E_BPNUM, E_UNKSVC, E_BPADDR}
-use Rattle.os9_base.specs.declared.calls.TheConstants.{F_EXIT, I_WRITLN}
+use Rattle.os9_base.specs.declared.calls.TheConstants.{I_WRITLN}
 use Rattle.os9_outer.specs.Stream.{stream_with, emptied}
 use Rattle.os9_outer.specs.TerminalState.{TerminalState}
-use Rattle.machine_model.specs.declared.activity.Activity.{Activity}
-use Rattle.machine_model.specs.declared.activity.Activity.TheVariants.{Running, Calling, Finished}
+use Rattle.call_rules.specs.declared.proc_call.ProcCall.{ProcCall}
+use Rattle.call_rules.specs.Attempts.{attempted}
+use Rattle.call_rules.specs.CallResult.{CallResult, refused}
+use Rattle.call_rules.specs.Codes.{call_of}
+use Rattle.call_rules.specs.Inner.{cells_at, regs_at}
+use Rattle.call_rules.specs.Ready.{Act, attempts, delivers, executes, act_of}
 use Rattle.machine_model.specs.declared.ends.EventEnd.{EventEnd}
 use Rattle.machine_model.specs.declared.ends.EventEnd.TheVariants.{Ran}
 use Rattle.machine_model.specs.declared.ends.SliceEnd.{SliceEnd}
-use Rattle.machine_model.specs.Objects.{object_cells}
-use Rattle.machine_model.specs.State.{State, Process, has_living}
-use Rattle.machine_model.specs.Call.{Attempt, IsGiven, FailsAtByte, PutsLine, WritesLine, Exits, answered, refused, line_at, shown, is_standard_path}
-use Rattle.machine_model.specs.Event.{Acts, Event, Executes}
-use Rattle.machine_model.specs.Run.{Steps, FirstSteps, BeginsSlice, cost, Slice, Run, terminals_emptied, console_bytes, without_bytes}
+use Rattle.machine_model.specs.declared.ends.SliceEnd.TheVariants.{Idle, Ran as SliceRan}
+use Rattle.machine_model.specs.Event.{Acts, Attempts, Event, cost}
+use Rattle.machine_model.specs.Line.{IsGiven, FailsAtByte, line_at, shown, is_standard_path}
+use Rattle.machine_model.specs.Line.{PutsLine, WritesLine}
+use Rattle.machine_model.specs.Run.{Steps, FirstSteps, BeginsSlice, Slice, Run, is_going}
+use Rattle.machine_model.specs.Console.{terminals_emptied, console_bytes, without_bytes}
+use Rattle.machine_model.specs.State.{State, has_living}
 use Rattle.machine_model.specs.Terminals.{OnlyGains, TerminalsOnlyGain}
 
 -- ---- one terminal
@@ -84,78 +89,84 @@ gain-emptied (terminal ∷ terms) = (gains-emptied terminal, gain-emptied terms)
 
 -- ---- one event
 
-gain-line : (s : State) (number : ℕ) (process : Process) (line : List ℕ) (old : TerminalState) (t : State) → slice_get s.terms 0 ≡ Some old → PutsLine s number process line old t → TerminalsOnlyGain s.terms t.terms
-gain-line s number process line old t first (terminal, inl (given, is)) =
+gain-line : (s : State) (p : ℕ) (line : List ℕ) (old : TerminalState) (result : CallResult) (terms : List TerminalState) → slice_get s.terms 0 ≡ Some old → PutsLine s p line old result terms → TerminalsOnlyGain s.terms terms
+gain-line s p line old result terms first (terminal, is, inl (done, given)) =
     rw is (gain-set s.terms old terminal first (gains-given (shown line) old terminal given))
-gain-line s number process line old t first (terminal, inr (failed, is)) =
+gain-line s p line old result terms first (terminal, is, inr (refusal, failed)) =
     rw is (gain-set s.terms old terminal first (gains-failed (shown line) old terminal failed))
 
-module _ (s : State) (number : ℕ) (process : Process) (end : EventEnd) (t : State) where
-  gain-executes : (outcome : Outcome) → Executes outcome s number process end t → TerminalsOnlyGain s.terms t.terms
-  gain-executes (Done effect) (ran, is) = rw is (gain-same s.terms)
-  gain-executes (Calls code regs) (ran, is) = rw is (gain-same s.terms)
-  gain-executes (Aborts status) (ended, is) = rw is (gain-same s.terms)
+module _ (s : State) (p : ℕ) (result : CallResult) (terms : List TerminalState) where
+  -- the path is tested when the line was read
+  abbrev OnPath : Bool → List ℕ → Type 0
+  OnPath standard line =
+      MatchBool standard (MatchOption (slice_get s.terms 0) ⊥ (λ old. PutsLine s p line old result terms)) ((result ≡ refused E_BPNUM) × (terms ≡ s.terms))
 
-  gain-writes : (line : Option (List ℕ)) → MatchOption line (t ≡ answered s number process (refused process.regs E_BPADDR)) (λ line. MatchBool (is_standard_path process.regs.a) (MatchOption (slice_get s.terms 0) ⊥ (λ old. PutsLine s number process line old t)) (t ≡ answered s number process (refused process.regs E_BPNUM))) → TerminalsOnlyGain s.terms t.terms
-  gain-writes None is = rw is (gain-same s.terms)
-  gain-writes (Some line) answer = by_path (is_standard_path process.regs.a) answer
-    where
-      by_terminal : (first : Option TerminalState) → slice_get s.terms 0 ≡ first → MatchOption first ⊥ (λ old. PutsLine s number process line old t) → TerminalsOnlyGain s.terms t.terms
-      by_terminal None is answer = absurd answer
-      by_terminal (Some old) is answer = gain-line s number process line old t is answer
+  gain-terminal : (line : List ℕ) (first : Option TerminalState) → slice_get s.terms 0 ≡ first → MatchOption first ⊥ (λ old. PutsLine s p line old result terms) → TerminalsOnlyGain s.terms terms
+  gain-terminal line None is answer = absurd answer
+  gain-terminal line (Some old) is answer = gain-line s p line old result terms is answer
 
-      by_path : (standard : Bool) → MatchBool standard (MatchOption (slice_get s.terms 0) ⊥ (λ old. PutsLine s number process line old t)) (t ≡ answered s number process (refused process.regs E_BPNUM)) → TerminalsOnlyGain s.terms t.terms
-      by_path true answer = by_terminal (slice_get s.terms 0) refl answer
-      by_path false is = rw is (gain-same s.terms)
+  gain-path : (line : List ℕ) (standard : Bool) → OnPath standard line → TerminalsOnlyGain s.terms terms
+  gain-path line true answer = gain-terminal line (slice_get s.terms 0) refl answer
+  gain-path line false (refusal, is) = rw is (gain-same s.terms)
 
-  gain-attempt : (code : ℕ) → Attempt code s number process end t → TerminalsOnlyGain s.terms t.terms
-  gain-attempt code attempt = by_exit (eqb code F_EXIT) attempt
-    where
-      by_line : (is_line : Bool) → MatchBool is_line (WritesLine s number process end t) ((end ≡ Ran) × (t ≡ answered s number process (refused process.regs E_UNKSVC))) → TerminalsOnlyGain s.terms t.terms
-      by_line true (ran, answer) = gain-writes (line_at (object_cells s.inner.objects process.map.places) process.regs.x process.regs.y) answer
-      by_line false (ran, is) = rw is (gain-same s.terms)
+  gain-writes : (line : Option (List ℕ)) → MatchOption line ((result ≡ refused E_BPADDR) × (terms ≡ s.terms)) (λ line. OnPath (is_standard_path (regs_at s.inner p).a) line) → TerminalsOnlyGain s.terms terms
+  gain-writes None (refusal, is) = rw is (gain-same s.terms)
+  gain-writes (Some line) answer = gain-path line (is_standard_path (regs_at s.inner p).a) answer
 
-      by_exit : (is_exit : Bool) → MatchBool is_exit (Exits s number process end t) (MatchBool (eqb code I_WRITLN) (WritesLine s number process end t) ((end ≡ Ran) × (t ≡ answered s number process (refused process.regs E_UNKSVC)))) → TerminalsOnlyGain s.terms t.terms
-      by_exit true (ended, is) = rw is (gain-same s.terms)
-      by_exit false attempt = by_line (eqb code I_WRITLN) attempt
+  gain-io : (is_line : Bool) → MatchBool is_line (WritesLine s p result terms) ((result ≡ refused E_UNKSVC) × (terms ≡ s.terms)) → TerminalsOnlyGain s.terms terms
+  gain-io true answer = gain-writes (line_at (cells_at s.inner p) (regs_at s.inner p).x (regs_at s.inner p).y) answer
+  gain-io false (refusal, is) = rw is (gain-same s.terms)
 
-  gain-acts : (activity : Activity) → Acts activity s number process end t → TerminalsOnlyGain s.terms t.terms
-  gain-acts Running acts = gain-executes (step_of (object_cells s.inner.objects process.map.places) process.regs) acts
-  gain-acts (Calling code) acts = gain-attempt code acts
-  gain-acts (Finished status) acts = absurd acts
+  gain-call : (code : ℕ) (call : Option ProcCall) → MatchOption call (MatchBool (eqb code I_WRITLN) (WritesLine s p result terms) ((result ≡ refused E_UNKSVC) × (terms ≡ s.terms))) (λ call. (result ≡ attempted call s.inner p) × (terms ≡ s.terms)) → TerminalsOnlyGain s.terms terms
+  gain-call code None answer = gain-io (eqb code I_WRITLN) answer
+  gain-call code (Some call) (is_result, is) = rw is (gain-same s.terms)
+
+gain-acts : (act : Act) (s : State) (p : ℕ) (end : EventEnd) (t : State) → Acts act s p end t → TerminalsOnlyGain s.terms t.terms
+gain-acts executes s p end t (ends, is) = rw is (gain-same s.terms)
+gain-acts (delivers signal) s p end t (ends, is) = rw is (gain-same s.terms)
+gain-acts (attempts code) s p end t (result, terms, answer, ends, is) =
+    rw is (gain-call s p result terms code (call_of code) answer)
 
 pub gains-event : (s t : State) (end : EventEnd) → Event s end t → TerminalsOnlyGain s.terms t.terms
-gains-event s t end event = gain-acts s event.0 event.1 end t event.1.activity event.4
+gains-event s t end (p, chosen, lives, acts) = gain-acts (act_of s.inner p) s p end t acts
 
 -- ---- slices and runs
 
 gain-steps : (left : ℕ) (s : State) (states : List State) (t : State) → Steps left s states t → TerminalsOnlyGain s.terms t.terms
 gain-steps left s [] t (over, is) = rw is (gain-same s.terms)
-gain-steps left s (m ∷ ms) t (going, end, event, steps) =
-    gain-then s.terms m.terms t.terms (gains-event s m end event) (gain-steps (left - cost s) m ms t steps)
+gain-steps left s (m ∷ ms) t (some, end, event, steps) =
+    gain-then s.terms m.terms t.terms (gains-event s m end event) (rest (is_going end) (gain-steps (left - cost s) m ms t) steps)
+  where
+    rest : (going : Bool) → (Steps (left - cost s) m ms t → TerminalsOnlyGain m.terms t.terms) → MatchBool going (Steps (left - cost s) m ms t) ((ms ≡ []) × (t ≡ m)) → TerminalsOnlyGain m.terms t.terms
+    rest true gains steps = gains steps
+    rest false gains (over, is) = rw is (gain-same m.terms)
 
 gain-first : (left : ℕ) (s : State) (states : List State) (t : State) → FirstSteps left s states t → TerminalsOnlyGain s.terms t.terms
-gain-first left s [] t (going, is) = rw is (gain-same s.terms)
-gain-first left s (m ∷ ms) t (going, end, event, steps) =
-    gain-then s.terms m.terms t.terms (gains-event s m end event) (gain-first (left - cost s) m ms t steps)
+gain-first left s [] t (some, is) = rw is (gain-same s.terms)
+gain-first left s (m ∷ ms) t (some, event, steps) =
+    gain-then s.terms m.terms t.terms (gains-event s m Ran event) (gain-first (left - cost s) m ms t steps)
 
-pub gains-slice : (n : ℕ) (s t : State) (end : SliceEnd) → Slice n s end t → TerminalsOnlyGain s.terms t.terms
-gains-slice n s t end (ticked, chosen, states, ticks, chooses, how, steps) =
+gain-chosen : (n : ℕ) (chosen : State) (states : List State) (end : SliceEnd) (t : State) (who : Option ℕ) → MatchOption who ((end ≡ Idle) × (states ≡ []) × (t ≡ chosen)) (λ p. (end ≡ SliceRan) × Steps n chosen states t) → TerminalsOnlyGain chosen.terms t.terms
+gain-chosen n chosen states end t None (idle, none, is) = rw is (gain-same chosen.terms)
+gain-chosen n chosen states end t (Some p) (ran, steps) = gain-steps n chosen states t steps
+
+pub gains-slice : (n : ℕ) (s t : State) (states : List State) (end : SliceEnd) → Slice n s states end t → TerminalsOnlyGain s.terms t.terms
+gains-slice n s t states end (ticked, chosen, ticks, chooses, rest) =
     let there : chosen.terms ≡ s.terms = ap (λ s. s.terms) chooses ∙ ap (λ s. s.terms) ticks in
-    subst (λ terms. TerminalsOnlyGain terms t.terms) there (gain-steps n chosen states t steps)
+    subst (λ terms. TerminalsOnlyGain terms t.terms) there (gain-chosen n chosen states end t chosen.chosen rest)
 
-pub gains-begun : (n : ℕ) (s t : State) → BeginsSlice n s t → TerminalsOnlyGain s.terms t.terms
-gains-begun n s t (ticked, chosen, states, ticks, chooses, steps) =
+pub gains-begun : (n : ℕ) (s t : State) (states : List State) → BeginsSlice n s states t → TerminalsOnlyGain s.terms t.terms
+gains-begun n s t states (ticked, chosen, ticks, chooses, steps) =
     let there : chosen.terms ≡ s.terms = ap (λ s. s.terms) chooses ∙ ap (λ s. s.terms) ticks in
     subst (λ terms. TerminalsOnlyGain terms t.terms) there (gain-first n chosen states t steps)
 
-pub gains-run : (slices written : List ℕ) (s t : State) → Run slices s written t → TerminalsOnlyGain s.terms t.terms
-gains-run [] written s t (nothing, is) = rw is (gain-same s.terms)
-gains-run (n ∷ ns) written s t run =
-    by_living (has_living s) (λ rest m after. gains-run ns rest m t after) run
+pub gains-run : (slices written : List ℕ) (s t : State) (states : List State) → Run slices s states written t → TerminalsOnlyGain s.terms t.terms
+gains-run [] written s t states (none, nothing, is) = rw is (gain-same s.terms)
+gains-run (n ∷ ns) written s t states run =
+    by_living (has_living s) (λ rest m after later. gains-run ns rest m t after later) run
   where
-    by_living : (living : Bool) → ((rest : List ℕ) (m : State) → Run ns m rest t → TerminalsOnlyGain m.terms t.terms) → MatchBool living ((end : SliceEnd) × (m : State) × (rest : List ℕ) × Slice n s end m × (written ≡ console_bytes m.terms ++ rest) × Run ns (record m { terms = terminals_emptied m.terms }) rest t) ((written ≡ []) × (t ≡ s)) → TerminalsOnlyGain s.terms t.terms
-    by_living false others (nothing, is) = rw is (gain-same s.terms)
-    by_living true others (end, m, rest, slice, all, after) =
-        gain-then s.terms m.terms t.terms (gains-slice n s m end slice)
-        (gain-then m.terms (terminals_emptied m.terms) t.terms (gain-emptied m.terms) (others rest (record m { terms = terminals_emptied m.terms }) after))
+    by_living : (living : Bool) → ((rest : List ℕ) (m : State) (after : List State) → Run ns m after rest t → TerminalsOnlyGain m.terms t.terms) → MatchBool living ((end : SliceEnd) × (m : State) × (first later : List State) × (rest : List ℕ) × Slice n s first end m × (states ≡ first ++ later) × (written ≡ console_bytes m.terms ++ rest) × Run ns (record m { terms = terminals_emptied m.terms }) later rest t) ((states ≡ []) × (written ≡ []) × (t ≡ s)) → TerminalsOnlyGain s.terms t.terms
+    by_living false others (none, nothing, is) = rw is (gain-same s.terms)
+    by_living true others (end, m, first, later, rest, slice, all, bytes, after) =
+        gain-then s.terms m.terms t.terms (gains-slice n s m first end slice)
+        (gain-then m.terms (terminals_emptied m.terms) t.terms (gain-emptied m.terms) (others rest (record m { terms = terminals_emptied m.terms }) later after))

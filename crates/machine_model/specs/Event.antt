@@ -1,35 +1,97 @@
--- One event of the chosen process: the atomic step of the machine.
-use Rattle.std.specs.Prelude.{◌≡◌, ℕ, Some}
+-- One event of the chosen process, the atomic step of the machine: an instruction, an attempt of its call, or the
+-- delivery of a signal.
+use Rattle.std.specs.Prelude.{◌≡◌, ℕ, ◌==◌, true, Option, Some, None, Result, Ok, Err, List, MatchBool, MatchOption}
+use Rattle.os9_base.specs.declared.calls.TheConstants.{I_WRITLN}
+use Rattle.os9_base.specs.declared.errors.TheConstants.{E_UNKSVC}
+use Rattle.os9_outer.specs.TerminalState.{TerminalState}
 use Rattle.cpu_model.specs.Step.{Outcome, Done, Calls, Aborts, step_of}
-use Rattle.machine_model.specs.declared.activity.Activity.{Activity}
-use Rattle.machine_model.specs.declared.activity.Activity.TheVariants.{Running, Calling, Finished}
+use Rattle.proc_model.specs.MemoryChanges.{written}
+use Rattle.proc_rules.specs.Records.{IsLiving}
+use Rattle.call_rules.specs.Attempts.{attempted, after_attempt}
+use Rattle.call_rules.specs.CallResult.{CallResult, done, refused, waits, ends}
+use Rattle.call_rules.specs.Codes.{call_of}
+use Rattle.call_rules.specs.Delivery.{delivered, after_delivery}
+use Rattle.call_rules.specs.End.{ended}
+use Rattle.call_rules.specs.Inner.{Inner, own_at, regs_at, cells_at, with_memory, with_regs_of, with_own}
+use Rattle.call_rules.specs.Ready.{Act, attempts, delivers, executes, act_of}
 use Rattle.machine_model.specs.declared.ends.EventEnd.{EventEnd}
-use Rattle.machine_model.specs.declared.ends.EventEnd.TheVariants.{Ran, Ended}
-use Rattle.machine_model.specs.Objects.{object_cells, with_writes}
-use Rattle.machine_model.specs.State.{State, Process, process_at, with_process, with_inner}
-use Rattle.machine_model.specs.Call.{Attempt, ended}
+use Rattle.machine_model.specs.declared.ends.EventEnd.TheVariants.{Ran, Waits, Ended}
+use Rattle.machine_model.specs.Line.{WritesLine}
+use Rattle.machine_model.specs.State.{State, with_inner}
 
--- an instruction of the process changed its registers and cells, or it is a system call, or the process
+-- ---- an instruction
+
+-- the processes after an instruction of one: it changed its registers and bytes, or it is a system call, or the process
 -- ends by it with a status
-abbrev pub Executes : Outcome → State → ℕ → Process → EventEnd → State → Type 0
-Executes (Done effect) s number process end t =
-    (end ≡ Ran) × (t ≡ with_inner s (record (with_process s.inner number (record process { regs = effect.regs })) {
-      objects = with_writes s.inner.objects process.map.places effect.writes;
-    }))
-Executes (Calls code regs) s number process end t =
-    (end ≡ Ran)
-    × (t ≡ with_inner s (with_process s.inner number (record process { regs = regs; activity = Calling code })))
-Executes (Aborts status) s number process end t = (end ≡ Ended) × (t ≡ ended s number process status)
+abbrev pub after_instruction : Inner → ℕ → Outcome → Inner
+after_instruction m p (Done effect) =
+    with_regs_of (with_memory m (written m.memory p effect.writes)) p effect.regs
+after_instruction m p (Calls code regs) =
+    with_own (with_regs_of m p regs) p (record (own_at m p) { call = Some code })
+after_instruction m p (Aborts status) = ended m p status
 
--- what the process does next: an attempt of its call, else an instruction
-abbrev pub Acts : Activity → State → ℕ → Process → EventEnd → State → Type 0
-Acts Running s number process end t =
-    Executes (step_of (object_cells s.inner.objects process.map.places) process.regs) s number process end t
-Acts (Calling code) s number process end t = Attempt code s number process end t
-Acts (Finished _) s number process end t = ⊥
+-- how an instruction ends
+abbrev pub instruction_end : Outcome → EventEnd
+instruction_end (Done effect) = Ran
+instruction_end (Calls code regs) = Ran
+instruction_end (Aborts status) = Ended
 
--- one event of the chosen process
+-- the instruction that a process executes next
+abbrev pub next_instruction : Inner → ℕ → Outcome
+next_instruction m p = step_of (cells_at m p) (regs_at m p)
+
+-- ---- an attempt of a call
+
+-- an attempt of a call by its code: what it comes to, and the terminals then; a code that is no call's is refused
+abbrev pub Attempts : ℕ → State → ℕ → CallResult → List TerminalState → Type 0
+Attempts code s p result terms =
+    MatchOption (call_of code)
+    (MatchBool (code == I_WRITLN) (WritesLine s p result terms) ((result ≡ refused E_UNKSVC) × (terms ≡ s.terms)))
+    (λ call. (result ≡ attempted call s.inner p) × (terms ≡ s.terms))
+
+-- how an attempt ends
+abbrev pub call_event_end : CallResult → EventEnd
+call_event_end (done t) = Ran
+call_event_end (refused number) = Ran
+call_event_end (waits t) = Waits
+call_event_end (ends status) = Ended
+
+-- ---- the delivery of a signal
+
+-- how a delivery ends
+abbrev pub delivery_end : Result Inner ℕ → EventEnd
+delivery_end (Ok t) = Ran
+delivery_end (Err status) = Ended
+
+-- ---- one event
+
+-- what a process does
+abbrev pub Acts : Act → State → ℕ → EventEnd → State → Type 0
+Acts executes s p end t =
+    (end ≡ instruction_end (next_instruction s.inner p))
+    × (t ≡ with_inner s (after_instruction s.inner p (next_instruction s.inner p)))
+Acts (attempts code) s p end t =
+    (result : CallResult) × (terms : List TerminalState) × Attempts code s p result terms
+    × (end ≡ call_event_end result) × (t ≡ record s { inner = after_attempt s.inner p result; terms = terms })
+Acts (delivers signal) s p end t =
+    (end ≡ delivery_end (delivered s.inner p signal))
+    × (t ≡ with_inner s (after_delivery s.inner p (delivered s.inner p signal)))
+
+-- one event of the chosen process, which lives
 abbrev pub Event : State → EventEnd → State → Type 0
 Event s end t =
-    (number : ℕ) × (process : Process) × (s.inner.chosen ≡ Some number)
-    × (process_at s.inner number ≡ Some process) × Acts process.activity s number process end t
+    (p : ℕ) × (s.chosen ≡ Some p) × IsLiving s.inner.records p × Acts (act_of s.inner p) s p end t
+
+-- instructions that a process executes by what it does: attempts and deliveries cost none
+abbrev pub cost_of : Act → ℕ
+cost_of (attempts code) = 0
+cost_of (delivers signal) = 0
+cost_of executes = 1
+
+-- instructions that the next event of the chosen process executes
+abbrev pub cost : State → ℕ
+cost s = of_chosen s.chosen
+  where
+    of_chosen : Option ℕ → ℕ
+    of_chosen None = 0
+    of_chosen (Some p) = cost_of (act_of s.inner p)

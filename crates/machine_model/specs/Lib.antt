@@ -1,6 +1,6 @@
-pub mod Call
+pub mod Console
 pub mod Event
-pub mod Objects
+pub mod Line
 pub mod Run
 pub mod Start
 pub mod State

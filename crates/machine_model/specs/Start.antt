@@ -1,29 +1,25 @@
 -- The state in which a boot file starts (Level Two manual, "Booting"; the first process is this project's own).
-use Rattle.std.specs.Prelude.{◌≡◌, ◌⊎◌, ℕ, ◌+◌, ◌-◌, ◌*◌, ◌/◌, ◌<◌, ◌≤◌, true, max, min, Option, Some, None, Result, Ok, Err, List, ◌∷◌, ◌++◌, length, map, replicate, codes}
+use Rattle.std.specs.Prelude.{◌≡◌, ◌⊎◌, ℕ, ◌<◌, ◌≤◌, true, Option, Some, None, Result, Ok, Err, IsErr, List, [], length, replicate, slice_set, codes}
 use Rattle.std.specs.List.{range_with_len}
-use Rattle.os9_base.specs.declared.registers.Regs.{Regs}
-use Rattle.proc_model.specs.Slots.{Slots}
-pub use Rattle.proc_model.specs.Objects.{zero_object, block_count, file_blocks, file_block, file_objects}
-use Rattle.proc_model.specs.ModuleList.{ModuleEntry, module_entry_at, found_module, entry_linked, with_module_entry}
-use Rattle.proc_model.specs.Loading.{EntersModules, no_entries}
+use Rattle.os9_base.specs.declared.limits.TheConstants.{MOST_GROUP_BYTES, PROCESS_PLACES}
+use Rattle.os9_base.specs.declared.registers.Pid.{Pid}
 use Rattle.os9_outer.specs.TerminalState.{TerminalState}
-use Rattle.machine_model.specs.declared.activity.Activity.TheVariants.{Running}
+use Rattle.proc_model.specs.declared.memory.MemoryFault.{MemoryFault}
+use Rattle.proc_model.specs.Loading.{EntersModules, no_entries}
+use Rattle.proc_model.specs.Memory.{MemoryState, first_memory}
+use Rattle.proc_model.specs.MemoryChanges.{linked, started}
+use Rattle.proc_model.specs.ModuleList.{ModuleEntry, module_entry_at, found_module}
+use Rattle.proc_model.specs.Objects.{file_blocks, file_objects}
+use Rattle.proc_rules.specs.Records.{after_make, with_regs}
+use Rattle.proc_rules.specs.Turns.{with_turn}
+use Rattle.call_rules.specs.Inner.{Inner, no_own}
+use Rattle.call_rules.specs.ModuleLinks.{Entered}
+use Rattle.call_rules.specs.Program.{Program, program_kind, area_pages, blocks_of_pages, start_regs, start_own}
 use Rattle.machine_model.specs.declared.ends.BootFault.{BootFault}
 use Rattle.machine_model.specs.declared.ends.BootFault.TheVariants.{OutOfMemory, BadModule, NoFirst, TooLarge}
-use Rattle.machine_model.specs.State.{State, Process}
-use Rattle.os9_base.specs.declared.limits.TheConstants.{MOST_GROUP_BYTES}
+use Rattle.machine_model.specs.State.{State}
 
--- so many bytes are so many pages of 256
-abbrev pub page_count : ℕ → ℕ
-page_count bytes = (bytes + 255) / 256
-
--- the size of a program's data area in bytes: its storage in whole pages, and at least one page
-abbrev pub data_size : ModuleEntry → ℕ
-data_size program = 256 * max 1 (page_count program.info.storage)
-
--- the blocks of a program's data area
-abbrev pub data_blocks : ModuleEntry → ℕ
-data_blocks program = block_count (data_size program)
+-- ---- the boot file
 
 -- the numbers of the objects that hold the boot file: they are the first to appear
 abbrev pub boot_group : List ℕ → List ℕ
@@ -34,33 +30,76 @@ boot_group file = range_with_len 0 (file_blocks file)
 abbrev pub EntersBoot : List ℕ → Result (List (Option ModuleEntry)) (ℕ × ℕ) → Type 0
 EntersBoot file outcome = EntersModules file (boot_group file) true 0 no_entries outcome
 
+-- the memory of a machine with so many blocks that has the boot file, where these are the entries of its modules
+abbrev pub boot_memory : List ℕ → ℕ → List (Option ModuleEntry) → MemoryState
+boot_memory file blocks entries = record (first_memory blocks) { objects = file_objects file; modules = entries }
+
 -- the most bytes of a group of modules: seven blocks
 abbrev pub longest_file : ℕ
 longest_file = MOST_GROUP_BYTES
 
+-- ---- the first process
+
 -- the first program that is run: the name SysGo, case ignored, and the type and language of a program in 6809 code
 abbrev pub first_program : List (Option ModuleEntry) → Option ℕ
-first_program entries = found_module entries (codes "SysGo") 0x11
-
--- how many slots of a map, of a machine with so many blocks, there are for the boot file and the data area
-abbrev pub room_for : ℕ → ℕ
-room_for blocks = min 8 blocks
+first_program entries = found_module entries (codes "SysGo") program_kind
 
 -- the modules of the file are entered, and one of them is the first program, which has this entry and this number
-pub record HasFirst (file : List ℕ) (entries : List (Option ModuleEntry)) (number : ℕ) (program : ModuleEntry)
+pub record HasFirst (file : List ℕ) (entries : List (Option ModuleEntry)) (number : ℕ) (entry : ModuleEntry)
     : Type 0 where
   pub short : length file ≤ longest_file
   pub entered : EntersBoot file (Ok entries)
   pub found_it : first_program entries ≡ Some number
-  pub is : module_entry_at entries number ≡ Some program
+  pub is : module_entry_at entries number ≡ Some entry
+
+-- the number of the first process; it has no parent, is the superuser's, and this is its priority
+abbrev pub first_process : Pid
+first_process = record { 0 = 2 }
+
+abbrev pub no_parent : Pid
+no_parent = record { 0 = 0 }
+
+abbrev pub superuser : ℕ
+superuser = 0
+
+abbrev pub first_priority : ℕ
+first_priority = 128
+
+-- the program of the first process, which is given no parameters
+abbrev pub first_start : ℕ → ModuleEntry → Program
+first_start number entry = record {
+  entered = record { number = number; entry = entry };
+  pages = area_pages entry 0 0;
+  parameters = [];
+  count = 0;
+}
+
+-- the memory in which the first process begins, or why it does not
+abbrev pub first_started : List ℕ → ℕ → List (Option ModuleEntry) → ℕ → ModuleEntry → Result MemoryState MemoryFault
+first_started file blocks entries number entry =
+    started (boot_memory file blocks entries) first_process.0 number (blocks_of_pages (area_pages entry 0 0))
+
+-- the only process, which begins with this program in this memory: the module has one link more
+abbrev pub only_process : MemoryState → Program → Inner
+only_process memory program = record {
+  memory = linked memory program.entered.number;
+  records =
+      with_regs (after_make (replicate PROCESS_PLACES None) no_parent superuser first_priority) first_process.0
+      (start_regs program);
+  own = slice_set (replicate PROCESS_PLACES no_own) first_process.0 (start_own program);
+  order = with_turn [] first_process first_priority;
+  tick = 0;
+}
+
+-- ---- the start
 
 -- Why a boot file does not start a machine with so many blocks: the first cause of those below.
 abbrev pub Refuses : List ℕ → ℕ → BootFault → Type 0
--- it has more bytes than a group; or it and the first program's data area need more blocks or slots than there are
+-- it has more bytes than a group; or there are too few blocks or slots for it and the first program's data area
 Refuses file blocks TooLarge =
     (longest_file < length file)
-    ⊎ ((entries : List (Option ModuleEntry)) × (number : ℕ) × (program : ModuleEntry)
-    × HasFirst file entries number program × (room_for blocks < data_blocks program + file_blocks file))
+    ⊎ ((entries : List (Option ModuleEntry)) × (number : ℕ) × (entry : ModuleEntry)
+    × HasFirst file entries number entry × IsErr (first_started file blocks entries number entry))
 -- one of its modules is refused: where it begins, and the error
 Refuses file blocks (BadModule at error) =
     (length file ≤ longest_file) × EntersBoot file (Err (at, error))
@@ -70,64 +109,12 @@ Refuses file blocks NoFirst =
     × ((entries : List (Option ModuleEntry)) × EntersBoot file (Ok entries) × (first_program entries ≡ None))
 Refuses file blocks OutOfMemory = ⊥
 
--- the objects of the start: those of the boot file, then the data area of the first process
-abbrev pub first_objects : List ℕ → ModuleEntry → List (List ℕ)
-first_objects file program = file_objects file ++ replicate (data_blocks program) zero_object
-
--- the first process's map: its data area from slot 0 up, the group of the boot file in the highest slots
-abbrev pub first_map : List ℕ → ModuleEntry → Slots ℕ
-first_map file program = record {
-  places =
-      map Some (range_with_len (file_blocks file) (data_blocks program))
-      ++ replicate (8 - (data_blocks program + file_blocks file)) None ++ map Some (boot_group file);
-  low = data_blocks program;
-  groups = replicate (8 - file_blocks file) None ++ Some (file_blocks file) ∷ replicate (file_blocks file - 1) None;
-}
-
--- the first process's registers: Y is the size of its data area, whose end X and S name, since there are
--- no parameters; PC is where the program begins
-abbrev pub first_regs : List ℕ → ModuleEntry → Regs
-first_regs file program = record {
-  a = 0;
-  b = 0;
-  dp = 0;
-  cc = 0;
-  x = data_size program;
-  y = data_size program;
-  u = 0;
-  s = data_size program;
-  pc = 8192 * (8 - file_blocks file) + program.info.at + program.info.entry;
-}
-
--- the only process, number 2
-abbrev pub only_process : Process → List (Option Process)
-only_process process = replicate 2 None ++ Some process ∷ replicate 30 None
-
--- the state in which the first program starts, with these terminals: its entry has one link more
-abbrev pub start_of : List ℕ → List (Option ModuleEntry) → ℕ → ModuleEntry → List TerminalState → State
-start_of file entries number program terms = record {
-  inner = record {
-    objects = first_objects file program;
-    modules = with_module_entry entries number (entry_linked program);
-    processes =
-        only_process (record {
-          regs =
-              first_regs file program;
-          map = first_map file program;
-          primary = Some number;
-          activity = Running;
-        });
-    tick = 0;
-    chosen = None;
-  };
-  terms = terms;
-}
-
 -- a machine with so many blocks and these terminals starts a boot file in this state
 pub record Starts (file : List ℕ) (blocks : ℕ) (terms : List TerminalState) (s : State) : Type 0 where
   pub entries : List (Option ModuleEntry)
   pub number : ℕ
-  pub program : ModuleEntry
-  pub has : HasFirst file entries number program
-  pub fits : data_blocks program + file_blocks file ≤ room_for blocks
-  pub is : s ≡ start_of file entries number program terms
+  pub entry : ModuleEntry
+  pub memory : MemoryState
+  pub has : HasFirst file entries number entry
+  pub begins : first_started file blocks entries number entry ≡ Ok memory
+  pub is : s ≡ record { inner = only_process memory (first_start number entry); chosen = None; terms = terms }

@@ -1,9 +1,9 @@
 -- From what the steps of a command leave to what the command leaves.
 use Rattle.std.proofs.Common.{◌≡◌, ◌≢◌, ℕ, Option, Some, None, Result, List, Ok, Err, slice_get, refl, sym, ap, subst, ◌∙◌, inl, inr, All, arith}
-use Rattle.std.specs.Prelude.{IfSome, count_by}
+use Rattle.std.specs.Prelude.{IfSome}
 use Rattle.std.proofs.lemmas.Bool.{cases_eq}
 use Rattle.os9_outer.specs.Host.{Files, file_contents}
-use Rattle.os9_outer.specs.Stream.{stream_with, GainsPrefix}
+use Rattle.os9_outer.specs.Stream.{GainsPrefix}
 use Rattle.os9_outer.specs.TerminalState.{TerminalState}
 use Rattle.os9_outer.specs.declared.host.Host.{Ghosts}
 use Rattle.os9_outer.specs.declared.host.HostFault.{HostFault}
@@ -18,7 +18,7 @@ use Rattle.os9_words.specs.Command.{command_of}
 use Rattle.os9_words.specs.Lines.{no_memory_line, words_line}
 use Rattle.os9_words.specs.Streams.{ChangesErrOnly}
 use Rattle.script_text.specs.Slices.{slices_of}
-use Rattle.machine_model.specs.State.{State, is_living}
+use Rattle.machine_model.specs.State.{State, living_count}
 use Rattle.machine_model.specs.Run.{status_of}
 use Rattle.os9_boot.specs.Console.{IsObserved}
 use Rattle.os9_boot.specs.End.{end_line, file_name, status_number}
@@ -26,23 +26,23 @@ use Rattle.os9_boot.specs.declared.status.End.{End}
 use Rattle.os9_boot.specs.declared.status.End.TheVariants.{Ended, Living, CannotRead, CannotWrite, NoMemory, BadImage, BadText, BadModule, NoFirst, TooLarge}
 use Rattle.os9_boot.specs.declared.status.Input.{Input}
 use Rattle.os9_boot.specs.declared.status.Input.TheVariants.{Slices as SlicesInput}
-use Rattle.os9_boot.specs.Commands.{PerformsWords, Boots, Checks, IsAnswered, IsSilent, IsStopped, PerformsCommand, tree_line}
-use Rattle.os9_boot.specs.Partly.{PerformsWordsPartly, BootsPartly, PerformsPartly}
+use Rattle.os9_boot.specs.Commands.{PerformsWords, IsAnswered, IsSilent, IsStopped, PerformsCommand, tree_line}
+use Rattle.os9_boot.specs.Partly.{PerformsWordsPartly, PerformsPartly}
 use Rattle.os9_boot.specs.ReadFile.{ReadsFile}
 use Rattle.os9_boot.specs.TopCall.{BootCall, CommandCall, CommandReport, PrintCall, ReportsLine, TopCall}
 use Rattle.os9_boot.specs.World.{World, FailsToRead, FailsToReadFile, HasNoFault, IfAllObserved, world_of}
-use Rattle.os9_boot.proofs.RunLemmas.{any-none, any-some}
+use Rattle.os9_boot.proofs.RunLemmas.{none-living, some-living}
 
 -- ---- statuses of runs
 
-status-idle : (s : State) (living : ℕ) → living ≡ count_by is_living s.inner.processes → living ≡ 0 → 0 ≡ status_of s
-status-idle s living counted none = rw (any-none s.inner.processes (sym counted ∙ none)) refl
+status-idle : (s : State) (living : ℕ) → living ≡ living_count s.inner → living ≡ 0 → 0 ≡ status_of s
+status-idle s living counted none = rw (none-living s (sym counted ∙ none)) refl
 
-status-living : (s : State) (living : ℕ) → living ≡ count_by is_living s.inner.processes → living ≢ 0 → 5 ≡ status_of s
-status-living s living counted some = rw (any-some s.inner.processes (λ none. some (counted ∙ none))) refl
+status-living : (s : State) (living : ℕ) → living ≡ living_count s.inner → living ≢ 0 → 5 ≡ status_of s
+status-living s living counted some = rw (some-living s (λ none. some (counted ∙ none))) refl
 
 -- the end of a run that came to a state
-pub status-at_end : (s : State) (living : ℕ) (end : End) → living ≡ count_by is_living s.inner.processes → (living ≡ 0 → end ≡ Ended) → (living ≢ 0 → end ≡ Living) → status_number end ≡ status_of s
+pub status-at_end : (s : State) (living : ℕ) (end : End) → living ≡ living_count s.inner → (living ≡ 0 → end ≡ Ended) → (living ≢ 0 → end ≡ Living) → status_number end ≡ status_of s
 status-at_end s living end counted idle lives =
     elim (cases_eq living 0) [
       | inl none ↦ ap status_number (idle none) ∙ status-idle s living counted none

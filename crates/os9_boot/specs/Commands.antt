@@ -25,12 +25,12 @@ use Rattle.os9_boot.specs.declared.status.Input.TheVariants.{Slices as SlicesInp
 use Rattle.os9_boot.specs.End.{boot_end, status_number}
 use Rattle.os9_boot.specs.World.{World}
 
--- the machine goes on from this state over these slices: the output gains what the run writes, the
--- terminals are those at its end, and the command ends with the run's status
+-- the machine goes on from this state over these slices, through the states of a run: the output gains what it
+-- writes, the terminals are those at its end, and the command ends with its status
 abbrev pub Runs : State → List ℕ → World → World → End → Type 0
 Runs s slices before after end =
-    (written : List ℕ) × (t : State) × Run slices s written t × (status_number end ≡ status_of t)
-    × (after.out ≡ stream_with before.out written) × (after.terms ≡ t.terms)
+    (states : List State) × (written : List ℕ) × (t : State) × Run slices s states written t
+    × (status_number end ≡ status_of t) × (after.out ≡ stream_with before.out written) × (after.terms ≡ t.terms)
 
 -- the boot file starts a machine with so many blocks, which is run; or it is refused, with its fault
 abbrev pub Boots : List ℕ → ℕ → List ℕ → World → World → End → Type 0

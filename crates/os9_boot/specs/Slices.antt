@@ -1,10 +1,11 @@
 -- What is left when slices were run.
-use Rattle.std.specs.Prelude.{◌≡◌, ◌⊎◌, ℕ, Some, Result, List, take, slice_get, OnOk, OnErr, All}
+use Rattle.std.specs.Prelude.{◌≡◌, ◌⊎◌, ℕ, true, Some, Result, List, take, slice_get, OnOk, OnErr, All}
 use Rattle.os9_outer.specs.Stream.{stream_with, GainsPrefix}
 use Rattle.os9_outer.specs.TerminalState.{fault_counts}
-use Rattle.machine_model.specs.State.{State}
+use Rattle.machine_model.specs.State.{State, has_living}
 use Rattle.machine_model.specs.Run.{BeginsSlice, Run}
 use Rattle.os9_kernel.specs.declared.kernel.Kernel.{Kernel}
+use Rattle.os9_kernel.specs.Line.{PutsByte}
 use Rattle.os9_kernel.specs.Tie.{Represents}
 use Rattle.os9_boot.specs.declared.run.RunFault.{RunFault}
 use Rattle.os9_boot.specs.Console.{IsObserved}
@@ -14,12 +15,14 @@ use Rattle.os9_boot.specs.World.{World, HasNoFault, FailsToWrite}
 -- The machine went on from this state over the first of these slices, and stopped.
 pub record RunsPartly (slices : List ℕ) (s : State) (before after : World) : Type 0 where
   pub count : ℕ  -- so many slices were run
+  pub states : List State  -- the states after their events
   pub written : List ℕ  -- what they wrote
   pub reached : State  -- the state that they came to
   pub last : State  -- the state at which the run stopped
-  pub run : Run (take count slices) s written reached
-  -- it stopped after these slices, or within the next one
-  pub stopped : (last ≡ reached) ⊎ ((n : ℕ) × (slice_get slices count ≡ Some n) × BeginsSlice n reached last)
+  pub run : Run (take count slices) s states written reached
+  -- it stopped after these slices, or within the next one, before a byte is put
+  pub stopped : (last ≡ reached) ⊎ ((n : ℕ) × (begun : List State) × (slice_get slices count ≡ Some n)
+      × (has_living reached ≡ true) × BeginsSlice n reached begun last × PutsByte last)
   -- the output gained the beginning of what the slices wrote
   pub output : GainsPrefix before.out written after.out
   -- each terminal has failed as often as in the last state
@@ -30,8 +33,8 @@ pub record RunsSlices {Value : Type 0} (slices : List ℕ) (old new : Kernel) (a
   -- Ok: from each state that was represented there is a run over the slices to one that is represented
   -- now, and the output gained what it writes
   pub run : OnOk answer ((s : State) → All IsObserved before.terms → Represents old before.terms s
-      → (written : List ℕ) × (t : State) × Run slices s written t × Represents new after.terms t
-      × (after.out ≡ stream_with before.out written))
+      → (states : List State) × (written : List ℕ) × (t : State) × Run slices s states written t
+      × Represents new after.terms t × (after.out ≡ stream_with before.out written))
   -- else there is a run over the first of them
   pub partial : OnErr answer ((s : State) → All IsObserved before.terms → Represents old before.terms s
       → RunsPartly slices s before after)

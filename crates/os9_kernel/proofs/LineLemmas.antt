@@ -4,18 +4,13 @@ use Rattle.std.specs.Prelude.{option_map, if◌then◌else◌}
 use Rattle.std.proofs.lemmas.List.{take_more_set, append-nil}
 use Rattle.std.proofs.Math.Nat.{sub-zero}
 use Rattle.std.proofs.lemmas.Bool.{eq-eqb, ne_eqb, lt-ltb, le-ltb}
-use Rattle.machine_model.specs.Call.{line_at, user_cell}
+use Rattle.user_names.specs.UserNames.{user_cell}
+use Rattle.machine_model.specs.Line.{line_at}
 
 -- a line whose first bytes were read into the front of a buffer goes on behind them
 abbrev pub IsReadTo : (ℕ → Option ℕ) → ℕ → ℕ → ℕ → List ℕ → Type 0
 IsReadTo cells at most count into =
     line_at cells at most ≡ option_map (λ rest. take count into ++ rest) (line_at cells (at + count) (most - count))
-
-user_cell-below : (cells : ℕ → Option ℕ) (at : ℕ) → at < 65536 → user_cell cells at ≡ cells at
-user_cell-below cells at below = rw (lt-ltb at 65536 below) refl
-
-user_cell-past : (cells : ℕ → Option ℕ) (at : ℕ) → 65536 ≤ at → user_cell cells at ≡ None
-user_cell-past cells at past = rw (le-ltb at 65536 past) refl
 
 line_at-unnamed : (cells : ℕ → Option ℕ) (at most : ℕ) → user_cell cells at ≡ None → line_at cells at (suc most) ≡ None
 line_at-unnamed cells at most is = rw is refl
@@ -49,35 +44,25 @@ module _ (cells : ℕ → Option ℕ) (at most count : ℕ) (into : List ℕ) (l
       so_far ∙ ap (λ n. option_map (λ rest. take count into ++ rest) (line_at cells (at + count) n)) still
 
   -- a byte that may not be used
-  line-unusable : user_cell cells (at + count) ≡ None → line_at cells at most ≡ None
-  line-unusable is = next ∙ ap (option_map (λ rest. take count into ++ rest)) (line_at-unnamed cells (at + count) (most - (count + 1)) is)
+  pub line-unnamed : user_cell cells (at + count) ≡ None → line_at cells at most ≡ None
+  line-unnamed is = next ∙ ap (option_map (λ rest. take count into ++ rest)) (line_at-unnamed cells (at + count) (most - (count + 1)) is)
 
-  pub line-past : 65536 ≤ at + count → line_at cells at most ≡ None
-  line-past past = line-unusable (user_cell-past cells (at + count) past)
+  module _ (byte : ℕ) (is : user_cell cells (at + count) ≡ Some byte) (within : count < length into) where
+    written : take (count + 1) (set into count byte) ≡ take count into ++ byte ∷ []
+    written = take_more_set into count byte within
 
-  module _ (address : ℕ) (below : at + count < 65536) (place : address ≡ at + count) where
-    usable : user_cell cells (at + count) ≡ cells address
-    usable = user_cell-below cells (at + count) below ∙ ap cells (sym place)
+    -- a carriage return ends the line
+    pub line-ends : byte ≡ 13 → line_at cells at most ≡ Some (take (count + 1) (set into count byte))
+    line-ends return =
+        let test : (byte == 13) ≡ true = eq-eqb byte 13 return in
+        let here : line_at cells (at + count) (suc (most - (count + 1))) ≡ Some (13 ∷ []) = line_at-named cells (at + count) (most - (count + 1)) byte is ∙ rw test refl in
+        next ∙ ap (option_map (λ rest. take count into ++ rest)) here ∙ ap (λ b. Some (take count into ++ b ∷ [])) (sym return) ∙ ap Some (sym written)
 
-    pub line-unnamed : cells address ≡ None → line_at cells at most ≡ None
-    line-unnamed is = line-unusable (usable ∙ is)
-
-    module _ (byte : ℕ) (is : cells address ≡ Some byte) (within : count < length into) where
-      written : take (count + 1) (set into count byte) ≡ take count into ++ byte ∷ []
-      written = take_more_set into count byte within
-
-      -- a carriage return ends the line
-      pub line-ends : byte ≡ 13 → line_at cells at most ≡ Some (take (count + 1) (set into count byte))
-      line-ends return =
-          let test : (byte == 13) ≡ true = eq-eqb byte 13 return in
-          let here : line_at cells (at + count) (suc (most - (count + 1))) ≡ Some (13 ∷ []) = line_at-named cells (at + count) (most - (count + 1)) byte (usable ∙ is) ∙ rw test refl in
-          next ∙ ap (option_map (λ rest. take count into ++ rest)) here ∙ ap (λ b. Some (take count into ++ b ∷ [])) (sym return) ∙ ap Some (sym written)
-
-      -- another byte goes onto it
-      pub line-more : byte ≢ 13 → IsReadTo cells at most (count + 1) (set into count byte)
-      line-more other =
-          let test : (byte == 13) ≡ false = ne_eqb byte 13 other in
-          let further : at + count + 1 ≡ at + (count + 1) = omega arith in
-          let rest = line_at cells (at + (count + 1)) (most - (count + 1)) in
-          let here : line_at cells (at + count) (suc (most - (count + 1))) ≡ option_map (λ line. byte ∷ line) rest = line_at-named cells (at + count) (most - (count + 1)) byte (usable ∙ is) ∙ rw (test, further) refl in
-          next ∙ ap (option_map (λ rest. take count into ++ rest)) here ∙ longer (take count into) byte rest ∙ ap (λ front. option_map (λ line. front ++ line) rest) (sym written)
+    -- another byte goes onto it
+    pub line-more : byte ≢ 13 → IsReadTo cells at most (count + 1) (set into count byte)
+    line-more other =
+        let test : (byte == 13) ≡ false = ne_eqb byte 13 other in
+        let further : at + count + 1 ≡ at + (count + 1) = omega arith in
+        let rest = line_at cells (at + (count + 1)) (most - (count + 1)) in
+        let here : line_at cells (at + count) (suc (most - (count + 1))) ≡ option_map (λ line. byte ∷ line) rest = line_at-named cells (at + count) (most - (count + 1)) byte is ∙ rw (test, further) refl in
+        next ∙ ap (option_map (λ rest. take count into ++ rest)) here ∙ longer (take count into) byte rest ∙ ap (λ front. option_map (λ line. front ++ line) rest) (sym written)

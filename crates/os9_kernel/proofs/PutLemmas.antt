@@ -1,7 +1,7 @@
 -- What is put on a terminal in pieces.
-use Rattle.std.proofs.Common.{◌≡◌, ℕ, zero, suc, ◌+◌, Bool, true, false, Option, Some, Result, Ok, Err, List, [], ◌∷◌, ◌++◌, length, map, take, slice_get, slice_set, refl, ap, ◌∙◌, arith}
-use Rattle.std.proofs.lemmas.List.{length-append, map-set, take-append-le, set-set}
-use Rattle.std.proofs.lemmas.Option.{slice_get_within}
+use Rattle.std.proofs.Common.{◌≡◌, ℕ, zero, suc, ◌+◌, ◌<◌, Bool, true, false, Option, Some, Result, Ok, Err, List, [], ◌∷◌, ◌++◌, length, map, take, slice_get, slice_set, refl, ap, ◌∙◌, arith}
+use Rattle.std.proofs.lemmas.List.{length-append, length-set, get_or-set_same, map-set, take-append-le, set-set}
+use Rattle.std.proofs.lemmas.Option.{slice_get_within, slice_get-get_or}
 use Rattle.std.proofs.Math.Seq.{take-append-add}
 use Rattle.std.specs.Prelude.{OnErr, OnOk, if◌then◌else◌}
 use Rattle.os9_base.specs.Count.{Rose}
@@ -11,8 +11,12 @@ use Rattle.os9_outer.specs.declared.terminal.PutFault.TheVariants.{Fault, OutOfM
 use Rattle.os9_outer.specs.Terminal.{OnFault, UnlessFault}
 use Rattle.device_table.proofs.StreamLemmas.{appended-twice}
 use Rattle.os9_outer.specs.TerminalState.{TerminalState, ChangesOneTerminal, Puts, fault_counts}
-use Rattle.machine_model.specs.Call.{IsGiven, FailsAtByte, shown, ends_in_return}
-use Rattle.machine_model.proofs.ObjectLemmas.{slice_get-set_same}
+use Rattle.machine_model.specs.Line.{IsGiven, FailsAtByte, shown, ends_in_return}
+
+-- what a list has at a place that was written
+slice_get-set_same : {X : Type 0} (xs : List X) (i : ℕ) (x : X) → i < length xs → slice_get (slice_set xs i x) i ≡ Some x
+slice_get-set_same xs i x lt =
+    slice_get-get_or (slice_set xs i x) i x (rw length-set lt) ∙ ap Some (get_or-set_same xs i x x lt)
 
 -- a part of a list is a part of a longer one
 GainsPart-longer : (before now : Option (List ℕ)) (bytes more : List ℕ) → GainsPart before bytes now → GainsPart before (bytes ++ more) now

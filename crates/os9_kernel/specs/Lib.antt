@@ -1,6 +1,6 @@
+pub mod Calls
+pub mod Ends
 pub mod Line
-pub mod Load
-pub mod References
+pub mod Next
 pub mod Slice
-pub mod Start
 pub mod Tie

@@ -1,11 +1,13 @@
-//! The kernel: slices of events, each of which is an event of the abstract machine.
+//! The kernel: its start, and slices of events, each of which is one of the abstract machine.
 #![tactic(auto)]
 
 pub use kernel::Kernel;
 pub use machine_model::ends::{BootFault, EventEnd, SliceEnd};
-pub use start::Config;
+pub use new::Config;
 
+mod act;
+mod event;
 mod kernel;
 mod line;
-mod load;
-mod start;
+mod new;
+mod turn;

@@ -1,15 +1,16 @@
-ghost use Rattle.std.specs.Prelude.{◌≡◌, ◌≢◌, ◌<◌, ◌≤◌, None, Some, IfNone, IfSome, OnOk, OnErr, length, take, vec_len};
+ghost use Rattle.std.specs.Prelude.{◌≡◌, ◌<◌, ◌≤◌, None, Some, IfNone, IfSome, OnOk, OnErr, length, take, vec_len};
 ghost use Rattle.os9_base.specs.declared.registers.Regs.{Regs};
-ghost use Rattle.os9_outer.specs.TerminalState.{fault_counts, terminal_states, ChangesOneTerminal, Puts};
-ghost use Rattle.machine_model.specs.Call.{line_at, shown, ends_in_return as ends_in_return_lem};
+ghost use Rattle.os9_outer.specs.TerminalState.{terminal_states, ChangesOneTerminal, Puts};
+ghost use Rattle.guest_memory.specs.Tie.{cells_of};
+ghost use Rattle.machine_model.specs.Line.{line_at, shown, ends_in_return as ends_in_return_lem};
 ghost use Rattle.std.specs.Bool.{OnTrue};
-ghost use Rattle.os9_kernel.specs.Line.{IsLineAnswer, HasByteToPut};
+ghost use Rattle.os9_kernel.specs.Line.{HasLineEnd};
 
 use device_table::devices::Devices;
 use device_table::put::put_on;
+use guest_memory::memory::Memory;
 use os9_base::errors::{E_BPADDR, E_BPNUM, E_WRITE};
-use os9_base::memory::Bus;
-use os9_base::registers::Regs;
+use os9_base::registers::{Pid, Regs};
 use os9_outer::terminal::{CharDriver, PutFault};
 
 /// The code of a carriage return, which ends a line.
@@ -29,16 +30,16 @@ pub enum LineEnd {
 /// Reads the bytes from an address on, up to and with the first carriage return, but at most
 /// `most`, into the front of a buffer, and answers how many they are; None where one of them is in
 /// no named slot or past `FFFF`.
-fn read_line<B: Bus>(memory: &B, at: u16, most: u16, into: &mut [u8]) -> Option<usize>
-    requires { most ≤ length into.old }
-    ensures none { IfNone result (line_at (B.cells memory.now) at most ≡ None) }
-    ensures some { IfSome result (λ count. line_at (B.cells memory.now) at most
+fn read_line(memory: &Memory, p: Pid, at: u16, most: u16, into: &mut [u8]) -> Option<usize>
+    requires process { p.0 < 33 }
+    requires room { most ≤ length into.old }
+    ensures none { IfNone result (line_at (cells_of memory.now p.0) at most ≡ None) }
+    ensures some { IfSome result (λ count. line_at (cells_of memory.now p.0) at most
         ≡ Some (take count into.new)) }
     ensures short { IfSome result (λ count. count ≤ most) }
 {
     for count in 0..most {
-        let address = at.checked_add(count)?;
-        let byte = memory.read(address)?;
+        let byte = memory.byte(p, at, count)?;
         into[count as usize] = byte;
         if byte == RETURN {
             return Some(count as usize + 1);
@@ -78,32 +79,27 @@ fn ends_in_return(line: &[u8]) -> bool
     }
 }
 
-/// I$WritLn by the registers of a process with this memory (System Programmer's Manual): the line
+/// I$WritLn by the registers of a process (System Programmer's Manual): the line
 /// at X of at most Y bytes is put on path A, which has to be one of the standard paths. The line
 /// passes through a buffer, which has room for the longest one. `NoMemory` comes only if there is a
 /// byte to put, and in such a call no terminal failed.
-pub fn write_line<B: Bus>(
-    memory: &B,
+pub fn write_line(
+    memory: &Memory,
+    p: Pid,
     regs: &Regs,
     buffer: &mut [u8],
     devices: &mut Devices,
 ) -> LineEnd
+    requires process { p.0 < 33 }
     requires terminal { 0 < vec_len devices.old.terms }
     requires room { length buffer.old ≡ 65536 }
-    ensures answer { result ≢ LineEnd.NoMemory → IsLineAnswer
-        (line_at (B.cells memory.now) regs.now.x regs.now.y)
-        regs.now.a result
+    ensures line { HasLineEnd (line_at (cells_of memory.now p.0) regs.now.x regs.now.y) regs.now.a
         (terminal_states ⟦<dyn CharDriver as CharDriver>⟧ devices.old.terms.items)
-        (terminal_states ⟦<dyn CharDriver as CharDriver>⟧ devices.new.terms.items) }
-    ensures memory { result ≡ LineEnd.NoMemory → HasByteToPut
-        (line_at (B.cells memory.now) regs.now.x regs.now.y) regs.now.a }
-    ensures unfaulted { result ≡ LineEnd.NoMemory
-        → fault_counts (terminal_states ⟦<dyn CharDriver as CharDriver>⟧ devices.new.terms.items)
-        ≡ fault_counts (terminal_states ⟦<dyn CharDriver as CharDriver>⟧ devices.old.terms.items) }
+        (terminal_states ⟦<dyn CharDriver as CharDriver>⟧ devices.new.terms.items) result }
     ensures terminals { vec_len devices.new.terms ≡ vec_len devices.old.terms }
     ensures drives_kept { devices.new.drives ≡ devices.old.drives }
 {
-    let Some(count) = read_line(memory, regs.x, regs.y, buffer) else {
+    let Some(count) = read_line(memory, p, regs.x, regs.y, buffer) else {
         return LineEnd::Refused(E_BPADDR);
     };
     if regs.a > 2 {

@@ -21,10 +21,10 @@ loop-n-preserved g c =
     let passed = c.in-Ok.ensures in
     let more : take (c.loop-n.n-index + 1) c.args.slices.now ≡ take c.loop-n.n-index c.args.slices.now ++ get_or c.args.slices.now c.loop-n.n-index 0 ∷ [] = take_more c.args.slices.now c.loop-n.n-index 0 (search rules) in
     record {
-      few = omega (arith, so_far.few, c.slice.ensures.count);
+      few = omega (arith, so_far.few, c.slice.ensures.slice.count);
       terminal = passed.terminals ∙ c.slice.ensures.terminals ∙ so_far.terminal;
       reaches = λ s told stood.
-          rw more (reaches-more (take c.loop-n.n-index c.args.slices.now) s _ c.loop-n.kernel c.slice.new.self _ _ _ _ _ _ c.slice.result (so_far.reaches s told stood) (λ m tied none. c.if-living-eq0.false (c.living.ensures _ m tied ∙ none)) (c.slice.ensures.step (λ e. c.in_default.not-NoMemory e)) passed.passed.taken passed.passed.written);
+          rw more (reaches-more (take c.loop-n.n-index c.args.slices.now) s _ c.loop-n.kernel c.slice.new.self _ _ _ _ _ _ c.slice.result (so_far.reaches s told stood) (λ m tied none. c.if-living-eq0.false (c.living.ensures _ m tied ∙ none)) (c.slice.ensures.slice.step (λ e. c.in_default.not-NoMemory e)) passed.passed.taken passed.passed.written);
       count = (passed.passed.no_fault.0 ∙ so_far.count.0, passed.passed.no_fault.1 ∙ so_far.count.1, passed.passed.no_fault.2 ∙ so_far.count.2);
       files = passed.passed.files_kept ∙ so_far.files;
       err = passed.err_kept ∙ so_far.err;
@@ -56,7 +56,7 @@ pub returns-in-NoMemory-clause-ran : goal.returns-in-NoMemory-clause-ran
 returns-in-NoMemory-clause-ran g c = record {
   run = tt;
   partial = λ s told stood.
-      partly-before c.args.slices.now c.loop-n.n-index (get_or c.args.slices.now c.loop-n.n-index 0) s c.loop-n.kernel _ _ _ (slice_get-get_or c.args.slices.now c.loop-n.n-index 0 (search rules)) (c.loop-n.invariant.reaches s told stood) (λ m tied. c.in-NoMemory.ensures.part refl m tied);
+      partly-before c.args.slices.now c.loop-n.n-index (get_or c.args.slices.now c.loop-n.n-index 0) s c.loop-n.kernel _ _ _ (slice_get-get_or c.args.slices.now c.loop-n.n-index 0 (search rules)) (c.loop-n.invariant.reaches s told stood) (λ m tied none. c.if-living-eq0.false (c.living.ensures _ m tied ∙ none)) (λ m tied. c.in-NoMemory.ensures.slice.part refl m tied);
   output_fault = tt;
   no_fault = c.loop-n.invariant.count;
   files_kept = c.loop-n.invariant.files;
@@ -68,7 +68,7 @@ returns-in-Err-Failed-clause-ran g c =
     record {
       run = tt;
       partial = λ s told stood.
-          partly-after c.args.slices.now c.loop-n.n-index s c.loop-n.kernel c.slice.new.self _ _ _ _ _ c.slice.result (search rules) (c.loop-n.invariant.reaches s told stood) (λ m tied none. c.if-living-eq0.false (c.living.ensures _ m tied ∙ none)) (c.slice.ensures.step (λ e. c.in_default.not-NoMemory e)) passed.prefix passed.terminals_kept;
+          partly-after c.args.slices.now c.loop-n.n-index s c.loop-n.kernel c.slice.new.self _ _ _ _ _ c.slice.result (search rules) (c.loop-n.invariant.reaches s told stood) (λ m tied none. c.if-living-eq0.false (c.living.ensures _ m tied ∙ none)) (c.slice.ensures.slice.step (λ e. c.in_default.not-NoMemory e)) passed.prefix passed.terminals_kept;
       output_fault = (rw (← c.loop-n.invariant.count.0) passed.output_fault.0, passed.output_fault.1, passed.output_fault.2);
       no_fault = tt;
       files_kept = passed.files_kept ∙ c.loop-n.invariant.files;
@@ -80,7 +80,7 @@ returns-in-Err-OutOfMemory-clause-ran g c =
     record {
       run = tt;
       partial = λ s told stood.
-          partly-after c.args.slices.now c.loop-n.n-index s c.loop-n.kernel c.slice.new.self _ _ _ _ _ c.slice.result (search rules) (c.loop-n.invariant.reaches s told stood) (λ m tied none. c.if-living-eq0.false (c.living.ensures _ m tied ∙ none)) (c.slice.ensures.step (λ e. c.in_default.not-NoMemory e)) passed.prefix passed.terminals_kept;
+          partly-after c.args.slices.now c.loop-n.n-index s c.loop-n.kernel c.slice.new.self _ _ _ _ _ c.slice.result (search rules) (c.loop-n.invariant.reaches s told stood) (λ m tied none. c.if-living-eq0.false (c.living.ensures _ m tied ∙ none)) (c.slice.ensures.slice.step (λ e. c.in_default.not-NoMemory e)) passed.prefix passed.terminals_kept;
       output_fault = tt;
       no_fault = (passed.no_fault.0 ∙ c.loop-n.invariant.count.0, passed.no_fault.1 ∙ c.loop-n.invariant.count.1, passed.no_fault.2 ∙ c.loop-n.invariant.count.2);
       files_kept = passed.files_kept ∙ c.loop-n.invariant.files;

@@ -10,8 +10,8 @@ returns-in-Ok-run_slices-clause-call g c =
       booted = λ answered observed.
           let started = c.in-Ok.ensures.start _ in
           let went = ran.run started.0 observed started.2 in
-          let status = status-at_end went.1 c.living.result c.end_of.result (c.living.ensures _ went.1 went.3) c.end_of.ensures.idle c.end_of.ensures.lives in
-          inl (started.0, started.1, (went.0, went.1, went.2, status, went.4, terms-standing _ _ went.1 went.3));
+          let status = status-at_end went.2 c.living.result c.end_of.result (c.living.ensures _ went.2 went.4) c.end_of.ensures.idle c.end_of.ensures.lives in
+          inl (started.0, started.1, (went.0, went.1, went.2, went.3, status, went.5, terms-standing _ _ went.2 went.4));
       partial = λ stopped. absurd (c.end_of.ensures.not_stopped stopped);
       not_refused = λ e. c.end_of.ensures.not_silent (inl e);
       no_read = λ e. c.end_of.ensures.not_silent (inr (inl e));

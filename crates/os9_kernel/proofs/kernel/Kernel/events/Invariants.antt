@@ -16,4 +16,4 @@ invariant-loop-left g l = record {
 }
 
 abbrev pub decreases-loop-left : goal.decreases-loop-left
-decreases-loop-left g l = 2 * l.left + pending l.self
+decreases-loop-left g l = 4 * l.left + pending l.self

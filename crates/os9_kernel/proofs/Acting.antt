@@ -1,0 +1,72 @@
+-- What the chosen process does is an event of the machine.
+use Rattle.std.proofs.Common.{◌≡◌, ◌≢◌, ℕ, ◌+◌, ◌*◌, ◌<◌, ◌≤◌, ◌==◌, Bool, true, false, Option, Some, None, option_map, List, refl, sym, ap, ◌∙◌, subst, arith}
+use Rattle.std.specs.Prelude.{MatchBool, MatchOption, is_some, slice_index_or}
+use Rattle.std.proofs.lemmas.Bool.{ne_eqb}
+use Rattle.os9_base.specs.declared.registers.Pid.{Pid}
+use Rattle.os9_base.specs.declared.registers.Regs.{Regs}
+use Rattle.os9_base.specs.declared.calls.TheConstants.{I_WRITLN}
+use Rattle.os9_base.specs.declared.errors.TheConstants.{E_UNKSVC}
+use Rattle.os9_outer.specs.TerminalState.{TerminalState}
+use Rattle.proc_rules.specs.declared.record.Record.{Record}
+use Rattle.proc_rules.specs.Records.{IsLiving, IsProcess, record_at, is_waiting}
+use Rattle.call_rules.specs.Attempts.{after_attempt, goes_on, refused_regs}
+use Rattle.call_rules.specs.CallResult.{CallResult, refused}
+use Rattle.call_rules.specs.Codes.{call_of}
+use Rattle.call_rules.specs.Inner.{Inner, no_own, own_at, regs_at}
+use Rattle.call_rules.specs.Ready.{Act as MachineAct, attempts, delivers, executes, act_of, next_act}
+use Rattle.proc_state.specs.declared.state.ProcState.{ProcState}
+use Rattle.proc_state.specs.Tie.{Represents as RepresentsProcesses}
+use Rattle.machine_model.specs.declared.ends.EventEnd.{EventEnd}
+use Rattle.machine_model.specs.declared.ends.EventEnd.TheVariants.{Ran}
+use Rattle.machine_model.specs.Event.{Acts, Attempts, Event, cost, cost_of}
+use Rattle.machine_model.specs.State.{State}
+use Rattle.os9_kernel.specs.declared.act.Act.{Act}
+use Rattle.os9_kernel.specs.declared.act.Act.TheVariants.{Attempt, Delivery, Instruction}
+use Rattle.os9_kernel.specs.declared.kernel.Kernel.{Kernel}
+use Rattle.os9_kernel.specs.Next.{DoesNext, act_in_machine, next_of}
+use Rattle.os9_kernel.specs.Tie.{Represents, IsGoing, pending, pending_of}
+use Rattle.os9_kernel.proofs.Represented.{act-tied}
+
+-- the process that was chosen does this next
+pub does-next : (kernel : Kernel) (p : Pid) (act : Act) → kernel.chosen ≡ Some p → IsProcess p.0 → IsGoing kernel → next_of kernel.processes p.0 ≡ act_in_machine act → DoesNext kernel p act
+does-next kernel p act chosen process (q, is, lives) next =
+    let same : q ≡ p = cc in
+    record { chosen = chosen; process = process; lives = subst (λ (r : Pid). IsLiving kernel.processes.table r.0) same lives; next = next }
+
+module _ (old : Kernel) (p : Pid) (act : Act) (next : DoesNext old p act) (before : List TerminalState) (s : State) (tied : Represents old before s) where
+  pub chosen-is : s.chosen ≡ Some p.0
+  chosen-is = ap (λ (s : State). s.chosen) tied.is ∙ ap (option_map (λ (p : Pid). p.0)) next.chosen
+
+  pub terms-are : s.terms ≡ before
+  terms-are = ap (λ (s : State). s.terms) tied.is
+
+  pub lives-there : IsLiving s.inner.records p.0
+  lives-there = subst (λ (m : Inner). IsLiving m.records p.0) (sym tied.inner.is) next.lives
+
+  pub acts-so : act_of s.inner p.0 ≡ act_in_machine act
+  acts-so = act-tied old.processes s.inner tied.inner p.0 ∙ next.next
+
+  -- what it costs
+  pub cost-is : cost s ≡ cost_of (act_in_machine act)
+  cost-is = rw (chosen-is, acts-so) refl
+
+  -- the kernel then, with these terminals
+  pub represents-then : (new : Kernel) (after : List TerminalState) (inner : Inner) → new.chosen ≡ old.chosen → RepresentsProcesses new.processes inner → Represents new after (record s { inner = inner; terms = after })
+  represents-then new after inner same there = record {
+    inner = there;
+    is = λ i. record { inner = inner; chosen = (chosen-is ∙ sym (ap (option_map (λ (p : Pid). p.0)) (same ∙ next.chosen))) i; terms = after };
+  }
+
+  pub event-then : (new : Kernel) (after : List TerminalState) (end : EventEnd) (inner : Inner) → new.chosen ≡ old.chosen → RepresentsProcesses new.processes inner → Acts (act_in_machine act) s p.0 end (record s { inner = inner; terms = after }) → (t : State) × Event s end t × Represents new after t
+  event-then new after end inner same there acts = (
+    record s { inner = inner; terms = after },
+    (p.0, chosen-is, lives-there, subst (λ (a : MachineAct). Acts a s p.0 end (record s { inner = inner; terms = after })) (sym acts-so) acts),
+    represents-then new after inner same there,
+  )
+
+  -- the kernel then, where the terminals are as they were
+  pub represents-here : (new : Kernel) (inner : Inner) → new.chosen ≡ old.chosen → RepresentsProcesses new.processes inner → Represents new before (record s { inner = inner })
+  represents-here new inner same there = record {
+    inner = there;
+    is = λ i. record { inner = inner; chosen = (chosen-is ∙ sym (ap (option_map (λ (p : Pid). p.0)) (same ∙ next.chosen))) i; terms = terms-are i };
+  }

@@ -1,0 +1,42 @@
+-- What the processes of a kernel keep, since they represent those of a machine.
+use Rattle.std.proofs.Common.{◌≡◌, ℕ, ◌+◌, ◌*◌, ◌<◌, ◌≤◌, Bool, true, false, Option, Some, None, is_some, List, length, get_or, set, refl, sym, ap, ◌∙◌, arith}
+use Rattle.std.specs.Prelude.{slice_index_or, slice_set}
+use Rattle.std.specs.Vec.{vec_len}
+use Rattle.std.proofs.lemmas.List.{get_or-set_same, length-set}
+use Rattle.os9_base.specs.declared.registers.Pid.{Pid}
+use Rattle.os9_base.specs.declared.registers.Regs.{Regs}
+use Rattle.os9_base.specs.declared.limits.TheConstants.{PROCESS_PLACES}
+use Rattle.proc_rules.specs.declared.own.Own.{Own}
+use Rattle.proc_rules.specs.Records.{record_at, is_waiting}
+use Rattle.call_rules.specs.Attempts.{goes_on}
+use Rattle.call_rules.specs.Inner.{Inner, no_own, own_at}
+use Rattle.call_rules.specs.Ready.{act_of, next_act}
+use Rattle.proc_state.specs.declared.state.ProcState.{ProcState}
+use Rattle.proc_state.specs.Tie.{Represents, inner_of}
+use Rattle.proc_state.proofs.Entered.{represented}
+use Rattle.os9_kernel.specs.Next.{next_of}
+use Rattle.os9_kernel.specs.Tie.{pending_of}
+
+-- all processes are those of some machine
+pub some-inner : (processes : ProcState) → (m : Inner) × Represents processes m
+some-inner processes = (_, record { memory = represented processes.memory; is = refl })
+
+-- the tick stays where a change of the machine leaves it
+pub tick-kept : (old new : ProcState) (change : Inner → Inner) → ((m : Inner) → Represents old m → Represents new (change m)) → ((m : Inner) → (change m).tick ≡ m.tick) → new.tick ≡ old.tick
+tick-kept old new change ties keeps =
+    let (m, tied) = some-inner old in
+    sym (ap (λ (s : Inner). s.tick) (ties m tied).is) ∙ keeps m ∙ ap (λ (s : Inner). s.tick) tied.is
+
+-- what a process does next is what it does in the machine
+pub act-tied : (processes : ProcState) (m : Inner) → Represents processes m → (p : ℕ) → act_of m p ≡ next_of processes p
+act-tied processes m tied p = ap (λ (s : Inner). act_of s p) tied.is
+
+-- a process that goes on has no call
+pub no-call : (new : ProcState) (t : Inner) (p : ℕ) (regs : Regs) → p < 33 → Represents new (goes_on t p regs) → (slice_index_or new.own.items p no_own).call ≡ None
+no-call new t p regs within tied =
+    let own : Own = record (own_at t p) { call = None; until = None; woken = false } in
+    let items : set t.own p own ≡ new.own.items = ap (λ (s : Inner). s.own) tied.is in
+    let places : length new.own.items ≡ 33 = sym new.own.ok.0 ∙ new.places in
+    let inside : p < length t.own = omega (arith, ap length items, length-set t.own p own) in
+    ap (λ (owns : List Own). (get_or owns p no_own).call) (sym items)
+    ∙ ap (λ (o : Own). o.call) (get_or-set_same t.own p own no_own inside)

@@ -1,0 +1,50 @@
+//! The start of a kernel.
+
+ghost use Rattle.std.specs.Prelude.{◌≡◌, ◌≢◌, ◌≤◌, List, IfOk, IfErr, OnOk};
+ghost use Rattle.os9_outer.specs.TerminalState.{TerminalState};
+ghost use Rattle.machine_model.specs.declared.ends.BootFault.{BootFault};
+ghost use Rattle.machine_model.specs.Start.{Starts, Refuses};
+ghost use Rattle.machine_model.specs.State.{State};
+ghost use Rattle.os9_kernel.specs.Tie.{Represents, ticks};
+
+use crate::kernel::Kernel;
+use machine_model::ends::BootFault;
+use process_start::start;
+use std::alloc::Global;
+
+/// What a kernel is made with.
+#[derive(Clone, Copy, Debug, PartialEq, Eq)]
+pub struct Config {
+    /// How many blocks of 8,192 bytes its memory has, from 8 to 256.
+    pub blocks: u16,
+}
+
+impl Kernel {
+    /// A kernel that starts the first program of a boot file, `SysGo` (Level Two manual,
+    /// "Booting"). Only this call takes memory for the kernel; a terminal may take some for the
+    /// bytes that are put on it.
+    ///
+    /// # Errors
+    ///
+    /// `TooLarge` if the file has more than 57,344 bytes; else `BadModule` for the first module of
+    /// the file that is refused, by its place and its error; else `NoFirst` if none is the first
+    /// program; else `TooLarge` if there are too few blocks or slots for the file and the program's
+    /// data area.
+    pub fn new(alloc: Global, config: Config, boot: &[u8]) -> Result<Kernel, BootFault>
+        requires least { 8 ≤ config.blocks }
+        requires most { config.blocks ≤ 256 }
+        ensures start { IfOk result (λ kernel. (terms : List TerminalState)
+            → (s : State) × Starts boot.now config.blocks terms s × Represents kernel terms s) }
+        ensures accepted { OnOk result ((fault : BootFault)
+            → ¬ Refuses boot.now config.blocks fault) }
+        ensures refused { IfErr result (λ fault. fault ≢ BootFault.OutOfMemory
+            → Refuses boot.now config.blocks fault) }
+        ensures count { IfOk result (λ kernel. ticks kernel ≡ 0) }
+    {
+        let processes = start(alloc, config.blocks, boot)?;
+        Ok(Kernel {
+            processes,
+            chosen: None,
+        })
+    }
+}

@@ -1,5 +1,0 @@
-pub mod Event
-pub mod Line
-pub mod Run
-pub mod Start
-pub mod State

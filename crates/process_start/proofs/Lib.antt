@@ -1,0 +1,3 @@
+pub mod Entering
+mod Seen
+mod Starting
