@@ -1,5 +1,5 @@
-//! Runs boot files whose end is known from elsewhere, one a line, and prints how many there were
-//! and how many came out otherwise.
+//! Runs guest programs whose end is known from elsewhere, one a line, and prints how many there were
+//! and how many came out otherwise. A line that begins with `#` names those behind it.
 #![tactic(auto)]
 
 mod row;
@@ -13,6 +13,9 @@ fn main(rt: HostRuntime) -> Result<()> {
     let mut differ: u64 = 0;
     for line in BufReader::new(rt.alloc(), rt.reader())?.lines(rt.alloc()) {
         let line = line?;
+        if line.as_str().starts_with('#') {
+            continue;
+        }
         let agreed = match row::parse(rt.alloc(), line.as_str())? {
             Some(row) => shown::run(rt.alloc(), &row)?.is_as(&row),
             None => false,
@@ -23,6 +26,6 @@ fn main(rt: HostRuntime) -> Result<()> {
             println!(rt; "differs: line {rows}")?;
         }
     }
-    println!(rt; "{rows} boot files, {differ} differ")?;
+    println!(rt; "{rows} programs, {differ} differ")?;
     Ok(())
 }

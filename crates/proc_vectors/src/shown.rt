@@ -32,13 +32,13 @@ impl Shown {
     }
 }
 
-/// Runs the boot file of a row by the words `run h --slices s --blocks N` over a host in memory.
+/// Runs the words of a row over a host in memory that has its files.
 pub(crate) fn run(alloc: Global, row: &Row) -> Result<Shown, AllocError> {
     let mut files = Vec::new(alloc);
-    files.push(file(alloc, "h", row.file.as_slice())?)?;
-    files.push(file(alloc, "s", b"1000")?)?;
+    files.push(file(alloc, "modules", row.modules.as_slice())?)?;
+    files.push(file(alloc, "slices", row.slices.as_slice())?)?;
     let mut words = Vec::new(alloc);
-    for word in ["run", "h", "--slices", "s", "--blocks", row.blocks.as_str()] {
+    for word in row.words.as_str().split(' ') {
         words.push(String::from_str(alloc, word)?)?;
     }
     let mut terms: Vec<Box<dyn CharDriver>> = Vec::new(alloc);

@@ -1,10 +1,8 @@
 #!/usr/bin/env python3
-"""Makes the stdin of this crate: boot files, and what `run` answers to each.
+"""Makes the first rows of the stdin of this crate: boot files, and what `run` answers to each.
 
 This is a reading of its own of the rules for boot files (docs/machine.md, "Modules" and "The
-start"): it shares no text with the program. Fields of a line, separated by tabs: the number of
-blocks, the file in hexadecimal digits, the number of zero bytes behind it, the status, the bytes
-written in hexadecimal digits, the line on the error stream."""
+start"): it shares no text with the program. src/row.rt has the fields of a row."""
 
 NAME_CHARACTERS = set(range(0x21, 0x7F)) - {0x2F}
 
@@ -141,7 +139,8 @@ def line(file, zeros=0, blocks=64, text=b"Hello\r"):
         status, out, err = 8, b"", verdict
     else:
         status, out, err = 0, text + b"\n", ""
-    print(blocks, bytes(file).hex() or "-", zeros, status, out.hex() or "-", err or "-", sep="\t")
+    words = f"run modules --slices slices --blocks {blocks}"
+    print(words, bytes(file).hex() or "-", zeros, b"1000".hex(), "-", status, out.hex() or "-", err or "-", sep="\t")
 
 
 def changed(data, at, byte):
