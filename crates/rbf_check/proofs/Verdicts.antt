@@ -17,9 +17,8 @@ use Rattle.rbf_model.specs.Keeps.{Keeps}
 use Rattle.rbf_model.specs.Faults.Breaks.{bad_number, bad_segment, bad_map, unmarked, used_twice, shared, no_room, no_root, bad_size, no_dots, bad_name, same_name, named_twice, named_root}
 use Rattle.rbf_model.specs.Faults.ImageBreaks.{bad_header, breaks}
 use Rattle.rbf_model.proofs.Keeps.{number_of_reached}
-use Rattle.rbf_sector.specs.declared.ident.Ident.{Ident}
 use Rattle.rbf_sector.specs.Ident.{geometry_of}
-use Rattle.rbf_reach.specs.Reading.{IsIdent}
+use Rattle.rbf_reach.specs.declared.image.IdentifiedImage.{IdentifiedImage}
 use Rattle.rbf_reach.specs.Least.{IsLeastBreach}
 use Rattle.rbf_name_rules.specs.Dots.{AreDotsDecided}
 use Rattle.rbf_check.specs.Verdict.{KeepsBefore, IsLeastFault, IsLeastError, IsErrorOf}
@@ -198,21 +197,21 @@ pub no_header : (image : List ℕ) → (HasHeader image → ⊥) → IsFault ima
 no_header image wrong = record { broken = bad_header wrong; least = header_first image wrong }
 
 -- one with a header
-module _ (image : List ℕ) (ident : Ident) (whole : IsIdent image ident) where
-  fault_there : (g : Geometry) → image_geometry image ≡ g → (rule lsn : ℕ) → IsLeastFault (disk_of g (sector image)) rule lsn → IsLeastFault (disk_of (image_geometry image) (sector image)) rule lsn
+module _ (image : IdentifiedImage) where
+  fault_there : (g : Geometry) → image_geometry image.bytes.now ≡ g → (rule lsn : ℕ) → IsLeastFault (disk_of g (sector image.bytes.now)) rule lsn → IsLeastFault (disk_of (image_geometry image.bytes.now) (sector image.bytes.now)) rule lsn
   fault_there g same rule lsn fault =
-      let P : Geometry → Type 0 = λ h. IsLeastFault (disk_of h (sector image)) rule lsn in
+      let P : Geometry → Type 0 = λ h. IsLeastFault (disk_of h (sector image.bytes.now)) rule lsn in
       subst P (sym same) fault
 
-  least_image : (rule lsn : ℕ) → IsLeastFault (disk_of (image_geometry image) (sector image)) rule lsn → (other at : ℕ) → ImageBreaks image other at → (rule < other) ⊎ ((rule ≡ other) × (lsn ≤ at))
-  least_image rule lsn fault other at (bad_header wrong) = absurd (wrong whole.header)
+  least_image : (rule lsn : ℕ) → IsLeastFault (disk_of (image_geometry image.bytes.now) (sector image.bytes.now)) rule lsn → (other at : ℕ) → ImageBreaks image.bytes.now other at → (rule < other) ⊎ ((rule ≡ other) × (lsn ≤ at))
+  least_image rule lsn fault other at (bad_header wrong) = absurd (wrong image.identified.header)
   least_image rule lsn fault other at (breaks header b) = fault.least other at b
 
-  fault_is : (rule lsn : ℕ) → IsLeastFault (disk_of (geometry_of ident) (sector image)) rule lsn → IsFault image rule lsn
+  fault_is : (rule lsn : ℕ) → IsLeastFault (disk_of (geometry_of image.ident) (sector image.bytes.now)) rule lsn → IsFault image.bytes.now rule lsn
   fault_is rule lsn fault =
-      let there = fault_there (geometry_of ident) whole.geometry rule lsn fault in
-      record { broken = breaks whole.header there.broken; least = least_image rule lsn there }
+      let there = fault_there (geometry_of image.ident) image.identified.geometry rule lsn fault in
+      record { broken = breaks image.identified.header there.broken; least = least_image rule lsn there }
 
-  pub error_is : (error : CheckError) → IsLeastError (disk_of (geometry_of ident) (sector image)) error → IsErrorOf image error
+  pub error_is : (error : CheckError) → IsLeastError (disk_of (geometry_of image.ident) (sector image.bytes.now)) error → IsErrorOf image.bytes.now error
   error_is (Fault fault) least = fault_is fault.rule fault.lsn least
   error_is OutOfMemory wanting = tt

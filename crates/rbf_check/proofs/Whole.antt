@@ -13,6 +13,7 @@ use Rattle.rbf_model.specs.Keeps.{Keeps}
 use Rattle.rbf_model.specs.Search.{IsFound, volume_of, image_volume}
 use Rattle.rbf_model.proofs.Images.{vol_from_keeps}
 use Rattle.rbf_check.specs.declared.survey.Survey.{Survey}
+use Rattle.rbf_reach.specs.Files.{found_numbers}
 use Rattle.rbf_sector.specs.Ident.{geometry_of}
 use Rattle.rbf_check.specs.Survey.{IsSurvey}
 use Rattle.rbf_check.specs.declared.tree.Node.{Node}
@@ -47,21 +48,21 @@ module _ (g : Geometry) (v : DiskVolume) where
         ∙ ap (count_by (λ n. option_map_or is_directory (v.files n) false)) tells.numbers;
   }
 
-module _ (image : List ℕ) (survey : Survey) (is : IsSurvey image survey) where
-  pub tree_is : (nodes : List Node) (free lost : ℕ) → AreNodesBelow image survey nodes survey.ident.total → free ≡ length (free_clusters (geometry_of survey.ident) (volume_from image survey))
-      → lost ≡ length (lost_clusters (geometry_of survey.ident) (volume_from image survey)) → IsTreeOf image (record { nodes = nodes; free = free; lost = lost })
+module _ (survey : Survey) (is : IsSurvey survey) where
+  pub tree_is : (nodes : List Node) (free lost : ℕ) → AreNodesBelow survey nodes survey.image.ident.total → free ≡ length (free_clusters (geometry_of survey.image.ident) (volume_from survey))
+      → lost ≡ length (lost_clusters (geometry_of survey.image.ident) (volume_from survey)) → IsTreeOf survey.image.bytes.now (record { nodes = nodes; free = free; lost = lost })
   tree_is nodes free lost are free_is lost_is =
       let tree : Tree = record { nodes = nodes; free = free; lost = lost } in
-      let same = is.ident.geometry in
-      let rest = λ (g : Geometry). drop (256 * g.total) image in
-      let P : Geometry → Type 0 = λ g. TellsVolume g (volume_of (disk_of g (sector image)) survey.found.items (rest g)) tree in
-      let Q : Geometry → Type 0 = λ g. Keeps (disk_of g (sector image)) in
-      let R : Geometry → Type 0 = λ g. IsFound (disk_of g (sector image)) survey.found.items in
-      let tells : TellsVolume (image_geometry image) (image_volume image survey.found.items) tree =
+      let same = survey.image.identified.geometry in
+      let rest = λ (g : Geometry). drop (256 * g.total) survey.image.bytes.now in
+      let P : Geometry → Type 0 = λ g. TellsVolume g (volume_of (disk_of g (sector survey.image.bytes.now)) (found_numbers survey.files.items) (rest g)) tree in
+      let Q : Geometry → Type 0 = λ g. Keeps (disk_of g (sector survey.image.bytes.now)) in
+      let R : Geometry → Type 0 = λ g. IsFound (disk_of g (sector survey.image.bytes.now)) (found_numbers survey.files.items) in
+      let tells : TellsVolume (image_geometry survey.image.bytes.now) (image_volume survey.image.bytes.now (found_numbers survey.files.items)) tree =
       subst P (sym same) (record { numbers = are.numbers; each = are.each; free = free_is; lost = lost_is }) in
       record {
-        volume = image_volume image survey.found.items;
-        represents = vol_from_keeps image is.ident.header (subst Q (sym same) is.kept) survey.found.items (subst R (sym same) is.found);
+        volume = image_volume survey.image.bytes.now (found_numbers survey.files.items);
+        represents = vol_from_keeps survey.image.bytes.now survey.image.identified.header (subst Q (sym same) is.kept) (found_numbers survey.files.items) (subst R (sym same) is.files.found);
         tells = tells;
-        counts = counts_files (image_geometry image) (image_volume image survey.found.items) tree tells;
+        counts = counts_files (image_geometry survey.image.bytes.now) (image_volume survey.image.bytes.now (found_numbers survey.files.items)) tree tells;
       }

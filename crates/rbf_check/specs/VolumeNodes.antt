@@ -1,4 +1,5 @@
 -- The volume of an image that was surveyed.
+use Rattle.rbf_reach.specs.Files.{found_numbers}
 use Rattle.rbf_reach.specs.Reading.{disk_on}
 use Rattle.std.specs.Prelude.{◌≡◌, ℕ, ◌*◌, List, drop, map, filter, is_some, All}
 use Rattle.std.specs.List.{range_with_len}
@@ -10,12 +11,13 @@ use Rattle.rbf_check.specs.declared.tree.Node.{Node}
 use Rattle.rbf_check.specs.Tree.{TellsNode}
 
 -- the volume of what was found
-abbrev pub volume_from : List ℕ → Survey → DiskVolume
-volume_from image survey =
-    volume_of (disk_on image survey.ident) survey.found.items (drop (256 * survey.ident.total) image)
+abbrev pub volume_from : Survey → DiskVolume
+volume_from survey =
+    volume_of (disk_on survey.image) (found_numbers survey.files.items)
+    (drop (256 * survey.image.ident.total) survey.image.bytes.now)
 
 -- the nodes are those of the volume's files below a number, in order
-pub record AreNodesBelow (image : List ℕ) (survey : Survey) (nodes : List Node) (n : ℕ) : Type 0 where
+pub record AreNodesBelow (survey : Survey) (nodes : List Node) (n : ℕ) : Type 0 where
   pub numbers : map (λ node. node.fd) nodes
-      ≡ filter (λ m. is_some ((volume_from image survey).files m)) (range_with_len 0 n)
-  pub each : All (TellsNode (geometry_of survey.ident) (volume_from image survey)) nodes
+      ≡ filter (λ m. is_some ((volume_from survey).files m)) (range_with_len 0 n)
+  pub each : All (TellsNode (geometry_of survey.image.ident) (volume_from survey)) nodes

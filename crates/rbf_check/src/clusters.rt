@@ -1,3 +1,4 @@
+ghost use Rattle.rbf_reach.specs.Files.{IsFileOn, found_numbers};
 ghost use Rattle.rbf_reach.specs.Reading.{disk_on};
 ghost use Rattle.std.specs.Prelude.{◌≡◌, ◌+◌, ◌<◌, ◌≤◌, ◌==◌, All, IfOk, length, if◌then◌else◌};
 ghost use Rattle.std.specs.List.{range_with_len};
@@ -11,8 +12,8 @@ ghost use Rattle.rbf_check.specs.Survey.{IsSurvey};
 ghost use Rattle.rbf_check.specs.Clusters.{NotesClusters, AreUsed, system_count as system_count_of};
 
 use crate::survey::Survey;
-use rbf_reach::sector;
-use rbf_sector::{Ident, read_fd, system_sectors};
+use rbf_reach::FoundFile;
+use rbf_sector::{Ident, system_sectors};
 use rbf_segs::Segs;
 use std::alloc::{AllocError, Global};
 
@@ -53,31 +54,38 @@ fn system_count(ident: &Ident, n: u32) -> u32
 }
 
 // Notes the clusters of a file, and with the root's those of the system.
-fn note_file(used: &mut Vec<bool>, image: &[u8], survey: &Survey, n: u32)
-    requires survey { IsSurvey image.now survey.now }
-    requires reached { IsReachedOn (disk_on image.now survey.now.ident) n }
-    requires size { length used.old.items ≡ survey.now.ident.total }
-    ensures { NotesClusters survey.now.ident.cluster
-        (owned (geometry_of survey.now.ident) n (file_at (sector_of image.now) n)) used.old.items
+fn note_file(used: &mut Vec<bool>, survey: &Survey<'_>, file: &FoundFile)
+    requires survey { IsSurvey survey.now }
+    requires file { IsFileOn survey.now.image file.now }
+    requires reached { IsReachedOn (disk_on survey.now.image) file.now.number }
+    requires size { length used.old.items ≡ survey.now.image.ident.total }
+    ensures { NotesClusters survey.now.image.ident.cluster
+        (owned (geometry_of survey.now.image.ident) file.now.number
+        (file_at (sector_of survey.now.image.bytes.now) file.now.number)) used.old.items
         used.new.items }
 {
-    let cluster = u32::from(survey.ident.cluster);
-    let fd = read_fd(&sector(image, n));
-    note_sectors(used, cluster, 0, system_count(&survey.ident, n));
-    note_sectors(used, cluster, n, 1);
-    note_segments(used, cluster, &fd.segs);
+    let cluster = u32::from(survey.image.ident.cluster);
+    note_sectors(
+        used,
+        cluster,
+        0,
+        system_count(&survey.image.ident, file.number),
+    );
+    note_sectors(used, cluster, file.number, 1);
+    note_segments(used, cluster, &file.fd.segs);
 }
 
 /// Which clusters the files use: a mark for each, in a table of as many places as there are
 /// sectors.
-pub fn list_used(alloc: Global, image: &[u8], survey: &Survey) -> Result<Vec<bool>, AllocError>
-    requires { IsSurvey image.now survey.now }
+pub fn list_used(alloc: Global, survey: &Survey<'_>) -> Result<Vec<bool>, AllocError>
+    requires { IsSurvey survey.now }
     ensures { IfOk result
-        (λ used. AreUsed (disk_on image.now survey.now.ident) survey.now.found.items used.items) }
+        (λ used. AreUsed (disk_on survey.now.image) (found_numbers survey.now.files.items)
+        used.items) }
 {
-    let mut used = vec![in alloc; false; survey.ident.total as usize]?;
-    for n in &survey.found {
-        note_file(&mut used, image, survey, *n);
+    let mut used = vec![in alloc; false; survey.image.ident.total as usize]?;
+    for file in &survey.files {
+        note_file(&mut used, survey, file);
     }
     Ok(used)
 }

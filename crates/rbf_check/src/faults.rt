@@ -1,14 +1,13 @@
 ghost use Rattle.std.specs.Prelude.{◌≡◌, None, IfErr, IfOk, OnOk, MatchOption, MatchResult};
-ghost use Rattle.rbf_model.specs.Search.{IsFound};
 ghost use Rattle.rbf_model.specs.Keeps.{Keeps};
-ghost use Rattle.rbf_reach.specs.Reading.{disk_on, IsIdent};
+ghost use Rattle.rbf_reach.specs.Files.{AreFiles};
+ghost use Rattle.rbf_reach.specs.Reading.{disk_on};
 ghost use Rattle.rbf_reach.specs.Linked.{AreLinks};
 ghost use Rattle.rbf_check.specs.Verdict.{IsLeastError, KeepsBefore};
 ghost use Rattle.rbf_check.specs.declared.faults.CheckError.TheVariants.{OutOfMemory};
 
 use rbf_name_rules::{least_badly_named, least_named_again, least_without_dots};
-use rbf_reach::{Link, list_links};
-use rbf_sector::Ident;
+use rbf_reach::{FoundFile, IdentifiedImage, Link, list_links};
 use rbf_sector_rules::{
     OwnRule, least_bad_number, least_breach, least_unmarked, least_used_again, map_breach,
 };
@@ -55,61 +54,60 @@ fn pass(rule: u8, breach: Option<u32>) -> Result<(), CheckError>
 }
 
 // Tests the rules on numbers, the map and each file's sectors and size, 1 to 6.
-fn test_files(alloc: Global, image: &[u8], ident: &Ident, found: &[u32]) -> Result<(), CheckError>
-    requires ident { IsIdent image.now ident.now }
-    requires found { IsFound (disk_on image.now ident.now) found.now }
-    ensures kept { OnOk result (KeepsBefore (disk_on image.now ident.now) 7) }
-    ensures broken { IfErr result (IsLeastError (disk_on image.now ident.now)) }
+fn test_files(
+    alloc: Global,
+    image: &IdentifiedImage<'_>,
+    files: &[FoundFile],
+) -> Result<(), CheckError>
+    requires { AreFiles image.now files.now }
+    ensures kept { OnOk result (KeepsBefore (disk_on image.now) 7) }
+    ensures broken { IfErr result (IsLeastError (disk_on image.now)) }
 {
-    pass(1, least_bad_number(alloc, image, ident, found)?)?;
-    pass(2, map_breach(image, ident))?;
-    pass(3, least_unmarked(alloc, image, ident, found)?)?;
-    pass(4, least_used_again(alloc, image, ident, found)?)?;
-    pass(5, least_breach(image, ident, found, OwnRule::Room))?;
-    pass(6, least_breach(image, ident, found, OwnRule::Size))?;
+    pass(1, least_bad_number(alloc, image, files)?)?;
+    pass(2, map_breach(image))?;
+    pass(3, least_unmarked(alloc, image, files)?)?;
+    pass(4, least_used_again(alloc, image, files)?)?;
+    pass(5, least_breach(image, files, OwnRule::Room))?;
+    pass(6, least_breach(image, files, OwnRule::Size))?;
     Ok(())
 }
 
 // Tests the rules on entries and names, 7 to 9, where the others are kept.
 fn test_tree(
     alloc: Global,
-    image: &[u8],
-    ident: &Ident,
-    found: &[u32],
+    image: &IdentifiedImage<'_>,
+    files: &[FoundFile],
     links: &[Link],
 ) -> Result<(), CheckError>
-    requires ident { IsIdent image.now ident.now }
-    requires found { IsFound (disk_on image.now ident.now) found.now }
-    requires links { AreLinks (disk_on image.now ident.now) links.now }
-    requires before { KeepsBefore (disk_on image.now ident.now) 7 }
-    ensures kept { OnOk result (Keeps (disk_on image.now ident.now)) }
-    ensures broken { IfErr result (IsLeastError (disk_on image.now ident.now)) }
+    requires files { AreFiles image.now files.now }
+    requires links { AreLinks (disk_on image.now) links.now }
+    requires before { KeepsBefore (disk_on image.now) 7 }
+    ensures kept { OnOk result (Keeps (disk_on image.now)) }
+    ensures broken { IfErr result (IsLeastError (disk_on image.now)) }
 {
-    pass(7, least_without_dots(alloc, image, ident, found, links)?)?;
-    pass(8, least_badly_named(alloc, image, ident, found)?)?;
-    pass(9, least_named_again(alloc, image, ident, links)?)?;
+    pass(7, least_without_dots(alloc, image, files, links)?)?;
+    pass(8, least_badly_named(alloc, image, files)?)?;
+    pass(9, least_named_again(alloc, image, links)?)?;
     Ok(())
 }
 
-/// The links of the descriptors that are found, where no rule is broken.
+/// The links of the files that are found, where no rule is broken.
 ///
 /// # Errors
 ///
 /// The breach of the least rule that is broken, and of those the one at the least sector.
 pub fn test_rules(
     alloc: Global,
-    image: &[u8],
-    ident: &Ident,
-    found: &[u32],
+    image: &IdentifiedImage<'_>,
+    files: &[FoundFile],
 ) -> Result<Vec<Link>, CheckError>
-    requires ident { IsIdent image.now ident.now }
-    requires found { IsFound (disk_on image.now ident.now) found.now }
-    ensures links { IfOk result (λ links. AreLinks (disk_on image.now ident.now) links.items) }
-    ensures kept { OnOk result (Keeps (disk_on image.now ident.now)) }
-    ensures broken { IfErr result (IsLeastError (disk_on image.now ident.now)) }
+    requires { AreFiles image.now files.now }
+    ensures links { IfOk result (λ links. AreLinks (disk_on image.now) links.items) }
+    ensures kept { OnOk result (Keeps (disk_on image.now)) }
+    ensures broken { IfErr result (IsLeastError (disk_on image.now)) }
 {
-    test_files(alloc, image, ident, found)?;
-    let links = list_links(alloc, image, ident, found)?;
-    test_tree(alloc, image, ident, found, &links)?;
+    test_files(alloc, image, files)?;
+    let links = list_links(alloc, image, files)?;
+    test_tree(alloc, image, files, &links)?;
     Ok(links)
 }

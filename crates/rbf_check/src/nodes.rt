@@ -40,16 +40,16 @@ fn read_node(alloc: Global, image: &[u8], n: u32, place: Place) -> Result<Node, 
 }
 
 /// The nodes of all files of an image that was surveyed.
-pub fn read_nodes(alloc: Global, image: &[u8], survey: &Survey) -> Result<Nodes, AllocError>
-    requires { IsSurvey image.now survey.now }
+pub fn read_nodes(alloc: Global, survey: &Survey<'_>) -> Result<Nodes, AllocError>
+    requires { IsSurvey survey.now }
     ensures { IfOk result
-        (λ nodes. AreNodesBelow image.now survey.now nodes survey.now.ident.total) }
+        (λ nodes. AreNodesBelow survey.now nodes survey.now.image.ident.total) }
 {
-    let places = list_places(alloc, survey.ident.total, &survey.links)?;
-    let mut nodes = Vec::with_capacity(alloc, survey.found.len())?;
-    for n in 0..survey.ident.total {
-        if let Some(place) = place_of(image, survey, &places, n) {
-            nodes.push(read_node(alloc, image, n, place)?)?;
+    let places = list_places(alloc, survey.image.ident.total, &survey.links)?;
+    let mut nodes = Vec::with_capacity(alloc, survey.files.len())?;
+    for n in 0..survey.image.ident.total {
+        if let Some(place) = place_of(survey, &places, n) {
+            nodes.push(read_node(alloc, survey.image.bytes, n, place)?)?;
         }
     }
     Ok(Nodes::of(nodes))

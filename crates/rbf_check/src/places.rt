@@ -48,30 +48,30 @@ fn root_name() -> Name
 }
 
 // The name that a link gives.
-fn link_name(image: &[u8], survey: &Survey, link: &Link) -> Name
-    requires survey { IsSurvey image.now survey.now }
-    requires link { IsLinkOn (disk_on image.now survey.now.ident) link.now }
-    ensures { entry_name_field (linked_entry (disk_on image.now survey.now.ident) link.now)
+fn link_name(survey: &Survey<'_>, link: &Link) -> Name
+    requires survey { IsSurvey survey.now }
+    requires link { IsLinkOn (disk_on survey.now.image) link.now }
+    ensures { entry_name_field (linked_entry (disk_on survey.now.image) link.now)
         ≡ Some result }
 {
-    let entry = link_entry(image, &survey.ident, link);
+    let entry = link_entry(&survey.image, link);
     header_name(&entry.name).unwrap()
 }
 
 /// Where the file of a descriptor stands, if it is reached.
-pub fn place_of(image: &[u8], survey: &Survey, places: &[Option<Link>], n: u32) -> Option<Place>
-    requires survey { IsSurvey image.now survey.now }
-    requires places { ArePlaces survey.now.links.items survey.now.ident.total places.now }
-    requires number { n < survey.now.ident.total }
-    ensures none { result ≡ None → (volume_from image.now survey.now).files n ≡ None }
+pub fn place_of(survey: &Survey<'_>, places: &[Option<Link>], n: u32) -> Option<Place>
+    requires survey { IsSurvey survey.now }
+    requires places { ArePlaces survey.now.links.items survey.now.image.ident.total places.now }
+    requires number { n < survey.now.image.ident.total }
+    ensures none { result ≡ None → (volume_from survey.now).files n ≡ None }
     ensures file { IfSome result
-        (λ place. (volume_from image.now survey.now).files n
-        ≡ Some (file_at (sector_of image.now) n)) }
+        (λ place. (volume_from survey.now).files n
+        ≡ Some (file_at (sector_of survey.now.image.bytes.now) n)) }
     ensures place { IfSome result
-        (λ place. IsPlaced (geometry_of survey.now.ident)
-        (volume_from image.now survey.now) n place.parent place.name) }
+        (λ place. IsPlaced (geometry_of survey.now.image.ident)
+        (volume_from survey.now) n place.parent place.name) }
 {
-    if n == survey.ident.root {
+    if n == survey.image.ident.root {
         return Some(Place {
             parent: n,
             name: root_name(),
@@ -80,6 +80,6 @@ pub fn place_of(image: &[u8], survey: &Survey, places: &[Option<Link>], n: u32) 
     let link = places[n as usize]?;
     Some(Place {
         parent: link.directory,
-        name: link_name(image, survey, &link),
+        name: link_name(survey, &link),
     })
 }

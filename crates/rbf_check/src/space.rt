@@ -1,3 +1,4 @@
+ghost use Rattle.rbf_reach.specs.Files.{found_numbers};
 ghost use Rattle.rbf_reach.specs.Reading.{disk_on};
 ghost use Rattle.std.specs.Prelude.{◌≡◌, ◌+◌, ◌/◌, ◌<◌, ◌&&◌, not, IfOk, length};
 ghost use Rattle.rbf_model.specs.Geometry.{sector as sector_of};
@@ -28,53 +29,59 @@ fn is_whole(ident: &Ident, c: u32) -> bool
     (u64::from(c) + 1) * u64::from(ident.cluster) <= u64::from(ident.total)
 }
 
-fn is_free(image: &[u8], survey: &Survey, c: u32) -> bool
-    requires { IsSurvey image.now survey.now }
+fn is_free(survey: &Survey<'_>, c: u32) -> bool
+    requires { IsSurvey survey.now }
     ensures { result
-        ≡ (is_whole_lem (geometry_of survey.now.ident) c && not
-        (is_marked_lem (sector_of image.now) c)) }
+        ≡ (is_whole_lem (geometry_of survey.now.image.ident) c && not
+        (is_marked_lem (sector_of survey.now.image.bytes.now) c)) }
 {
-    is_whole(&survey.ident, c) && !is_marked(image, c)
+    is_whole(&survey.image.ident, c) && !is_marked(survey.image.bytes, c)
 }
 
-fn is_lost(image: &[u8], survey: &Survey, used: &[bool], c: u32) -> bool
-    requires survey { IsSurvey image.now survey.now }
-    requires used { AreUsed (disk_on image.now survey.now.ident) survey.now.found.items used.now }
-    ensures { result ≡ (volume_from image.now survey.now).lost c }
+fn is_lost(survey: &Survey<'_>, used: &[bool], c: u32) -> bool
+    requires survey { IsSurvey survey.now }
+    requires used { AreUsed (disk_on survey.now.image) (found_numbers survey.now.files.items)
+        used.now }
+    ensures { result ≡ (volume_from survey.now).lost c }
 {
-    is_whole(&survey.ident, c) && is_marked(image, c) && !used[c as usize]
+    is_whole(&survey.image.ident, c) && is_marked(survey.image.bytes, c) && !used[c as usize]
 }
 
 // Counts the clusters that are free, and those that are lost.
-fn count_clusters(image: &[u8], survey: &Survey, used: &[bool]) -> Space
-    requires survey { IsSurvey image.now survey.now }
-    requires used { AreUsed (disk_on image.now survey.now.ident) survey.now.found.items used.now }
+fn count_clusters(survey: &Survey<'_>, used: &[bool]) -> Space
+    requires survey { IsSurvey survey.now }
+    requires used { AreUsed (disk_on survey.now.image) (found_numbers survey.now.files.items)
+        used.now }
     ensures free { result.free
-        ≡ length (free_clusters (geometry_of survey.now.ident) (volume_from image.now survey.now)) }
+        ≡ length (free_clusters (geometry_of survey.now.image.ident) (volume_from survey.now)) }
     ensures lost { result.lost
-        ≡ length (lost_clusters (geometry_of survey.now.ident) (volume_from image.now survey.now)) }
+        ≡ length (lost_clusters (geometry_of survey.now.image.ident) (volume_from survey.now)) }
 {
-    let clusters = survey.ident.total.div_ceil(u32::from(survey.ident.cluster));
+    let clusters = survey
+        .image
+        .ident
+        .total
+        .div_ceil(u32::from(survey.image.ident.cluster));
     let mut space = Space { free: 0, lost: 0 };
     for c in 0..clusters {
-        space.free += u32::from(is_free(image, survey, c));
-        space.lost += u32::from(is_lost(image, survey, used, c));
+        space.free += u32::from(is_free(survey, c));
+        space.lost += u32::from(is_lost(survey, used, c));
     }
     space
 }
 
 /// How many clusters of an image that was surveyed are free, and how many are lost.
-pub fn measure_space(alloc: Global, image: &[u8], survey: &Survey) -> Result<Space, AllocError>
-    requires { IsSurvey image.now survey.now }
+pub fn measure_space(alloc: Global, survey: &Survey<'_>) -> Result<Space, AllocError>
+    requires { IsSurvey survey.now }
     ensures free { IfOk result
         (λ space. space.free
-        ≡ length (free_clusters (geometry_of survey.now.ident)
-        (volume_from image.now survey.now))) }
+        ≡ length (free_clusters (geometry_of survey.now.image.ident)
+        (volume_from survey.now))) }
     ensures lost { IfOk result
         (λ space. space.lost
-        ≡ length (lost_clusters (geometry_of survey.now.ident)
-        (volume_from image.now survey.now))) }
+        ≡ length (lost_clusters (geometry_of survey.now.image.ident)
+        (volume_from survey.now))) }
 {
-    let used = list_used(alloc, image, survey)?;
-    Ok(count_clusters(image, survey, &used))
+    let used = list_used(alloc, survey)?;
+    Ok(count_clusters(survey, &used))
 }

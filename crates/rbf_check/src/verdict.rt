@@ -23,8 +23,8 @@ pub fn check(alloc: Global, image: &[u8]) -> Result<Tree, CheckError>
     ensures no_volume { IfErr result (RepresentsNone image.now) }
 {
     let survey = survey_image(alloc, image)?;
-    let nodes = read_nodes(alloc, image, &survey)?;
-    let space = measure_space(alloc, image, &survey)?;
+    let nodes = read_nodes(alloc, &survey)?;
+    let space = measure_space(alloc, &survey)?;
     Ok(Tree {
         nodes,
         free: space.free,

@@ -13,9 +13,8 @@ use Rattle.rbf_model.specs.Faults.{Breaks}
 use Rattle.rbf_model.specs.Search.{IsFound, searchable_bytes}
 use Rattle.rbf_model.specs.Faults.Breaks.{no_dots}
 use Rattle.rbf_sector.specs.declared.entry.Entry.{Entry}
-use Rattle.rbf_sector.specs.declared.ident.Ident.{Ident}
 use Rattle.rbf_sector.specs.Ident.{geometry_of}
-use Rattle.rbf_reach.specs.Reading.{IsIdent}
+use Rattle.rbf_reach.specs.declared.image.IdentifiedImage.{IdentifiedImage}
 use Rattle.rbf_reach.specs.declared.links.Link.{Link}
 use Rattle.rbf_reach.specs.Linked.{AreLinks}
 use Rattle.rbf_reach.specs.Least.{IsLeast, Before, IsLeastBreach}
@@ -25,7 +24,10 @@ use Rattle.rbf_reach.proofs.Cases.{dots_of}
 use Rattle.rbf_reach.proofs.Tables.{filled}
 use Rattle.rbf_reach.proofs.Leasts.{least_along, least_in_list}
 use Rattle.rbf_reach.proofs.Options.{none_some}
-use Rattle.rbf_reach.proofs.FoundNumbers.{number_reached, reached_found}
+use Rattle.rbf_reach.specs.declared.file.FoundFile.{FoundFile}
+use Rattle.rbf_reach.specs.Files.{AreFiles}
+use Rattle.rbf_reach.proofs.FoundFiles.{file_reached}
+use Rattle.rbf_reach.proofs.FoundNumbers.{number_reached}
 
 -- an entry that is read
 module _ (entry : List ℕ) (read : Entry) (name_is : read.name ≡ take 29 entry) (lsn : read.lsn ≡ descriptor_field entry) (name : List ℕ) (n : ℕ) where
@@ -186,10 +188,20 @@ module _ (g : Geometry) (disk : ℕ → List ℕ) where
       (λ s b. let f = dots_of g disk s b in (s, (are s).1 f.0, (refl, (f.1, f.2))))
       least (least_in_list (IsWithoutDots (disk_of g disk)) found i all least is)
 
--- a descriptor that is found is one of the volume
-pub number_after : (image : List ℕ) (ident : Ident) (found : List ℕ) (i : ℕ) → IsIdent image ident → IsFound (disk_of (geometry_of ident) (sector image)) found → i < length found → 1 ≤ get_or found i 0
-number_after image ident found i whole is low =
-    (number_reached image ident whole (get_or found i 0) (reached_found (geometry_of ident) (sector image) found i is low)).after
+-- a file that is found has a number of the volume
+pub file_after : (image : IdentifiedImage) (files : List FoundFile) (k : ℕ) (file : FoundFile) → AreFiles image files → k < length files → file ≡ get_or files k file → 1 ≤ file.number
+file_after image files k file are low at = (number_reached image file.number (file_reached image files k file are low at)).after
+
+-- the descriptor of a link, marked
+pub marks_one : (contents : List ℕ) (root : ℕ) (link : Link) (old : List Bool) → link.descriptor < length old → link.descriptor ≢ root → BeginsWithDots contents link.descriptor link.directory → MarksDots contents root link old (set old link.descriptor true)
+marks_one contents root link old low other dots =
+    let d = link.descriptor in
+    record {
+      size = length-set old d true;
+      kept = λ n marked. ⊎_elim (λ same. ap (λ k. get_or (set old d true) k false) same ∙ get_or-set_same old d true false low) (λ apart. get_or-set_other old d n true false apart ∙ marked) (cases_eq n d);
+      only = λ n marked. ⊎_elim (λ same. inr (same, other, dots)) (λ apart. inl (sym (get_or-set_other old d n true false apart) ∙ marked)) (cases_eq n d);
+      there = λ is_other begins. get_or-set_same old d true false low;
+    }
 
 -- and so is one that a link names
 pub number_linked : (g : Geometry) (disk : ℕ → List ℕ) (links : List Link) (k : ℕ) → AreLinks (disk_of g disk) links → k < length links → IsNumber g (link_at links k).descriptor

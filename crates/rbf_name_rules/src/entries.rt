@@ -1,37 +1,35 @@
 ghost use Rattle.std.specs.Prelude.{◌≡◌, ◌+◌, ◌<◌, ◌≤◌, IfOk, MatchBool};
 ghost use Rattle.rbf_model.specs.Tree.{HasNames, HasDifferentNames};
-ghost use Rattle.rbf_model.specs.Search.{IsFound};
-ghost use Rattle.rbf_reach.specs.Reading.{disk_on, IsIdent, IsDirectory, listed};
+ghost use Rattle.rbf_reach.specs.Files.{IsFileOn, AreFiles};
+ghost use Rattle.rbf_reach.specs.Reading.{disk_on, IsDirectory, listed};
 ghost use Rattle.rbf_reach.specs.Least.{IsLeast, IsLeastBreach};
 ghost use Rattle.rbf_name_rules.specs.Keys.{AreNamed, IsBadlyNamed, IsBadlyNamedAt};
 
 use crate::keys::{add_key, key_of};
 use crate::names::is_text;
 use os9_base::name::header_name;
-use rbf_reach::{Directory, entry_bytes, least_of, read_directory};
-use rbf_sector::{Ident, read_entry};
+use rbf_reach::{Directory, FoundFile, IdentifiedImage, directory_of, entry_bytes, least_of};
+use rbf_sector::read_entry;
 use std::alloc::{AllocError, Global};
 use std::collections::BTreeSet;
 
 // Is the entry free, or has it a proper name that no earlier entry has? Then its key is added.
 fn add_name(
-    image: &[u8],
-    ident: &Ident,
+    image: &IdentifiedImage<'_>,
     dir: &Directory,
     keys: &mut BTreeSet<[u8; 29]>,
     i: u32,
 ) -> Result<bool, AllocError>
-    requires ident { IsIdent image.now ident.now }
-    requires directory { IsDirectory image.now ident.now dir.now }
+    requires directory { IsDirectory image.now dir.now }
     requires after { 2 ≤ i }
     requires within { i < dir.now.entries }
-    requires named { AreNamed (listed image.now ident.now dir.now.number) keys.old i }
+    requires named { AreNamed (listed image.now dir.now.number) keys.old i }
     ensures { IfOk result
         (λ good. MatchBool good
-        (AreNamed (listed image.now ident.now dir.now.number) keys.new (i + 1))
-        (IsBadlyNamed (listed image.now ident.now dir.now.number))) }
+        (AreNamed (listed image.now dir.now.number) keys.new (i + 1))
+        (IsBadlyNamed (listed image.now dir.now.number))) }
 {
-    let entry = read_entry(&entry_bytes(image, ident, dir, i));
+    let entry = read_entry(&entry_bytes(image, dir, i));
     if entry.name[0] == 0 {
         return Ok(true);
     }
@@ -51,21 +49,19 @@ fn add_name(
 // Have the used entries after the first two proper names that differ?
 fn is_well_named(
     alloc: Global,
-    image: &[u8],
-    ident: &Ident,
+    image: &IdentifiedImage<'_>,
     dir: &Directory,
 ) -> Result<bool, AllocError>
-    requires ident { IsIdent image.now ident.now }
-    requires directory { IsDirectory image.now ident.now dir.now }
+    requires { IsDirectory image.now dir.now }
     ensures { IfOk result
         (λ good. MatchBool good
-        (HasNames (listed image.now ident.now dir.now.number)
-        × HasDifferentNames (listed image.now ident.now dir.now.number))
-        (IsBadlyNamed (listed image.now ident.now dir.now.number))) }
+        (HasNames (listed image.now dir.now.number)
+        × HasDifferentNames (listed image.now dir.now.number))
+        (IsBadlyNamed (listed image.now dir.now.number))) }
 {
     let mut keys = BTreeSet::new(alloc);
     for i in 2..dir.entries {
-        let good = add_name(image, ident, dir, &mut keys, i)?;
+        let good = add_name(image, dir, &mut keys, i)?;
         if !good {
             return Ok(false);
         }
@@ -76,20 +72,18 @@ fn is_well_named(
 // The descriptor, if it is that of a directory whose names are not so.
 fn badly_named(
     alloc: Global,
-    image: &[u8],
-    ident: &Ident,
-    n: u32,
+    image: &IdentifiedImage<'_>,
+    file: &FoundFile,
 ) -> Result<Option<u32>, AllocError>
-    requires ident { IsIdent image.now ident.now }
-    requires number { n < ident.now.total }
-    ensures { IfOk result (IsLeast (IsBadlyNamedAt (disk_on image.now ident.now) n)) }
+    requires { IsFileOn image.now file.now }
+    ensures { IfOk result (IsLeast (IsBadlyNamedAt (disk_on image.now) file.now.number)) }
 {
-    let dir = read_directory(image, ident, n);
-    let good = is_well_named(alloc, image, ident, &dir)?;
+    let dir = directory_of(image, file);
+    let good = is_well_named(alloc, image, &dir)?;
     if good {
         return Ok(None);
     }
-    Ok(Some(n))
+    Ok(Some(file.number))
 }
 
 /// The least directory that breaks rule 8: an entry after the first two has no proper name, or
@@ -100,17 +94,15 @@ fn badly_named(
 /// Out of memory.
 pub fn least_badly_named(
     alloc: Global,
-    image: &[u8],
-    ident: &Ident,
-    found: &[u32],
+    image: &IdentifiedImage<'_>,
+    files: &[FoundFile],
 ) -> Result<Option<u32>, AllocError>
-    requires ident { IsIdent image.now ident.now }
-    requires found { IsFound (disk_on image.now ident.now) found.now }
-    ensures { IfOk result (IsLeastBreach (disk_on image.now ident.now) 8) }
+    requires { AreFiles image.now files.now }
+    ensures { IfOk result (IsLeastBreach (disk_on image.now) 8) }
 {
     let mut least = None;
-    for n in found {
-        let one = badly_named(alloc, image, ident, *n)?;
+    for file in files {
+        let one = badly_named(alloc, image, file)?;
         least = least_of(least, one);
     }
     Ok(least)

@@ -1,11 +1,11 @@
 ghost use Rattle.std.specs.Prelude.{◌≡◌, ◌⊎◌, ◌+◌, ◌<◌, ◌≤◌, ℕ, All, IfOk, MatchBool, Some, None, length, slice_index_or};
-ghost use Rattle.rbf_reach.specs.Reading.{disk_on, IsIdent};
+ghost use Rattle.rbf_reach.specs.Reading.{disk_on};
 ghost use Rattle.rbf_reach.specs.Linked.{AreLinks};
 ghost use Rattle.rbf_reach.specs.Least.{IsLeast, IsLeastBreach};
 ghost use Rattle.rbf_reach.specs.Given.{IsGiven};
 ghost use Rattle.rbf_name_rules.specs.Named.{AreSame, AreFirsts, IsNamedAgain};
 
-use rbf_reach::{Link, least_of};
+use rbf_reach::{IdentifiedImage, Link, least_of};
 use rbf_sector::Ident;
 use std::alloc::{AllocError, Global};
 
@@ -65,18 +65,16 @@ fn named_again(
 /// Out of memory.
 pub fn least_named_again(
     alloc: Global,
-    image: &[u8],
-    ident: &Ident,
+    image: &IdentifiedImage<'_>,
     links: &[Link],
 ) -> Result<Option<u32>, AllocError>
-    requires ident { IsIdent image.now ident.now }
-    requires links { AreLinks (disk_on image.now ident.now) links.now }
-    ensures { IfOk result (IsLeastBreach (disk_on image.now ident.now) 9) }
+    requires { AreLinks (disk_on image.now) links.now }
+    ensures { IfOk result (IsLeastBreach (disk_on image.now) 9) }
 {
-    let mut firsts = vec![in alloc; None; ident.total as usize]?;
+    let mut firsts = vec![in alloc; None; image.ident.total as usize]?;
     let mut least = None;
     for k in 0..links.len() {
-        least = least_of(least, named_again(links, &mut firsts, ident, k));
+        least = least_of(least, named_again(links, &mut firsts, &image.ident, k));
     }
     Ok(least)
 }

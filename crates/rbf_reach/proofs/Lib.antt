@@ -1,4 +1,5 @@
 pub mod Cases
+pub mod FoundFiles
 pub mod FoundNumbers
 pub mod Headers
 pub mod Leasts

@@ -10,10 +10,10 @@ use Rattle.rbf_model.specs.Geometry.{Geometry, sector}
 use Rattle.rbf_model.specs.Segments.{segment_sectors, sectors_of, has}
 use Rattle.rbf_model.proofs.Bytes.{place_of}
 use Rattle.rbf_model.proofs.Pieces.{take_append}
-use Rattle.rbf_sector.specs.declared.ident.Ident.{Ident}
 use Rattle.rbf_reach.specs.declared.directory.Directory.{Directory}
 use Rattle.rbf_sector.specs.Ident.{geometry_of}
-use Rattle.rbf_reach.specs.Reading.{IsIdent, IsDirectory, listed}
+use Rattle.rbf_reach.specs.declared.image.IdentifiedImage.{IdentifiedImage}
+use Rattle.rbf_reach.specs.Reading.{IsDirectory, listed}
 use Rattle.rbf_reach.specs.Positions.{entry_at_position, positions_in, segment_positions}
 use Rattle.rbf_reach.proofs.Runs.{runs_within}
 use Rattle.rbf_reach.proofs.Headers.{is_disk_of}
@@ -118,53 +118,53 @@ pub record ArePositions (g : Geometry) (disk : ℕ → List ℕ) (contents : Lis
   pub within : All (λ r. r.0 + r.1 ≤ 8 * g.total) runs
 
 -- such are those that are listed
-module _ (image : List ℕ) (ident : Ident) (dir : Directory) (whole : IsIdent image ident) (is : IsDirectory image ident dir) (runs : List (ℕ × ℕ)) (listed_are : positions_in runs ≡ take dir.entries (segment_positions dir.segs)) (some : All (λ r. 1 ≤ r.1) runs) where
+module _ (image : IdentifiedImage) (dir : Directory) (is : IsDirectory image dir) (runs : List (ℕ × ℕ)) (listed_are : positions_in runs ≡ take dir.entries (segment_positions dir.segs)) (some : All (λ r. 1 ≤ r.1) runs) where
   segments : List (ℕ × ℕ)
-  segments = segments_field (sector image dir.number)
+  segments = segments_field (sector image.bytes.now dir.number)
 
-  has_entry : (i : ℕ) → i < dir.entries → 32 * (i + 1) ≤ length (listed image ident dir.number)
+  has_entry : (i : ℕ) → i < dir.entries → 32 * (i + 1) ≤ length (listed image dir.number)
   has_entry i low = omega (arith, is.entries)
 
-  entries_fit : dir.entries ≤ 8 * length (sectors_of (segments_field (sector image dir.number)))
+  entries_fit : dir.entries ≤ 8 * length (sectors_of (segments_field (sector image.bytes.now dir.number)))
   entries_fit = ⊎_elim
-      (λ some_entry. omega (arith, in_sectors (geometry_of ident) (sector image) dir.number (is_disk_of image ident whole) (dir.entries - 1) (has_entry (dir.entries - 1) (omega arith))))
+      (λ some_entry. omega (arith, in_sectors (geometry_of image.ident) (sector image.bytes.now) dir.number (is_disk_of image) (dir.entries - 1) (has_entry (dir.entries - 1) (omega arith))))
       (λ none. omega arith)
       (cases_lt 0 dir.entries)
 
-  listed_is : positions_in runs ≡ take dir.entries (segment_positions (segments_field (sector image dir.number)))
+  listed_is : positions_in runs ≡ take dir.entries (segment_positions (segments_field (sector image.bytes.now dir.number)))
   listed_is = listed_are ∙ ap (λ s. take dir.entries (segment_positions s)) is.segments
 
   count : length (positions_in runs) ≡ dir.entries
   count =
-      let all = segment_positions (segments_field (sector image dir.number)) in
-      ap length listed_is ∙ length-take-le dir.entries all (omega (arith, length-segment_positions (segments_field (sector image dir.number)), entries_fit))
+      let all = segment_positions (segments_field (sector image.bytes.now dir.number)) in
+      ap length listed_is ∙ length-take-le dir.entries all (omega (arith, length-segment_positions (segments_field (sector image.bytes.now dir.number)), entries_fit))
 
-  position_is : (i : ℕ) → i < dir.entries → get_or (positions_in runs) i 0 ≡ 8 * get_or (sectors_of (segments_field (sector image dir.number))) (i / 8) 0 + i % 8
+  position_is : (i : ℕ) → i < dir.entries → get_or (positions_in runs) i 0 ≡ 8 * get_or (sectors_of (segments_field (sector image.bytes.now dir.number))) (i / 8) 0 + i % 8
   position_is i low =
-      let parts = segments_field (sector image dir.number) in
+      let parts = segments_field (sector image.bytes.now dir.number) in
       ap (λ xs. get_or xs i 0) listed_is ∙ get_or-take dir.entries (segment_positions parts) i 0 low ∙ position_at parts i (omega (arith, entries_fit))
 
-  at_position : (i : ℕ) → i < dir.entries → directory_entry (listed image ident dir.number) i ≡ entry_at_position (sector image) (get_or (positions_in runs) i 0)
+  at_position : (i : ℕ) → i < dir.entries → directory_entry (listed image dir.number) i ≡ entry_at_position (sector image.bytes.now) (get_or (positions_in runs) i 0)
   at_position i low =
-      let x = get_or (sectors_of (segments_field (sector image dir.number))) (i / 8) 0 in
+      let x = get_or (sectors_of (segments_field (sector image.bytes.now dir.number))) (i / 8) 0 in
       let quotient : (8 * x + i % 8) / 8 ≡ x = omega arith in
       let rest : (8 * x + i % 8) % 8 ≡ i % 8 = omega arith in
-      entry_in_sector (geometry_of ident) (sector image) dir.number (is_disk_of image ident whole) i (has_entry i low)
-      ∙ sym (ap (λ e. entry_at_position (sector image) e) (position_is i low) ∙ ap (λ q. directory_entry (sector image q) ((8 * x + i % 8) % 8)) quotient ∙ ap (λ r. directory_entry (sector image x) r) rest)
+      entry_in_sector (geometry_of image.ident) (sector image.bytes.now) dir.number (is_disk_of image) i (has_entry i low)
+      ∙ sym (ap (λ e. entry_at_position (sector image.bytes.now) e) (position_is i low) ∙ ap (λ q. directory_entry (sector image.bytes.now q) ((8 * x + i % 8) % 8)) quotient ∙ ap (λ r. directory_entry (sector image.bytes.now x) r) rest)
 
-  in_image : (t : ℕ) → has (positions_in runs) t ≡ true → t < 8 * ident.total
+  in_image : (t : ℕ) → has (positions_in runs) t ≡ true → t < 8 * image.ident.total
   in_image t h =
       let place = place_of (positions_in runs) t h in
       let low : place.0 < dir.entries = omega (arith, place.1, count) in
       let at : get_or (positions_in runs) place.0 0 ≡ t = get_or_default (positions_in runs) place.0 0 t place.1 ∙ place.2 in
-      omega (arith, position_is place.0 low, in_volume (geometry_of ident) (sector image) dir.number (is_disk_of image ident whole) place.0 (has_entry place.0 low))
+      omega (arith, position_is place.0 low, in_volume (geometry_of image.ident) (sector image.bytes.now) dir.number (is_disk_of image) place.0 (has_entry place.0 low))
 
-  pub positions_are : (same : List (ℕ × ℕ)) → same ≡ runs → ArePositions (geometry_of ident) (sector image) (listed image ident dir.number) same
+  pub positions_are : (same : List (ℕ × ℕ)) → same ≡ runs → ArePositions (geometry_of image.ident) (sector image.bytes.now) (listed image dir.number) same
   positions_are same equal =
-      let P : List (ℕ × ℕ) → Type 0 = λ rs. ArePositions (geometry_of ident) (sector image) (listed image ident dir.number) rs in
+      let P : List (ℕ × ℕ) → Type 0 = λ rs. ArePositions (geometry_of image.ident) (sector image.bytes.now) (listed image dir.number) rs in
       subst P (sym equal) (record {
         count = omega (arith, count, is.entries);
         each = λ i low. at_position i (omega (arith, count));
         some = some;
-        within = runs_within runs (8 * ident.total) some in_image;
+        within = runs_within runs (8 * image.ident.total) some in_image;
       })

@@ -12,10 +12,10 @@ use Rattle.rbf_model.specs.File.{file_at, segment_bytes, is_directory, is_direct
 use Rattle.rbf_model.specs.Search.{is_searchable, searchable_bytes}
 use Rattle.rbf_model.specs.Segments.{sectors_of, has}
 use Rattle.std.proofs.lemmas.Option.{slice_get-get_or}
-use Rattle.rbf_sector.specs.declared.ident.Ident.{Ident}
 use Rattle.rbf_reach.specs.declared.directory.Directory.{Directory}
 use Rattle.rbf_sector.specs.Ident.{geometry_of}
-use Rattle.rbf_reach.specs.Reading.{IsIdent, IsDirectory}
+use Rattle.rbf_reach.specs.declared.image.IdentifiedImage.{IdentifiedImage}
+use Rattle.rbf_reach.specs.Reading.{IsDirectory}
 use Rattle.rbf_reach.proofs.Headers.{is_disk_of}
 use Rattle.rbf_model.proofs.Segments.{sectors_within, length-contents}
 use Rattle.rbf_model.proofs.SectorBytes.{entry_in_take, piece_of_piece, sector_of_joined}
@@ -104,35 +104,35 @@ pub whole_entries : (size : ℕ) → is_directory_size size ≡ true → 32 * (s
 whole_entries size fits = omega (arith, eqb-zero (size % 32) (and_parts (leb 64 size) (eqb (size % 32) 0) fits).1)
 
 -- where an entry of a directory stands in the image
-module _ (image : List ℕ) (ident : Ident) (dir : Directory) (i : ℕ) (whole : IsIdent image ident) (is : IsDirectory image ident dir) (below : i < dir.entries) where
-  sectors_whole : IsDisk (disk_of (geometry_of ident) (sector image))
-  sectors_whole = is_disk_of image ident whole
+module _ (image : IdentifiedImage) (dir : Directory) (i : ℕ) (is : IsDirectory image dir) (below : i < dir.entries) where
+  sectors_whole : IsDisk (disk_of (geometry_of image.ident) (sector image.bytes.now))
+  sectors_whole = is_disk_of image
 
-  has_entry : 32 * (i + 1) ≤ length (searchable_bytes (disk_of (geometry_of ident) (sector image)) dir.number)
+  has_entry : 32 * (i + 1) ≤ length (searchable_bytes (disk_of (geometry_of image.ident) (sector image.bytes.now)) dir.number)
   has_entry = omega (arith, is.entries)
 
-  at_sectors : i / 8 < length (sectors_of (segments_field (sector image dir.number)))
-  at_sectors = in_sectors (geometry_of ident) (sector image) dir.number sectors_whole i has_entry
+  at_sectors : i / 8 < length (sectors_of (segments_field (sector image.bytes.now dir.number)))
+  at_sectors = in_sectors (geometry_of image.ident) (sector image.bytes.now) dir.number sectors_whole i has_entry
 
-  pub lsn_found : slice_get (sectors_of dir.segs) (i / 8) ≡ Some (get_or (sectors_of (segments_field (sector image dir.number))) (i / 8) 0)
+  pub lsn_found : slice_get (sectors_of dir.segs) (i / 8) ≡ Some (get_or (sectors_of (segments_field (sector image.bytes.now dir.number))) (i / 8) 0)
   lsn_found =
-      ap (λ s. slice_get (sectors_of s) (i / 8)) is.segments ∙ slice_get-get_or (sectors_of (segments_field (sector image dir.number))) (i / 8) 0 at_sectors
+      ap (λ s. slice_get (sectors_of s) (i / 8)) is.segments ∙ slice_get-get_or (sectors_of (segments_field (sector image.bytes.now dir.number))) (i / 8) 0 at_sectors
 
-  pub entry_fits : 256 * get_or (sectors_of (segments_field (sector image dir.number))) (i / 8) 0 + 32 * (i % 8) + 32 ≤ length image
+  pub entry_fits : 256 * get_or (sectors_of (segments_field (sector image.bytes.now dir.number))) (i / 8) 0 + 32 * (i % 8) + 32 ≤ length image.bytes.now
   entry_fits =
-      let total : (geometry (sector image 0)).total ≡ ident.total = ap (λ (g : Geometry). g.total) whole.geometry in
-      omega (arith, in_volume (geometry_of ident) (sector image) dir.number sectors_whole i has_entry, whole.header.fits, total)
+      let total : (geometry (sector image.bytes.now 0)).total ≡ image.ident.total = ap (λ (g : Geometry). g.total) image.identified.geometry in
+      omega (arith, in_volume (geometry_of image.ident) (sector image.bytes.now) dir.number sectors_whole i has_entry, image.identified.header.fits, total)
 
-  pub entry_found : directory_entry (searchable_bytes (disk_of (geometry_of ident) (sector image)) dir.number) i ≡ take 32 (drop (256 * get_or (sectors_of (segments_field (sector image dir.number))) (i / 8) 0 + 32 * (i % 8)) image)
+  pub entry_found : directory_entry (searchable_bytes (disk_of (geometry_of image.ident) (sector image.bytes.now)) dir.number) i ≡ take 32 (drop (256 * get_or (sectors_of (segments_field (sector image.bytes.now dir.number))) (i / 8) 0 + 32 * (i % 8)) image.bytes.now)
   entry_found =
-      entry_in_sector (geometry_of ident) (sector image) dir.number sectors_whole i has_entry ∙ entry_in_image image (get_or (sectors_of (segments_field (sector image dir.number))) (i / 8) 0) (i % 8) (omega arith)
+      entry_in_sector (geometry_of image.ident) (sector image.bytes.now) dir.number sectors_whole i has_entry ∙ entry_in_image image.bytes.now (get_or (sectors_of (segments_field (sector image.bytes.now dir.number))) (i / 8) 0) (i % 8) (omega arith)
 
 -- a descriptor that is read is a directory of as many entries as its fields say
-pub directory_read : (image : List ℕ) (ident : Ident) (n attr size entries : ℕ) (segs : List (ℕ × ℕ)) → IsIdent image ident → n < ident.total → attr ≡ attributes_field (sector image n) → segs ≡ segments_field (sector image n) → size ≡ size_field (sector image n) → 32 * entries ≡ (if (bit_at attr 7 == 1) && list_all (is_within (geometry_of ident)) segs && has_room segs size && is_directory_size size then size else 0) → IsDirectory image ident (record { number = n; segs = segs; entries = entries })
-directory_read image ident n attr size entries segs whole low attributes segments sized counted =
-    let test = searched_by_fields (geometry_of ident) (sector image) n attr size segs attributes segments sized in
+pub directory_read : (image : IdentifiedImage) (n attr size entries : ℕ) (segs : List (ℕ × ℕ)) → n < image.ident.total → attr ≡ attributes_field (sector image.bytes.now n) → segs ≡ segments_field (sector image.bytes.now n) → size ≡ size_field (sector image.bytes.now n) → 32 * entries ≡ (if (bit_at attr 7 == 1) && list_all (is_within (geometry_of image.ident)) segs && has_room segs size && is_directory_size size then size else 0) → IsDirectory image (record { number = n; segs = segs; entries = entries })
+directory_read image n attr size entries segs low attributes segments sized counted =
+    let test = searched_by_fields (geometry_of image.ident) (sector image.bytes.now) n attr size segs attributes segments sized in
     record {
       number = low;
       segments = segments;
-      entries = counted ∙ ap (λ t. if t then size else 0) test ∙ ap (λ z. if is_searchable (disk_of (geometry_of ident) (sector image)) n then z else 0) sized ∙ sym (length-searched (geometry_of ident) (sector image) n (is_disk_of image ident whole));
+      entries = counted ∙ ap (λ t. if t then size else 0) test ∙ ap (λ z. if is_searchable (disk_of (geometry_of image.ident) (sector image.bytes.now)) n then z else 0) sized ∙ sym (length-searched (geometry_of image.ident) (sector image.bytes.now) n (is_disk_of image));
     }

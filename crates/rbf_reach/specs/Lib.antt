@@ -1,5 +1,7 @@
+pub mod Files
 pub mod Found
 pub mod Given
+pub mod Identified
 pub mod Least
 pub mod Linked
 pub mod Reading

@@ -3,10 +3,12 @@ ghost use Rattle.std.specs.List.{list_all};
 ghost use Rattle.rbf_model.specs.Fields.{directory_entry};
 ghost use Rattle.rbf_model.specs.Geometry.{is_within};
 ghost use Rattle.rbf_sector.specs.Ident.{geometry_of};
-ghost use Rattle.rbf_reach.specs.Reading.{is_searchable_descriptor, IsIdent, IsDirectory, listed};
+ghost use Rattle.rbf_reach.specs.Files.{IsFileOn};
+ghost use Rattle.rbf_reach.specs.Reading.{is_searchable_descriptor, IsDirectory, listed};
 
-use crate::header::sector;
-use rbf_sector::{Fd, Ident, read_fd};
+use crate::file::FoundFile;
+use crate::image::IdentifiedImage;
+use rbf_sector::{Fd, Ident};
 use rbf_segs::Segs;
 
 /// A descriptor as far as a search needs it: its number, its segments, and how many entries it
@@ -18,18 +20,16 @@ pub struct Directory {
     pub entries: u32,
 }
 
-/// Reads a descriptor as far as a search needs it.
-pub fn read_directory(image: &[u8], ident: &Ident, n: u32) -> Directory
-    requires ident { IsIdent image.now ident.now }
-    requires number { n < ident.now.total }
-    ensures number { result.number ≡ n }
-    ensures directory { IsDirectory image.now ident.now result }
+/// A file as far as a search needs it.
+pub fn directory_of(image: &IdentifiedImage<'_>, file: &FoundFile) -> Directory
+    requires { IsFileOn image.now file.now }
+    ensures number { result.number ≡ file.now.number }
+    ensures directory { IsDirectory image.now result }
 {
-    let fd = read_fd(&sector(image, n));
     Directory {
-        number: n,
-        segs: fd.segs,
-        entries: entry_count(&fd, ident),
+        number: file.number,
+        segs: file.fd.segs,
+        entries: entry_count(&file.fd, &image.ident),
     }
 }
 
@@ -75,15 +75,14 @@ fn is_segment_within(run: (u32, u16), ident: &Ident) -> bool
 }
 
 /// The 32 bytes of entry `i` of a directory.
-pub fn entry_bytes(image: &[u8], ident: &Ident, dir: &Directory, i: u32) -> [u8; 32]
-    requires ident { IsIdent image.now ident.now }
-    requires directory { IsDirectory image.now ident.now dir.now }
+pub fn entry_bytes(image: &IdentifiedImage<'_>, dir: &Directory, i: u32) -> [u8; 32]
+    requires directory { IsDirectory image.now dir.now }
     requires within { i < dir.now.entries }
-    ensures { result ≡ directory_entry (listed image.now ident.now dir.now.number) i }
+    ensures { result ≡ directory_entry (listed image.now dir.now.number) i }
 {
     let lsn = dir.segs.lsn_of(i / 8).unwrap();
     let at = 256 * lsn as usize + 32 * (i % 8) as usize;
     let mut entry = [0; 32];
-    entry.copy_from_slice(&image[at..at + 32]);
+    entry.copy_from_slice(&image.bytes[at..at + 32]);
     entry
 }

@@ -1,11 +1,11 @@
-ghost use Rattle.std.specs.Prelude.{◌≡◌, ◌+◌, ℕ, ◌*◌, ◌/◌, ◌<◌, ◌≤◌, length, IfSome, MatchOption};
+ghost use Rattle.std.specs.Prelude.{◌≡◌, ◌+◌, ℕ, ◌*◌, ◌/◌, ◌<◌, ◌≤◌, length, IfSome, IfNone};
 ghost use Rattle.rbf_model.specs.Fields.{boot_field, boot_size_field};
 ghost use Rattle.rbf_model.specs.Geometry.{HasHeader, sector as sector_of};
 ghost use Rattle.rbf_model.specs.Space.{is_marked as is_marked_lem};
 ghost use Rattle.rbf_sector.specs.Ident.{geometry_of};
-ghost use Rattle.rbf_reach.specs.Reading.{IsIdent};
 
-use rbf_sector::{Ident, is_header, read_ident};
+use crate::image::IdentifiedImage;
+use rbf_sector::{is_header, read_ident};
 
 /// The 256 bytes of a sector.
 pub fn sector(image: &[u8], n: u32) -> [u8; 256]
@@ -18,11 +18,12 @@ pub fn sector(image: &[u8], n: u32) -> [u8; 256]
     bytes
 }
 
-/// The identification of an image, where it has the header of a volume that it holds.
-pub fn read_header(image: &[u8]) -> Option<Ident>
-    ensures header { MatchOption result (¬ HasHeader image.now) (IsIdent image.now) }
-    ensures boot { IfSome result (λ ident. ident.boot ≡ boot_field (sector_of image.now 0)) }
-    ensures boot_size { IfSome result (λ ident. ident.boot_size
+/// The image with its identification, if it has the header of a volume that it holds.
+pub fn identify(image: &[u8]) -> Option<IdentifiedImage<'_>>
+    ensures none { IfNone result (¬ HasHeader image.now) }
+    ensures bytes { IfSome result (λ it. it.bytes.now ≡ image.now) }
+    ensures boot { IfSome result (λ it. it.ident.boot ≡ boot_field (sector_of image.now 0)) }
+    ensures boot_size { IfSome result (λ it. it.ident.boot_size
         ≡ boot_size_field (sector_of image.now 0)) }
 {
     if image.len() < 256 {
@@ -30,7 +31,10 @@ pub fn read_header(image: &[u8]) -> Option<Ident>
     }
     let ident = read_ident(&sector(image, 0));
     if is_header(&ident) && 256 * ident.total as usize <= image.len() {
-        Some(ident)
+        Some(IdentifiedImage {
+            bytes: image,
+            ident,
+        })
     } else {
         None
     }

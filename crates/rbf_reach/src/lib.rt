@@ -1,15 +1,19 @@
 //! The search of an image: its header, and the descriptors and entries that are found on it.
 #![tactic(auto)]
 
-pub use directory::{Directory, entry_bytes, lie_within, read_directory};
-pub use header::{is_marked, read_header, sector};
+pub use directory::{Directory, directory_of, entry_bytes, lie_within};
+pub use file::{FoundFile, read_file};
+pub use header::{identify, is_marked, sector};
+pub use image::IdentifiedImage;
 pub use lesser::least_of;
 pub use links::{Link, link_entry, list_links};
 pub use positions::{list_positions, position_bytes};
-pub use walk::find_descriptors;
+pub use walk::find_files;
 
 mod directory;
+mod file;
 mod header;
+mod image;
 mod lesser;
 mod links;
 mod positions;

@@ -3,12 +3,14 @@ ghost use Rattle.rbf_model.specs.Fields.{is_used, descriptor_field};
 ghost use Rattle.rbf_model.specs.Geometry.{IsNumber};
 ghost use Rattle.rbf_model.specs.Segments.{AreDistinct};
 ghost use Rattle.rbf_model.specs.Tree.{EntryNames};
-ghost use Rattle.rbf_model.specs.Search.{IsFound};
+ghost use Rattle.rbf_reach.specs.Files.{AreFiles, found_numbers};
 ghost use Rattle.rbf_reach.specs.Found.{IsSearch, IsVisited, AreFound, added, NamesNoNumber, NamesNumber, LinksNowhere, LinksTo};
 ghost use Rattle.rbf_sector.specs.Ident.{geometry_of};
-ghost use Rattle.rbf_reach.specs.Reading.{disk_on, IsIdent, IsDirectory, listed};
+ghost use Rattle.rbf_reach.specs.Reading.{disk_on, IsDirectory, listed};
 
-use crate::directory::{Directory, entry_bytes, read_directory};
+use crate::directory::{Directory, directory_of, entry_bytes};
+use crate::file::{FoundFile, read_file};
+use crate::image::IdentifiedImage;
 use crate::positions::{list_positions, position_bytes};
 use crate::unread::Unread;
 use rbf_sector::{Ident, read_entry};
@@ -37,16 +39,15 @@ fn used_descriptor(bytes: &[u8; 32], ident: &Ident) -> Option<u32>
 
 // The descriptor that an entry after the first two names, if it is used and the number is one of
 // the volume.
-pub fn named(image: &[u8], ident: &Ident, dir: &Directory, i: u32) -> Option<u32>
-    requires ident { IsIdent image.now ident.now }
-    requires directory { IsDirectory image.now ident.now dir.now }
+pub fn named(image: &IdentifiedImage<'_>, dir: &Directory, i: u32) -> Option<u32>
+    requires directory { IsDirectory image.now dir.now }
     requires after { 2 ≤ i }
     requires within { i < dir.now.entries }
-    ensures { let contents = listed image.now ident.now dir.now.number in
-        MatchOption result (LinksNowhere (geometry_of ident.now) contents i)
-        (LinksTo (geometry_of ident.now) contents i) }
+    ensures { let contents = listed image.now dir.now.number in
+        MatchOption result (LinksNowhere (geometry_of image.now.ident) contents i)
+        (LinksTo (geometry_of image.now.ident) contents i) }
 {
-    used_descriptor(&entry_bytes(image, ident, dir, i), ident)
+    used_descriptor(&entry_bytes(image, dir, i), &image.ident)
 }
 
 impl Search {
@@ -70,19 +71,18 @@ impl Search {
     }
 
     // Finds the descriptor that the entry in a position names.
-    fn read_position(&mut self, image: &[u8], ident: &Ident, e: u32) -> Result<(), AllocError>
-        requires ident { IsIdent image.now ident.now }
-        requires position { e < 8 * ident.now.total }
+    fn read_position(&mut self, image: &IdentifiedImage<'_>, e: u32) -> Result<(), AllocError>
+        requires position { e < 8 * image.now.ident.total }
         requires marks { IsSearch self.old.seen.items self.old.found.items }
-        requires size { length self.old.seen.items ≡ ident.now.total }
+        requires size { length self.old.seen.items ≡ image.now.ident.total }
         ensures marks { OnOk result (IsSearch self.new.seen.items self.new.found.items) }
         ensures size { length self.new.seen.items ≡ length self.old.seen.items }
         ensures found { OnOk result
-            (AreFound (disk_on image.now ident.now) e
+            (AreFound (disk_on image.now) e
             (e + 1) self.old.found.items self.new.found.items) }
         ensures unread { self.new.unread ≡ self.old.unread }
     {
-        if let Some(n) = used_descriptor(&position_bytes(image, e), ident) {
+        if let Some(n) = used_descriptor(&position_bytes(image.bytes, e), &image.ident) {
             self.find(n)?;
         }
         Ok(())
@@ -92,23 +92,21 @@ impl Search {
     // are passed over, so that each is read once, however many directories have it.
     fn read_range(
         &mut self,
-        image: &[u8],
-        ident: &Ident,
+        image: &IdentifiedImage<'_>,
         first: u32,
         end: u32,
     ) -> Result<(), AllocError>
-        requires ident { IsIdent image.now ident.now }
         requires order { first ≤ end }
-        requires within { end ≤ 8 * ident.now.total }
-        requires searching { IsSearching (disk_on image.now ident.now) self.old }
-        ensures searching { OnOk result (IsSearching (disk_on image.now ident.now) self.new) }
+        requires within { end ≤ 8 * image.now.ident.total }
+        requires searching { IsSearching (disk_on image.now) self.old }
+        ensures searching { OnOk result (IsSearching (disk_on image.now) self.new) }
         ensures found { OnOk result
-            (AreFound (disk_on image.now ident.now) first end self.old.found.items
+            (AreFound (disk_on image.now) first end self.old.found.items
             self.new.found.items) }
     {
         let mut e = self.unread.first(first);
         while e < end {
-            self.read_position(image, ident, e)?;
+            self.read_position(image, e)?;
             self.unread.pass(e);
             e = self.unread.first(e + 1);
         }
@@ -118,59 +116,51 @@ impl Search {
     // Finds what a directory names.
     fn visit(
         &mut self,
-        image: &[u8],
-        ident: &Ident,
+        image: &IdentifiedImage<'_>,
         dir: &Directory,
         ranges: &mut Vec<(u32, u32)>,
     ) -> Result<(), AllocError>
-        requires ident { IsIdent image.now ident.now }
-        requires directory { IsDirectory image.now ident.now dir.now }
-        requires searching { IsSearching (disk_on image.now ident.now) self.old }
-        ensures searching { OnOk result (IsSearching (disk_on image.now ident.now) self.new) }
-        ensures visited { OnOk result (IsVisited (geometry_of ident.now)
-            (listed image.now ident.now dir.now.number) self.old.found.items self.new.found.items) }
+        requires directory { IsDirectory image.now dir.now }
+        requires searching { IsSearching (disk_on image.now) self.old }
+        ensures searching { OnOk result (IsSearching (disk_on image.now) self.new) }
+        ensures visited { OnOk result (IsVisited (geometry_of image.now.ident)
+            (listed image.now dir.now.number) self.old.found.items self.new.found.items) }
     {
         list_positions(dir, ranges)?;
         let mut skipped = 2;
         for &(first, count) in ranges.iter() {
             let passed = count.min(skipped);
-            self.read_range(image, ident, first + passed, first + count)?;
+            self.read_range(image, first + passed, first + count)?;
             skipped -= passed;
         }
         Ok(())
     }
 }
 
-/// The descriptors that are reached from the root of a volume, each once: the root, and what a
-/// directory that is reached and can be searched names by a used entry after its first two (this
-/// project's own rule of which files an image has).
+/// The files that are reached from the root of a volume, each once: the root, and what a directory
+/// that is reached and can be searched names by a used entry after its first two (this project's own
+/// rule of which files an image has).
 ///
 /// # Errors
 ///
 /// Out of memory.
-pub fn find_descriptors(alloc: Global, image: &[u8], ident: &Ident) -> Result<Vec<u32>, AllocError>
-    requires { IsIdent image.now ident.now }
-    ensures found { IfOk result (λ found. IsFound (disk_on image.now ident.now) found.items) }
-    ensures once { IfOk result (λ found. AreDistinct found.items) }
-    ensures few { IfOk result (λ found. length found.items ≤ ident.now.total) }
+pub fn find_files(alloc: Global, image: &IdentifiedImage<'_>) -> Result<Vec<FoundFile>, AllocError>
+    ensures files { IfOk result (λ files. AreFiles image.now files.items) }
+    ensures once { IfOk result (λ files. AreDistinct (found_numbers files.items)) }
+    ensures few { IfOk result (λ files. length files.items ≤ image.now.ident.total) }
 {
     let mut search = Search {
-        seen: vec![in alloc; false; ident.total as usize]?,
+        seen: vec![in alloc; false; image.ident.total as usize]?,
         found: Vec::new(alloc),
-        unread: Unread::new(alloc, 8 * ident.total)?,
+        unread: Unread::new(alloc, 8 * image.ident.total)?,
     };
-    search.find(ident.root)?;
+    search.find(image.ident.root)?;
     let mut ranges = Vec::new(alloc);
-    let mut next = 0;
-    while next < search.found.len() {
-        let dir = read_directory(image, ident, search.found[next]);
-        search.visit(image, ident, &dir, &mut ranges)?;
-        next += 1;
+    let mut files = Vec::new(alloc);
+    while files.len() < search.found.len() {
+        let file = read_file(image, search.found[files.len()]);
+        search.visit(image, &directory_of(image, &file), &mut ranges)?;
+        files.push(file)?;
     }
-    let Search {
-        seen: _,
-        found,
-        unread: _,
-    } = search;
-    Ok(found)
+    Ok(files)
 }

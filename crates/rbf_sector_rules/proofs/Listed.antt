@@ -1,6 +1,7 @@
 -- The runs of an owner, as they are listed.
 use Rattle.rbf_model.specs.Disk.{disk_of}
-use Rattle.std.proofs.Common.{◌≡◌, ◌≢◌, ℕ, ◌+◌, ◌==◌, List, [], ◌∷◌, ◌++◌, sym, ap, ◌∙◌, append_assoc, eq-eqb}
+use Rattle.std.proofs.Common.{◌≡◌, ◌≢◌, ℕ, ◌+◌, ◌<◌, ◌≤◌, ◌==◌, List, [], ◌∷◌, ◌++◌, All, sym, ap, ◌∙◌, append_assoc, eq-eqb}
+use Rattle.std.proofs.lemmas.List.Elements.{All-nil, All-push}
 use Rattle.std.specs.Prelude.{if◌then◌else◌}
 use Rattle.std.proofs.lemmas.Bool.{cond-true, cond-false, ne_eqb}
 use Rattle.std.proofs.lemmas.Grind.{flat_map-append}
@@ -9,6 +10,7 @@ use Rattle.rbf_model.specs.Fields.{segments_field}
 use Rattle.rbf_model.specs.Geometry.{Geometry, map_sectors}
 use Rattle.rbf_model.specs.Segments.{segment_sectors, sectors_of}
 use Rattle.rbf_model.specs.Space.{system_sectors, owned}
+use Rattle.rbf_segs.specs.Segments.{IsSegment}
 use Rattle.rbf_sector_rules.specs.Used.{used_by}
 
 module _ (g : Geometry) (n : ℕ) (front : List (ℕ × ℕ)) where
@@ -28,3 +30,8 @@ module _ (g : Geometry) (n : ℕ) (front : List (ℕ × ℕ)) where
       ap sectors_of (is ∙ append_assoc front ((n, 1) ∷ []) segs) ∙ flat_map-append segment_sectors front ((n, 1) ∷ segs)
       ∙ ap (λ xs. xs ++ n ∷ sectors_of segs) system
       ∙ ap (λ s. (if n == g.root then system_sectors g else []) ++ n ∷ sectors_of s) segments
+
+-- a list of one segment
+pub one_segment : (lsn count : ℕ) → lsn < 16777216 → 1 ≤ count → count < 65536 → All IsSegment ((lsn, count) ∷ [])
+one_segment lsn count low some few =
+    All-push IsSegment [] (lsn, count) (All-nil IsSegment) (record { lsn = low; some = some; count = few })

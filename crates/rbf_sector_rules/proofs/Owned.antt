@@ -15,9 +15,8 @@ use Rattle.rbf_model.specs.Faults.Breaks.{bad_segment}
 use Rattle.rbf_model.proofs.Keeps.{number_of_reached}
 use Rattle.rbf_model.proofs.Owners.{owned_below}
 use Rattle.rbf_segs.specs.Segments.{IsSegment}
-use Rattle.rbf_sector.specs.declared.ident.Ident.{Ident}
 use Rattle.rbf_sector.specs.Ident.{geometry_of}
-use Rattle.rbf_reach.specs.Reading.{IsIdent}
+use Rattle.rbf_reach.specs.declared.image.IdentifiedImage.{IdentifiedImage}
 use Rattle.rbf_sector_rules.specs.Used.{used_by}
 use Rattle.rbf_reach.proofs.Headers.{header_of}
 use Rattle.rbf_reach.proofs.Runs.{runs_within}
@@ -43,14 +42,14 @@ pub record AreRuns (g : Geometry) (disk : ℕ → List ℕ) (n : ℕ) (runs : Li
   pub segments : All IsSegment runs
   pub within : All (λ r. r.0 + r.1 ≤ g.total) runs
 
-pub runs_are : (image : List ℕ) (ident : Ident) (n : ℕ) (listed runs : List (ℕ × ℕ)) → IsIdent image ident → ((lsn : ℕ) → Breaks (disk_of (geometry_of ident) (sector image)) 1 lsn → ⊥) → HasMap (geometry_of ident) → IsReachedOn (disk_of (geometry_of ident) (sector image)) n
-    → sectors_of listed ≡ used_by (disk_of (geometry_of ident) (sector image)) n → All IsSegment listed → runs ≡ listed → AreRuns (geometry_of ident) (sector image) n runs
-runs_are image ident n listed runs whole kept map reached sectors segments is =
-    let g = geometry_of ident in
-    let disk = sector image in
+pub runs_are : (image : IdentifiedImage) (n : ℕ) (listed runs : List (ℕ × ℕ)) → ((lsn : ℕ) → Breaks (disk_of (geometry_of image.ident) (sector image.bytes.now)) 1 lsn → ⊥) → HasMap (geometry_of image.ident) → IsReachedOn (disk_of (geometry_of image.ident) (sector image.bytes.now)) n
+    → sectors_of listed ≡ used_by (disk_of (geometry_of image.ident) (sector image.bytes.now)) n → All IsSegment listed → runs ≡ listed → AreRuns (geometry_of image.ident) (sector image.bytes.now) n runs
+runs_are image n listed runs kept map reached sectors segments is =
+    let g = geometry_of image.ident in
+    let disk = sector image.bytes.now in
     let P : List (ℕ × ℕ) → Type 0 = λ rs. AreRuns g disk n rs in
     subst P (sym is) (record {
       sectors = sectors;
       segments = segments;
-      within = runs_within listed g.total (λ i d low. (segments i d low).some) (λ s h. used_below g disk (header_of image ident whole) kept map n s reached (sym (ap (λ xs. has xs s) sectors) ∙ h));
+      within = runs_within listed g.total (λ i d low. (segments i d low).some) (λ s h. used_below g disk (header_of image) kept map n s reached (sym (ap (λ xs. has xs s) sectors) ∙ h));
     })

@@ -2,40 +2,38 @@ ghost use Rattle.std.specs.Prelude.{◌≡◌, ℕ, ◌+◌, ◌/◌, ◌<◌, �
 ghost use Rattle.rbf_model.specs.Geometry.{HasMap, sector as sector_of};
 ghost use Rattle.rbf_model.specs.Space.{is_marked as is_marked_lem};
 ghost use Rattle.rbf_model.specs.Faults.{Breaks};
-ghost use Rattle.rbf_model.specs.Search.{IsFound, IsReachedOn};
+ghost use Rattle.rbf_model.specs.Search.{IsReachedOn};
 ghost use Rattle.rbf_sector.specs.Ident.{geometry_of};
-ghost use Rattle.rbf_reach.specs.Reading.{disk_on, IsIdent};
+ghost use Rattle.rbf_reach.specs.Files.{IsFileOn, AreFiles};
+ghost use Rattle.rbf_reach.specs.Reading.{disk_on};
 ghost use Rattle.rbf_reach.specs.Least.{IsLeastBreach, IsLeast};
 ghost use Rattle.rbf_sector_rules.specs.Nexts.{AreNexts};
 ghost use Rattle.rbf_sector_rules.specs.Used.{used_by, IsUnmarked, IsUnmarkedIn};
 
 use crate::nexts::next_in_range;
 use crate::owners::list_segments;
-use rbf_reach::{is_marked, least_of};
-use rbf_sector::Ident;
+use rbf_reach::{FoundFile, IdentifiedImage, is_marked, least_of};
 use std::alloc::{AllocError, Global};
 
 // Does the map mark the cluster of this sector?
-fn is_sector_marked(image: &[u8], ident: &Ident, s: u32) -> bool
-    requires ident { IsIdent image.now ident.now }
-    requires map { HasMap (geometry_of ident.now) }
-    requires number { s < ident.now.total }
-    ensures { result ≡ is_marked_lem (sector_of image.now) (s / ident.now.cluster) }
+fn is_sector_marked(image: &IdentifiedImage<'_>, s: u32) -> bool
+    requires map { HasMap (geometry_of image.now.ident) }
+    requires number { s < image.now.ident.total }
+    ensures { result ≡ is_marked_lem (sector_of image.now.bytes.now) (s / image.now.ident.cluster) }
 {
-    is_marked(image, s / u32::from(ident.cluster))
+    is_marked(image.bytes, s / u32::from(image.ident.cluster))
 }
 
 // For each sector the least from it on whose cluster is not marked, or the total.
-fn list_next_unmarked(alloc: Global, image: &[u8], ident: &Ident) -> Result<Vec<u32>, AllocError>
-    requires ident { IsIdent image.now ident.now }
-    requires map { HasMap (geometry_of ident.now) }
+fn list_next_unmarked(alloc: Global, image: &IdentifiedImage<'_>) -> Result<Vec<u32>, AllocError>
+    requires { HasMap (geometry_of image.now.ident) }
     ensures { IfOk result
-        (λ nexts. AreNexts (IsUnmarked (disk_on image.now ident.now)) ident.now.total nexts.items) }
+        (λ nexts. AreNexts (IsUnmarked (disk_on image.now)) image.now.ident.total nexts.items) }
 {
-    let mut nexts = vec![in alloc; ident.total; ident.total as usize]?;
-    let mut next = ident.total;
-    for s in (0..ident.total).rev() {
-        if !is_sector_marked(image, ident, s) {
+    let mut nexts = vec![in alloc; image.ident.total; image.ident.total as usize]?;
+    let mut next = image.ident.total;
+    for s in (0..image.ident.total).rev() {
+        if !is_sector_marked(image, s) {
             next = s;
         }
         nexts[s as usize] = next;
@@ -45,23 +43,21 @@ fn list_next_unmarked(alloc: Global, image: &[u8], ident: &Ident) -> Result<Vec<
 
 // The least sector of an owner whose cluster is not marked.
 fn least_unmarked_of(
-    image: &[u8],
-    ident: &Ident,
+    image: &IdentifiedImage<'_>,
     nexts: &[u32],
-    n: u32,
+    file: &FoundFile,
     segments: &mut Vec<(u32, u16)>,
 ) -> Result<Option<u32>, AllocError>
-    requires ident { IsIdent image.now ident.now }
-    requires segments { (lsn : ℕ) → ¬ Breaks (disk_on image.now ident.now) 1 lsn }
-    requires map { HasMap (geometry_of ident.now) }
-    requires nexts { AreNexts (IsUnmarked (disk_on image.now ident.now)) ident.now.total nexts.now }
-    requires reached { IsReachedOn (disk_on image.now ident.now) n }
-    requires number { n < ident.now.total }
+    requires segments { (lsn : ℕ) → ¬ Breaks (disk_on image.now) 1 lsn }
+    requires map { HasMap (geometry_of image.now.ident) }
+    requires nexts { AreNexts (IsUnmarked (disk_on image.now)) image.now.ident.total nexts.now }
+    requires file { IsFileOn image.now file.now }
+    requires reached { IsReachedOn (disk_on image.now) file.now.number }
     ensures { IfOk result
-        (IsLeast (IsUnmarkedIn (disk_on image.now ident.now)
-        (used_by (disk_on image.now ident.now) n))) }
+        (IsLeast (IsUnmarkedIn (disk_on image.now)
+        (used_by (disk_on image.now) file.now.number))) }
 {
-    list_segments(image, ident, n, segments)?;
+    list_segments(image, file, segments)?;
     let mut least = None;
     for &(first, count) in segments.iter() {
         least = least_of(least, next_in_range(nexts, first, u32::from(count)));
@@ -77,21 +73,19 @@ fn least_unmarked_of(
 /// Out of memory.
 pub fn least_unmarked(
     alloc: Global,
-    image: &[u8],
-    ident: &Ident,
-    found: &[u32],
+    image: &IdentifiedImage<'_>,
+    files: &[FoundFile],
 ) -> Result<Option<u32>, AllocError>
-    requires ident { IsIdent image.now ident.now }
-    requires found { IsFound (disk_on image.now ident.now) found.now }
-    requires segments { (lsn : ℕ) → ¬ Breaks (disk_on image.now ident.now) 1 lsn }
-    requires map { HasMap (geometry_of ident.now) }
-    ensures { IfOk result (IsLeastBreach (disk_on image.now ident.now) 3) }
+    requires files { AreFiles image.now files.now }
+    requires segments { (lsn : ℕ) → ¬ Breaks (disk_on image.now) 1 lsn }
+    requires map { HasMap (geometry_of image.now.ident) }
+    ensures { IfOk result (IsLeastBreach (disk_on image.now) 3) }
 {
-    let nexts = list_next_unmarked(alloc, image, ident)?;
+    let nexts = list_next_unmarked(alloc, image)?;
     let mut segments = Vec::new(alloc);
     let mut least = None;
-    for n in found {
-        let one = least_unmarked_of(image, ident, &nexts, *n, &mut segments)?;
+    for file in files {
+        let one = least_unmarked_of(image, &nexts, file, &mut segments)?;
         least = least_of(least, one);
     }
     Ok(least)

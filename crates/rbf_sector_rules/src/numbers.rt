@@ -1,42 +1,43 @@
 ghost use Rattle.rbf_model.specs.Decides.{Decides};
 ghost use Rattle.std.specs.Prelude.{◌≡◌, ℕ, ◌+◌, ◌*◌, ◌<◌, ◌≤◌, IfOk, length};
-ghost use Rattle.rbf_model.specs.Search.{IsFound};
 ghost use Rattle.rbf_sector.specs.Ident.{geometry_of};
-ghost use Rattle.rbf_reach.specs.Reading.{disk_on, IsIdent, IsDirectory, listed};
+ghost use Rattle.rbf_reach.specs.Files.{IsFileOn, AreFiles};
+ghost use Rattle.rbf_reach.specs.Reading.{disk_on, IsDirectory, listed};
 ghost use Rattle.rbf_sector_rules.specs.Rules.{BreaksNumbersAt, HasBadNumber, IsBadPosition};
 ghost use Rattle.rbf_reach.specs.Least.{IsLeastBreach, IsLeast};
 ghost use Rattle.rbf_sector_rules.specs.Nexts.{AreNexts};
 
 use crate::nexts::next_in_range;
-use rbf_reach::{Directory, least_of, lie_within, list_positions, position_bytes, read_directory};
-use rbf_sector::{Ident, read_entry};
+use rbf_reach::{
+    Directory, FoundFile, IdentifiedImage, directory_of, least_of, lie_within, list_positions,
+    position_bytes,
+};
+use rbf_sector::read_entry;
 use std::alloc::{AllocError, Global};
 
 // Has the position a used entry that names no descriptor of the volume?
-fn is_bad_position(image: &[u8], ident: &Ident, e: u32) -> bool
-    requires ident { IsIdent image.now ident.now }
-    requires position { e < 8 * ident.now.total }
-    ensures { Decides result (IsBadPosition (disk_on image.now ident.now) e) }
+fn is_bad_position(image: &IdentifiedImage<'_>, e: u32) -> bool
+    requires { e < 8 * image.now.ident.total }
+    ensures { Decides result (IsBadPosition (disk_on image.now) e) }
 {
-    let entry = read_entry(&position_bytes(image, e));
+    let entry = read_entry(&position_bytes(image.bytes, e));
     if entry.name[0] == 0 {
         return false;
     }
-    entry.lsn == 0 || entry.lsn >= ident.total
+    entry.lsn == 0 || entry.lsn >= image.ident.total
 }
 
 // For each position the first such position from it on, or how many positions there are.
-fn list_next_bad(alloc: Global, image: &[u8], ident: &Ident) -> Result<Vec<u32>, AllocError>
-    requires { IsIdent image.now ident.now }
+fn list_next_bad(alloc: Global, image: &IdentifiedImage<'_>) -> Result<Vec<u32>, AllocError>
     ensures { IfOk result
-        (λ nexts. AreNexts (IsBadPosition (disk_on image.now ident.now))
-        (8 * ident.now.total) nexts.items) }
+        (λ nexts. AreNexts (IsBadPosition (disk_on image.now))
+        (8 * image.now.ident.total) nexts.items) }
 {
-    let positions = 8 * ident.total;
+    let positions = 8 * image.ident.total;
     let mut nexts = vec![in alloc; positions; positions as usize]?;
     let mut next = positions;
     for e in (0..positions).rev() {
-        if is_bad_position(image, ident, e) {
+        if is_bad_position(image, e) {
             next = e;
         }
         nexts[e as usize] = next;
@@ -46,19 +47,17 @@ fn list_next_bad(alloc: Global, image: &[u8], ident: &Ident) -> Result<Vec<u32>,
 
 // Does a used entry of a directory name no descriptor of the volume?
 fn has_bad_number(
-    image: &[u8],
-    ident: &Ident,
+    image: &IdentifiedImage<'_>,
     nexts: &[u32],
     dir: &Directory,
     ranges: &mut Vec<(u32, u32)>,
 ) -> Result<bool, AllocError>
-    requires ident { IsIdent image.now ident.now }
-    requires directory { IsDirectory image.now ident.now dir.now }
-    requires nexts { AreNexts (IsBadPosition (disk_on image.now ident.now))
-        (8 * ident.now.total) nexts.now }
+    requires directory { IsDirectory image.now dir.now }
+    requires nexts { AreNexts (IsBadPosition (disk_on image.now))
+        (8 * image.now.ident.total) nexts.now }
     ensures { IfOk result
         (λ bad. Decides bad
-        (HasBadNumber (geometry_of ident.now) (listed image.now ident.now dir.now.number))) }
+        (HasBadNumber (geometry_of image.now.ident) (listed image.now dir.now.number))) }
 {
     list_positions(dir, ranges)?;
     for &(first, count) in ranges.iter() {
@@ -71,25 +70,23 @@ fn has_bad_number(
 
 // The descriptor, if it breaks rule 1.
 fn badly_numbered(
-    image: &[u8],
-    ident: &Ident,
+    image: &IdentifiedImage<'_>,
     nexts: &[u32],
-    n: u32,
+    file: &FoundFile,
     ranges: &mut Vec<(u32, u32)>,
 ) -> Result<Option<u32>, AllocError>
-    requires ident { IsIdent image.now ident.now }
-    requires nexts { AreNexts (IsBadPosition (disk_on image.now ident.now))
-        (8 * ident.now.total) nexts.now }
-    requires number { n < ident.now.total }
-    ensures { IfOk result (IsLeast (BreaksNumbersAt (disk_on image.now ident.now) n)) }
+    requires nexts { AreNexts (IsBadPosition (disk_on image.now))
+        (8 * image.now.ident.total) nexts.now }
+    requires file { IsFileOn image.now file.now }
+    ensures { IfOk result (IsLeast (BreaksNumbersAt (disk_on image.now) file.now.number)) }
 {
-    let dir = read_directory(image, ident, n);
-    if !lie_within(&dir.segs, ident) {
-        return Ok(Some(n));
+    if !lie_within(&file.fd.segs, &image.ident) {
+        return Ok(Some(file.number));
     }
-    let bad = has_bad_number(image, ident, nexts, &dir, ranges)?;
+    let dir = directory_of(image, file);
+    let bad = has_bad_number(image, nexts, &dir, ranges)?;
     if bad {
-        return Ok(Some(n));
+        return Ok(Some(file.number));
     }
     Ok(None)
 }
@@ -102,19 +99,17 @@ fn badly_numbered(
 /// Out of memory.
 pub fn least_bad_number(
     alloc: Global,
-    image: &[u8],
-    ident: &Ident,
-    found: &[u32],
+    image: &IdentifiedImage<'_>,
+    files: &[FoundFile],
 ) -> Result<Option<u32>, AllocError>
-    requires ident { IsIdent image.now ident.now }
-    requires found { IsFound (disk_on image.now ident.now) found.now }
-    ensures { IfOk result (IsLeastBreach (disk_on image.now ident.now) 1) }
+    requires { AreFiles image.now files.now }
+    ensures { IfOk result (IsLeastBreach (disk_on image.now) 1) }
 {
-    let nexts = list_next_bad(alloc, image, ident)?;
+    let nexts = list_next_bad(alloc, image)?;
     let mut ranges = Vec::new(alloc);
     let mut least = None;
-    for n in found {
-        let one = badly_numbered(image, ident, &nexts, *n, &mut ranges)?;
+    for file in files {
+        let one = badly_numbered(image, &nexts, file, &mut ranges)?;
         least = least_of(least, one);
     }
     Ok(least)

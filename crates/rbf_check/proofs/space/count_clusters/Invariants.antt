@@ -9,5 +9,5 @@ use Rattle.rbf_check.proofs.space.count_clusters.Given as goal
 
 abbrev pub invariant-loop-c : goal.invariant-loop-c
 invariant-loop-c l =
-    (l.space.free ≡ length (filter (λ c. is_whole (geometry_of l.survey.ident) c && not (is_marked (sector l.image) c)) (range_with_len 0 l.c)))
-    × (l.space.lost ≡ length (filter (volume_from l.image l.survey).lost (range_with_len 0 l.c)))
+    (l.space.free ≡ length (filter (λ c. is_whole (geometry_of l.survey.image.ident) c && not (is_marked (sector l.survey.image.bytes.now) c)) (range_with_len 0 l.c)))
+    × (l.space.lost ≡ length (filter (volume_from l.survey).lost (range_with_len 0 l.c)))

@@ -5,19 +5,19 @@ use Rattle.rbf_name_rules.proofs.entries.add_name.Goals as goal
 
 pub returns-then-entry-eq0 : goal.returns-then-entry-eq0
 returns-then-entry-eq0 c =
-    let contents = listed c.args.image.now c.args.ident.now c.args.dir.now.number in
+    let contents = listed c.args.image.now c.args.dir.now.number in
     named_past contents c.args.keys.now c.args.i c.requires.after c.requires.named (λ entry. is_free contents c.entry_bytes.result c.read_entry-entry.result.name c.args.i c.entry_bytes.ensures c.read_entry-entry.ensures.name c.if-entry-eq0.true entry)
 
 pub returns-in_default : goal.returns-in_default
 returns-in_default c =
-    let contents = listed c.args.image.now c.args.ident.now c.args.dir.now.number in
+    let contents = listed c.args.image.now c.args.dir.now.number in
     let within : 32 * (c.args.i + 1) ≤ length contents = omega (arith, c.requires.directory.entries, c.requires.within) in
     let entry = is_entry contents c.entry_bytes.result c.read_entry-entry.result.name c.args.i c.entry_bytes.ensures c.read_entry-entry.ensures.name within c.if-entry-eq0.false in
     no_name contents c.args.keys.now c.args.i c.requires.after c.requires.named entry (name_is contents c.entry_bytes.result c.read_entry-entry.result.name c.args.i c.entry_bytes.ensures c.read_entry-entry.ensures.name None c.in_default.ensures)
 
 pub returns-then-is_text : goal.returns-then-is_text
 returns-then-is_text c =
-    let contents = listed c.args.image.now c.args.ident.now c.args.dir.now.number in
+    let contents = listed c.args.image.now c.args.dir.now.number in
     let within : 32 * (c.args.i + 1) ≤ length contents = omega (arith, c.requires.directory.entries, c.requires.within) in
     let entry = is_entry contents c.entry_bytes.result c.read_entry-entry.result.name c.args.i c.entry_bytes.ensures c.read_entry-entry.ensures.name within c.if-entry-eq0.false in
     let named = name_is contents c.entry_bytes.result c.read_entry-entry.result.name c.args.i c.entry_bytes.ensures c.read_entry-entry.ensures.name (Some c.in-Ok.name) c.in-Ok.ensures in
@@ -25,7 +25,7 @@ returns-then-is_text c =
 
 pub returns-then-is_text-2 : goal.returns-then-is_text-2
 returns-then-is_text-2 c =
-    let contents = listed c.args.image.now c.args.ident.now c.args.dir.now.number in
+    let contents = listed c.args.image.now c.args.dir.now.number in
     let within : 32 * (c.args.i + 1) ≤ length contents = omega (arith, c.requires.directory.entries, c.requires.within) in
     let entry = is_entry contents c.entry_bytes.result c.read_entry-entry.result.name c.args.i c.entry_bytes.ensures c.read_entry-entry.ensures.name within c.if-entry-eq0.false in
     let named = name_is contents c.entry_bytes.result c.read_entry-entry.result.name c.args.i c.entry_bytes.ensures c.read_entry-entry.ensures.name (Some c.in-Ok.name) c.in-Ok.ensures in
@@ -33,7 +33,7 @@ returns-then-is_text-2 c =
 
 pub returns : goal.returns
 returns c =
-    let contents = listed c.args.image.now c.args.ident.now c.args.dir.now.number in
+    let contents = listed c.args.image.now c.args.dir.now.number in
     let within : 32 * (c.args.i + 1) ≤ length contents = omega (arith, c.requires.directory.entries, c.requires.within) in
     let entry = is_entry contents c.entry_bytes.result c.read_entry-entry.result.name c.args.i c.entry_bytes.ensures c.read_entry-entry.ensures.name within c.if-entry-eq0.false in
     let named = name_is contents c.entry_bytes.result c.read_entry-entry.result.name c.args.i c.entry_bytes.ensures c.read_entry-entry.ensures.name (Some c.in-Ok.name) c.in-Ok.ensures in

@@ -12,27 +12,27 @@ use Rattle.rbf_name_rules.proofs.links.least_named_again.Goals as goal
 pub returns : goal.returns
 returns c =
     let links = c.args.links.now in
-    let root = c.args.ident.now.root in
+    let root = c.args.image.now.ident.root in
     let all : c.loop-k.k ≡ length links = omega arith in
     let P : ℕ → Type 0 = λ k. AreFirsts links c.loop-k.firsts.items k in
     let Q : ℕ → Type 0 = λ k. IsLeast (Before (IsNamedAgain links root) k) c.loop-k.least in
-    least_again (geometry_of c.args.ident.now) (sector c.args.image.now) (header_of c.args.image.now c.args.ident.now c.requires.ident) links c.requires.links c.loop-k.firsts.items (subst P all c.loop-k.invariant.1) c.loop-k.least (subst Q all c.loop-k.invariant.2)
+    least_again (geometry_of c.args.image.now.ident) (sector c.args.image.now.bytes.now) (header_of c.args.image.now) links c.requires c.loop-k.firsts.items (subst P all c.loop-k.invariant.1) c.loop-k.least (subst Q all c.loop-k.invariant.2)
 
 pub loop-k-init : goal.loop-k-init
 loop-k-init c =
     let table = c.in_ok-firsts.firsts.items in
-    let all : table ≡ replicate c.args.ident.now.total None = c.in_ok-firsts.ensures.items_if_clones_equal (search rules) in
-    let size : length table ≡ c.args.ident.now.total = search (rules, c.in_ok-firsts.ensures.len, c.in_ok-firsts.firsts.ok.0) in
-    (size, firsts_none c.args.links.now table (none_filled table c.args.ident.now.total all), least_before (IsNamedAgain c.args.links.now c.args.ident.now.root))
+    let all : table ≡ replicate c.args.image.now.ident.total None = c.in_ok-firsts.ensures.items_if_clones_equal (search rules) in
+    let size : length table ≡ c.args.image.now.ident.total = search (rules, c.in_ok-firsts.ensures.len, c.in_ok-firsts.firsts.ok.0) in
+    (size, firsts_none c.args.links.now table (none_filled table c.args.image.now.ident.total all), least_before (IsNamedAgain c.args.links.now c.args.image.now.ident.root))
 
 pub named_again-requires-clause-numbers : goal.named_again-requires-clause-numbers
 named_again-requires-clause-numbers c =
-    numbers_below (geometry_of c.args.ident.now) (sector c.args.image.now) c.args.links.now (length c.loop-k.firsts.items) c.requires.links c.loop-k.invariant.0
+    numbers_below (geometry_of c.args.image.now.ident) (sector c.args.image.now.bytes.now) c.args.links.now (length c.loop-k.firsts.items) c.requires c.loop-k.invariant.0
 
 pub loop-k-preserved : goal.loop-k-preserved
 loop-k-preserved c =
     let again = c.named_again.ensures in (
       again.size ∙ c.loop-k.invariant.0,
       again.firsts,
-      least_next (IsNamedAgain c.args.links.now c.args.ident.now.root) c.loop-k.k c.loop-k.least c.named_again.result c.least_of-least.result c.loop-k.invariant.2 again.again c.least_of-least.ensures,
+      least_next (IsNamedAgain c.args.links.now c.args.image.now.ident.root) c.loop-k.k c.loop-k.least c.named_again.result c.least_of-least.result c.loop-k.invariant.2 again.again c.least_of-least.ensures,
     )

@@ -5,4 +5,4 @@ use Rattle.rbf_name_rules.proofs.links.least_named_again.Given as goal
 
 abbrev pub invariant-loop-k : goal.invariant-loop-k
 invariant-loop-k l =
-    (length l.firsts.items ≡ l.ident.total) × AreFirsts l.links l.firsts.items l.k × IsLeast (Before (IsNamedAgain l.links l.ident.root) l.k) l.least
+    (length l.firsts.items ≡ l.image.ident.total) × AreFirsts l.links l.firsts.items l.k × IsLeast (Before (IsNamedAgain l.links l.image.ident.root) l.k) l.least

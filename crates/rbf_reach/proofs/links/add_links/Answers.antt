@@ -12,9 +12,9 @@ loop-i-init c = added_none _ _ _ _
 
 pub loop-i-preserved : goal.loop-i-preserved
 loop-i-preserved c =
-    let g = geometry_of c.args.ident.now in
+    let g = geometry_of c.args.image.now.ident in
     let d = c.args.dir.now.number in
-    let contents = listed c.args.image.now c.args.ident.now d in
+    let contents = listed c.args.image.now d in
     let old = c.args.links.now.items in
     let P : Vec Link Global → Type 0 = λ v. AreAdded g contents d old v.items (c.loop-i.i + 1) in
     elim c.match-named.branch [

@@ -5,4 +5,4 @@ use Rattle.rbf_reach.proofs.links.add_links.Given as goal
 
 abbrev pub invariant-loop-i : goal.invariant-loop-i
 invariant-loop-i l =
-    AreAdded (geometry_of l.ident) (listed l.image l.ident l.dir.number) l.dir.number l.fn.links.items l.links.items l.i
+    AreAdded (geometry_of l.image.ident) (listed l.image l.dir.number) l.dir.number l.fn.links.items l.links.items l.i

@@ -5,8 +5,8 @@ use Rattle.rbf_sector_rules.proofs.map.map_breach.Goals as goal
 
 pub returns-then-has_map : goal.returns-then-has_map
 returns-then-has_map c =
-    no_map_breach (geometry_of c.args.ident.now) (sector c.args.image.now) c.if-has_map.ensures
+    no_map_breach (geometry_of c.args.image.now.ident) (sector c.args.image.now.bytes.now) c.if-has_map.ensures
 
 pub returns : goal.returns
 returns c =
-    map_breach_is (geometry_of c.args.ident.now) (sector c.args.image.now) (λ map. c.if-has_map.ensures map)
+    map_breach_is (geometry_of c.args.image.now.ident) (sector c.args.image.now.bytes.now) (λ map. c.if-has_map.ensures map)

@@ -13,13 +13,13 @@ use Rattle.rbf_sector_rules.proofs.Unmarked.{unmarked_none, unmarked_more}
 use Rattle.rbf_sector_rules.proofs.marks.least_unmarked_of.Goals as goal
 use Rattle.rbf_sector_rules.proofs.marks.least_unmarked_of.Goals.{In_ok-list_segments}
 
-runs_of : (c : In_ok-list_segments) (segments : List (ℕ × ℕ)) → segments ≡ c.list_segments.new.segments.items → AreRuns (geometry_of c.args.ident.now) (sector c.args.image.now) c.args.n segments
+runs_of : (c : In_ok-list_segments) (segments : List (ℕ × ℕ)) → segments ≡ c.list_segments.new.segments.items → AreRuns (geometry_of c.args.image.now.ident) (sector c.args.image.now.bytes.now) c.args.file.now.number segments
 runs_of c segments is =
     let listed = c.in_ok-list_segments.ensures in
-    runs_are c.args.image.now c.args.ident.now c.args.n c.list_segments.new.segments.items segments c.requires.ident c.requires.segments c.requires.map c.requires.reached listed.sectors listed.segments is
+    runs_are c.args.image.now c.args.file.now.number c.list_segments.new.segments.items segments c.requires.segments c.requires.map c.requires.reached listed.sectors listed.segments is
 
 pub loop-first-init : goal.loop-first-init
-loop-first-init c = unmarked_none (geometry_of c.args.ident.now) (sector c.args.image.now)
+loop-first-init c = unmarked_none (geometry_of c.args.image.now.ident) (sector c.args.image.now.bytes.now)
 
 pub next_in_range-requires-clause-some : goal.next_in_range-requires-clause-some
 next_in_range-requires-clause-some c =
@@ -39,8 +39,8 @@ next_in_range-requires-clause-fits c =
 
 pub loop-first-preserved : goal.loop-first-preserved
 loop-first-preserved c =
-    let g = geometry_of c.args.ident.now in
-    let disk = sector c.args.image.now in
+    let g = geometry_of c.args.image.now.ident in
+    let disk = sector c.args.image.now.bytes.now in
     let items = c.deref-first-items.result.now in
     let i = c.loop-first.first-index in
     let r = get_or items i (0, 0) in
@@ -55,8 +55,8 @@ loop-first-preserved c =
 
 pub returns : goal.returns
 returns c =
-    let g = geometry_of c.args.ident.now in
-    let disk = sector c.args.image.now in
+    let g = geometry_of c.args.image.now.ident in
+    let disk = sector c.args.image.now.bytes.now in
     let items = c.deref-first-items.result.now in
     let segments = runs_of (goal.at.returns c).In_ok-list_segments c.deref-first-items.result.now c.deref-first-items.ensures.value in
     let P : List ℕ → Type 0 = λ xs. IsLeast (IsUnmarkedIn (disk_of g disk) xs) c.loop-first.least in

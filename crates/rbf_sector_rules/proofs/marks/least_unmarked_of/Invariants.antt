@@ -9,4 +9,4 @@ use Rattle.rbf_sector_rules.proofs.marks.least_unmarked_of.Given as goal
 
 abbrev pub invariant-loop-first : goal.invariant-loop-first
 invariant-loop-first l =
-    IsLeast (IsUnmarkedIn (disk_of (geometry_of l.ident) (sector l.image)) (sectors_of (take l.first-index l.first-items))) l.least
+    IsLeast (IsUnmarkedIn (disk_of (geometry_of l.image.ident) (sector l.image.bytes.now)) (sectors_of (take l.first-index l.first-items))) l.least

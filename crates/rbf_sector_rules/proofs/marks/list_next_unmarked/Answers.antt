@@ -11,12 +11,12 @@ use Rattle.rbf_sector_rules.proofs.marks.list_next_unmarked.Goals.{then-not-is_s
 
 pub loop-s-init : goal.loop-s-init
 loop-s-init c =
-    filled_none (IsUnmarked (disk_of (geometry_of c.args.ident.now) (sector c.args.image.now))) c.args.ident.now.total c.in_ok-nexts.nexts.items (search (rules, c.in_ok-nexts.ensures.len, c.in_ok-nexts.nexts.ok.0))
+    filled_none (IsUnmarked (disk_of (geometry_of c.args.image.now.ident) (sector c.args.image.now.bytes.now))) c.args.image.now.ident.total c.in_ok-nexts.nexts.items (search (rules, c.in_ok-nexts.ensures.len, c.in_ok-nexts.nexts.ok.0))
 
 pub loop-s-preserved : goal.loop-s-preserved
 loop-s-preserved c =
-    let B = IsUnmarked (disk_of (geometry_of c.args.ident.now) (sector c.args.image.now)) in
-    let total = c.args.ident.now.total in
+    let B = IsUnmarked (disk_of (geometry_of c.args.image.now.ident) (sector c.args.image.now.bytes.now)) in
+    let total = c.args.image.now.ident.total in
     let s = c.loop-s.s in
     let next = c.if-not-is_sector_marked.next in
     let P : ℕ → Type 0 = λ n. IsNextSuch B total (s - 1) n in
@@ -29,6 +29,6 @@ loop-s-preserved c =
 
 pub returns : goal.returns
 returns c =
-    let B = IsUnmarked (disk_of (geometry_of c.args.ident.now) (sector c.args.image.now)) in
-    let P : ℕ → Type 0 = λ s. IsFilled B c.args.ident.now.total c.loop-s.nexts.items s c.loop-s.next in
-    filled_all B c.args.ident.now.total c.loop-s.nexts.items c.loop-s.next (subst P (omega arith) c.loop-s.invariant)
+    let B = IsUnmarked (disk_of (geometry_of c.args.image.now.ident) (sector c.args.image.now.bytes.now)) in
+    let P : ℕ → Type 0 = λ s. IsFilled B c.args.image.now.ident.total c.loop-s.nexts.items s c.loop-s.next in
+    filled_all B c.args.image.now.ident.total c.loop-s.nexts.items c.loop-s.next (subst P (omega arith) c.loop-s.invariant)

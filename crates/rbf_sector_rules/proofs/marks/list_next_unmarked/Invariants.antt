@@ -7,4 +7,4 @@ use Rattle.rbf_sector_rules.proofs.marks.list_next_unmarked.Given as goal
 
 abbrev pub invariant-loop-s : goal.invariant-loop-s
 invariant-loop-s l =
-    IsFilled (IsUnmarked (disk_of (geometry_of l.ident) (sector l.image))) l.ident.total l.nexts.items l.s l.next
+    IsFilled (IsUnmarked (disk_of (geometry_of l.image.ident) (sector l.image.bytes.now))) l.image.ident.total l.nexts.items l.s l.next

@@ -9,4 +9,4 @@ use Rattle.rbf_sector_rules.proofs.numbers.has_bad_number.Given as goal
 
 abbrev pub invariant-loop-first : goal.invariant-loop-first
 invariant-loop-first l =
-    (e : ℕ) → has (positions_in (take l.first-index l.first-items)) e ≡ true → IsBadPosition (disk_of (geometry_of l.ident) (sector l.image)) e → ⊥
+    (e : ℕ) → has (positions_in (take l.first-index l.first-items)) e ≡ true → IsBadPosition (disk_of (geometry_of l.image.ident) (sector l.image.bytes.now)) e → ⊥

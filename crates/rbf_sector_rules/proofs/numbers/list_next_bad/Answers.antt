@@ -10,12 +10,12 @@ use Rattle.rbf_sector_rules.proofs.numbers.list_next_bad.Goals.{then-is_bad_posi
 
 pub loop-e-init : goal.loop-e-init
 loop-e-init c =
-    filled_none (IsBadPosition (disk_of (geometry_of c.args.ident.now) (sector c.args.image.now))) (8 * c.args.ident.now.total) c.in_ok-nexts.nexts.items (search (rules, c.in_ok-nexts.ensures.len, c.in_ok-nexts.nexts.ok.0))
+    filled_none (IsBadPosition (disk_of (geometry_of c.args.image.now.ident) (sector c.args.image.now.bytes.now))) (8 * c.args.image.now.ident.total) c.in_ok-nexts.nexts.items (search (rules, c.in_ok-nexts.ensures.len, c.in_ok-nexts.nexts.ok.0))
 
 pub loop-e-preserved : goal.loop-e-preserved
 loop-e-preserved c =
-    let B = IsBadPosition (disk_of (geometry_of c.args.ident.now) (sector c.args.image.now)) in
-    let positions = 8 * c.args.ident.now.total in
+    let B = IsBadPosition (disk_of (geometry_of c.args.image.now.ident) (sector c.args.image.now.bytes.now)) in
+    let positions = 8 * c.args.image.now.ident.total in
     let e = c.loop-e.e in
     let next = c.if-is_bad_position.next in
     let P : ℕ → Type 0 = λ n. IsNextSuch B positions (e - 1) n in
@@ -27,7 +27,7 @@ loop-e-preserved c =
 
 pub returns : goal.returns
 returns c =
-    let B = IsBadPosition (disk_of (geometry_of c.args.ident.now) (sector c.args.image.now)) in
-    let positions = 8 * c.args.ident.now.total in
+    let B = IsBadPosition (disk_of (geometry_of c.args.image.now.ident) (sector c.args.image.now.bytes.now)) in
+    let positions = 8 * c.args.image.now.ident.total in
     let P : ℕ → Type 0 = λ e. IsFilled B positions c.loop-e.nexts.items e c.loop-e.next in
     filled_all B positions c.loop-e.nexts.items c.loop-e.next (subst P (omega arith) c.loop-e.invariant)

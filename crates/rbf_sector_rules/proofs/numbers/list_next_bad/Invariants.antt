@@ -8,4 +8,4 @@ use Rattle.rbf_sector_rules.proofs.numbers.list_next_bad.Given as goal
 
 abbrev pub invariant-loop-e : goal.invariant-loop-e
 invariant-loop-e l =
-    IsFilled (IsBadPosition (disk_of (geometry_of l.ident) (sector l.image))) (8 * l.ident.total) l.nexts.items l.e l.next
+    IsFilled (IsBadPosition (disk_of (geometry_of l.image.ident) (sector l.image.bytes.now))) (8 * l.image.ident.total) l.nexts.items l.e l.next

@@ -8,8 +8,8 @@ use Rattle.rbf_reach.proofs.walk.Search.read_range.Goals as goal
 
 pub loop-e-init : goal.loop-e-init
 loop-e-init c =
-    let g = geometry_of c.args.ident.now in
-    let disk = sector c.args.image.now in
+    let g = geometry_of c.args.image.now.ident in
+    let disk = sector c.args.image.now.bytes.now in
     let search = c.args.self.now in
     let first = c.first-e.ensures in
     let searching = c.requires.searching in (
@@ -26,8 +26,8 @@ pass-requires-clause-place c =
 
 pub loop-e-preserved : goal.loop-e-preserved
 loop-e-preserved c =
-    let g = geometry_of c.args.ident.now in
-    let disk = sector c.args.image.now in
+    let g = geometry_of c.args.image.now.ident in
+    let disk = sector c.args.image.now.bytes.now in
     let search = c.loop-e.self in
     let mid = c.read_position.new.self in
     let e = c.loop-e.e in
@@ -44,4 +44,4 @@ loop-e-preserved c =
 
 pub returns-clause-found : goal.returns-clause-found
 returns-clause-found c =
-    read_all (geometry_of c.args.ident.now) (sector c.args.image.now) c.args.first c.args.end c.args.self.now.found.items c.loop-e.self.found.items c.loop-e.e (omega arith) c.loop-e.invariant.1
+    read_all (geometry_of c.args.image.now.ident) (sector c.args.image.now.bytes.now) c.args.first c.args.end c.args.self.now.found.items c.loop-e.self.found.items c.loop-e.e (omega arith) c.loop-e.invariant.1

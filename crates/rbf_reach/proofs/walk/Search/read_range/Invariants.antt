@@ -8,10 +8,10 @@ use Rattle.rbf_reach.proofs.walk.Search.read_range.Given as goal
 
 abbrev pub invariant-loop-e : goal.invariant-loop-e
 invariant-loop-e l =
-    IsSearching (disk_of (geometry_of l.ident) (sector l.image)) l.self
-    × AreReadTo (geometry_of l.ident) (sector l.image) l.first l.end l.fn.self.found.items l.self.found.items l.e
+    IsSearching (disk_of (geometry_of l.image.ident) (sector l.image.bytes.now)) l.self
+    × AreReadTo (geometry_of l.image.ident) (sector l.image.bytes.now) l.first l.end l.fn.self.found.items l.self.found.items l.e
     × (l.first ≤ l.e)
-    × (l.e ≤ 8 * l.ident.total)
+    × (l.e ≤ 8 * l.image.ident.total)
 
 abbrev pub decreases-loop-e : goal.decreases-loop-e
 decreases-loop-e l = l.end - l.e

@@ -9,23 +9,23 @@ use Rattle.rbf_reach.proofs.walk.Search.visit.Goals as goal
 use Rattle.rbf_reach.proofs.walk.Search.visit.Goals.{In_ok-list_positions}
 
 -- the ranges that are listed
-runs_of : (c : In_ok-list_positions) (ranges : List (ℕ × ℕ)) → ranges ≡ c.list_positions.new.ranges.items → ArePositions (geometry_of c.args.ident.now) (sector c.args.image.now) (listed c.args.image.now c.args.ident.now c.args.dir.now.number) ranges
+runs_of : (c : In_ok-list_positions) (ranges : List (ℕ × ℕ)) → ranges ≡ c.list_positions.new.ranges.items → ArePositions (geometry_of c.args.image.now.ident) (sector c.args.image.now.bytes.now) (listed c.args.image.now c.args.dir.now.number) ranges
 runs_of c ranges is =
-    positions_are c.args.image.now c.args.ident.now c.args.dir.now c.requires.ident c.requires.directory c.list_positions.new.ranges.items c.in_ok-list_positions.ensures.positions c.in_ok-list_positions.ensures.some ranges is
+    positions_are c.args.image.now c.args.dir.now c.requires.directory c.list_positions.new.ranges.items c.in_ok-list_positions.ensures.positions c.in_ok-list_positions.ensures.some ranges is
 
 pub loop-first-init : goal.loop-first-init
 loop-first-init c =
-    (c.requires.searching, visited_none (geometry_of c.args.ident.now) (listed c.args.image.now c.args.ident.now c.args.dir.now.number) c.args.self.now.found.items, refl)
+    (c.requires.searching, visited_none (geometry_of c.args.image.now.ident) (listed c.args.image.now c.args.dir.now.number) c.args.self.now.found.items, refl)
 
 pub overflow_add-first : goal.overflow_add-first
 overflow_add-first c =
     let ranges = runs_of (goal.at.overflow_add-first c).In_ok-list_positions c.deref-first-items.result.now c.deref-first-items.ensures.value in
-    omega (arith, ranges.within c.loop-first.first-index (0, 0) (omega arith), c.min-passed.ensures, (header_of c.args.image.now c.args.ident.now c.requires.ident).most)
+    omega (arith, ranges.within c.loop-first.first-index (0, 0) (omega arith), c.min-passed.ensures, (header_of c.args.image.now).most)
 
 pub overflow_add-first-in-loop-first : goal.overflow_add-first-in-loop-first
 overflow_add-first-in-loop-first c =
     let ranges = runs_of (goal.at.overflow_add-first-in-loop-first c).In_ok-list_positions c.deref-first-items.result.now c.deref-first-items.ensures.value in
-    omega (arith, ranges.within c.loop-first.first-index (0, 0) (omega arith), (header_of c.args.image.now c.args.ident.now c.requires.ident).most)
+    omega (arith, ranges.within c.loop-first.first-index (0, 0) (omega arith), (header_of c.args.image.now).most)
 
 pub read_range-requires-clause-within : goal.read_range-requires-clause-within
 read_range-requires-clause-within c =
@@ -33,9 +33,9 @@ read_range-requires-clause-within c =
 
 pub loop-first-preserved : goal.loop-first-preserved
 loop-first-preserved c =
-    let g = geometry_of c.args.ident.now in
-    let disk = sector c.args.image.now in
-    let contents = listed c.args.image.now c.args.ident.now c.args.dir.now.number in
+    let g = geometry_of c.args.image.now.ident in
+    let disk = sector c.args.image.now.bytes.now in
+    let contents = listed c.args.image.now c.args.dir.now.number in
     let items = c.deref-first-items.result.now in
     let i = c.loop-first.first-index in
     let positions = runs_of (goal.at.loop-first-preserved c).In_ok-list_positions c.deref-first-items.result.now c.deref-first-items.ensures.value in
@@ -48,4 +48,4 @@ loop-first-preserved c =
 pub returns-clause-visited : goal.returns-clause-visited
 returns-clause-visited c =
     let positions = runs_of (goal.at.returns-clause-visited c).In_ok-list_positions c.deref-first-items.result.now c.deref-first-items.ensures.value in
-    visited_all (geometry_of c.args.ident.now) (sector c.args.image.now) (listed c.args.image.now c.args.ident.now c.args.dir.now.number) c.deref-first-items.result.now positions c.args.self.now.found.items c.loop-first.self.found.items c.loop-first.first-index (omega arith) c.loop-first.invariant.1
+    visited_all (geometry_of c.args.image.now.ident) (sector c.args.image.now.bytes.now) (listed c.args.image.now c.args.dir.now.number) c.deref-first-items.result.now positions c.args.self.now.found.items c.loop-first.self.found.items c.loop-first.first-index (omega arith) c.loop-first.invariant.1

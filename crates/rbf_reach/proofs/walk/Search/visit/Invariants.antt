@@ -10,6 +10,6 @@ use Rattle.rbf_reach.proofs.walk.Search.visit.Given as goal
 
 abbrev pub invariant-loop-first : goal.invariant-loop-first
 invariant-loop-first l =
-    IsSearching (disk_of (geometry_of l.ident) (sector l.image)) l.self
-    × IsVisitedTo (geometry_of l.ident) (listed l.image l.ident l.dir.number) l.fn.self.found.items l.self.found.items (length (positions_in (take l.first-index l.first-items)))
+    IsSearching (disk_of (geometry_of l.image.ident) (sector l.image.bytes.now)) l.self
+    × IsVisitedTo (geometry_of l.image.ident) (listed l.image l.dir.number) l.fn.self.found.items l.self.found.items (length (positions_in (take l.first-index l.first-items)))
     × (l.skipped ≡ 2 - length (positions_in (take l.first-index l.first-items)))

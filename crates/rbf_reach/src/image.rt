@@ -1,0 +1,12 @@
+ghost use Rattle.rbf_reach.specs.Identified.{IsIdent};
+
+use rbf_sector::Ident;
+
+/// An image that holds the volume of which its identification sector speaks, with what that sector
+/// says.
+#[derive(Clone, Copy, Debug)]
+pub struct IdentifiedImage<'a> {
+    pub bytes: &'a [u8],
+    pub ident: Ident,
+    pub ghost identified: { IsIdent bytes.now ident },
+}
