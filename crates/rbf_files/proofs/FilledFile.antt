@@ -32,10 +32,10 @@ abbrev pub with_contents : DiskFile → List ℕ → DiskFile
 with_contents file contents = record file { contents = contents }
 
 -- files of which one has been put in place
-put_here : (files : ℕ → Option DiskFile) (n : ℕ) (o : Option DiskFile) → put_file files n o n ≡ o
+pub put_here : (files : ℕ → Option DiskFile) (n : ℕ) (o : Option DiskFile) → put_file files n o n ≡ o
 put_here files n o = ap (λ t. if t then o else files n) (eq-eqb n n refl)
 
-put_twice : (files : ℕ → Option DiskFile) (n : ℕ) (one other : Option DiskFile) → put_file (put_file files n one) n other ≡ put_file files n other
+pub put_twice : (files : ℕ → Option DiskFile) (n : ℕ) (one other : Option DiskFile) → put_file (put_file files n one) n other ≡ put_file files n other
 put_twice files n one other = fun_ext (λ m. twice (m == n) (files m))
   where
     twice : (t : Bool) (o : Option DiskFile) → (if t then other else (if t then one else o)) ≡ (if t then other else o)

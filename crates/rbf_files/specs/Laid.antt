@@ -1,5 +1,5 @@
 -- Bytes that are laid over those of a file, sector by sector.
-use Rattle.std.specs.Prelude.{◌≡◌, ℕ, ◌+◌, ◌-◌, ◌*◌, ◌/◌, ◌<◌, ◌≤◌, nat_le, nat_lt, min, true, false, Option, Some, List, ◌++◌, length, take, drop, replicate, slice_index, if◌then◌else◌}
+use Rattle.std.specs.Prelude.{◌≡◌, ℕ, ◌+◌, ◌-◌, ◌*◌, ◌/◌, ◌^◌, ◌<◌, ◌≤◌, nat_le, nat_lt, min, true, false, Option, Some, Result, OnOk, OnErr, List, ◌++◌, length, take, drop, replicate, slice_index, if◌then◌else◌}
 use Rattle.os9_outer.specs.Drive.{sector_at, with_sector}
 use Rattle.rbf_model.specs.Geometry.{sector, map_sectors}
 use Rattle.rbf_model.specs.Segments.{sectors_of, has, AreDistinct}
@@ -8,6 +8,7 @@ use Rattle.rbf_model.specs.Volume.{DiskVolume, Vol}
 use Rattle.rbf_model.specs.Writes.{put_at, with_file_in_place}
 use Rattle.rbf_change.specs.Calls.{shape, cluster_size}
 use Rattle.rbf_access.specs.Mounted.{Represents}
+use Rattle.rbf_access.specs.declared.faults.FileFault.{FileFault}
 
 -- the byte in a place of a file, where bytes are laid over it from another place on, and zeros from its size up to that
 abbrev pub laid_byte : ℕ → ℕ → List ℕ → ℕ → ℕ → ℕ
@@ -72,3 +73,23 @@ pub record IsPartLaid (u : DiskVolume) (n : ℕ) (file : DiskFile) (segments : L
   pub laid : IsLaid u n file segments old new
       (laid_front (laid_bytes (segment_bytes (sector_at old) segments) size at from)
       (segment_bytes (sector_at old) segments) place)
+
+-- bytes that may be laid over those of a file on the media, from a place on
+pub record MayLay (media : Option (List ℕ)) (segments : List (ℕ × ℕ)) (size at : ℕ) (from : List ℕ) : Type 0 where
+  -- the segments are those of such a file
+  pub held : HasData media segments size
+  -- they have room for all bytes
+  pub room : at + length from ≤ 256 * length (sectors_of segments)
+  -- there is a byte to write
+  pub some : min size at < at + length from
+  -- the places are numbers of 32 bits
+  pub fits : at + length from < 2 ^ 32
+
+-- what a call that lays them answers, and what is in the sectors then
+pub record Fills (u : DiskVolume) (n : ℕ) (file : DiskFile) (segments : List (ℕ × ℕ)) (size at : ℕ) (from : List ℕ)
+    (old new : Option (List ℕ)) (result : Result (Unit {0}) FileFault) : Type 0 where
+  -- all of them have been laid
+  pub laid : OnOk result
+      (IsLaid u n file segments old new (laid_bytes (segment_bytes (sector_at old) segments) size at from))
+  -- or those of the sectors before some place
+  pub part : OnErr result (IsPartLaid u n file segments old new size at from)

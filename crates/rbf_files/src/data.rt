@@ -7,7 +7,7 @@ ghost use Rattle.rbf_change.specs.Contents.{sector_span};
 ghost use Rattle.rbf_access.specs.Drive.{Counts};
 ghost use Rattle.rbf_access.specs.Faults.{file_fault};
 ghost use Rattle.rbf_access.specs.Mounted.{IsMounted, Represents, kept};
-ghost use Rattle.rbf_files.specs.Laid.{HasData, IsDataOf, IsLaid, IsPartLaid, LaysSector, laid_byte, laid_bytes};
+ghost use Rattle.rbf_files.specs.Laid.{MayLay, IsDataOf, Fills, LaysSector, laid_byte};
 
 use os9_outer::drive::BlockDriver;
 use rbf_access::{FileFault, Volume};
@@ -29,17 +29,10 @@ pub fn fill(
     from: &[u8],
 ) -> Result<(), FileFault>
     requires mounted { IsMounted volume.old (media d.old) }
-    requires data { HasData (media d.old) segs.now size }
-    requires room { at + length from.now ≤ 256 * length (sectors_of segs.now) }
-    requires some { min size at < at + length from.now }
-    requires fits { at + length from.now < 2 ^ 32 }
-    ensures laid { (u : DiskVolume) (n : ℕ) (file : DiskFile) → Represents (media d.old) u
-        → IsDataOf u n file segs.now size → OnOk result
-        (IsLaid u n file segs.now (media d.old) (media d.new) (laid_bytes
-        (segment_bytes (sector_at (media d.old)) segs.now) size at from.now)) }
-    ensures part { (u : DiskVolume) (n : ℕ) (file : DiskFile) → Represents (media d.old) u
-        → IsDataOf u n file segs.now size → OnErr result
-        (IsPartLaid u n file segs.now (media d.old) (media d.new) size at from.now) }
+    requires may { MayLay (media d.old) segs.now size at from.now }
+    ensures fills { (u : DiskVolume) (n : ℕ) (file : DiskFile) → Represents (media d.old) u
+        → IsDataOf u n file segs.now size
+        → Fills u n file segs.now size at from.now (media d.old) (media d.new) result }
     ensures device { OnErr result (IsSome (file_fault result)) }
     ensures mounted { IsMounted volume.new (media d.new) }
     ensures volume_kept { kept volume.new ≡ kept volume.old }

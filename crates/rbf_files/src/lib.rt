@@ -3,6 +3,7 @@
 
 pub use attributes::set_fd_attr;
 pub use data::fill;
+pub use descriptor::{minute, with_descriptor};
 
 mod attributes;
 mod data;

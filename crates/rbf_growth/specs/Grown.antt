@@ -1,14 +1,18 @@
 -- A file's clusters that have been taken on the media.
-use Rattle.std.specs.Prelude.{◌≡◌, ℕ, ◌≤◌, ◌||◌, Bool, false, List, length, Option, Some}
+use Rattle.std.specs.Prelude.{◌≡◌, ◌↔◌, ℕ, ◌<◌, ◌≤◌, ◌||◌, Bool, false, List, length, Option, Some, Result, IfOk, IfSome, IsErrOf}
 use Rattle.rbf_model.specs.Geometry.{image_geometry, sector}
 use Rattle.rbf_model.specs.Segments.{has}
 use Rattle.rbf_model.specs.Volume.{DiskVolume, Vol}
 use Rattle.rbf_model.specs.Writes.{with_lost}
 use Rattle.rbf_model.specs.Laws.{IsMapSector}
 use Rattle.rbf_change.specs.Growth.{with_clusters, Gains}
-use Rattle.rbf_change.specs.Calls.{cluster_size, is_free_in}
+use Rattle.rbf_change.specs.Calls.{cluster_size, free_total, is_free_in}
 use Rattle.rbf_change.specs.Faults.{MayLose}
 use Rattle.rbf_change.specs.Tidy.{KeepsMapEnd}
+use Rattle.rbf_access.specs.Faults.{file_fault}
+use Rattle.rbf_access.specs.declared.faults.FileFault.{FileFault}
+use Rattle.rbf_access.specs.declared.faults.FileFault.TheVariants as fault
+use Rattle.rbf_growth.specs.Gained.{IsTooMany}
 
 -- no sector has changed but those of the map, and no mark past the clusters
 pub record ChangesMap (old now : List ℕ) : Type 0 where
@@ -45,3 +49,15 @@ pub record GrowthEnds (v : DiskVolume) (count : ℕ) (old new : Option (List ℕ
   pub vol : Vol now left
   pub lose : MayLose v left (has taken)
   pub changes : ChangesMap image now
+
+-- what a growth by so many clusters answers, in the volume that the media represents before
+pub record Grows (v : DiskVolume) (count : ℕ) (before : List (ℕ × ℕ)) (old new : Option (List ℕ))
+    (result : Result (List (ℕ × ℕ)) FileFault) : Type 0 where
+  -- the answer is the segments with the clusters behind them, which are lost now
+  pub grown : IfOk result (IsGrown v count old new before)
+  -- too few clusters are free
+  pub full : IsErrOf result fault.NoCluster ↔ (free_total v < count)
+  -- one that is chosen does not fit the list
+  pub runs : IsErrOf result fault.TooManyRuns → IsTooMany (cluster_size v) count (is_free_in v) before
+  -- a write of the drive has failed
+  pub ends : IfSome (file_fault result) (λ _. GrowthEnds v count old new before)

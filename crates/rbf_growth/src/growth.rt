@@ -5,8 +5,7 @@ ghost use Rattle.rbf_change.specs.Growth.{uses};
 ghost use Rattle.rbf_access.specs.Drive.{Counts};
 ghost use Rattle.rbf_access.specs.Faults.{file_fault};
 ghost use Rattle.rbf_access.specs.Mounted.{IsMounted, Represents};
-ghost use Rattle.rbf_growth.specs.Gained.{IsTooMany};
-ghost use Rattle.rbf_growth.specs.Grown.{IsGrown, GrowthEnds};
+ghost use Rattle.rbf_growth.specs.Grown.{Grows};
 
 use crate::marks::write_marks;
 use crate::returned::give_back;
@@ -35,17 +34,9 @@ pub fn grow(
     requires few { length segs.now ≤ 48 }
     requires apart { (v : DiskVolume) → Represents (media d.old) v → (c : ℕ)
         → uses (cluster_size v) segs.now c ≡ true → is_free_in v c ≡ false }
-    ensures ok { (v : DiskVolume) → Represents (media d.old) v
-        → IfOk result (IsGrown v count (media d.old) (media d.new) segs.now) }
-    ensures full { (v : DiskVolume) → Represents (media d.old) v
-        → IsErrOf result FileFault.NoCluster ↔ (free_total v < count) }
-    ensures runs { (v : DiskVolume) → Represents (media d.old) v
-        → IsErrOf result FileFault.TooManyRuns
-        → IsTooMany (cluster_size v) count (is_free_in v) segs.now }
+    ensures grows { (v : DiskVolume) → Represents (media d.old) v
+        → Grows v count segs.now (media d.old) (media d.new) result }
     ensures refused { OnErr result (IsNone (file_fault result) → media d.new ≡ media d.old) }
-    ensures fault { (v : DiskVolume) → Represents (media d.old) v
-        → IfSome (file_fault result)
-        (λ _. GrowthEnds v count (media d.old) (media d.new) segs.now) }
     ensures mounted { IsMounted volume.new (media d.new) }
     ensures counts { Counts ⟦<dyn BlockDriver as BlockDriver>⟧
         (file_fault result) count d.old d.new }

@@ -1,4 +1,4 @@
-use Rattle.std.proofs.Common.{◌≡◌, false, refl, ap, sym, subst, arith}
+use Rattle.std.proofs.Common.{◌≡◌, false, refl, ap, sym, subst, arith, rules}
 use Rattle.std.proofs.lemmas.Bool.{both_ways}
 use Rattle.std.proofs.lemmas.Result.{err_from_is_err_and}
 use Rattle.rbf_change.specs.Agrees.{KeptVolume}
@@ -18,17 +18,16 @@ pub gain-requires-clause-apart : goal.gain-requires-clause-apart
 gain-requires-clause-apart g c =
     let m = c.requires.mounted in apart_is c.args.volume.now m.on.image m.content m.on.vol m.agrees c.args.segs.now (c.requires.apart m.content m.on)
 
-pub returns-in_err-longer-clause-full : goal.returns-in_err-longer-clause-full
-returns-in_err-longer-clause-full g c v on =
+pub returns-in_err-longer-clause-grows : goal.returns-in_err-longer-clause-grows
+returns-in_err-longer-clause-grows g c v on =
     let p = err_from_is_err_and c.from_residual.result c.from_residual.ensures.1 in
     rw (p.1, p.2)
-    (full_is _ _ _ c.args.count c.in_err-longer.ensures.full (free_total_is c.args.volume.now on.image v (agrees_on _ _ v c.requires.mounted on) on.vol))
-
-pub returns-in_err-longer-clause-runs : goal.returns-in_err-longer-clause-runs
-returns-in_err-longer-clause-runs g c v on is =
-    let p = err_from_is_err_and c.from_residual.result c.from_residual.ensures.1 in
-    too_many_is c.args.volume.now on.image v on.vol (agrees_on _ _ v c.requires.mounted on) c.args.count c.args.segs.now
-    (c.in_err-longer.ensures.runs (rw (p.1, p.2) at is))
+    record {
+      grown = search rules;
+      full = full_is _ _ _ c.args.count c.in_err-longer.ensures.full (free_total_is c.args.volume.now on.image v (agrees_on _ _ v c.requires.mounted on) on.vol);
+      runs = λ is. too_many_is c.args.volume.now on.image v on.vol (agrees_on _ _ v c.requires.mounted on) c.args.count c.args.segs.now (c.in_err-longer.ensures.runs is);
+      ends = search rules;
+    }
 
 pub returns-in_err-longer-clause-mounted : goal.returns-in_err-longer-clause-mounted
 returns-in_err-longer-clause-mounted g c = mounted_same c.args.volume.now _ c.gain.new.map _ c.requires.mounted c.in_err-longer.ensures.back refl
@@ -65,18 +64,19 @@ give_back-requires-clause-places g c =
     (places_gained c.args.volume.now.ident.cluster c.args.count c.args.volume.now.map c.gain.new.map c.args.segs.now c.in_ok-longer.longer c.in_ok-longer.ensures.ok sizes.some sizes.sectors
     (enough_free _ _ _ _ c.in_ok-longer.ensures.full) c.sectors-first.result c.sectors-first.ensures.count c.sectors-first.ensures.few)
 
-pub returns-in-Ok-clause-ok : goal.returns-in-Ok-clause-ok
-returns-in-Ok-clause-ok g c v on =
+pub returns-in-Ok-clause-grows : goal.returns-in-Ok-clause-grows
+returns-in-Ok-clause-grows g c v on =
     let agrees = agrees_on c.args.volume.now _ v c.requires.mounted on in
     let sizes = sizes_are c.args.volume.now on.image v on.vol agrees in
     let those = those_gained c.args.volume.now.ident.cluster c.args.count c.args.volume.now.map c.gain.new.map c.args.segs.now c.in_ok-longer.longer c.in_ok-longer.ensures.ok sizes.some c.sectors-first.result c.sectors-first.ensures.count in
-    grown c.args.volume.now on.image v on.vol agrees c.gain.new.map c.args.count c.args.segs.now c.in_ok-longer.longer c.in_ok-longer.ensures.ok _ _ on.is c.write_marks.new.written
-    (c.in-Ok.ensures.on v on.image (marked_fresh c.args.volume.now on.image v on.vol agrees c.gain.new.map c.args.count c.args.segs.now c.in_ok-longer.longer c.in_ok-longer.ensures.ok _ on.is))
-    (subst (λ xs. AllWritten xs c.write_marks.new.written) those c.in-Ok.ensures.all)
-
-pub returns-in-Ok-clause-full : goal.returns-in-Ok-clause-full
-returns-in-Ok-clause-full g c v on =
-    full_is _ _ _ c.args.count c.in_ok-longer.ensures.full (free_total_is c.args.volume.now on.image v (agrees_on _ _ v c.requires.mounted on) on.vol)
+    record {
+      grown = grown c.args.volume.now on.image v on.vol agrees c.gain.new.map c.args.count c.args.segs.now c.in_ok-longer.longer c.in_ok-longer.ensures.ok _ _ on.is c.write_marks.new.written
+          (c.in-Ok.ensures.on v on.image (marked_fresh c.args.volume.now on.image v on.vol agrees c.gain.new.map c.args.count c.args.segs.now c.in_ok-longer.longer c.in_ok-longer.ensures.ok _ on.is))
+          (subst (λ xs. AllWritten xs c.write_marks.new.written) those c.in-Ok.ensures.all);
+      full = full_is _ _ _ c.args.count c.in_ok-longer.ensures.full (free_total_is c.args.volume.now on.image v agrees on.vol);
+      runs = search rules;
+      ends = search rules;
+    }
 
 pub returns-in-Ok-clause-mounted : goal.returns-in-Ok-clause-mounted
 returns-in-Ok-clause-mounted g c =
@@ -89,20 +89,23 @@ returns-in-Ok-clause-mounted g c =
     (subst (λ xs. AllWritten xs c.write_marks.new.written) those c.in-Ok.ensures.all))
     c.in-Ok.ensures.volume_kept
 
-pub returns-in-Err-clause-full : goal.returns-in-Err-clause-full
-returns-in-Err-clause-full g c v on =
-    let total = free_total_is c.args.volume.now on.image v (agrees_on _ _ v c.requires.mounted on) on.vol in
-    let enough = enough_free _ _ _ _ c.in_ok-longer.ensures.full in (
-      λ is. let same : c.in-Err.fault ≡ file.NoCluster = cc is in absurd (both_ways false refl (rw same at c.in-Err.ensures.device)),
-      λ low. absurd (omega (arith, total, enough, low)),
-    )
-
-pub returns-in-Err-clause-fault : goal.returns-in-Err-clause-fault
-returns-in-Err-clause-fault g c v on =
+pub returns-in-Err-clause-grows : goal.returns-in-Err-clause-grows
+returns-in-Err-clause-grows g c v on =
     let agrees = agrees_on c.args.volume.now _ v c.requires.mounted on in
-    if_some _ _
-    (ended c.args.volume.now on.image v on.vol agrees c.gain.new.map c.args.count c.args.segs.now c.in_ok-longer.longer c.in_ok-longer.ensures.ok _ _ on.is c.write_marks.new.written
-    (c.in-Err.ensures.on v on.image (marked_fresh c.args.volume.now on.image v on.vol agrees c.gain.new.map c.args.count c.args.segs.now c.in_ok-longer.longer c.in_ok-longer.ensures.ok _ on.is)))
+    let total = free_total_is c.args.volume.now on.image v agrees on.vol in
+    let enough = enough_free _ _ _ _ c.in_ok-longer.ensures.full in
+    record {
+      grown = search rules;
+      full = (
+        λ is. let same : c.in-Err.fault ≡ file.NoCluster = cc is in absurd (both_ways false refl (rw same at c.in-Err.ensures.device)),
+        λ low. absurd (omega (arith, total, enough, low)),
+      );
+      runs = λ is. let same : c.in-Err.fault ≡ file.TooManyRuns = cc is in absurd (both_ways false refl (rw same at c.in-Err.ensures.device));
+      ends =
+          if_some _ _
+          (ended c.args.volume.now on.image v on.vol agrees c.gain.new.map c.args.count c.args.segs.now c.in_ok-longer.longer c.in_ok-longer.ensures.ok _ _ on.is c.write_marks.new.written
+          (c.in-Err.ensures.on v on.image (marked_fresh c.args.volume.now on.image v on.vol agrees c.gain.new.map c.args.count c.args.segs.now c.in_ok-longer.longer c.in_ok-longer.ensures.ok _ on.is)));
+    }
 
 pub returns-in-Err-clause-mounted : goal.returns-in-Err-clause-mounted
 returns-in-Err-clause-mounted g c =
