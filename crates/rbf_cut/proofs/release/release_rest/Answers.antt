@@ -1,0 +1,51 @@
+use Rattle.std.proofs.Common.{◌≡◌, ◌+◌, ◌<◌, ap, sym, subst, ◌∙◌, refl, arith}
+use Rattle.std.proofs.lemmas.Result.{err_from_is_err_and}
+use Rattle.rbf_model.specs.Geometry.{Geometry, map_sectors}
+use Rattle.rbf_access.specs.Mounted.{kept}
+use Rattle.rbf_access.proofs.Counting.{counts_then, counts_most}
+use Rattle.rbf_drop.specs.Cleared.{MayGoOn, IsStopped, ClearsNext}
+use Rattle.rbf_cut.specs.Rest.{in_rest}
+use Rattle.rbf_cut.proofs.Released.{release_begins, release_more, release_goes_on, release_done, release_ends, on_err, go_as, stopped_as, next_as}
+use Rattle.rbf_cut.proofs.release.release_rest.Goals as goal
+
+pub loop-place-init : goal.loop-place-init
+loop-place-init g c = release_begins _ (kept c.args.volume.now) _ _
+
+pub release_in-requires : goal.release_in-requires
+release_in-requires g c =
+    let may = c.requires in
+    let is = may.is in
+    let same = ap (λ (h : Geometry). h.cluster) c.loop-place.invariant.sizes in
+    let low : c.loop-place.place < map_sectors (kept c.args.volume.now).sizes = omega arith in
+    go_as c.args.volume.now.ident.cluster c.loop-place.volume.ident.cluster c.args.cut.now c.loop-place.place _ (kept c.loop-place.volume) same
+    (release_goes_on _ c.loop-place.place (kept c.args.volume.now) (kept c.loop-place.volume) _ _ _ _ c.loop-place.invariant may.volume may.old is.is is.vol is.agrees is.may low)
+
+pub returns-in_err-release_in-clause-fault : goal.returns-in_err-release_in-clause-fault
+returns-in_err-release_in-clause-fault g c v old is =
+    let same = ap (λ (h : Geometry). h.cluster) c.loop-place.invariant.sizes in
+    on_err _ _
+    (release_ends _ c.loop-place.place (kept c.args.volume.now) (kept c.loop-place.volume) _ _ _ _ c.loop-place.invariant v old is.is is.vol is.agrees is.may _ (kept c.release_in.new.volume)
+    (stopped_as c.args.volume.now.ident.cluster c.loop-place.volume.ident.cluster c.args.cut.now c.loop-place.place _ _ (kept c.loop-place.volume) (kept c.release_in.new.volume) same c.in_err-release_in.ensures.fault))
+
+pub returns-in_err-release_in-clause-counts : goal.returns-in_err-release_in-clause-counts
+returns-in_err-release_in-clause-counts g c =
+    let p = err_from_is_err_and c.from_residual.result c.from_residual.ensures.1 in
+    let low : c.loop-place.place < map_sectors (kept c.args.volume.now).sizes = omega arith in
+    rw (p.1, p.2) (counts_most _ (c.loop-place.place + 1) _ _ _ (omega arith) (counts_then _ c.loop-place.place 1 _ _ _ c.loop-place.invariant.moved c.in_err-release_in.ensures.counts))
+
+pub loop-place-preserved : goal.loop-place-preserved
+loop-place-preserved g c =
+    let same = ap (λ (h : Geometry). h.cluster) c.loop-place.invariant.sizes in
+    let low : c.loop-place.place < map_sectors (kept c.args.volume.now).sizes = omega arith in
+    release_more _ c.loop-place.place (kept c.args.volume.now) (kept c.loop-place.volume) _ _ _ _ c.loop-place.invariant _ (kept c.release_in.new.volume) _ low
+    (next_as c.args.volume.now.ident.cluster c.loop-place.volume.ident.cluster c.args.cut.now c.loop-place.place _ _ (kept c.loop-place.volume) (kept c.release_in.new.volume) same c.in_ok-release_in.ensures.ok)
+    c.in_ok-release_in.ensures.sizes c.in_ok-release_in.ensures.counts
+
+pub returns-clause-ok : goal.returns-clause-ok
+returns-clause-ok g c v old is =
+    let end : c.loop-place.place ≡ map_sectors (kept c.args.volume.now).sizes = omega arith in
+    release_done _ c.loop-place.place (kept c.args.volume.now) (kept c.loop-place.volume) _ _ _ _ c.loop-place.invariant v old is.is is.vol is.agrees is.may end
+
+pub returns-clause-counts : goal.returns-clause-counts
+returns-clause-counts g c =
+    counts_most _ c.loop-place.place _ _ _ (omega arith) c.loop-place.invariant.moved

@@ -1,0 +1,57 @@
+-- A loaded file that is cut or made longer: what is said of it where its descriptor has been read is said of it before.
+use Rattle.std.proofs.Common.{◌≡◌, ℕ, ◌+◌, ◌<◌, max, false, Option, Some, None, Result, List, [], length, sym, ap, ◌∙◌, subst, arith}
+use Rattle.std.specs.Prelude.{if◌then◌else◌, nat_lt}
+use Rattle.std.proofs.lemmas.Bool.{cond-true, cond-false, false_from_ne_true, ltb-true, lt-ltb}
+use Rattle.os9_base.specs.declared.registers.TimePacket.{TimePacket}
+use Rattle.rbf_model.specs.Geometry.{map_sectors}
+use Rattle.rbf_model.specs.File.{DiskFile}
+use Rattle.rbf_model.specs.Volume.{DiskVolume}
+use Rattle.rbf_change.specs.Agrees.{KeptVolume}
+use Rattle.rbf_change.specs.Calls.{shape}
+use Rattle.rbf_change.proofs.LawfulWrites.{shape-image}
+use Rattle.rbf_access.specs.declared.volume.Volume.{Volume}
+use Rattle.rbf_access.specs.declared.faults.FileFault.{FileFault}
+use Rattle.rbf_access.specs.Drive.{DriveCounts, MovesCounts}
+use Rattle.rbf_access.specs.Mounted.{kept, Represents, IsMounted}
+use Rattle.rbf_access.proofs.Counting.{counts_then}
+use Rattle.rbf_growth.proofs.Growing.{agrees_on}
+use Rattle.rbf_write.specs.Laying.{AnswersLaying}
+use Rattle.rbf_write.specs.Outcomes.{laying_calls}
+use Rattle.rbf_write.specs.Sizes.{AnswersSize, size_calls}
+use Rattle.rbf_write.proofs.Sized.{sized_answers, sized_calls}
+
+module _ (before mid : Option (List ℕ)) (n m size : ℕ) (now : TimePacket) (same : mid ≡ before) (number : m ≡ n) (v : DiskVolume) (file : DiskFile) (on : Represents before v) (is : v.files n ≡ Some file) where
+  pub cut_answers : (after : Option (List ℕ)) (result : Result (Unit {0}) FileFault)
+      → ((w : DiskVolume) (f : DiskFile) → Represents mid w → w.files m ≡ Some f → AnswersSize w f (record { number = m; size = size; now = now }) mid after result)
+      → AnswersSize v file (record { number = n; size = size; now = now }) before after result
+  cut_answers after result answers =
+      let there : v.files m ≡ Some file = subst (λ i. v.files i ≡ Some file) (sym number) is in
+      let cut = answers v file (record { image = on.image; is = same ∙ on.is; vol = on.vol }) there in
+      subst (λ i. AnswersSize v file (record { number = i; size = size; now = now }) before after result) number
+      (subst (λ b. AnswersSize v file (record { number = m; size = size; now = now }) b after result) same cut)
+
+  pub cut_counts : (f : Option ℕ) (s t u : DriveCounts) (volume half : Volume) → IsMounted volume before → kept half ≡ kept volume → size < length file.contents → MovesCounts None 1 s t
+      → MovesCounts f (1 + map_sectors (kept half).sizes) t u → MovesCounts f (size_calls v file size) s u
+  cut_counts f s t u volume half mounted volume_kept shorter one calls =
+      let sectors : map_sectors (kept half).sizes ≡ map_sectors (shape v) =
+      ap (λ (kv : KeptVolume). map_sectors kv.sizes) volume_kept ∙ ap map_sectors ((agrees_on volume before v mounted on).sizes_are ∙ sym (shape-image on.image v on.vol)) in
+      let long : nat_lt (length file.contents) size ≡ false = false_from_ne_true (nat_lt (length file.contents) size) (λ h. let low = ltb-true (length file.contents) size h in absurd (omega arith)) in
+      let all : size_calls v file size ≡ 2 + map_sectors (shape v) =
+      cond-false (nat_lt (length file.contents) size) (1 + laying_calls v file size size) (if nat_lt size (length file.contents) then 2 + map_sectors (shape v) else 1) long
+      ∙ cond-true (nat_lt size (length file.contents)) (2 + map_sectors (shape v)) 1 (lt-ltb size (length file.contents) shorter) in
+      let plain : 1 + (1 + map_sectors (kept half).sizes) ≡ 2 + map_sectors (shape v) = let same_map = sectors in omega arith in
+      subst (λ c. MovesCounts f c s u) (plain ∙ sym all) (counts_then f 1 (1 + map_sectors (kept half).sizes) s t u one calls)
+
+  pub longer_answers : (after : Option (List ℕ)) (result : Result (Unit {0}) FileFault) → length file.contents < size
+      → ((w : DiskVolume) (f : DiskFile) → Represents mid w → w.files m ≡ Some f → AnswersLaying w f (record { number = m; at = size; bytes = []; now = now }) mid after result)
+      → AnswersSize v file (record { number = n; size = size; now = now }) before after result
+  longer_answers after result longer answers =
+      let most : max size (length file.contents) ≡ size = omega arith in
+      subst (λ s. AnswersSize v file (record { number = n; size = s; now = now }) before after result) most
+      (sized_answers before mid n m size now same number after result v file on is longer answers)
+
+  pub longer_counts : (f : Option ℕ) (s t u : DriveCounts) → length file.contents < size → MovesCounts None 1 s t
+      → ((w : DiskVolume) (g : DiskFile) → Represents mid w → w.files m ≡ Some g → MovesCounts f (laying_calls w g size (size + 0)) t u) → MovesCounts f (size_calls v file size) s u
+  longer_counts f s t u longer one calls =
+      let most : max size (length file.contents) ≡ size = omega arith in
+      subst (λ z. MovesCounts f (size_calls v file z) s u) most (sized_calls before mid n m size now same number f s t u v file on is longer one calls)

@@ -1,0 +1,78 @@
+use Rattle.std.proofs.Common.{ap, refl, arith}
+use Rattle.std.proofs.lemmas.Result.{err_from_is_err_and}
+use Rattle.rbf_model.specs.Geometry.{map_sectors}
+use Rattle.rbf_change.specs.Agrees.{KeptVolume}
+use Rattle.rbf_access.specs.Mounted.{kept}
+use Rattle.rbf_access.proofs.Counting.{counts_most}
+use Rattle.rbf_access.proofs.Reading.{number_on, mounted_still}
+use Rattle.rbf_write.proofs.Sized.{unread_ends}
+use Rattle.rbf_write.proofs.Steps.{has_file}
+use Rattle.rbf_size.proofs.CutAnswers.{cut_room, cut_same, cut_calls, releasing, may_release, cut_done, cut_mounted, cut_stopped, stopped_mounted}
+use Rattle.rbf_size.proofs.shorter.cut.Goals as goal
+
+pub kept_segments-segs-requires-clause-room : goal.kept_segments-segs-requires-clause-room
+kept_segments-segs-requires-clause-room g c = cut_room _ c.args.loaded.now c.args.size c.requires.loaded c.requires.file c.requires.shorter
+
+pub store_cut-requires-clause-number : goal.store_cut-requires-clause-number
+store_cut-requires-clause-number g c = number_on _ c.args.loaded.now.number (has_file _ c.args.loaded.now.number c.requires.file)
+
+pub store_cut-requires-clause-same : goal.store_cut-requires-clause-same
+store_cut-requires-clause-same g c same = cut_same _ c.args.loaded.now _ c.kept_segments-segs.result c.requires.loaded c.kept_segments-segs.ensures same
+
+pub returns-in_err-store_cut-clause-answer : goal.returns-in_err-store_cut-clause-answer
+returns-in_err-store_cut-clause-answer g c v file on is =
+    let p = err_from_is_err_and c.from_residual.result c.from_residual.ensures.1 in
+    rw (p.1, p.2) (unread_ends _ v file on _ is _ _ c.in_err-store_cut.ensures.device c.in_err-store_cut.ensures.media_kept)
+
+pub returns-in_err-store_cut-clause-mounted : goal.returns-in_err-store_cut-clause-mounted
+returns-in_err-store_cut-clause-mounted g c = mounted_still _ _ _ _ c.in_err-store_cut.ensures.volume_kept c.in_err-store_cut.ensures.media_kept c.requires.mounted
+
+pub returns-in_err-store_cut-clause-counts : goal.returns-in_err-store_cut-clause-counts
+returns-in_err-store_cut-clause-counts g c =
+    let p = err_from_is_err_and c.from_residual.result c.from_residual.ensures.1 in
+    rw (p.1, p.2) (counts_most _ 1 _ _ _ (omega arith) c.in_err-store_cut.ensures.counts)
+
+pub release_rest-requires : goal.release_rest-requires
+release_rest-requires g c =
+    may_release _ _ c.args.loaded.now c.args.size c.args.now c.requires.loaded c.requires.file c.args.volume.now c.store_cut.new.volume c.requires.mounted c.in_ok-store_cut.ensures.volume_kept c.requires.shorter c.kept_segments-segs.result c.kept_segments-segs.ensures c.in_ok-store_cut.ensures.stored
+    c.requires.file.content c.requires.file.file c.requires.file.on c.requires.file.is
+
+pub returns-in_err-release_rest-clause-answer : goal.returns-in_err-release_rest-clause-answer
+returns-in_err-release_rest-clause-answer g c v file on is =
+    let p = err_from_is_err_and c.from_residual-in_err-release_rest.result c.from_residual-in_err-release_rest.ensures.1 in
+    rw (p.1, p.2)
+    (cut_stopped _ _ c.args.loaded.now c.args.size c.args.now c.requires.loaded c.requires.file c.args.volume.now c.store_cut.new.volume c.requires.mounted c.in_ok-store_cut.ensures.volume_kept c.requires.shorter c.kept_segments-segs.result c.kept_segments-segs.ensures c.in_ok-store_cut.ensures.stored
+    v file on is _ _
+    (c.in_err-release_rest.ensures.fault _ _ (releasing _ _ c.args.loaded.now c.args.size c.args.now c.requires.loaded c.requires.file c.args.volume.now c.store_cut.new.volume c.requires.mounted c.in_ok-store_cut.ensures.volume_kept c.requires.shorter c.kept_segments-segs.result c.kept_segments-segs.ensures c.in_ok-store_cut.ensures.stored
+    v file on is)) _ c.in_err-release_rest.ensures.device)
+
+pub returns-in_err-release_rest-clause-mounted : goal.returns-in_err-release_rest-clause-mounted
+returns-in_err-release_rest-clause-mounted g c =
+    stopped_mounted _ _ c.args.loaded.now c.args.size c.args.now c.requires.loaded c.requires.file c.args.volume.now c.store_cut.new.volume c.requires.mounted c.in_ok-store_cut.ensures.volume_kept c.requires.shorter c.kept_segments-segs.result c.kept_segments-segs.ensures c.in_ok-store_cut.ensures.stored
+    c.requires.file.content c.requires.file.file c.requires.file.on c.requires.file.is _ _
+    (c.in_err-release_rest.ensures.fault _ _ (releasing _ _ c.args.loaded.now c.args.size c.args.now c.requires.loaded c.requires.file c.args.volume.now c.store_cut.new.volume c.requires.mounted c.in_ok-store_cut.ensures.volume_kept c.requires.shorter c.kept_segments-segs.result c.kept_segments-segs.ensures c.in_ok-store_cut.ensures.stored
+    c.requires.file.content c.requires.file.file c.requires.file.on c.requires.file.is)) c.release_rest.new.volume refl
+
+pub returns-in_err-release_rest-clause-counts : goal.returns-in_err-release_rest-clause-counts
+returns-in_err-release_rest-clause-counts g c =
+    let p = err_from_is_err_and c.from_residual-in_err-release_rest.result c.from_residual-in_err-release_rest.ensures.1 in
+    rw (p.1, p.2)
+    (cut_calls _ (map_sectors (kept c.args.volume.now).sizes) _ _ _ _ (ap (λ (kv : KeptVolume). map_sectors kv.sizes) c.in_ok-store_cut.ensures.volume_kept) c.in_ok-store_cut.ensures.counts c.in_err-release_rest.ensures.counts)
+
+pub returns-clause-answer : goal.returns-clause-answer
+returns-clause-answer g c v file on is =
+    cut_done _ _ c.args.loaded.now c.args.size c.args.now c.requires.loaded c.requires.file c.args.volume.now c.store_cut.new.volume c.requires.mounted c.in_ok-store_cut.ensures.volume_kept c.requires.shorter c.kept_segments-segs.result c.kept_segments-segs.ensures c.in_ok-store_cut.ensures.stored
+    v file on is _ _
+    (c.in_ok-release_rest.ensures.ok _ _ (releasing _ _ c.args.loaded.now c.args.size c.args.now c.requires.loaded c.requires.file c.args.volume.now c.store_cut.new.volume c.requires.mounted c.in_ok-store_cut.ensures.volume_kept c.requires.shorter c.kept_segments-segs.result c.kept_segments-segs.ensures c.in_ok-store_cut.ensures.stored
+    v file on is))
+
+pub returns-clause-mounted : goal.returns-clause-mounted
+returns-clause-mounted g c =
+    cut_mounted _ _ c.args.loaded.now c.args.size c.args.now c.requires.loaded c.requires.file c.args.volume.now c.store_cut.new.volume c.requires.mounted c.in_ok-store_cut.ensures.volume_kept c.requires.shorter c.kept_segments-segs.result c.kept_segments-segs.ensures c.in_ok-store_cut.ensures.stored
+    c.requires.file.content c.requires.file.file c.requires.file.on c.requires.file.is _ _ _
+    (c.in_ok-release_rest.ensures.ok _ _ (releasing _ _ c.args.loaded.now c.args.size c.args.now c.requires.loaded c.requires.file c.args.volume.now c.store_cut.new.volume c.requires.mounted c.in_ok-store_cut.ensures.volume_kept c.requires.shorter c.kept_segments-segs.result c.kept_segments-segs.ensures c.in_ok-store_cut.ensures.stored
+    c.requires.file.content c.requires.file.file c.requires.file.on c.requires.file.is)) c.release_rest.new.volume refl
+
+pub returns-clause-counts : goal.returns-clause-counts
+returns-clause-counts g c =
+    cut_calls _ (map_sectors (kept c.args.volume.now).sizes) _ _ _ _ (ap (λ (kv : KeptVolume). map_sectors kv.sizes) c.in_ok-store_cut.ensures.volume_kept) c.in_ok-store_cut.ensures.counts c.in_ok-release_rest.ensures.counts

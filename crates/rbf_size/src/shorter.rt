@@ -1,0 +1,94 @@
+ghost use Rattle.std.specs.Prelude.{◌≡◌, ◌+◌, ◌<◌, length, OnOk, OnErr, IsSome};
+ghost use Rattle.os9_outer.specs.Drive.{sector_count};
+ghost use Rattle.rbf_model.specs.Fields.{segments_field};
+ghost use Rattle.rbf_model.specs.Geometry.{map_sectors};
+ghost use Rattle.rbf_model.specs.Segments.{sectors_of};
+ghost use Rattle.rbf_access.specs.Drive.{Counts};
+ghost use Rattle.rbf_access.specs.Faults.{file_fault};
+ghost use Rattle.rbf_access.specs.Mounted.{IsMounted, kept};
+ghost use Rattle.rbf_write.specs.Files.{HasDataFile, IsLoaded, OnVolumeFile};
+ghost use Rattle.rbf_write.specs.Sizes.{AnswersSize};
+ghost use Rattle.rbf_size.specs.Kept.{IsStored};
+
+use crate::kept::kept_segments;
+use os9_base::registers::TimePacket;
+use os9_outer::drive::BlockDriver;
+use rbf_access::{FileFault, Volume};
+use rbf_cut::{CutSectors, release_rest};
+use rbf_drop::OwnSectors;
+use rbf_files::{minute, with_descriptor};
+use rbf_sector::Fd;
+use rbf_segs::Segs;
+use rbf_write::Loaded;
+
+/// Cuts a file that is no directory to a size: its descriptor is written with the sectors that it
+/// keeps and its new date, and then its clusters that have none of these are given back.
+///
+/// # Errors
+///
+/// `Device` if a write of the drive fails: that of the descriptor, then nothing has changed, or one
+/// of the map, then the file has been cut and some of the clusters are lost.
+pub fn cut(
+    volume: &mut Volume,
+    d: &mut dyn BlockDriver,
+    loaded: &Loaded,
+    size: u32,
+    now: TimePacket,
+) -> Result<(), FileFault>
+    requires mounted { IsMounted volume.old (media d.old) }
+    requires file { HasDataFile (media d.old) loaded.now.number }
+    requires loaded { IsLoaded (media d.old) loaded.now.number loaded.now }
+    requires shorter { size < loaded.now.file.size }
+    ensures answer { OnVolumeFile (media d.old) loaded.now.number (λ v file. AnswersSize v file
+        (record { number = loaded.now.number; size = size; now = now })
+        (media d.old) (media d.new) result) }
+    ensures mounted { IsMounted volume.new (media d.new) }
+    ensures counts { Counts ⟦<dyn BlockDriver as BlockDriver>⟧ (file_fault result)
+        (1 + map_sectors (kept volume.old).sizes) d.old d.new }
+{
+    let segs = kept_segments(volume.ident.cluster, loaded, size);
+    store_cut(volume, d, loaded, &segs, size, now)?;
+    let sectors = CutSectors {
+        old: OwnSectors {
+            fd: loaded.number,
+            segs: loaded.file.segs,
+        },
+        kept: OwnSectors {
+            fd: loaded.number,
+            segs,
+        },
+    };
+    release_rest(volume, d, &sectors)?;
+    Ok(())
+}
+
+// Writes the descriptor of a file with these segments, another size and the date of that change.
+fn store_cut(
+    volume: &mut Volume,
+    d: &mut dyn BlockDriver,
+    loaded: &Loaded,
+    segs: &Segs,
+    size: u32,
+    now: TimePacket,
+) -> Result<(), FileFault>
+    requires number { loaded.now.number < sector_count (media d.old) }
+    requires list { segments_field loaded.now.descriptor ≡ loaded.now.file.segs }
+    requires same { length (sectors_of segs.now) ≡ length (sectors_of loaded.now.file.segs)
+        → segs.now ≡ loaded.now.file.segs }
+    ensures stored { OnOk result
+        (IsStored loaded.now segs.now size now (media d.old) (media d.new)) }
+    ensures media_kept { OnErr result (media d.new ≡ media d.old) }
+    ensures device { OnErr result (IsSome (file_fault result)) }
+    ensures volume_kept { kept volume.new ≡ kept volume.old }
+    ensures counts { Counts ⟦<dyn BlockDriver as BlockDriver>⟧ (file_fault result) 1 d.old d.new }
+{
+    let file = Fd {
+        size,
+        modified: minute(&now),
+        segs: *segs,
+        ..loaded.file
+    };
+    let bytes = with_descriptor(&loaded.descriptor, &loaded.file.segs, &file);
+    volume.store(d, loaded.number, &bytes)?;
+    Ok(())
+}

@@ -1,0 +1,24 @@
+use Rattle.std.proofs.Common.{arith, ◌∙◌}
+use Rattle.rbf_write.specs.Finished.{resized}
+use Rattle.rbf_write.proofs.laying.finish.Goals as goal
+
+pub returns-clause-done : goal.returns-clause-done
+returns-clause-done g c =
+    let w = c.with_descriptor-bytes.ensures in
+    let f = w.fields in
+    let dated = c.minute.ensures in
+    resized {bytes = c.with_descriptor-bytes.result} (omega arith)
+    (record {
+      whole = w.whole;
+      fields = record {
+        attributes_are = f.attributes_are;
+        owner_is = f.owner_is;
+        modified_is = f.modified_is ∙ dated;
+        links_are = f.links_are;
+        size_is = f.size_is;
+        created_is = f.created_is;
+      };
+      list = w.list;
+      end = w.end;
+    })
+    c.in_ok-store.ensures.written

@@ -1,0 +1,47 @@
+use Rattle.std.proofs.Common.{length, sym, ◌∙◌, eqb-true, Ok, Err}
+use Rattle.std.proofs.lemmas.List.{nil_from_length}
+use Rattle.std.proofs.lemmas.Result.{err_from_is_err_and}
+use Rattle.rbf_access.proofs.Reading.{mounted_still}
+use Rattle.rbf_access.proofs.ReadPieces.{some_room}
+use Rattle.rbf_write.proofs.Whole.{nothing_written, load_answers, whole_answers, whole_calls}
+use Rattle.rbf_write.proofs.write.write_at.Goals as goal
+
+pub returns-then-is_empty-clause-answer : goal.returns-then-is_empty-clause-answer
+returns-then-is_empty-clause-answer g c v file on is =
+    nothing_written _ v file on _ is (nil_from_length c.args.from.now (eqb-true (length c.args.from.now) 0 (sym c.is_empty.ensures ∙ c.if-is_empty.true)))
+
+pub returns-in_err-loaded-clause-answer : goal.returns-in_err-loaded-clause-answer
+returns-in_err-loaded-clause-answer g c v file on is =
+    let p = err_from_is_err_and c.from_residual.result c.from_residual.ensures.1 in
+    rw (p.1, p.2)
+    (load_answers _ v file on _ is (some_room c.args.from.now c.is_empty.result c.if-is_empty.false c.is_empty.ensures) _ _ c.in_err-loaded.ensures.device c.in_err-loaded.ensures.media_kept)
+
+pub returns-in_err-loaded-clause-mounted : goal.returns-in_err-loaded-clause-mounted
+returns-in_err-loaded-clause-mounted g c = mounted_still _ _ _ _ c.in_err-loaded.ensures.volume_kept c.in_err-loaded.ensures.media_kept c.requires.mounted
+
+pub lay_over-requires-clause-mounted : goal.lay_over-requires-clause-mounted
+lay_over-requires-clause-mounted g c = mounted_still _ _ _ _ c.in_ok-loaded.ensures.volume_kept c.in_ok-loaded.ensures.media_kept c.requires.mounted
+
+pub returns-in_err-lay_over-clause-answer : goal.returns-in_err-lay_over-clause-answer
+returns-in_err-lay_over-clause-answer g c v file on is =
+    let p = err_from_is_err_and c.from_residual-in_err-lay_over.result c.from_residual-in_err-lay_over.ensures.1 in
+    rw (p.1, p.2)
+    (whole_answers _ _ c.args.fd c.in_ok-loaded.loaded.number c.args.at c.args.from.now c.args.now c.in_ok-loaded.ensures.media_kept c.in_ok-loaded.ensures.ok.number_is
+    (some_room c.args.from.now c.is_empty.result c.if-is_empty.false c.is_empty.ensures) ((goal.BlockDriver-dyn g (c.args.d.now.0, c.lay_over.new.d)).media c.lay_over.new.d) (Err c.in_err-lay_over.field-0.0) c.in_err-lay_over.ensures.answer v file on is)
+
+pub returns-in_err-lay_over-clause-counts : goal.returns-in_err-lay_over-clause-counts
+returns-in_err-lay_over-clause-counts g c v file on is =
+    let p = err_from_is_err_and c.from_residual-in_err-lay_over.result c.from_residual-in_err-lay_over.ensures.1 in
+    rw (p.1, p.2)
+    (whole_calls _ _ c.args.fd c.in_ok-loaded.loaded.number c.args.at c.args.from.now c.args.now c.in_ok-loaded.ensures.media_kept c.in_ok-loaded.ensures.ok.number_is
+    (some_room c.args.from.now c.is_empty.result c.if-is_empty.false c.is_empty.ensures) _ _ _ _ c.in_ok-loaded.ensures.counts c.in_err-lay_over.ensures.counts v file on is)
+
+pub returns-clause-answer : goal.returns-clause-answer
+returns-clause-answer g c v file on is =
+    whole_answers _ _ c.args.fd c.in_ok-loaded.loaded.number c.args.at c.args.from.now c.args.now c.in_ok-loaded.ensures.media_kept c.in_ok-loaded.ensures.ok.number_is
+    (some_room c.args.from.now c.is_empty.result c.if-is_empty.false c.is_empty.ensures) ((goal.BlockDriver-dyn g (c.args.d.now.0, c.lay_over.new.d)).media c.lay_over.new.d) (Ok tt) c.in_ok-lay_over.ensures.answer v file on is
+
+pub returns-clause-counts : goal.returns-clause-counts
+returns-clause-counts g c v file on is =
+    whole_calls _ _ c.args.fd c.in_ok-loaded.loaded.number c.args.at c.args.from.now c.args.now c.in_ok-loaded.ensures.media_kept c.in_ok-loaded.ensures.ok.number_is
+    (some_room c.args.from.now c.is_empty.result c.if-is_empty.false c.is_empty.ensures) _ _ _ _ c.in_ok-loaded.ensures.counts c.in_ok-lay_over.ensures.counts v file on is

@@ -1,0 +1,24 @@
+-- A descriptor that is written when the bytes of its file stand.
+use Rattle.std.specs.Prelude.{◌≡◌, ℕ, ◌<◌, ◌≤◌, Option, List, length}
+use Rattle.os9_base.specs.declared.registers.TimePacket.{TimePacket}
+use Rattle.os9_outer.specs.Drive.{with_sector}
+use Rattle.rbf_model.specs.Fields.{segments_field}
+use Rattle.rbf_change.specs.Calls.{minute_of}
+use Rattle.rbf_change.specs.Tidy.{KeepsListEnd}
+use Rattle.rbf_files.specs.Changed.{HasFields}
+use Rattle.rbf_write.specs.declared.loaded.Loaded.{Loaded}
+
+-- the descriptor with another size, these segments, and the date of that change
+pub record IsResized (loaded : Loaded) (segments : List (ℕ × ℕ)) (size : ℕ) (now : TimePacket) (bytes : List ℕ)
+    : Type 0 where
+  pub whole : length bytes ≡ 256
+  pub fields : HasFields (record loaded.file { size = size; modified = minute_of now; segs = segments }) bytes
+  pub list : segments_field bytes ≡ segments
+  pub end : KeepsListEnd loaded.descriptor bytes
+
+-- it is written where the bytes end behind the old size
+pub data IsFinished (loaded : Loaded) (segments : List (ℕ × ℕ)) (end : ℕ) (now : TimePacket)
+    (before after : Option (List ℕ)) : Type 0 where
+  stays : end ≤ loaded.file.size → after ≡ before → IsFinished loaded segments end now before after
+  resized : {bytes : List ℕ} → loaded.file.size < end → IsResized loaded segments end now bytes
+      → after ≡ with_sector before loaded.number bytes → IsFinished loaded segments end now before after

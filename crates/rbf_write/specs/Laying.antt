@@ -1,0 +1,103 @@
+-- Bytes that are laid over those of a file from a place on, with zeros between its end and that place.
+use Rattle.std.specs.Prelude.{◌≡◌, ◌≢◌, ℕ, ◌<◌, ◌≤◌, ◌==◌, false, Option, Some, List, length, Result, Ok, Err, if◌then◌else◌}
+use Rattle.os9_base.specs.declared.registers.TimePacket.{TimePacket}
+use Rattle.rbf_model.specs.Geometry.{image_geometry, sector}
+use Rattle.rbf_model.specs.Segments.{sectors_of, has}
+use Rattle.rbf_model.specs.File.{DiskFile}
+use Rattle.rbf_model.specs.Volume.{DiskVolume}
+use Rattle.rbf_model.specs.Writes.{put_at}
+use Rattle.rbf_model.specs.Laws.{IsMapSector}
+use Rattle.rbf_change.specs.Contents.{extended}
+use Rattle.rbf_change.specs.Growth.{with_clusters, clusters_needed, IsChoice, IsOneTooMany}
+use Rattle.rbf_change.specs.Calls.{cluster_size, is_free_in, free_total, replaced, minute_of}
+use Rattle.rbf_change.specs.Faults.{MayLose, IsFront, with_front}
+use Rattle.rbf_change.specs.Tidy.{KeepsMapEnd, KeepsListEnd}
+use Rattle.rbf_access.specs.declared.faults.FileFault.{FileFault}
+use Rattle.rbf_access.specs.declared.faults.FileFault.TheVariants.{Device, NoCluster, TooManyRuns}
+use Rattle.rbf_access.specs.Mounted.{Represents}
+
+-- bytes that are laid over file n from a place on, at a time
+pub record Laying : Type 0 where
+  pub number : ℕ
+  pub at : ℕ
+  pub bytes : List ℕ
+  pub now : TimePacket
+
+-- the contents then
+abbrev pub laid_contents : List ℕ → Laying → List ℕ
+laid_contents contents laying = put_at (extended contents laying.at) laying.at laying.bytes
+
+-- the file then, with these segments: only a change of its size changes its date
+abbrev pub laid_file : DiskFile → Laying → List (ℕ × ℕ) → DiskFile
+laid_file file laying segments =
+    record file {
+      contents = laid_contents file.contents laying;
+      segments = segments;
+      modified =
+          if length (laid_contents file.contents laying) == length file.contents then file.modified
+          else minute_of laying.now;
+    }
+
+-- how many clusters it needs for that
+abbrev pub laying_needs : DiskVolume → DiskFile → Laying → ℕ
+laying_needs v file laying =
+    clusters_needed (cluster_size v) file.segments (length (laid_contents file.contents laying))
+
+-- what has stayed on the media where file n was given these segments, beside what the volume shows
+pub record IsTidyChange (before after : Option (List ℕ)) (n : ℕ) (segments : List (ℕ × ℕ)) : Type 0 where
+  pub image : List ℕ
+  pub now : List ℕ
+  pub was : before ≡ Some image
+  pub is : after ≡ Some now
+  -- all sectors but those of the file, its descriptor and the map
+  pub others : (s : ℕ) → ¬ IsMapSector (image_geometry image) s → s ≢ n → has (sectors_of segments) s ≡ false
+      → sector now s ≡ sector image s
+  -- the marks behind the whole clusters
+  pub map_end : KeepsMapEnd image now (λ _. false)
+  -- the end of the list of segments and the bytes behind it
+  pub list : KeepsListEnd (sector image n) (sector now n)
+
+-- all is done
+pub record IsLaidOver (v : DiskVolume) (old : DiskFile) (laying : Laying) (before after : Option (List ℕ))
+    : Type 0 where
+  pub enough : laying_needs v old laying ≤ free_total v
+  pub gained : List ℕ
+  pub choice : IsChoice (cluster_size v) (is_free_in v) old.segments (length (laid_contents old.contents laying)) gained
+  pub on : Represents after
+      (replaced v laying.number (Some (laid_file old laying (with_clusters (cluster_size v) old.segments gained))))
+  pub tidy : IsTidyChange before after laying.number (with_clusters (cluster_size v) old.segments gained)
+
+-- a fault has ended it: a front of the bytes is there, and clusters that were taken may be lost
+pub record LayingEnds (v : DiskVolume) (old : DiskFile) (laying : Laying) (before after : Option (List ℕ))
+    : Type 0 where
+  pub count : ℕ
+  pub front : IsFront (length old.contents) laying.at laying.bytes count
+  pub taken : List ℕ
+  pub choice : IsChoice (cluster_size v) (is_free_in v) old.segments (length (laid_contents old.contents laying)) taken
+  pub left : DiskVolume
+  pub on : Represents after left
+  pub lose : MayLose (replaced v laying.number (Some (with_front old laying.at laying.bytes count))) left (has taken)
+  pub tidy : IsTidyChange before after laying.number (with_clusters (cluster_size v) old.segments taken)
+
+-- fewer clusters are free than it needs
+pub record LayingIsFull (v : DiskVolume) (old : DiskFile) (laying : Laying) (before after : Option (List ℕ))
+    : Type 0 where
+  pub few : free_total v < laying_needs v old laying
+  pub media_kept : after ≡ before
+
+-- enough are free, and a cluster that was chosen finds no place in the list
+pub record LayingIsTooLong (v : DiskVolume) (old : DiskFile) (laying : Laying) (before after : Option (List ℕ))
+    : Type 0 where
+  pub enough : laying_needs v old laying ≤ free_total v
+  pub chosen : List ℕ
+  pub full : IsOneTooMany (cluster_size v) (is_free_in v) old.segments
+      (length (laid_contents old.contents laying)) chosen
+  pub media_kept : after ≡ before
+
+-- what it answers, and what it leaves then
+abbrev pub AnswersLaying : DiskVolume → DiskFile → Laying → Option (List ℕ) → Option (List ℕ)
+    → Result (Unit {0}) FileFault → Type 0
+AnswersLaying v old laying before after (Ok done) = IsLaidOver v old laying before after
+AnswersLaying v old laying before after (Err (Device n)) = LayingEnds v old laying before after
+AnswersLaying v old laying before after (Err NoCluster) = LayingIsFull v old laying before after
+AnswersLaying v old laying before after (Err TooManyRuns) = LayingIsTooLong v old laying before after

@@ -1,0 +1,67 @@
+-- What a write answers, and what it leaves then.
+use Rattle.std.specs.Prelude.{◌≡◌, ℕ, ◌+◌, ◌*◌, ◌<◌, ◌≤◌, ◌==◌, min, Option, List, length, Result, Ok, Err, if◌then◌else◌}
+use Rattle.rbf_model.specs.File.{DiskFile}
+use Rattle.rbf_model.specs.Volume.{DiskVolume}
+use Rattle.rbf_change.specs.Contents.{written, sector_span}
+use Rattle.rbf_change.specs.Growth.{with_clusters, clusters_needed, IsOneTooMany}
+use Rattle.rbf_change.specs.Calls.{cluster_size, is_free_in, free_total, Writes}
+use Rattle.rbf_change.specs.Faults.{WriteEnds}
+use Rattle.rbf_access.specs.declared.faults.FileFault.{FileFault}
+use Rattle.rbf_access.specs.declared.faults.FileFault.TheVariants.{Device, NoCluster, TooManyRuns}
+use Rattle.rbf_access.specs.Mounted.{Represents}
+use Rattle.rbf_write.specs.Laying.{Laying, IsTidyChange}
+
+-- the contents of a file that is written to
+abbrev pub contents_written : DiskFile → Laying → List ℕ
+contents_written file write = written file.contents write.at write.bytes
+
+-- how many clusters a write needs
+abbrev pub write_needs : DiskVolume → DiskFile → Laying → ℕ
+write_needs v file write = clusters_needed (cluster_size v) file.segments (length (contents_written file write))
+
+-- all bytes have been written
+pub record IsWritten (v : DiskVolume) (old : DiskFile) (write : Laying) (before after : Option (List ℕ)) : Type 0 where
+  pub enough : write_needs v old write ≤ free_total v
+  pub volume : DiskVolume
+  pub on : Represents after volume
+  pub writes : Writes v volume write.number write.at write.bytes write.now
+  pub tidy : IsTidyChange before after write.number writes.new.segments
+
+-- a fault has ended the write
+pub record WriteIsEnded (v : DiskVolume) (write : Laying) (before after : Option (List ℕ)) : Type 0 where
+  pub volume : DiskVolume
+  pub on : Represents after volume
+  pub ends : WriteEnds v volume write.number write.at write.bytes
+  pub tidy : IsTidyChange before after write.number (with_clusters (cluster_size v) ends.old.segments ends.taken)
+
+-- error 248: fewer clusters are free than the write needs
+pub record WriteIsFull (v : DiskVolume) (old : DiskFile) (write : Laying) (before after : Option (List ℕ))
+    : Type 0 where
+  pub few : free_total v < write_needs v old write
+  pub media_kept : after ≡ before
+
+-- error 217: enough are free, and a cluster that was chosen finds no place in the list of segments
+pub record WriteIsTooLong (v : DiskVolume) (old : DiskFile) (write : Laying) (before after : Option (List ℕ))
+    : Type 0 where
+  pub enough : write_needs v old write ≤ free_total v
+  pub chosen : List ℕ
+  pub full : IsOneTooMany (cluster_size v) (is_free_in v) old.segments (length (contents_written old write)) chosen
+  pub media_kept : after ≡ before
+
+-- each answer of a write with its cause and what it leaves
+abbrev pub AnswersWrite : DiskVolume → DiskFile → Laying → Option (List ℕ) → Option (List ℕ)
+    → Result (Unit {0}) FileFault → Type 0
+AnswersWrite v old write before after (Ok done) = IsWritten v old write before after
+AnswersWrite v old write before after (Err (Device n)) = WriteIsEnded v write before after
+AnswersWrite v old write before after (Err NoCluster) = WriteIsFull v old write before after
+AnswersWrite v old write before after (Err TooManyRuns) = WriteIsTooLong v old write before after
+
+-- how many calls of the drive a write of bytes up to an end makes at most behind that of the descriptor: one for each
+-- sector of the map that gains a mark, two for each sector of bytes, and one for the descriptor
+abbrev pub laying_calls : DiskVolume → DiskFile → ℕ → ℕ → ℕ
+laying_calls v file at end =
+    clusters_needed (cluster_size v) file.segments end + 2 * sector_span (min (length file.contents) at) end + 1
+
+-- and a whole write: one more, and none if there are no bytes
+abbrev pub write_calls : DiskVolume → DiskFile → ℕ → ℕ → ℕ
+write_calls v file at count = if count == 0 then 0 else 1 + laying_calls v file at (at + count)

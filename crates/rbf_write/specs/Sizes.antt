@@ -1,0 +1,112 @@
+-- What a change of a file's size answers, and what it leaves then.
+use Rattle.std.specs.Prelude.{◌≡◌, ◌≢◌, ℕ, ◌+◌, ◌<◌, ◌≤◌, nat_lt, Option, Some, List, length, Bool, false, Result, Ok, Err, if◌then◌else◌}
+use Rattle.os9_base.specs.declared.registers.TimePacket.{TimePacket}
+use Rattle.rbf_model.specs.Geometry.{image_geometry, sector, map_sectors}
+use Rattle.rbf_model.specs.Segments.{sectors_of, has}
+use Rattle.rbf_model.specs.File.{DiskFile}
+use Rattle.rbf_model.specs.Volume.{DiskVolume}
+use Rattle.rbf_model.specs.Laws.{IsMapSector}
+use Rattle.rbf_change.specs.Growth.{with_clusters, clusters_needed, IsOneTooMany}
+use Rattle.rbf_change.specs.Cut.{cut_file, is_given_up}
+use Rattle.rbf_change.specs.Calls.{shape, cluster_size, is_free_in, free_total, minute_of, SetsSize}
+use Rattle.rbf_change.specs.Faults.{IsPlanned, SizeEnds}
+use Rattle.rbf_change.specs.Tidy.{KeepsMapEnd, MayKeepMapEnd, KeepsListEnd}
+use Rattle.rbf_access.specs.declared.faults.FileFault.{FileFault}
+use Rattle.rbf_access.specs.declared.faults.FileFault.TheVariants.{Device, NoCluster, TooManyRuns}
+use Rattle.rbf_access.specs.Mounted.{Represents}
+use Rattle.rbf_write.specs.Outcomes.{laying_calls}
+
+-- a size that file n is given, at a time
+pub record Sizing : Type 0 where
+  pub number : ℕ
+  pub size : ℕ
+  pub now : TimePacket
+
+-- how many clusters it needs besides
+abbrev pub size_needs : DiskVolume → DiskFile → Sizing → ℕ
+size_needs v file sizing = clusters_needed (cluster_size v) file.segments sizing.size
+
+-- the clusters that a file gives up which is cut to that size
+abbrev pub given_up : DiskVolume → DiskFile → Sizing → ℕ → Bool
+given_up v file sizing c =
+    is_given_up (shape v) sizing.number file
+    (cut_file (cluster_size v) sizing.number file sizing.size (minute_of sizing.now)) c
+
+-- the clusters that are given up: none where the file is made longer
+abbrev pub giving_up : DiskVolume → DiskFile → Sizing → ℕ → Bool
+giving_up v file sizing c = if nat_lt sizing.size (length file.contents) then given_up v file sizing c else false
+
+-- what has stayed on the media where file n has these segments, and some clusters were given up
+pub record IsTidySize (before after : Option (List ℕ)) (n : ℕ) (segments : List (ℕ × ℕ)) (gone : ℕ → Bool)
+    : Type 0 where
+  pub image : List ℕ
+  pub now : List ℕ
+  pub was : before ≡ Some image
+  pub is : after ≡ Some now
+  -- all sectors but those of the file, its descriptor and the map
+  pub others : (s : ℕ) → ¬ IsMapSector (image_geometry image) s → s ≢ n → has (sectors_of segments) s ≡ false
+      → sector now s ≡ sector image s
+  -- the marks behind the whole clusters, but that of a cluster that is given up
+  pub map_end : KeepsMapEnd image now gone
+  -- the end of the list of segments and the bytes behind it
+  pub list : KeepsListEnd (sector image n) (sector now n)
+
+-- and after a fault, where that mark may stand still
+pub record IsTidyEnd (before after : Option (List ℕ)) (n : ℕ) (segments : List (ℕ × ℕ)) (gone : ℕ → Bool) : Type 0 where
+  pub image : List ℕ
+  pub now : List ℕ
+  pub was : before ≡ Some image
+  pub is : after ≡ Some now
+  pub others : (s : ℕ) → ¬ IsMapSector (image_geometry image) s → s ≢ n → has (sectors_of segments) s ≡ false
+      → sector now s ≡ sector image s
+  pub map_end : MayKeepMapEnd image now gone
+  pub list : KeepsListEnd (sector image n) (sector now n)
+
+-- the file has the size
+pub record IsSized (v : DiskVolume) (old : DiskFile) (sizing : Sizing) (before after : Option (List ℕ)) : Type 0 where
+  pub enough : size_needs v old sizing ≤ free_total v
+  pub volume : DiskVolume
+  pub on : Represents after volume
+  pub sets : SetsSize v volume sizing.number sizing.size sizing.now
+  pub tidy : IsTidySize before after sizing.number sets.new.segments (giving_up v old sizing)
+
+-- a fault has ended the call
+pub record SizeIsEnded (v : DiskVolume) (old : DiskFile) (sizing : Sizing) (before after : Option (List ℕ))
+    : Type 0 where
+  pub volume : DiskVolume
+  pub on : Represents after volume
+  pub ends : SizeEnds v volume sizing.number sizing.size sizing.now
+  -- clusters that were to be gained
+  pub taken : List ℕ
+  pub planned : IsPlanned v old sizing.size taken
+  pub tidy : IsTidyEnd before after sizing.number (with_clusters (cluster_size v) old.segments taken)
+      (giving_up v old sizing)
+
+-- error 248: fewer clusters are free than the size needs
+pub record SizeIsFull (v : DiskVolume) (old : DiskFile) (sizing : Sizing) (before after : Option (List ℕ))
+    : Type 0 where
+  pub few : free_total v < size_needs v old sizing
+  pub media_kept : after ≡ before
+
+-- error 217: enough are free, and a cluster that was chosen finds no place in the list of segments
+pub record SizeIsTooLong (v : DiskVolume) (old : DiskFile) (sizing : Sizing) (before after : Option (List ℕ))
+    : Type 0 where
+  pub enough : size_needs v old sizing ≤ free_total v
+  pub chosen : List ℕ
+  pub full : IsOneTooMany (cluster_size v) (is_free_in v) old.segments sizing.size chosen
+  pub media_kept : after ≡ before
+
+-- each answer of a change of size with its cause and what it leaves
+abbrev pub AnswersSize : DiskVolume → DiskFile → Sizing → Option (List ℕ) → Option (List ℕ)
+    → Result (Unit {0}) FileFault → Type 0
+AnswersSize v old sizing before after (Ok done) = IsSized v old sizing before after
+AnswersSize v old sizing before after (Err (Device n)) = SizeIsEnded v old sizing before after
+AnswersSize v old sizing before after (Err NoCluster) = SizeIsFull v old sizing before after
+AnswersSize v old sizing before after (Err TooManyRuns) = SizeIsTooLong v old sizing before after
+
+-- how many calls of the drive it makes at most: that of the descriptor alone where the size stays, those of a write up
+-- to the new end, or two and one for each sector of the map
+abbrev pub size_calls : DiskVolume → DiskFile → ℕ → ℕ
+size_calls v file size =
+    if nat_lt (length file.contents) size then 1 + laying_calls v file size size
+    else (if nat_lt size (length file.contents) then 2 + map_sectors (shape v) else 1)

@@ -1,0 +1,94 @@
+ghost use Rattle.std.specs.Prelude.{◌≡◌, ℕ, ◌+◌, ◌*◌, ◌^◌, ◌<◌, ◌≤◌, length, min, OnOk, OnErr, IsSome};
+ghost use Rattle.os9_outer.specs.Drive.{sector_count};
+ghost use Rattle.rbf_model.specs.Fields.{segments_field};
+ghost use Rattle.rbf_model.specs.Segments.{sectors_of};
+ghost use Rattle.rbf_access.specs.Drive.{Counts};
+ghost use Rattle.rbf_access.specs.Faults.{file_fault};
+ghost use Rattle.rbf_access.specs.Mounted.{IsMounted, kept};
+ghost use Rattle.rbf_write.specs.Files.{HasDataFile, IsLoaded, OnVolumeFile};
+ghost use Rattle.rbf_write.specs.Finished.{IsFinished};
+ghost use Rattle.rbf_write.specs.Laying.{AnswersLaying};
+ghost use Rattle.rbf_write.specs.Outcomes.{laying_calls};
+
+use crate::clusters::clusters_for;
+use crate::loaded::Loaded;
+use os9_base::registers::TimePacket;
+use os9_outer::drive::BlockDriver;
+use rbf_access::{FileFault, Volume};
+use rbf_files::{fill, minute, with_descriptor};
+use rbf_growth::grow;
+use rbf_sector::Fd;
+use rbf_segs::Segs;
+
+/// Lays bytes over those of a file from `at` on, with zeros between its end and that place. The file
+/// gains the clusters that it needs, then its sectors are written upwards, and its descriptor is
+/// written last, if its size has changed.
+///
+/// # Errors
+///
+/// As for [`crate::write_at`].
+pub fn lay_over(
+    volume: &mut Volume,
+    d: &mut dyn BlockDriver,
+    loaded: &Loaded,
+    at: u32,
+    from: &[u8],
+    now: TimePacket,
+) -> Result<(), FileFault>
+    requires mounted { IsMounted volume.old (media d.old) }
+    requires file { HasDataFile (media d.old) loaded.now.number }
+    requires loaded { IsLoaded (media d.old) loaded.now.number loaded.now }
+    requires some { min loaded.now.file.size at < at + length from.now }
+    ensures answer { OnVolumeFile (media d.old) loaded.now.number (λ v file. AnswersLaying v file
+        (record { number = loaded.now.number; at = at; bytes = from.now; now = now })
+        (media d.old) (media d.new) result) }
+    ensures mounted { IsMounted volume.new (media d.new) }
+    ensures counts { OnVolumeFile (media d.old) loaded.now.number (λ v file.
+        Counts ⟦<dyn BlockDriver as BlockDriver>⟧ (file_fault result)
+        (laying_calls v file at (at + length from.now)) d.old d.new) }
+{
+    let end = at as usize + from.len();
+    let Some(count) = clusters_for(volume.ident.cluster, &loaded.file.segs, end) else {
+        return Err(FileFault::NoCluster);
+    };
+    let longer = grow(volume, d, &loaded.file.segs, count)?;
+    fill(volume, d, &longer, loaded.file.size, at, from)?;
+    finish(volume, d, loaded, &longer, end as u32, now)?;
+    Ok(())
+}
+
+// Writes the descriptor of a file with these segments, if its bytes go up to another end than
+// before.
+fn finish(
+    volume: &mut Volume,
+    d: &mut dyn BlockDriver,
+    loaded: &Loaded,
+    longer: &Segs,
+    end: u32,
+    now: TimePacket,
+) -> Result<(), FileFault>
+    requires number { loaded.now.number < sector_count (media d.old) }
+    requires list { segments_field loaded.now.descriptor ≡ loaded.now.file.segs }
+    requires same { length (sectors_of longer.now) ≡ length (sectors_of loaded.now.file.segs)
+        → longer.now ≡ loaded.now.file.segs }
+    ensures done { OnOk result
+        (IsFinished loaded.now longer.now end now (media d.old) (media d.new)) }
+    ensures media_kept { OnErr result (media d.new ≡ media d.old) }
+    ensures later { OnErr result (loaded.now.file.size < end) }
+    ensures device { OnErr result (IsSome (file_fault result)) }
+    ensures volume_kept { kept volume.new ≡ kept volume.old }
+    ensures counts { Counts ⟦<dyn BlockDriver as BlockDriver>⟧ (file_fault result) 1 d.old d.new }
+{
+    if end <= loaded.file.size {
+        return Ok(());
+    }
+    let file = Fd {
+        size: end,
+        modified: minute(&now),
+        segs: *longer,
+        ..loaded.file
+    };
+    let bytes = with_descriptor(&loaded.descriptor, &loaded.file.segs, &file);
+    volume.store(d, loaded.number, &bytes)?;
+    Ok(())
+}

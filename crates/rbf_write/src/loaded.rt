@@ -1,0 +1,38 @@
+ghost use Rattle.std.specs.Prelude.{◌≡◌, IfOk, OnErr, IsSome};
+ghost use Rattle.rbf_access.specs.Drive.{Counts};
+ghost use Rattle.rbf_access.specs.Faults.{file_fault};
+ghost use Rattle.rbf_access.specs.Mounted.{HasFile, kept};
+ghost use Rattle.rbf_write.specs.Files.{IsLoaded};
+
+use os9_outer::drive::BlockDriver;
+use rbf_access::{FileFault, Volume};
+use rbf_sector::{Fd, read_fd};
+
+/// A file whose descriptor has been read: the descriptor's number and bytes, and what they say.
+#[derive(Clone, Copy, Debug)]
+pub struct Loaded {
+    pub number: u32,
+    pub descriptor: [u8; 256],
+    pub file: Fd,
+}
+
+/// Reads the descriptor of a file.
+///
+/// # Errors
+///
+/// `Device` if the drive's read fails.
+pub fn load_file(volume: &mut Volume, d: &mut dyn BlockDriver, fd: u32) -> Result<Loaded, FileFault>
+    requires file { HasFile (media d.old) fd }
+    ensures ok { IfOk result (IsLoaded (media d.old) fd) }
+    ensures device { OnErr result (IsSome (file_fault result)) }
+    ensures media_kept { media d.new ≡ media d.old }
+    ensures volume_kept { kept volume.new ≡ kept volume.old }
+    ensures counts { Counts ⟦<dyn BlockDriver as BlockDriver>⟧ (file_fault result) 1 d.old d.new }
+{
+    let descriptor = volume.load(d, fd)?;
+    Ok(Loaded {
+        number: fd,
+        descriptor,
+        file: read_fd(&descriptor),
+    })
+}

@@ -1,0 +1,48 @@
+ghost use Rattle.std.specs.Prelude.{◌≡◌, ℕ, length};
+ghost use Rattle.rbf_access.specs.Drive.{Counts};
+ghost use Rattle.rbf_access.specs.Faults.{file_fault};
+ghost use Rattle.rbf_access.specs.Mounted.{IsMounted};
+ghost use Rattle.rbf_write.specs.Files.{HasDataFile, OnVolumeFile};
+ghost use Rattle.rbf_write.specs.Outcomes.{AnswersWrite, write_calls};
+
+use crate::laying::lay_over;
+use crate::loaded::load_file;
+use os9_base::registers::TimePacket;
+use os9_outer::drive::BlockDriver;
+use rbf_access::{FileFault, Volume};
+
+/// Writes bytes to a file that is no directory, from `at` on. Between its end and that place it has
+/// zeros then. A write that changes its size sets its date. To write no bytes changes nothing and
+/// makes no call of the drive (OS-9 System Programmer's Manual, I$Write).
+///
+/// # Errors
+///
+/// `NoCluster` exactly if fewer clusters are free than the write needs, and `TooManyRuns` if one that
+/// was chosen finds no place in the list of segments: then nothing has changed. `Device` if a call
+/// of the drive fails: then the file may have a first part of the bytes, up to the end of a sector
+/// and its old size, and clusters may be lost.
+pub fn write_at(
+    volume: &mut Volume,
+    d: &mut dyn BlockDriver,
+    fd: u32,
+    at: u32,
+    from: &[u8],
+    now: TimePacket,
+) -> Result<(), FileFault>
+    requires mounted { IsMounted volume.old (media d.old) }
+    requires file { HasDataFile (media d.old) fd }
+    ensures answer { OnVolumeFile (media d.old) fd (λ v file. AnswersWrite v file
+        (record { number = fd; at = at; bytes = from.now; now = now })
+        (media d.old) (media d.new) result) }
+    ensures mounted { IsMounted volume.new (media d.new) }
+    ensures counts { OnVolumeFile (media d.old) fd (λ v file.
+        Counts ⟦<dyn BlockDriver as BlockDriver>⟧ (file_fault result)
+        (write_calls v file at (length from.now)) d.old d.new) }
+{
+    if from.is_empty() {
+        return Ok(());
+    }
+    let loaded = load_file(volume, d, fd)?;
+    lay_over(volume, d, &loaded, at, from, now)?;
+    Ok(())
+}
