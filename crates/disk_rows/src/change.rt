@@ -1,5 +1,6 @@
 ghost use Rattle.std.specs.Prelude.{◌≡◌, IfOk, Some};
 
+use os9_base::errors::E_WRITE;
 use os9_base::registers::TimePacket;
 use os9_outer::drive::{BlockDriver, DriveFault};
 use os9_outer::ram_drive::{PlannedFault, RamDrive};
@@ -105,7 +106,7 @@ fn growth_driver_calls(rt: HostRuntime) -> Result<(), Fail> {
         (9, 12, Ok((Some(4), 1)), 0, 3, 0xFF),
         (9, 0, Ok((None, 0)), 12, 2, 0xF0),
         (9, 13, Err(FileFault::NoCluster), 12, 2, 0xF0),
-        (3, 3, Err(FileFault::Device(245)), 12, 3, 0xF0),
+        (3, 3, Err(FileFault::Device(E_WRITE)), 12, 3, 0xF0),
     ];
     for (failing, count, answer, free, calls, map) in rows {
         let image = smallest(rt.alloc())?;
@@ -124,8 +125,8 @@ fn attribute_driver_calls(rt: HostRuntime) -> Result<(), Fail> {
     let rows = [
         (9, 0x03, Ok(()), 4, 0x83, 86),
         (9, 0xFF, Ok(()), 4, 0xFF, 86),
-        (3, 0x03, Err(FileFault::Device(245)), 3, 0xBF, 0),
-        (4, 0x03, Err(FileFault::Device(245)), 4, 0xBF, 0),
+        (3, 0x03, Err(FileFault::Device(E_WRITE)), 3, 0xBF, 0),
+        (4, 0x03, Err(FileFault::Device(E_WRITE)), 4, 0xBF, 0),
     ];
     for (failing, attr, answer, calls, stored, year) in rows {
         let image = smallest(rt.alloc())?;

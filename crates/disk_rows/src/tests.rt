@@ -1,5 +1,6 @@
 ghost use Rattle.std.specs.Prelude.{◌≡◌, IfOk, Some};
 
+use os9_base::errors::E_SEEK;
 use os9_outer::drive::{BlockDriver, DriveFault};
 use os9_outer::ram_drive::{PlannedFault, RamDrive};
 use rbf_access::{FileFault, Volume};
@@ -25,7 +26,7 @@ const E: [(usize, u8); 14] = [
     (831, 2),
 ];
 
-fn smallest(alloc: Global) -> Result<Vec<u8>, AllocError> {
+pub fn smallest(alloc: Global) -> Result<Vec<u8>, AllocError> {
     let mut image = vec![in alloc; 0u8; 4096]?;
     for (at, byte) in E {
         if let Some(place) = image.get_mut(at) {
@@ -76,8 +77,8 @@ fn read_driver_calls(rt: HostRuntime) -> Result<(), Fail> {
         (9, 64, 64, Ok(0), 3, 7),
         (9, 4000, 64, Ok(0), 3, 7),
         (9, 0, 0, Ok(0), 3, 7),
-        (3, 0, 64, Err(FileFault::Device(247)), 3, 7),
-        (4, 0, 64, Err(FileFault::Device(247)), 4, 7),
+        (3, 0, 64, Err(FileFault::Device(E_SEEK)), 3, 7),
+        (4, 0, 64, Err(FileFault::Device(E_SEEK)), 4, 7),
     ];
     for (failing, at, len, answer, calls, first) in rows {
         let image = smallest(rt.alloc())?;

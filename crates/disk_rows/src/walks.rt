@@ -1,6 +1,7 @@
 ghost use Rattle.std.specs.Prelude.{◌≡◌, Some};
 
 use crate::tests::drive_with;
+use os9_base::errors::E_SEEK;
 use os9_base::name::{Name, parse_name};
 use os9_base::registers::TimePacket;
 use os9_outer::drive::BlockDriver;
@@ -34,7 +35,7 @@ const WITH_A: [(usize, u8); 19] = [
     (1032, 1),
 ];
 
-fn image_with_a(alloc: Global) -> Result<Vec<u8>, AllocError> {
+pub fn image_with_a(alloc: Global) -> Result<Vec<u8>, AllocError> {
     let mut image = vec![in alloc; 0u8; 4096]?;
     for (at, byte) in WITH_A {
         if let Some(place) = image.get_mut(at) {
@@ -103,7 +104,7 @@ fn attributes_of_root(
 }
 
 fn fault() -> Result<u32, DirError> {
-    Err(DirError::File(FileFault::Device(247)))
+    Err(DirError::File(FileFault::Device(E_SEEK)))
 }
 
 // A mount makes two calls of the drive; this one of all calls fails.
@@ -162,7 +163,7 @@ fn deletion_driver_calls(rt: HostRuntime) -> Result<(), Fail> {
 
 #[test]
 fn attributes_driver_calls(rt: HostRuntime) -> Result<(), Fail> {
-    let fault = Err(DirError::File(FileFault::Device(247)));
+    let fault = Err(DirError::File(FileFault::Device(E_SEEK)));
     for (failing, user, answer, calls) in [
         (99, 0, Ok(()), 5),
         (99, 7, Err(DirError::NotAllowed), 3),

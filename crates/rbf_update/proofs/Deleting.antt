@@ -1,5 +1,5 @@
 -- The entry of a file that may be deleted.
-use Rattle.std.proofs.Common.{◌≡◌, ℕ, zero, suc, ◌+◌, ◌≤◌, Bool, true, false, not, ◌&&◌, Option, Some, None, Result, Err, List, [], length, ◌==◌, refl, ap, ap₂, sym, subst, ◌∙◌, arith}
+use Rattle.std.proofs.Common.{◌≡◌, ℕ, zero, suc, ◌+◌, ◌≤◌, Bool, true, false, not, ◌&&◌, Option, Some, None, Result, Err, List, [], ◌∷◌, length, ◌==◌, refl, ap, ap₂, sym, subst, ◌∙◌, arith}
 use Rattle.std.specs.Prelude.{if◌then◌else◌}
 use Rattle.std.specs.Int.{bit_at}
 use Rattle.std.proofs.lemmas.Bool.{and_parts, cond-true, cond-false, both_ways, false≢true}
@@ -29,8 +29,8 @@ use Rattle.rbf_update.specs.Becomes.{Becomes}
 use Rattle.rbf_walk.specs.declared.directory.Searched.{Searched}
 use Rattle.rbf_walk.specs.declared.directory.Searched.TheVariants.{Found, Absent}
 use Rattle.rbf_walk.proofs.Stepping.{same_content, file_in, found_walked, arrives_on}
-use Rattle.rbf_update.specs.Entries.{MayFree}
-use Rattle.rbf_update.specs.Deletions.{IsDeletable, FreesName, deletion_calls}
+use Rattle.rbf_update.specs.Entries.{MayFree, with_entry_bytes}
+use Rattle.rbf_update.specs.Deletions.{IsDeletable, FreesName, FreesOn, deletion_calls}
 use Rattle.rbf_update.specs.declared.deletion.Deletable.{Deletable}
 
 -- The first two entries of a directory name directories.
@@ -149,6 +149,7 @@ module _ (media : Option (List ℕ)) (dir : ℕ) (has : HasFile media dir) (fd :
                 not_directory = plain;
               };
               there = found_here.there;
+              descriptor_is = found_here.descriptor_is;
             }
           where
             not_true : (b : Bool) → not b ≡ true → b ≡ false
@@ -200,6 +201,18 @@ frees_name media now d name found at becomes v on =
         freed = done.changed;
       };
     }
+
+-- and nothing else has changed on the media
+pub frees_on : (media mid now : Option (List ℕ)) (d : ℕ) (name : List ℕ) (found : Deletable) → IsDeletable media d name found → mid ≡ media
+    → OnFile mid d (λ file. now ≡ with_entry_bytes mid file found.place (0 ∷ [])) → FreesOn media now d name found.descriptor
+frees_on media mid now d name found at same written = record {
+  found = found;
+  at = at;
+  number = refl;
+  written =
+      let place = at.free.place in
+      written place.content place.dir (record { image = place.on.image; is = same ∙ place.on.is; vol = place.on.vol }) place.is ∙ ap (λ m. with_entry_bytes m place.dir found.place (0 ∷ [])) same;
+}
 
 pub all_calls : (f : Option ℕ) (n : ℕ) (s t u : DriveCounts) → MovesCounts None n s t → MovesCounts f 3 t u → MovesCounts f (3 + n) s u
 all_calls f n s t u one other = counts_most f (n + 3) (3 + n) s u (omega arith) (counts_then f n 3 s t u one other)

@@ -6,7 +6,7 @@ ghost use Rattle.rbf_access.specs.Mounted.{kept, HasFile, IsMounted};
 ghost use Rattle.rbf_access.specs.Reading.{IsFdOf, OnFile};
 ghost use Rattle.rbf_walk.specs.Walk.{AnswersWalk, directory_fault};
 ghost use Rattle.rbf_update.specs.Becomes.{Becomes};
-ghost use Rattle.rbf_update.specs.Deletions.{FreesName, IsDeletable, OnNumbered, deletion_calls, descriptor_found};
+ghost use Rattle.rbf_update.specs.Deletions.{FreesName, FreesOn, IsDeletable, OnNumbered, deletion_calls, descriptor_found};
 
 use crate::entry::free_entry;
 use os9_base::name::Name;
@@ -47,6 +47,7 @@ pub fn delete_entry(
         AnswersWalk (deletion_end on.files file name.now user execute) result) }
     ensures ok { OnOk result (Becomes (media d.old) (media d.new) (λ old new.
         FreesName old new dir name.now)) }
+    ensures written { IfOk result (FreesOn (media d.old) (media d.new) dir name.now) }
     ensures media_kept { OnErr result (media d.new ≡ media d.old) }
     ensures mounted { IsMounted v.new (media d.new) }
     ensures volume_kept { kept v.new ≡ kept v.old }

@@ -2,7 +2,7 @@ use Rattle.std.proofs.Common.{Err, ap, ◌∙◌}
 use Rattle.std.proofs.lemmas.Result.{err_from_is_err_and}
 use Rattle.rbf_walk.proofs.Stepping.{fault_walked}
 use Rattle.rbf_update.proofs.Attributed.{fault_counts, becomes_after}
-use Rattle.rbf_update.proofs.Deleting.{free_still, same_answer, frees_name, all_calls, fewer_calls}
+use Rattle.rbf_update.proofs.Deleting.{free_still, same_answer, frees_name, frees_on, all_calls, fewer_calls}
 use Rattle.rbf_update.proofs.deletion.delete_entry.Goals as goal
 
 pub returns-in_err-found-clause-answer : goal.returns-in_err-found-clause-answer
@@ -37,3 +37,6 @@ returns-clause-ok g c =
 
 pub returns-clause-counts : goal.returns-clause-counts
 returns-clause-counts g c v file on is = all_calls _ _ _ _ _ (c.in_ok-found.ensures.counts v file on is) c.in_ok-free_entry.ensures.counts
+
+pub returns-clause-written : goal.returns-clause-written
+returns-clause-written g c = frees_on _ _ _ c.args.dir c.args.name.now c.in_ok-found.found c.in_ok-found.ensures.ok c.in_ok-found.ensures.media_kept c.in_ok-free_entry.ensures.written

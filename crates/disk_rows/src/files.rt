@@ -1,0 +1,100 @@
+ghost use Rattle.std.specs.Prelude.{◌≡◌, Some};
+
+use crate::tests::{drive_with, smallest};
+use crate::walks::image_with_a;
+use os9_base::errors::E_SEEK;
+use os9_base::name::{Name, parse_name};
+use os9_base::registers::TimePacket;
+use os9_outer::drive::BlockDriver;
+use rbf_access::{FileFault, Volume};
+use rbf_check::check;
+use rbf_create::create_fd;
+use rbf_dirs::delete;
+use rbf_walk::DirError;
+use std::alloc::Global;
+use std::test::Fail;
+
+// What a user is answered who deletes a file from the root of this image, and how many clusters are
+// free then.
+fn delete_from_root(
+    alloc: Global,
+    image: &[u8],
+    d: &mut dyn BlockDriver,
+    name: &Name,
+    user: u16,
+) -> Result<(Result<(), DirError>, u32), Fail>
+    requires { media d.old ≡ Some image.now }
+{
+    let _tree = check(alloc, image)?;
+    let mut volume = Volume::mount(alloc, d)?;
+    let root = volume.root();
+    let answer = delete(&mut volume, d, root, name, user, false);
+    Ok((answer, volume.free_count()))
+}
+
+// The descriptor of a new file in this image, and how many clusters are free then.
+fn new_file(
+    alloc: Global,
+    image: &[u8],
+    d: &mut dyn BlockDriver,
+) -> Result<(Result<u32, FileFault>, u32), Fail>
+    requires { media d.old ≡ Some image.now }
+{
+    let _tree = check(alloc, image)?;
+    let mut volume = Volume::mount(alloc, d)?;
+    let now = TimePacket {
+        year: 90,
+        month: 2,
+        day: 3,
+        hour: 4,
+        minute: 5,
+        second: 6,
+    };
+    let answer = create_fd(&mut volume, d, 0x0B, 7, now);
+    Ok((answer, volume.free_count()))
+}
+
+// The eleven free clusters of the image are twelve when `A` has gone. A mount makes two calls of
+// the drive; this one of all calls fails.
+#[test]
+fn whole_deletion_driver_calls(rt: HostRuntime) -> Result<(), Fail> {
+    let fault = Err(DirError::File(FileFault::Device(E_SEEK)));
+    let rows: [(u64, &[u8], u16, Result<(), DirError>, u32, u64); 7] = [
+        (99, b"a", 0, Ok(()), 12, 10),
+        (99, b"a", 7, Err(DirError::NotAllowed), 11, 5),
+        (99, b"..", 0, Err(DirError::NotAllowed), 11, 5),
+        (99, b"b", 0, Err(DirError::NotFound), 11, 4),
+        (8, b"a", 0, fault, 11, 8),
+        (9, b"a", 0, fault, 11, 9),
+        (10, b"a", 0, fault, 11, 10),
+    ];
+    for (failing, text, user, answer, free, calls) in rows {
+        let image = image_with_a(rt.alloc())?;
+        let mut drive = drive_with(rt.alloc(), &image, failing)?;
+        let name = parse_name(text)?;
+        let deleted = delete_from_root(rt.alloc(), &image, &mut drive, &name, user)?;
+        assert_eq!(rt; (deleted, drive.calls()), ((answer, free), calls));
+    }
+    Ok(())
+}
+
+// The twelve free clusters of the smallest volume begin with 4. Where all are marked, none is free.
+#[test]
+fn creation_driver_calls(rt: HostRuntime) -> Result<(), Fail> {
+    let fault = Err(FileFault::Device(E_SEEK));
+    for (failing, map, answer, free, calls) in [
+        (99, 0, Ok(4), 11, 4),
+        (99, 0xFF, Err(FileFault::NoCluster), 0, 2),
+        (3, 0, fault, 12, 3),
+        (4, 0, fault, 11, 4),
+    ] {
+        let mut image = smallest(rt.alloc())?;
+        for byte in image.iter_mut().skip(256).take(2) {
+            *byte |= map;
+        }
+        let mut drive = drive_with(rt.alloc(), &image, failing)?;
+        let made = new_file(rt.alloc(), &image, &mut drive)?;
+        assert_eq!(rt; (made, drive.calls()), ((answer, free), calls));
+    }
+    Ok(())
+}

@@ -1,0 +1,2 @@
+pub mod NewDescriptor
+pub mod Making

@@ -1,0 +1,8 @@
+//! New files of a mounted RBF volume, over a drive that may fail: their descriptors, before an
+//! entry names them.
+#![tactic(auto)]
+
+pub use made::create_fd;
+
+mod descriptor;
+mod made;

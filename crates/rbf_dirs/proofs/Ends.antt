@@ -1,0 +1,93 @@
+-- How a deletion ends, and how many calls of the drive it makes.
+use Rattle.std.proofs.Common.{◌≡◌, ℕ, ◌+◌, Option, None, IsSome, List, Result, Ok, Err, refl, sym, ap, ◌∙◌, subst, arith}
+use Rattle.std.specs.Prelude.{OnErr, IsNone}
+use Rattle.std.proofs.lemmas.Bool.{false≢true}
+use Rattle.rbf_model.specs.File.{DiskFile}
+use Rattle.rbf_model.specs.Geometry.{map_sectors}
+use Rattle.rbf_model.specs.Volume.{DiskVolume}
+use Rattle.rbf_model.specs.Walk.{WalkEnd}
+use Rattle.rbf_change.specs.Calls.{shape}
+use Rattle.rbf_change.proofs.LawfulWrites.{shape-image}
+use Rattle.rbf_access.specs.Drive.{DriveCounts, MovesCounts}
+use Rattle.rbf_access.specs.Faults.{file_fault}
+use Rattle.rbf_access.specs.Mounted.{kept, Represents, IsMounted}
+use Rattle.rbf_access.specs.declared.faults.FileFault.{FileFault}
+use Rattle.rbf_access.specs.declared.faults.FileFault.TheVariants.{Device, NoCluster, TooManyRuns}
+use Rattle.rbf_access.specs.declared.volume.Volume.{Volume}
+use Rattle.rbf_access.proofs.Counting.{counts_then, counts_most}
+use Rattle.rbf_drop.proofs.Dropping.{agrees_on}
+use Rattle.rbf_update.specs.Deletions.{deletion_calls}
+use Rattle.rbf_walk.specs.Walk.{AnswersWalk, directory_fault}
+use Rattle.rbf_walk.specs.declared.error.DirError.{DirError}
+use Rattle.rbf_walk.specs.declared.error.DirError.TheVariants.{NotAllowed, BadPath, NotFound, Exists, File}
+use Rattle.rbf_dirs.specs.Deleted.{AnswersDeletion, deletion_total}
+
+-- no entry was made free
+pub kept_answer : (end : WalkEnd) (e : DirError) (r : Result (Unit {0}) DirError) → r ≡ Err e → AnswersWalk end (Err e) → AnswersDeletion end r
+kept_answer end e r is answers = subst (AnswersDeletion end) (sym is) (by_error e answers)
+  where
+    by_error : (x : DirError) → AnswersWalk end (Err x) → AnswersDeletion end (Err x)
+    by_error NotAllowed h = h
+    by_error BadPath h = h
+    by_error NotFound h = h
+    by_error Exists h = h
+    by_error (File (Device k)) h = tt
+    by_error (File NoCluster) h = h
+    by_error (File TooManyRuns) h = h
+
+-- a fault came when it was
+pub fault_answer : (end : WalkEnd) (fault : FileFault) (r : Result (Unit {0}) DirError) → r ≡ Err (File fault) → IsSome (file_fault {A = Unit {0}} (Err fault)) → AnswersDeletion end r
+fault_answer end fault r is device = subst (AnswersDeletion end) (sym is) (by_fault fault device)
+  where
+    by_fault : (f : FileFault) → IsSome (file_fault {A = Unit {0}} (Err f)) → AnswersDeletion end (Err (File f))
+    by_fault (Device n) some = tt
+    by_fault NoCluster some = absurd (false≢true some)
+    by_fault TooManyRuns some = absurd (false≢true some)
+
+-- which is no refusal
+pub no_refusal : (fault : FileFault) (r : Result (Unit {0}) DirError) (P : Type 0) → r ≡ Err (File fault) → IsSome (file_fault {A = Unit {0}} (Err fault)) → IsNone (directory_fault r) → P
+no_refusal fault r P is device none = by_fault fault device (subst (λ x. IsNone (directory_fault x)) is none)
+  where
+    by_fault : (f : FileFault) → IsSome (file_fault {A = Unit {0}} (Err f)) → IsNone (directory_fault {A = Unit {0}} (Err (File f))) → P
+    by_fault (Device n) some h = absurd (cc h)
+    by_fault NoCluster some h = absurd (false≢true some)
+    by_fault TooManyRuns some h = absurd (false≢true some)
+
+-- the sectors of the map of a mounted volume
+pub map_is : (volume : Volume) (media : Option (List ℕ)) (u : DiskVolume) → IsMounted volume media → Represents media u → map_sectors (kept volume).sizes ≡ map_sectors (shape u)
+map_is volume media u mounted on = ap map_sectors ((agrees_on volume media u mounted on).sizes_are ∙ sym (shape-image on.image u on.vol))
+
+pub kept_calls : (u : DiskVolume) (dir : DiskFile) (e : DirError) (r : Result (Unit {0}) DirError) (s t : DriveCounts) → r ≡ Err e → MovesCounts (directory_fault {A = ℕ} (Err e)) (3 + deletion_calls dir) s t
+    → MovesCounts (directory_fault r) (deletion_total u dir) s t
+kept_calls u dir e r s t is moved =
+    subst (λ f. MovesCounts f (deletion_total u dir) s t) (sym (ap directory_fault is ∙ same e))
+    (counts_most (directory_fault {A = ℕ} (Err e)) (3 + deletion_calls dir) (deletion_total u dir) s t (omega arith) moved)
+  where
+    same : (x : DirError) → directory_fault {A = Unit {0}} (Err x) ≡ directory_fault {A = ℕ} (Err x)
+    same NotAllowed = refl
+    same BadPath = refl
+    same NotFound = refl
+    same Exists = refl
+    same (File (Device k)) = refl
+    same (File NoCluster) = refl
+    same (File TooManyRuns) = refl
+
+pub all_calls : (u : DiskVolume) (dir : DiskFile) (m : ℕ) (f : Option ℕ) (s t w : DriveCounts) → m ≡ map_sectors (shape u) → MovesCounts None (3 + deletion_calls dir) s t → MovesCounts f (1 + m) t w
+    → MovesCounts f (deletion_total u dir) s w
+all_calls u dir m f s t w same one other =
+    counts_most f (3 + deletion_calls dir + (1 + m)) (deletion_total u dir) s w (omega arith) (counts_then f (3 + deletion_calls dir) (1 + m) s t w one other)
+
+pub fault_calls : (u : DiskVolume) (dir : DiskFile) (m : ℕ) (fault : FileFault) (r : Result (Unit {0}) DirError) (s t w : DriveCounts) → m ≡ map_sectors (shape u) → r ≡ Err (File fault)
+    → MovesCounts None (3 + deletion_calls dir) s t → MovesCounts (file_fault {A = Unit {0}} (Err fault)) (1 + m) t w → MovesCounts (directory_fault r) (deletion_total u dir) s w
+fault_calls u dir m fault r s t w same is one other =
+    subst (λ f. MovesCounts f (deletion_total u dir) s w) (sym (ap directory_fault is ∙ by_fault fault)) (all_calls u dir m (file_fault {A = Unit {0}} (Err fault)) s t w same one other)
+  where
+    by_fault : (f : FileFault) → directory_fault {A = Unit {0}} (Err (File f)) ≡ file_fault {A = Unit {0}} (Err f)
+    by_fault (Device k) = refl
+    by_fault NoCluster = refl
+    by_fault TooManyRuns = refl
+
+-- nothing has changed at a refusal of the call that frees the entry
+pub refused_still : (r : Result (Unit {0}) DirError) (media now : Option (List ℕ)) → now ≡ media → OnErr r (IsNone (directory_fault r) → now ≡ media)
+refused_still (Ok done) media now same = tt
+refused_still (Err e) media now same = λ none. same

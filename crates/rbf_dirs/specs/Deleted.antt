@@ -1,0 +1,81 @@
+-- A deletion as a whole.
+use Rattle.std.specs.Prelude.{◌≡◌, ◌≢◌, ℕ, ◌+◌, ◌*◌, ◌%◌, Option, Some, List, [], ◌∷◌, length, Result, Ok, Err}
+use Rattle.rbf_model.specs.File.{DiskFile}
+use Rattle.rbf_model.specs.Geometry.{image_geometry, sector, map_sectors}
+use Rattle.rbf_model.specs.Laws.{IsMapSector}
+use Rattle.rbf_model.specs.Space.{has_cluster}
+use Rattle.rbf_model.specs.Volume.{DiskVolume, Vol}
+use Rattle.rbf_model.specs.Walk.{WalkEnd, arrives, not_allowed, not_found}
+use Rattle.rbf_model.specs.Writes.{put_at}
+use Rattle.rbf_change.specs.Calls.{shape}
+use Rattle.rbf_change.specs.Contents.{sector_count}
+use Rattle.rbf_change.specs.Faults.{DeletionEnds}
+use Rattle.rbf_change.specs.NewFiles.{Deletes}
+use Rattle.rbf_change.specs.Tidy.{KeepsMapEnd, MayKeepMapEnd}
+use Rattle.rbf_access.specs.declared.faults.FileFault.TheVariants.{Device, NoCluster, TooManyRuns}
+use Rattle.rbf_update.specs.Entries.{sector_of_entry}
+use Rattle.rbf_walk.specs.declared.error.DirError.{DirError}
+use Rattle.rbf_walk.specs.declared.error.DirError.TheVariants.{NotAllowed, BadPath, NotFound, Exists, File}
+
+-- on the media the first byte of one entry is 0 now, and beside its sector only the map has changed
+pub record ClearsEntry (old new : List ℕ) (dir : DiskFile) (place : ℕ) : Type 0 where
+  pub entry : sector new (sector_of_entry dir place)
+      ≡ put_at (sector old (sector_of_entry dir place)) (32 * (place % 8)) (0 ∷ [])
+  pub others : (s : ℕ) → s ≢ sector_of_entry dir place → ¬ IsMapSector (image_geometry old) s
+      → sector new s ≡ sector old s
+
+-- file n has been deleted from directory d, where it had the name
+pub record IsDeleted (v : DiskVolume) (d n : ℕ) (name : List ℕ) (old new : Option (List ℕ)) : Type 0 where
+  pub image : List ℕ
+  pub now : List ℕ
+  pub was : old ≡ Some image
+  pub is : new ≡ Some now
+  pub file : DiskFile
+  pub there : v.files n ≡ Some file
+  pub after : DiskVolume
+  pub vol : Vol now after
+  pub deletes : Deletes v after d n name
+  pub writes : ClearsEntry image now deletes.dir deletes.place
+  pub end : KeepsMapEnd image now (has_cluster (shape v) n file)
+
+-- some file has
+pub record IsDeletedBy (v : DiskVolume) (d : ℕ) (name : List ℕ) (old new : Option (List ℕ)) : Type 0 where
+  pub number : ℕ
+  pub is : IsDeleted v d number name old new
+
+-- a fault came when the entry was free already: some clusters of the file may be lost
+pub record LeavesLost (v : DiskVolume) (d n : ℕ) (name : List ℕ) (old new : Option (List ℕ)) : Type 0 where
+  pub image : List ℕ
+  pub now : List ℕ
+  pub was : old ≡ Some image
+  pub is : new ≡ Some now
+  pub file : DiskFile
+  pub there : v.files n ≡ Some file
+  pub dir : DiskFile
+  pub place : ℕ
+  pub left : DiskVolume
+  pub vol : Vol now left
+  pub ends : DeletionEnds v left d n name
+  pub writes : ClearsEntry image now dir place
+  pub end : MayKeepMapEnd image now (has_cluster (shape v) n file)
+
+-- a deletion that a fault ended: nothing has changed, or the file has gone
+pub data DeletionStops (v : DiskVolume) (d : ℕ) (name : List ℕ) (old new : Option (List ℕ)) : Type 0 where
+  as_before : new ≡ old → DeletionStops v d name old new
+  lost_now : {n : ℕ} → LeavesLost v d n name old new → DeletionStops v d name old new
+
+-- what is answered where a deletion ends so, if no fault of the drive ended it before
+abbrev pub AnswersDeletion : WalkEnd → Result (Unit {0}) DirError → Type 0
+AnswersDeletion end (Ok done) = (n : ℕ) × (end ≡ arrives n)
+AnswersDeletion end (Err NotAllowed) = end ≡ not_allowed
+AnswersDeletion end (Err BadPath) = ⊥
+AnswersDeletion end (Err NotFound) = end ≡ not_found
+AnswersDeletion end (Err Exists) = ⊥
+AnswersDeletion end (Err (File (Device n))) = Unit
+AnswersDeletion end (Err (File NoCluster)) = ⊥
+AnswersDeletion end (Err (File TooManyRuns)) = ⊥
+
+-- how many calls of the drive a deletion makes at most: six, one for each sector of the directory, and one for each of
+-- the map
+abbrev pub deletion_total : DiskVolume → DiskFile → ℕ
+deletion_total v dir = 6 + sector_count (length dir.contents) + map_sectors (shape v)

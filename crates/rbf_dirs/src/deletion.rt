@@ -1,0 +1,50 @@
+ghost use Rattle.std.specs.Prelude.{◌≡◌, ℕ, OnOk, OnErr, IsNone};
+ghost use Rattle.rbf_model.specs.Volume.{DiskVolume};
+ghost use Rattle.rbf_change.specs.Names.{deletion_end};
+ghost use Rattle.rbf_access.specs.Drive.{Counts};
+ghost use Rattle.rbf_access.specs.Mounted.{HasFile, IsMounted, Represents};
+ghost use Rattle.rbf_walk.specs.Walk.{directory_fault};
+ghost use Rattle.rbf_update.specs.Deletions.{OnNumbered};
+ghost use Rattle.rbf_dirs.specs.Deleted.{AnswersDeletion, DeletionStops, IsDeletedBy, deletion_total};
+
+use os9_base::name::Name;
+use os9_outer::drive::BlockDriver;
+use rbf_access::Volume;
+use rbf_drop::drop_fd;
+use rbf_update::delete_entry;
+use rbf_walk::DirError;
+
+/// Deletes a file by its name in a directory, for a user (OS-9 Technical Reference, I$Delete): its
+/// entry is made free, and then its clusters are.
+///
+/// # Errors
+///
+/// `NotAllowed` if the user may not search or may not write the directory, and for a directory or
+/// a file that the user may not write; `NotFound` if the name is not there: then nothing has
+/// changed. `Device` if an access of the drive fails: then nothing has changed, or the file has
+/// gone and some of its clusters may be lost.
+pub fn delete(
+    v: &mut Volume,
+    d: &mut dyn BlockDriver,
+    dir: u32,
+    name: &Name,
+    user: u16,
+    execute: bool,
+) -> Result<(), DirError>
+    requires mounted { IsMounted v.old (media d.old) }
+    requires file { HasFile (media d.old) dir }
+    ensures answer { OnNumbered (media d.old) dir (λ on file.
+        AnswersDeletion (deletion_end on.files file name.now user execute) result) }
+    ensures ok { (on : DiskVolume) → Represents (media d.old) on
+        → OnOk result (IsDeletedBy on dir name.now (media d.old) (media d.new)) }
+    ensures fault { (on : DiskVolume) → Represents (media d.old) on
+        → OnErr result (DeletionStops on dir name.now (media d.old) (media d.new)) }
+    ensures refused { OnErr result (IsNone (directory_fault result) → media d.new ≡ media d.old) }
+    ensures mounted { IsMounted v.new (media d.new) }
+    ensures counts { OnNumbered (media d.old) dir (λ on f. Counts ⟦<dyn BlockDriver as BlockDriver>⟧
+        (directory_fault result) (deletion_total on f) d.old d.new) }
+{
+    let gone = delete_entry(v, d, dir, name, user, execute)?;
+    drop_fd(v, d, gone)?;
+    Ok(())
+}

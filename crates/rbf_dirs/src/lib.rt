@@ -1,0 +1,6 @@
+//! Files of a mounted RBF volume by their names, over a drive that may fail.
+#![tactic(auto)]
+
+pub use deletion::delete;
+
+mod deletion;

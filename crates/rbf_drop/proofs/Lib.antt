@@ -1,0 +1,6 @@
+pub mod Stretches
+pub mod ClearedMarks
+pub mod OwnParts
+pub mod Releasing
+pub mod FileClusters
+pub mod Dropping

@@ -1,0 +1,61 @@
+-- Clusters that are given back: their marks are cleared on the media and in what is kept of the volume.
+use Rattle.std.specs.Prelude.{◌≡◌, ℕ, ◌*◌, ◌/◌, ◌<◌, ◌&&◌, ◌||◌, nat_lt, Bool, true, false, not, List, Option, Some}
+use Rattle.rbf_model.specs.Geometry.{image_geometry, sector, map_sectors}
+use Rattle.rbf_model.specs.Space.{is_marked, cluster_count, Unused}
+use Rattle.rbf_model.specs.Volume.{DiskVolume, Vol}
+use Rattle.rbf_model.specs.Writes.{with_lost}
+use Rattle.rbf_model.specs.Laws.{IsMapSector}
+use Rattle.rbf_change.specs.Agrees.{KeptVolume, Agrees}
+use Rattle.rbf_change.specs.Calls.{shape}
+use Rattle.rbf_drop.specs.Own.{here, HasHere}
+
+-- clusters that may be given back: they are marked, and no file has them; the whole ones are lost
+pub record MayClear (v : DiskVolume) (image : List ℕ) (gone : ℕ → Bool) : Type 0 where
+  pub marked : (c : ℕ) → gone c ≡ true → is_marked (sector image) c ≡ true
+  pub unused : (c : ℕ) → gone c ≡ true → Unused (shape v) v.files c
+  pub in_volume : (c : ℕ) → gone c ≡ true → c < cluster_count (shape v)
+
+-- the marks of these clusters have been cleared on the media, and what is kept agrees with it; no sector but those of
+-- the map has changed
+pub record IsCleared (v : DiskVolume) (old : List ℕ) (cleared : ℕ → Bool) (media : Option (List ℕ)) (kept : KeptVolume)
+    : Type 0 where
+  pub now : List ℕ
+  pub is : media ≡ Some now
+  pub vol : Vol now (with_lost v (λ c. v.lost c && not (cleared c)))
+  pub marks : (c : ℕ) → c < 2048 * map_sectors (image_geometry old)
+      → is_marked (sector now) c ≡ (is_marked (sector old) c && not (cleared c))
+  pub others : (s : ℕ) → ¬ IsMapSector (image_geometry old) s → sector now s ≡ sector old s
+  pub agrees : Agrees kept now
+
+-- the next sector of the map is that in this place: no mark of it has been cleared
+pub record IsClearing (v : DiskVolume) (old : List ℕ) (cleared gone : ℕ → Bool) (place : ℕ) (media : Option (List ℕ))
+    (kept : KeptVolume) : Type 0 where
+  pub vol : Vol old v
+  pub may : MayClear v old gone
+  pub far : IsCleared v old cleared media kept
+  pub fresh : (c : ℕ) → c / 2048 ≡ place → cleared c ≡ false
+  pub within : place < map_sectors (image_geometry old)
+
+-- of some volume
+pub record MayGoOn (gone : ℕ → Bool) (place : ℕ) (media : Option (List ℕ)) (kept : KeptVolume) : Type 0 where
+  pub volume : DiskVolume
+  pub old : List ℕ
+  pub cleared : ℕ → Bool
+  pub is : IsClearing volume old cleared gone place media kept
+
+-- the marks of these in that sector are cleared besides
+abbrev pub ClearsNext : (ℕ → Bool) → ℕ → Option (List ℕ) → Option (List ℕ) → KeptVolume → KeptVolume → Type 0
+ClearsNext gone place media now kept kept_now =
+    (v : DiskVolume) (old : List ℕ) (cleared : ℕ → Bool) → IsClearing v old cleared gone place media kept
+    → IsCleared v old (λ c. cleared c || here gone place c) now kept_now
+
+-- a fault came where a cluster of these has its mark; nothing has changed
+pub record IsStopped (gone : ℕ → Bool) (place : ℕ) (media now : Option (List ℕ)) (kept kept_now : KeptVolume)
+    : Type 0 where
+  pub some : HasHere gone place
+  pub media_kept : now ≡ media
+  pub volume_kept : kept_now ≡ kept
+
+-- the clusters of these that have their mark in a sector of the map before this one
+abbrev pub before : (ℕ → Bool) → ℕ → ℕ → Bool
+before gone place c = gone c && nat_lt (c / 2048) place

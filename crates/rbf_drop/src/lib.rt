@@ -1,0 +1,14 @@
+//! The clusters of a file that has gone from a mounted RBF volume, given back over a drive that may
+//! fail.
+#![tactic(auto)]
+
+pub use bits::clear_mark;
+pub use dropped::drop_fd;
+pub use marks::free_one;
+pub use own::{OwnSectors, Stretch};
+
+mod bits;
+mod dropped;
+mod marks;
+mod own;
+mod release;

@@ -1,0 +1,42 @@
+ghost use Rattle.std.specs.Prelude.{◌≡◌, OnOk, OnErr, IsSome};
+ghost use Rattle.rbf_access.specs.Drive.{Counts};
+ghost use Rattle.rbf_access.specs.Faults.{file_fault};
+ghost use Rattle.rbf_access.specs.Mounted.{kept};
+ghost use Rattle.rbf_drop.specs.Own.{in_own};
+ghost use Rattle.rbf_drop.specs.Cleared.{ClearsNext, IsStopped, MayGoOn};
+
+use crate::bits::clear_own;
+use crate::marks::free_own;
+use crate::own::OwnSectors;
+use os9_outer::drive::BlockDriver;
+use rbf_access::{FileFault, Volume};
+
+// Gives back those clusters of a file that have their marks in the map's sector `place`, if there
+// are any: the sector is written without the marks, and then what is kept has them no more.
+pub fn release_in(
+    volume: &mut Volume,
+    d: &mut dyn BlockDriver,
+    own: &OwnSectors,
+    place: u16,
+) -> Result<(), FileFault>
+    requires { MayGoOn (in_own volume.old.ident.cluster own.now) place (media d.old)
+        (kept volume.old) }
+    ensures ok { OnOk result (ClearsNext (in_own volume.old.ident.cluster own.now) place
+        (media d.old) (media d.new) (kept volume.old) (kept volume.new)) }
+    ensures fault { OnErr result (IsStopped (in_own volume.old.ident.cluster own.now) place
+        (media d.old) (media d.new) (kept volume.old) (kept volume.new)) }
+    ensures device { OnErr result (IsSome (file_fault result)) }
+    ensures sizes { (kept volume.new).sizes ≡ (kept volume.old).sizes }
+    ensures counts { Counts ⟦<dyn BlockDriver as BlockDriver>⟧ (file_fault result) 1 d.old d.new }
+{
+    let k = volume.ident.cluster;
+    if own.first_in(k, place).is_none() {
+        return Ok(());
+    }
+    let mut bytes = [0; 256];
+    volume.map.sector(place, &mut bytes);
+    clear_own(&mut bytes, own, k, place);
+    volume.store(d, 1 + u32::from(place), &bytes)?;
+    free_own(&mut volume.map, own, k, place);
+    Ok(())
+}

@@ -1,0 +1,5 @@
+pub mod EntryBytes
+pub mod NewEntries
+pub mod Placed
+pub mod Filled
+pub mod Creating

@@ -1,0 +1,46 @@
+use Rattle.std.proofs.Common.{Err, ap, ◌∙◌}
+use Rattle.std.proofs.lemmas.Result.{err_from_is_err_and}
+use Rattle.rbf_sector.specs.declared.fd.Fd.{Fd}
+use Rattle.rbf_walk.specs.declared.directory.Searched.{Searched}
+use Rattle.rbf_walk.proofs.Stepping.{fd_on}
+use Rattle.rbf_update.proofs.Attributed.{fault_counts}
+use Rattle.rbf_make.proofs.Placed.{fault_placed, closed_refused, found_refused, absent_placed, all_looks}
+use Rattle.rbf_make.proofs.place.find_place.Goals as goal
+
+pub returns-in_err-fd-clause-answer : goal.returns-in_err-fd-clause-answer
+returns-in_err-fd-clause-answer g c v file on is =
+    let p = err_from_is_err_and c.from_residual.result c.from_residual.ensures.1 in
+    fault_placed Fd file c.args.name.now c.args.user c.args.execute c.in_err-fd.field-0.0 _ (p.1 ∙ ap Err p.2) c.in_err-fd.ensures.device
+
+pub returns-then-not-may_change-clause-answer : goal.returns-then-not-may_change-clause-answer
+returns-then-not-may_change-clause-answer g c v file on is =
+    closed_refused _ c.args.dir c.in_ok-fd.fd c.in_ok-fd.ensures.ok c.args.name.now c.args.user c.args.execute c.is_dots.result c.is_dots.ensures.value c.is_dots.ensures.name c.if-is_dots.false c.may_change.result c.may_change.ensures v file on is c.if-not-may_change.true
+
+pub search-requires-clause-directory : goal.search-requires-clause-directory
+search-requires-clause-directory g c = fd_on _ c.args.dir c.requires.file c.in_ok-fd.fd c.in_ok-fd.ensures.ok _ c.in_ok-fd.ensures.media_kept
+
+pub returns-in_err-search-clause-answer : goal.returns-in_err-search-clause-answer
+returns-in_err-search-clause-answer g c v file on is =
+    let p = err_from_is_err_and c.from_residual-in_err-search.result c.from_residual-in_err-search.ensures.1 in
+    fault_placed Searched file c.args.name.now c.args.user c.args.execute c.in_err-search.field-0.0 _ (p.1 ∙ ap Err p.2) c.in_err-search.ensures.device
+
+pub returns-in_err-search-clause-counts : goal.returns-in_err-search-clause-counts
+returns-in_err-search-clause-counts g c v file on is =
+    let p = err_from_is_err_and c.from_residual-in_err-search.result c.from_residual-in_err-search.ensures.1 in
+    all_looks file c.in_ok-fd.fd.size (c.in_ok-fd.ensures.ok v file on is).size_is _ _ _ _ c.in_ok-fd.ensures.counts (fault_counts Searched _ c.in_err-search.field-0.0 _ _ _ _ (p.1 ∙ ap Err p.2) c.in_err-search.ensures.counts)
+
+pub returns-in-Found-clause-answer : goal.returns-in-Found-clause-answer
+returns-in-Found-clause-answer g c v file on is =
+    found_refused _ c.args.dir c.in_ok-fd.fd c.in_ok-fd.ensures.ok c.args.name.now c.args.user c.args.execute c.is_dots.result c.is_dots.ensures.value c.is_dots.ensures.name c.if-is_dots.false c.may_change.result c.may_change.ensures v file on is c.if-not-may_change.false _ c.in_ok-fd.ensures.media_kept c.in_ok-search.field-0 c.in_ok-search.ensures.ok _ _ c.in-Found.is
+
+pub returns-in-Found-clause-counts : goal.returns-in-Found-clause-counts
+returns-in-Found-clause-counts g c v file on is =
+    all_looks file c.in_ok-fd.fd.size (c.in_ok-fd.ensures.ok v file on is).size_is _ _ _ _ c.in_ok-fd.ensures.counts c.in_ok-search.ensures.counts
+
+pub returns-in-Absent-clause-answer : goal.returns-in-Absent-clause-answer
+returns-in-Absent-clause-answer g c v file on is =
+    absent_placed _ c.args.dir c.in_ok-fd.fd c.in_ok-fd.ensures.ok c.args.name.now c.args.user c.args.execute c.is_dots.result c.is_dots.ensures.value c.is_dots.ensures.name c.if-is_dots.false c.may_change.result c.may_change.ensures v file on is c.if-not-may_change.false _ c.in_ok-fd.ensures.media_kept c.in_ok-search.field-0 c.in_ok-search.ensures.ok _ c.in-Absent.is
+
+pub returns-in-Absent-clause-counts : goal.returns-in-Absent-clause-counts
+returns-in-Absent-clause-counts g c v file on is =
+    all_looks file c.in_ok-fd.fd.size (c.in_ok-fd.ensures.ok v file on is).size_is _ _ _ _ c.in_ok-fd.ensures.counts c.in_ok-search.ensures.counts

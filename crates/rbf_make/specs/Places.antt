@@ -1,0 +1,33 @@
+-- The place of a new entry, and why it is refused.
+use Rattle.std.specs.Prelude.{◌≡◌, ℕ, Bool, true, false, Some, List, Result, Ok, Err}
+use Rattle.os9_base.specs.Name.{IsName}
+use Rattle.rbf_model.specs.File.{DiskFile}
+use Rattle.rbf_change.specs.Names.{may_change, is_dots}
+use Rattle.rbf_change.specs.NewFiles.{Refusal, bad_path, not_allowed, exists, entry_refusal}
+use Rattle.rbf_access.specs.declared.faults.FileFault.TheVariants.{Device, NoCluster, TooManyRuns}
+use Rattle.rbf_walk.specs.Search.{IsAbsent}
+use Rattle.rbf_walk.specs.declared.error.DirError.{DirError}
+use Rattle.rbf_walk.specs.declared.error.DirError.TheVariants.{NotAllowed, BadPath, NotFound, Exists, File}
+
+-- a new entry with the name is refused so, whatever is to be made and however many clusters are free
+abbrev pub IsRefused : DiskFile → List ℕ → ℕ → Bool → Refusal → Type 0
+IsRefused dir name user execute reason =
+    (k free size : ℕ) → entry_refusal k free dir name user execute size ≡ Some reason
+
+-- the place where a user may enter the name
+pub record IsNewPlace (dir : DiskFile) (name : List ℕ) (user : ℕ) (execute : Bool) (place : ℕ) : Type 0 where
+  pub named : IsName name
+  pub proper : is_dots name ≡ false
+  pub allowed : may_change dir user execute ≡ true
+  pub absent : IsAbsent dir.contents name place
+
+-- what is answered, if no fault of the drive came before
+abbrev pub AnswersPlace : DiskFile → List ℕ → ℕ → Bool → Result ℕ DirError → Type 0
+AnswersPlace dir name user execute (Ok place) = IsNewPlace dir name user execute place
+AnswersPlace dir name user execute (Err NotAllowed) = IsRefused dir name user execute not_allowed
+AnswersPlace dir name user execute (Err BadPath) = IsRefused dir name user execute bad_path
+AnswersPlace dir name user execute (Err NotFound) = ⊥
+AnswersPlace dir name user execute (Err Exists) = IsRefused dir name user execute exists
+AnswersPlace dir name user execute (Err (File (Device n))) = Unit
+AnswersPlace dir name user execute (Err (File NoCluster)) = ⊥
+AnswersPlace dir name user execute (Err (File TooManyRuns)) = ⊥

@@ -1,0 +1,77 @@
+ghost use Rattle.std.specs.Prelude.{◌≡◌, ◌+◌, length};
+ghost use Rattle.os9_base.specs.Name.{IsName};
+ghost use Rattle.rbf_model.specs.File.{DiskFile};
+ghost use Rattle.rbf_change.specs.Contents.{sector_count};
+ghost use Rattle.rbf_change.specs.Names.{is_dots as is_dots_lem, may_change as may_change_lem};
+ghost use Rattle.rbf_access.specs.Drive.{Counts};
+ghost use Rattle.rbf_access.specs.Mounted.{kept, HasFile, IsMounted};
+ghost use Rattle.rbf_access.specs.Reading.{IsFdOf, OnFile};
+ghost use Rattle.rbf_walk.specs.Walk.{directory_fault};
+ghost use Rattle.rbf_make.specs.Places.{AnswersPlace};
+
+use os9_base::name::Name;
+use os9_outer::drive::BlockDriver;
+use rbf_access::Volume;
+use rbf_sector::Fd;
+use rbf_walk::{DirError, Searched, is_open, may, search};
+
+const WRITE: u8 = 2;
+
+/// The place in a directory that a new entry with a name goes to, for a user: the first free one,
+/// or the one behind the last (OS-9 Technical Reference, I$Create and I$MakDir). No sector is read
+/// twice.
+///
+/// # Errors
+///
+/// In this order: `BadPath` for the names `.` and `..`, before any access of the drive;
+/// `NotAllowed` if the user may not search or may not write the directory; `Exists` if the name is
+/// there. `Device` if an access of the drive fails. Nothing has changed then.
+pub fn find_place(
+    v: &mut Volume,
+    d: &mut dyn BlockDriver,
+    dir: u32,
+    name: &Name,
+    user: u16,
+    execute: bool,
+) -> Result<u32, DirError>
+    requires mounted { IsMounted v.old (media d.old) }
+    requires file { HasFile (media d.old) dir }
+    ensures answer { OnFile (media d.old) dir (λ file.
+        AnswersPlace file name.now user execute result) }
+    ensures mounted { IsMounted v.new (media d.new) }
+    ensures media_kept { media d.new ≡ media d.old }
+    ensures volume_kept { kept v.new ≡ kept v.old }
+    ensures counts { OnFile (media d.old) dir (λ file. Counts ⟦<dyn BlockDriver as BlockDriver>⟧
+        (directory_fault result) (1 + sector_count (length file.contents)) d.old d.new) }
+{
+    if is_dots(name) {
+        return Err(DirError::BadPath);
+    }
+    let fd = v.fd(d, dir)?;
+    if !may_change(&fd, user, execute) {
+        return Err(DirError::NotAllowed);
+    }
+    match search(v, d, &fd, name)? {
+        Searched::Found { .. } => Err(DirError::Exists),
+        Searched::Absent { free } => Ok(free),
+    }
+}
+
+// Is it `.` or `..`, which every directory has?
+fn is_dots(name: &Name) -> bool
+    ensures value { result ≡ is_dots_lem name.now }
+    ensures name { IsName name.now }
+{
+    match name.len() {
+        1 => name.byte(0) == b'.',
+        2 => name.byte(0) == b'.' && name.byte(1) == b'.',
+        _ => false,
+    }
+}
+
+// Is it a directory that a user may search and change?
+fn may_change(fd: &Fd, user: u16, execute: bool) -> bool
+    ensures { (file : DiskFile) → IsFdOf file fd.now → result ≡ may_change_lem file user execute }
+{
+    is_open(fd, user, execute) && may(fd, user, WRITE)
+}
