@@ -4,22 +4,16 @@ The module is a program of the name SysGo that begins at its first byte of code.
 parity and the CRC are those of the OS-9 System Programmer's Manual, "Memory modules".
 """
 
+import pathlib
 import sys
+
+sys.path.insert(0, str(pathlib.Path(__file__).resolve().parent.parent / "crates" / "proc_vectors"))
+
+from assemble import crc  # noqa: E402
 
 HEADER = 13
 NAME = b"SysG" + bytes([ord("o") | 0x80])
 STORAGE = 200
-
-
-def crc(data):
-    value = 0xFFFFFF
-    for byte in data:
-        value ^= byte << 16
-        for _ in range(8):
-            value <<= 1
-            if value & 0x1000000:
-                value ^= 0x1800063
-    return (value ^ 0xFFFFFF).to_bytes(3, "big")
 
 
 def module(code):
