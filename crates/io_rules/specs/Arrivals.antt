@@ -1,0 +1,49 @@
+-- The keys that arrive in a tick (Level Two manual, SCF; when keys arrive is this project's own).
+use Rattle.std.specs.Prelude.{◌≡◌, ℕ, zero, suc, ◌+◌, true, Option, Some, None, List, length}
+use Rattle.os9_base.specs.declared.registers.Pid.{Pid}
+use Rattle.os9_outer.specs.TerminalState.{TerminalState, ChangesOneTerminal}
+use Rattle.proc_rules.specs.Signals.{after_send}
+use Rattle.call_rules.specs.Inner.{Inner, with_records}
+use Rattle.io_model.specs.Terminal.{Terminal, Arrives}
+use Rattle.io_model.specs.declared.terminal.Arrival.{Arrival}
+use Rattle.io_rules.specs.Io.{Io, terminal_at, with_terminal}
+
+-- what keys that arrive may change
+pub record Desk : Type 0 where
+  pub inner : Inner
+  pub io : Io
+  pub terms : List TerminalState  -- TERM, T1, T2, T3
+
+-- the superuser, who may send a signal to every process
+abbrev pub every_user : ℕ
+every_user = 0
+
+-- the processes after a signal was sent to a process; it is dropped where that one has a signal pending
+abbrev pub after_signal_to : Inner → Pid → ℕ → Inner
+after_signal_to inner process signal = with_records inner (after_send inner.records every_user process.0 signal)
+
+-- the processes after the signal of a terminal was sent to its last user, if there are both
+abbrev pub after_key_signal : Inner → Option Pid → Option ℕ → Inner
+after_key_signal inner None signal = inner
+after_key_signal inner (Some process) None = inner
+after_key_signal inner (Some process) (Some signal) = after_signal_to inner process signal
+
+-- the keys of a terminal that are due in this tick arrive, and then its signal is sent
+pub record ArrivesAt (tick n : ℕ) (old new : Desk) : Type 0 where
+  pub answer : Arrival
+  pub terminal : Terminal
+  pub memory : answer.memory ≡ true
+  pub device : ChangesOneTerminal
+      (λ before after. Arrives tick (terminal_at old.io n) terminal before after answer) n old.terms new.terms
+  pub io : new.io ≡ with_terminal old.io n terminal
+  pub signal : new.inner ≡ after_key_signal old.inner terminal.user answer.signal
+
+-- the same of so many terminals from this one on, one after another
+abbrev pub ArrivesFrom : ℕ → ℕ → ℕ → Desk → Desk → Type 0
+ArrivesFrom tick n zero old new = new ≡ old
+ArrivesFrom tick n (suc count) old new =
+    (between : Desk) × ArrivesAt tick n old between × ArrivesFrom tick (n + 1) count between new
+
+-- the keys of all terminals that are due in this tick arrive: of TERM, T1, T2 and T3, in this order
+abbrev pub Arrivals : ℕ → Desk → Desk → Type 0
+Arrivals tick old new = ArrivesFrom tick 0 (length old.terms) old new

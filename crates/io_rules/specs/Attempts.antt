@@ -1,0 +1,111 @@
+-- Attempts of the calls on paths: each call by its code, and what an attempt leaves (System Programmer's Manual, "I/O
+-- service requests").
+use Rattle.std.specs.Prelude.{◌≡◌, ℕ, Option, Some, None, List, length}
+use Rattle.os9_base.specs.Cells.{Cells, store_cells}
+use Rattle.os9_base.specs.declared.call.CallEnd.{CallEnd}
+use Rattle.os9_base.specs.declared.call.CallEnd.TheVariants.{Done, Error, Wait}
+use Rattle.os9_base.specs.declared.registers.Regs.{Regs}
+use Rattle.os9_outer.specs.TerminalState.{TerminalState}
+use Rattle.proc_model.specs.MemoryChanges.{stored}
+use Rattle.call_rules.specs.CallResult.{CallResult}
+use Rattle.call_rules.specs.Inner.{Inner, regs_at, cells_at, with_memory, with_regs_of}
+use Rattle.io_model.specs.declared.kept.Kept.{Kept}
+use Rattle.io_rules.specs.Close.{i_close}
+use Rattle.io_rules.specs.Dup.{i_dup}
+use Rattle.io_rules.specs.Io.{Io, with_call}
+use Rattle.io_rules.specs.Open.{i_open, i_create}
+use Rattle.io_rules.specs.Read.{i_read, i_readln}
+use Rattle.io_rules.specs.Status.{i_getstt, i_setstt}
+use Rattle.io_rules.specs.Step.{Caller, IoEnd, answers, fails, keeps, IoEffect, IoStep, refused, comes, reads, writes, leaves}
+use Rattle.io_rules.specs.Terminals.{ReadsTerminal, WritesTerminal}
+use Rattle.io_rules.specs.Write.{i_write, i_writln, f_perr}
+use Rattle.io_rules.specs.declared.io_call.IoCall.{IoCall}
+use Rattle.io_rules.specs.declared.io_call.IoCall.TheVariants as Call
+
+-- what an attempt of a call does, on a machine with so many drives and terminals
+abbrev pub io_step : IoCall → Caller → Io → ℕ → ℕ → IoStep
+io_step Call.Dup caller io drives terms = i_dup caller io
+io_step Call.Create caller io drives terms = i_create caller io drives terms
+io_step Call.Open caller io drives terms = i_open caller io drives terms
+io_step Call.Close caller io drives terms = i_close caller io
+io_step Call.Read caller io drives terms = i_read caller io
+io_step Call.ReadLn caller io drives terms = i_readln caller io
+io_step Call.Write caller io drives terms = i_write caller io
+io_step Call.WritLn caller io drives terms = i_writln caller io
+io_step Call.GetStt caller io drives terms = i_getstt caller io
+io_step Call.SetStt caller io drives terms = i_setstt caller io
+io_step Call.PErr caller io drives terms = f_perr caller io
+
+-- what an attempt does comes to this effect, and leaves the terminals so
+abbrev pub Does : IoStep → Caller → Io → IoEffect → List TerminalState → List TerminalState → Type 0
+Does (refused number) caller io effect before after = (effect ≡ leaves (fails number) io) × (after ≡ before)
+Does (comes it) caller io effect before after = (effect ≡ it) × (after ≡ before)
+Does (reads read) caller io effect before after = ReadsTerminal caller io read effect before after
+Does (writes write) caller io effect before after = WritesTerminal caller io write effect before after
+
+-- what is kept of a call that ends so
+abbrev pub kept_in : IoEnd → Option Kept
+kept_in (answers regs) = None
+kept_in (fails number) = None
+kept_in (keeps kept) = Some kept
+
+-- the state after an attempt of a process
+abbrev pub io_after : ℕ → IoEffect → Io
+io_after p effect = with_call effect.io p (kept_in effect.end)
+
+-- ---- by the caller's registers and the bytes that it sees
+
+-- how an attempt ends
+abbrev pub end_of : IoEnd → CallEnd
+end_of (answers regs) = Done
+end_of (fails number) = Error number
+end_of (keeps kept) = Wait
+
+-- the registers of the caller after an attempt that ends so
+abbrev pub regs_after : IoEnd → Regs → Regs
+regs_after (answers regs) before = regs
+regs_after (fails number) before = before
+regs_after (keeps kept) before = before
+
+-- an attempt of a call on a machine with so many drives: how it ends, and the caller's registers, the bytes that it
+-- sees, the state and the terminals then
+pub record CallerAttempts (call : IoCall) (caller : Caller) (io : Io) (drives : ℕ) (end : CallEnd) (regs : Regs)
+    (cells : Cells) (new : Io) (before after : List TerminalState) : Type 0 where
+  pub effect : IoEffect
+  pub does : Does (io_step call caller io drives (length before)) caller io effect before after
+  pub end_is : end ≡ end_of effect.end
+  pub regs_are : regs ≡ regs_after effect.end caller.regs
+  pub cells_are : cells ≡ store_cells caller.cells effect.at effect.bytes
+  pub state : new ≡ io_after caller.process.0 effect
+
+-- ---- by the state of the processes
+
+-- the process that calls
+abbrev pub caller_of : Inner → ℕ → Caller
+caller_of inner p = record { process = record { 0 = p }; regs = regs_at inner p; cells = cells_at inner p }
+
+-- the processes after an attempt stored its bytes
+abbrev pub with_stored : Inner → ℕ → IoEffect → Inner
+with_stored inner p effect = with_memory inner (stored inner.memory p effect.at effect.bytes)
+
+-- what the call comes to
+abbrev pub result_by : IoEnd → Inner → ℕ → IoEffect → CallResult
+result_by (answers regs) inner p effect = CallResult.done (with_regs_of (with_stored inner p effect) p regs)
+result_by (fails number) inner p effect = CallResult.refused number
+result_by (keeps kept) inner p effect = CallResult.waits (with_stored inner p effect)
+
+abbrev pub result_of : Inner → ℕ → IoEffect → CallResult
+result_of inner p effect = result_by effect.end inner p effect
+
+-- what an attempt of a call by a process does
+abbrev pub step_of : IoCall → Inner → ℕ → Io → ℕ → List TerminalState → IoStep
+step_of call inner p io drives terms = io_step call (caller_of inner p) io drives (length terms)
+
+-- an attempt of a call by a process on a machine with so many drives: what it comes to, and the state and the terminals
+-- then
+pub record IoAttempts (call : IoCall) (inner : Inner) (io : Io) (drives p : ℕ) (result : CallResult) (new : Io)
+    (before after : List TerminalState) : Type 0 where
+  pub effect : IoEffect
+  pub does : Does (step_of call inner p io drives before) (caller_of inner p) io effect before after
+  pub result_is : result ≡ result_of inner p effect
+  pub state : new ≡ io_after p effect

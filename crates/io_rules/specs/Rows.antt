@@ -1,0 +1,98 @@
+-- Calls that are worked through by hand.
+use Rattle.std.specs.Prelude.{ℕ, List, [], length, slice_get, replicate, codes}
+use Rattle.os9_base.specs.Cells.{Cells}
+use Rattle.os9_base.specs.declared.registers.Regs.{Regs}
+use Rattle.proc_rules.specs.Records.{zero_regs}
+use Rattle.io_rules.specs.Attempts.{io_step, io_after}
+use Rattle.io_rules.specs.Io.{Io, first_io}
+use Rattle.io_rules.specs.Processes.{io_started}
+use Rattle.io_rules.specs.Step.{Caller, IoEffect, IoStep, refused, comes, reads, writes, leaves, fails}
+use Rattle.io_rules.specs.Waiting.{pid}
+use Rattle.io_rules.specs.declared.io_call.IoCall.{IoCall}
+use Rattle.io_rules.specs.declared.io_call.IoCall.TheVariants as Call
+
+-- the cells that have these bytes from address 0 on, and no others
+abbrev pub cells_with : List ℕ → Cells
+cells_with bytes at = slice_get bytes at
+
+-- the process of this number, with these registers and these bytes from address 0 on
+abbrev pub calling : ℕ → Regs → List ℕ → Caller
+calling p regs bytes = record { process = pid p; regs = regs; cells = cells_with bytes }
+
+-- what an attempt that reaches no device leaves
+abbrev pub effect_of : IoStep → Io → IoEffect
+effect_of (refused number) io = leaves (fails number) io
+effect_of (comes effect) io = effect
+effect_of (reads read) io = leaves (fails 0) io
+effect_of (writes write) io = leaves (fails 0) io
+
+-- what an attempt of a call by such a process leaves, on a machine with four terminals and no drive
+abbrev pub attempt : IoCall → ℕ → Regs → List ℕ → Io → IoEffect
+attempt call p regs bytes io = effect_of (io_step call (calling p regs bytes) io 0 4) io
+
+-- the state then
+abbrev pub after : IoCall → ℕ → Regs → List ℕ → Io → Io
+after call p regs bytes io = io_after p (attempt call p regs bytes io)
+
+-- ---- path lists
+
+-- what comes of an I$Open, with this mode, by process 2 of a path list, on a machine with so many drives and four
+-- terminals
+abbrev pub opening : ℕ → ℕ → List ℕ → IoStep
+opening drives mode list = io_step Call.Open (calling 2 (record zero_regs { a = mode }) list) first_io drives 4
+
+abbrev pub creating : ℕ → ℕ → List ℕ → IoStep
+creating drives mode list = io_step Call.Create (calling 2 (record zero_regs { a = mode }) list) first_io drives 4
+
+-- ---- pipes
+
+-- the registers of a call on path 0 that moves at most so many bytes from address 0 on
+abbrev pub moving : ℕ → Regs
+moving count = record zero_regs { y = count }
+
+-- the state where process 2 has a pipe as its path 0, which may be read and written
+abbrev pub piped : Io
+piped =
+    after Call.Open 2 (record zero_regs { a = 3 }) (codes "/PIPE ")
+    (after Call.Close 2 zero_regs [] first_io)
+
+-- the state where its child, process 3, shares the pipe
+abbrev pub shared : Io
+shared = io_started piped 2 3
+
+-- so many bytes
+abbrev pub ones : ℕ → List ℕ
+ones count = replicate count 1
+
+-- process 2 writes so many bytes, and process 3 reads at most so many
+abbrev pub writing : ℕ → Io → IoEffect
+writing count io = attempt Call.Write 2 (moving count) (ones count) io
+
+abbrev pub reading : ℕ → Io → IoEffect
+reading most io = attempt Call.Read 3 (moving most) (ones most) io
+
+-- the states in which process 2 writes 300 bytes, process 3 reads what there is, process 2 writes the rest, process 3
+-- reads it, and process 2 exits
+abbrev pub first_written : Io
+first_written = io_after 2 (writing 300 shared)
+
+abbrev pub first_read : Io
+first_read = io_after 3 (reading 512 first_written)
+
+abbrev pub rest_written : Io
+rest_written = io_after 2 (writing 300 first_read)
+
+abbrev pub rest_read : Io
+rest_read = io_after 3 (reading 512 rest_written)
+
+-- process 2 has filled the pipe, which it alone holds
+abbrev pub filled : Io
+filled = after Call.Write 2 (moving 256) (ones 256) piped
+
+-- process 2 has written these bytes into the pipe that its child shares
+abbrev pub sent : List ℕ → Io
+sent bytes = after Call.Write 2 (moving (length bytes)) bytes shared
+
+-- process 3 reads a line of at most 80 bytes
+abbrev pub reading_line : Io → IoEffect
+reading_line io = attempt Call.ReadLn 3 (moving 80) (replicate 80 0) io

@@ -1,0 +1,9 @@
+//! What each call on terminals and pipes answers and leaves: the definitions that the bodies of the
+//! calls cite, and the codes of these calls.
+#![tactic(auto)]
+
+pub mod io_call;
+pub mod modes;
+pub mod path_rows;
+pub mod pipe_rows;
+pub mod status;
