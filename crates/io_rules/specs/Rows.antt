@@ -1,12 +1,13 @@
 -- Calls that are worked through by hand.
-use Rattle.std.specs.Prelude.{ℕ, List, [], length, slice_get, replicate, codes}
+use Rattle.std.specs.Prelude.{ℕ, zero, suc, List, [], length, slice_get, replicate, codes}
 use Rattle.os9_base.specs.Cells.{Cells}
 use Rattle.os9_base.specs.declared.registers.Regs.{Regs}
 use Rattle.proc_rules.specs.Records.{zero_regs}
+use Rattle.io_model.specs.Terminal.{new_terminal, used_by}
 use Rattle.io_rules.specs.Attempts.{io_step, io_after}
-use Rattle.io_rules.specs.Io.{Io, first_io}
+use Rattle.io_rules.specs.Io.{Io, first_io, with_terminal}
 use Rattle.io_rules.specs.Processes.{io_started}
-use Rattle.io_rules.specs.Step.{Caller, IoEffect, IoStep, refused, comes, reads, writes, leaves, fails}
+use Rattle.io_rules.specs.Step.{Caller, IoEnd, IoEffect, IoStep, refused, comes, reads, writes, leaves, fails, TerminalWrite}
 use Rattle.io_rules.specs.Waiting.{pid}
 use Rattle.io_rules.specs.declared.io_call.IoCall.{IoCall}
 use Rattle.io_rules.specs.declared.io_call.IoCall.TheVariants as Call
@@ -96,3 +97,39 @@ sent bytes = after Call.Write 2 (moving (length bytes)) bytes shared
 -- process 3 reads a line of at most 80 bytes
 abbrev pub reading_line : Io → IoEffect
 reading_line io = attempt Call.ReadLn 3 (moving 80) (replicate 80 0) io
+
+-- ---- limits
+
+-- the state after a process opened what a path list leads to so many times
+abbrev pub opened_times : ℕ → ℕ → List ℕ → Io → Io
+opened_times zero p list io = io
+opened_times (suc n) p list io = after Call.Open p (record zero_regs { a = 3 }) list (opened_times n p list io)
+
+-- how one more of it ends
+abbrev pub opening_ends : ℕ → List ℕ → Io → IoEnd
+opening_ends p list io = (attempt Call.Open p (record zero_regs { a = 3 }) list io).end
+
+-- the state where there are 64 paths: process 2 has fourteen by its sixteen numbers, processes 3 to 5 have sixteen
+-- each, and process 6 has two
+abbrev pub many_paths : Io
+many_paths =
+    opened_times 2 6 (codes "/T1 ") (opened_times 16 5 (codes "/T1 ") (opened_times 16 4 (codes "/T1 ")
+    (opened_times 16 3 (codes "/T1 ") (opened_times 13 2 (codes "/T1 ") first_io))))
+
+-- the state where there are sixteen pipes: process 2 has thirteen, and process 3 has three
+abbrev pub many_pipes : Io
+many_pipes = opened_times 3 3 (codes "/PIPE ") (opened_times 13 2 (codes "/PIPE ") first_io)
+
+-- ---- a terminal that fails
+
+-- the registers of a write of three bytes from address 0 on to standard output
+abbrev pub failing : Regs
+failing = record zero_regs { a = 1; y = 3 }
+
+-- that write, as TERM is given it
+abbrev pub abc : TerminalWrite
+abc = record { terminal = 0; put = codes "abc"; count = 3; regs = failing }
+
+-- the state where process 2 is the last user of TERM
+abbrev pub used : Io
+used = with_terminal first_io 0 (used_by (pid 2) new_terminal)

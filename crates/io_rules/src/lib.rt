@@ -3,6 +3,8 @@
 #![tactic(auto)]
 
 pub mod io_call;
+pub mod limit_rows;
+pub mod line_rows;
 pub mod modes;
 pub mod path_rows;
 pub mod pipe_rows;

@@ -41,3 +41,15 @@ pub fn path_lists_are_refused()
     ensures drive { opening 1 1 (codes "/D0 ") ≡ refused E_MNF }
     ensures no_directory { opening 0 1 (codes "File ") ≡ refused E_PNNF }
 {}
+
+/// Nothing is made without a mode that can write, at a root, or by the name of a directory itself or
+/// of the one above it; a terminal is opened.
+pub fn places_are_refused()
+    ensures mode { creating 0 1 (codes "/TERM ") ≡ refused E_BMODE }
+    ensures root { creating 1 2 (codes "/D0 ") ≡ refused E_BPNAM }
+    ensures dots { creating 0 2 (codes ".. ") ≡ refused E_BPNAM }
+    ensures dots_on_drive { creating 1 2 (codes "/D0/X/. ") ≡ refused E_BPNAM }
+    ensures file { creating 1 2 (codes "/D0/X ") ≡ refused E_MNF }
+    ensures no_directory { creating 0 2 (codes "File ") ≡ refused E_PNNF }
+    ensures terminal { creating 0 2 (codes "/T1 ") ≡ opening 0 2 (codes "/T1 ") }
+{}
