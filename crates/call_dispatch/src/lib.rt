@@ -13,6 +13,7 @@ mod waits;
 #[cfg(test)]
 mod tests {
     use crate::attempt;
+    use call_rules::io_ready::IoReady;
     use call_rules::proc_call::ProcCall;
     use os9_base::call::CallEnd;
     use os9_base::calls::{F_SEND, F_SLEEP, F_UNLINK};
@@ -61,12 +62,12 @@ mod tests {
         begin(&mut s, sleeper, F_SLEEP, 0, 0, 5);
         assert_eq!(rt; attempt(&mut s, sleeper, ProcCall::Sleep), CallEnd::Wait);
         next_tick(&mut s);
-        assert_eq!(rt; s.choose(), Some(sender));
+        assert_eq!(rt; s.choose(&IoReady::none()), Some(sender));
         assert!(rt; lives(&s, sender));
         begin(&mut s, sender, F_SEND, 2, 1, 0);
         assert_eq!(rt; attempt(&mut s, sender, ProcCall::Send), CallEnd::Done);
         next_tick(&mut s);
-        assert_eq!(rt; s.choose(), Some(sleeper));
+        assert_eq!(rt; s.choose(&IoReady::none()), Some(sleeper));
         assert!(rt; lives(&s, sleeper));
         assert_eq!(rt; attempt(&mut s, sleeper, ProcCall::Sleep), CallEnd::Done);
         assert!(rt; lives(&s, sleeper));

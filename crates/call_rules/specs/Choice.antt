@@ -1,5 +1,5 @@
 -- The choice of the next process (Level Two manual, process scheduling).
-use Rattle.std.specs.Prelude.{ℕ, if◌then◌else◌}
+use Rattle.std.specs.Prelude.{ℕ, Bool, if◌then◌else◌}
 use Rattle.proc_rules.specs.Records.{is_living, record_at}
 use Rattle.proc_rules.specs.Turns.{Choice, choose}
 use Rattle.call_rules.specs.Inner.{Inner}
@@ -9,10 +9,10 @@ use Rattle.call_rules.specs.Ready.{is_ready}
 abbrev pub turn_priority : Inner → ℕ → ℕ
 turn_priority s p = if is_living s.records p then (record_at s.records p).priority else 0
 
--- who is chosen, if a process is Ready, and the order of choice then
-abbrev pub choice_of : Inner → Choice
-choice_of s = choose (is_ready s) (turn_priority s) s.order
+-- who is chosen, if a process is Ready, and the order of choice then; input and output let the calls of these go on
+abbrev pub choice_of : (ℕ → Bool) → Inner → Choice
+choice_of io s = choose (is_ready io s) (turn_priority s) s.order
 
 -- the state after a choice
-abbrev pub after_choice : Inner → Inner
-after_choice s = record s { order = (choice_of s).order }
+abbrev pub after_choice : (ℕ → Bool) → Inner → Inner
+after_choice io s = record s { order = (choice_of io s).order }

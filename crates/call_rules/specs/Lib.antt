@@ -12,6 +12,7 @@ pub mod Fork
 pub mod Icpt
 pub mod Id
 pub mod Inner
+pub mod IoReady
 pub mod Link
 pub mod Mem
 pub mod ModuleLinks

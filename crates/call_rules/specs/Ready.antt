@@ -13,12 +13,17 @@ may_go_on s p =
     (is_call (own_at s p).call F_WAIT && is_some (ended_child s.records p))
     || (is_call (own_at s p).call F_SLEEP && may_wake s.tick (own_at s p))
 
--- a process is Ready by what it has of itself and of its children: it lives, and does not wait, or a signal is pending,
--- or its wait for a child or its sleep may end
-abbrev pub is_ready : Inner → ℕ → Bool
-is_ready s p =
+-- input and output let no call that waits go on
+abbrev pub no_io : ℕ → Bool
+no_io p = false
+
+-- a process is Ready, where input and output let the calls of these go on: it lives, and does not wait, or a signal is
+-- pending, or its wait for a child, its sleep or its call on input and output may end
+abbrev pub is_ready : (ℕ → Bool) → Inner → ℕ → Bool
+is_ready io s p =
     is_living s.records p
-    && (not (is_waiting (record_at s.records p).life) || (is_some (record_at s.records p).signal || may_go_on s p))
+    && (not (is_waiting (record_at s.records p).life)
+    || (is_some (record_at s.records p).signal || (may_go_on s p || io p)))
 
 -- what a chosen process does next
 pub data Act : Type 0 where

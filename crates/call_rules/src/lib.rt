@@ -2,5 +2,6 @@
 //! the calls cite, and the codes of these calls.
 #![tactic(auto)]
 
+pub mod io_ready;
 pub mod proc_call;
 pub mod rows;

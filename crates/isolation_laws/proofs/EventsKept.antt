@@ -18,7 +18,8 @@ use Rattle.call_rules.specs.Codes.{call_of}
 use Rattle.call_rules.specs.Delivery.{delivered, after_delivery, has_no_room, interrupted_regs, frame_bytes, routine_begun, stack_top, with_frame}
 use Rattle.call_rules.specs.Inner.{Inner, regs_at, cells_at, with_records}
 use Rattle.call_rules.specs.Ready.{Act, attempts, delivers, executes, act_of}
-use Rattle.machine_model.specs.Line.{line_at, is_standard_path}
+use Rattle.user_names.specs.UserLines.{line_at}
+use Rattle.machine_model.specs.Line.{is_standard_path}
 use Rattle.machine_model.specs.declared.ends.EventEnd.{EventEnd}
 use Rattle.machine_model.specs.declared.ends.EventEnd.TheVariants.{Ran}
 use Rattle.machine_model.specs.Event.{Acts, Event, after_instruction, instruction_end, next_instruction, delivery_end}

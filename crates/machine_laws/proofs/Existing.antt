@@ -24,8 +24,9 @@ use Rattle.call_rules.specs.Choice.{choice_of}
 use Rattle.call_rules.specs.Codes.{call_of}
 use Rattle.call_rules.specs.Delivery.{delivered, after_delivery, has_no_room, interrupted_regs, routine_begun, stack_top, with_frame}
 use Rattle.call_rules.specs.Inner.{Inner, no_own, own_at, regs_at, cells_at, with_own, with_records, with_regs_of}
-use Rattle.call_rules.specs.Ready.{Act, attempts, delivers, executes, act_of, next_act, is_ready}
-use Rattle.machine_model.specs.Line.{line_at, shown, is_standard_path}
+use Rattle.call_rules.specs.Ready.{Act, attempts, delivers, executes, act_of, next_act, is_ready, no_io}
+use Rattle.user_names.specs.UserLines.{line_at}
+use Rattle.machine_model.specs.Line.{shown, is_standard_path}
 use Rattle.machine_model.specs.Console.{console_bytes, terminals_emptied}
 use Rattle.machine_model.specs.declared.ends.EventEnd.{EventEnd}
 use Rattle.machine_model.specs.declared.ends.SliceEnd.{SliceEnd}
@@ -391,9 +392,9 @@ steps-end (suc most) (suc left) s p less chosen lives there =
     (λ (goes : GoesOn s p next.last). steps-end most (suc left - cost s) next.last p (let nearer = nearer-end (suc left) s p next.last chosen (omega arith) goes in omega arith) (next.chosen ∙ chosen) goes.lives (there-then s next.last next.counts there))
 
 -- who is chosen lives
-chosen-lives : (m : Inner) (pid : Pid) → (choice_of m).chosen ≡ Some pid → IsLiving m.records pid.0
+chosen-lives : (m : Inner) (pid : Pid) → (choice_of no_io m).chosen ≡ Some pid → IsLiving m.records pid.0
 chosen-lives m pid is =
-    let choice : IsToChoose (is_ready m) m.order pid = subst (λ chosen. IfSome chosen (IsToChoose (is_ready m) m.order)) is (chosen_if (is_ready m) m.order) in
+    let choice : IsToChoose (is_ready no_io m) m.order pid = subst (λ chosen. IfSome chosen (IsToChoose (is_ready no_io m) m.order)) is (chosen_if (is_ready no_io m) m.order) in
     first-true (is_living m.records pid.0) _ choice.ready
   where
     first-true : (one other : Bool) → (one && other) ≡ true → one ≡ true
@@ -401,9 +402,9 @@ chosen-lives m pid is =
     first-true false other both = both
 
 pub slice-end : (n : ℕ) (s : State) → HasTerm s → HasSlice n s
-slice-end n s there = by_chosen (choice_of (ticked s)).chosen refl
+slice-end n s there = by_chosen (choice_of no_io (ticked s)).chosen refl
   where
-    by_chosen : (chosen : Option Pid) → (choice_of (ticked s)).chosen ≡ chosen → HasSlice n s
+    by_chosen : (chosen : Option Pid) → (choice_of no_io (ticked s)).chosen ≡ chosen → HasSlice n s
     by_chosen None is = record {
       states = [];
       end = SliceEnd.Idle;

@@ -13,11 +13,12 @@ use Rattle.call_rules.specs.CallResult.{CallResult, refused}
 use Rattle.call_rules.specs.Choice.{choice_of, after_choice}
 use Rattle.call_rules.specs.Codes.{call_of}
 use Rattle.call_rules.specs.Inner.{Inner, cells_at, regs_at}
-use Rattle.call_rules.specs.Ready.{Act, attempts, delivers, executes, act_of}
+use Rattle.call_rules.specs.Ready.{Act, attempts, delivers, executes, act_of, no_io}
 use Rattle.machine_model.specs.declared.ends.EventEnd.{EventEnd}
 use Rattle.machine_model.specs.declared.ends.SliceEnd.{SliceEnd}
 use Rattle.machine_model.specs.declared.ends.SliceEnd.TheVariants.{Idle, Ran}
-use Rattle.machine_model.specs.Line.{IsGiven, FailsAtByte, line_at, shown, is_standard_path}
+use Rattle.user_names.specs.UserLines.{line_at}
+use Rattle.machine_model.specs.Line.{IsGiven, FailsAtByte, shown, is_standard_path}
 use Rattle.machine_model.specs.Console.{terminals_emptied, console_bytes}
 use Rattle.machine_model.specs.Terminals.{TerminalsOnlyGain}
 use Rattle.machine_model.proofs.TerminalLaws.{gain-same, gain-then, gain-emptied, gains-event, gains-slice, gains-run}
@@ -212,8 +213,8 @@ ticked s = record s.inner { tick = s.inner.tick + 1 }
 -- the state of a slice once its process is chosen
 abbrev pub begun : State → State
 begun s = record s {
-  inner = after_choice (ticked s);
-  chosen = option_map (λ (p : Pid). p.0) (choice_of (ticked s)).chosen;
+  inner = after_choice no_io (ticked s);
+  chosen = option_map (λ (p : Pid). p.0) (choice_of no_io (ticked s)).chosen;
 }
 
 -- its events then
@@ -223,7 +224,7 @@ Begun n chosen who states end t =
 
 pub begun-slice : (n : ℕ) (s : State) (states : List State) (end : SliceEnd) (t : State) → Slice n s states end t → Begun n (begun s) (begun s).chosen states end t
 begun-slice n s states end t (first, chosen, ticks, chooses, rest) =
-    let is : chosen ≡ begun s = chooses ∙ ap (λ (s : State). record s { inner = after_choice s.inner; chosen = option_map (λ (p : Pid). p.0) (choice_of s.inner).chosen }) ticks in
+    let is : chosen ≡ begun s = chooses ∙ ap (λ (s : State). record s { inner = after_choice no_io s.inner; chosen = option_map (λ (p : Pid). p.0) (choice_of no_io s.inner).chosen }) ticks in
     subst (λ (chosen : State). Begun n chosen chosen.chosen states end t) is rest
 
 begun-one : (n : ℕ) (chosen : State) (who : Option ℕ) (states others : List State) (end other : SliceEnd) (t u : State) → Begun n chosen who states end t → Begun n chosen who others other u → NoneFailed chosen t → NoneFailed chosen u → SameSlice states end t others other u

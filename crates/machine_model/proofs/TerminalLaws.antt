@@ -16,7 +16,8 @@ use Rattle.machine_model.specs.declared.ends.EventEnd.TheVariants.{Ran}
 use Rattle.machine_model.specs.declared.ends.SliceEnd.{SliceEnd}
 use Rattle.machine_model.specs.declared.ends.SliceEnd.TheVariants.{Idle, Ran as SliceRan}
 use Rattle.machine_model.specs.Event.{Acts, Attempts, Event, cost}
-use Rattle.machine_model.specs.Line.{IsGiven, FailsAtByte, line_at, shown, is_standard_path}
+use Rattle.user_names.specs.UserLines.{line_at}
+use Rattle.machine_model.specs.Line.{IsGiven, FailsAtByte, shown, is_standard_path}
 use Rattle.machine_model.specs.Line.{PutsLine, WritesLine}
 use Rattle.machine_model.specs.Run.{Steps, FirstSteps, BeginsSlice, Slice, Run, is_going}
 use Rattle.machine_model.specs.Console.{terminals_emptied, console_bytes, without_bytes}

@@ -2,25 +2,15 @@
 -- Takes the path in A, the address of the line in X and its most bytes in Y; answers its length in Y. Paths 0, 1 and 2
 -- name TERM.
 -- Errors: E$BPAddr, E$BPNum, E$Write.
-use Rattle.std.specs.Prelude.{◌≡◌, ℕ, zero, suc, ◌+◌, ◌-◌, ◌≤◌, ◌==◌, nat_lt, Bool, Option, Some, None, option_map, unwrap_or, ◌⊎◌, List, [], ◌∷◌, ◌++◌, length, slice_get, slice_set, if◌then◌else◌, MatchBool, MatchOption}
+use Rattle.std.specs.Prelude.{◌≡◌, ℕ, ◌-◌, ◌≤◌, ◌==◌, nat_lt, Bool, unwrap_or, ◌⊎◌, List, [], ◌∷◌, ◌++◌, length, slice_get, slice_set, if◌then◌else◌, MatchBool, MatchOption}
 use Rattle.os9_base.specs.Count.{Rose}
 use Rattle.os9_base.specs.declared.errors.TheConstants.{E_BPNUM, E_BPADDR, E_WRITE}
 use Rattle.os9_outer.specs.Stream.{stream_with, GainsPart}
 use Rattle.os9_outer.specs.TerminalState.{TerminalState}
-use Rattle.user_names.specs.UserNames.{user_cell}
+use Rattle.user_names.specs.UserLines.{line_at}
 use Rattle.call_rules.specs.CallResult.{CallResult, done, refused}
 use Rattle.call_rules.specs.Inner.{cells_at, regs_at, with_regs_of}
 use Rattle.machine_model.specs.State.{State}
-
-abbrev line_with : (ℕ → Option (List ℕ)) → ℕ → Option ℕ → Option (List ℕ)
-line_with rest at None = None
-line_with rest at (Some byte) = if byte == 13 then Some (13 ∷ []) else option_map (λ line. byte ∷ line) (rest (at + 1))
-
--- the bytes from an address on, up to and with the first carriage return, but at most this many; nothing
--- where one of them is in no named slot or past FFFF
-abbrev pub line_at : (ℕ → Option ℕ) → ℕ → ℕ → Option (List ℕ)
-line_at cells at zero = Some []
-line_at cells at (suc most) = line_with (λ next. line_at cells next most) at (user_cell cells at)
 
 -- the line ends in a carriage return
 abbrev pub ends_in_return : List ℕ → Bool

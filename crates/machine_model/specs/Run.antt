@@ -2,6 +2,7 @@
 use Rattle.std.specs.Prelude.{◌≡◌, ℕ, ◌+◌, ◌-◌, ◌<◌, Bool, true, false, Option, None, Some, option_map, List, [], ◌∷◌, ◌++◌, if◌then◌else◌, MatchBool, MatchOption}
 use Rattle.os9_base.specs.declared.registers.Pid.{Pid}
 use Rattle.call_rules.specs.Choice.{choice_of, after_choice}
+use Rattle.call_rules.specs.Ready.{no_io}
 use Rattle.machine_model.specs.declared.ends.EventEnd.{EventEnd}
 use Rattle.machine_model.specs.declared.ends.EventEnd.TheVariants as EventEnd
 use Rattle.machine_model.specs.declared.ends.SliceEnd.{SliceEnd}
@@ -19,7 +20,11 @@ Tick s t = t ≡ with_inner s (record s.inner { tick = s.inner.tick + 1 })
 -- a process that is Ready is chosen, if there is one
 abbrev pub Choose : State → State → Type 0
 Choose s t =
-    t ≡ record s { inner = after_choice s.inner; chosen = option_map (λ (p : Pid). p.0) (choice_of s.inner).chosen }
+    t
+    ≡ record s {
+      inner = after_choice no_io s.inner;
+      chosen = option_map (λ (p : Pid). p.0) (choice_of no_io s.inner).chosen;
+    }
 
 -- a slice goes on after an event that ends so: the process neither waits nor has ended
 abbrev pub is_going : EventEnd → Bool

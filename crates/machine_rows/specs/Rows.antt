@@ -14,7 +14,7 @@ use Rattle.call_rules.specs.Choice.{choice_of, after_choice}
 use Rattle.call_rules.specs.Codes.{call_of}
 use Rattle.call_rules.specs.Delivery.{delivered, after_delivery}
 use Rattle.call_rules.specs.Inner.{Inner, no_own, with_records, with_own}
-use Rattle.call_rules.specs.Ready.{Act, attempts, delivers, executes, act_of}
+use Rattle.call_rules.specs.Ready.{Act, attempts, delivers, executes, act_of, no_io}
 use Rattle.call_rules.specs.Rows.{one_process, two_processes, running_with, next_tick}
 use Rattle.machine_model.specs.declared.ends.SliceEnd.TheVariants.{Ran}
 use Rattle.machine_model.specs.Event.{after_instruction, next_instruction}
@@ -59,8 +59,8 @@ acts_from (suc n) s = next_of s ∷ acts_from n (after_event s)
 -- the state in which a slice begins: at the next tick, with its process chosen
 abbrev pub at_choice : State → State
 at_choice s = record s {
-  inner = after_choice (next_tick s.inner);
-  chosen = option_map (λ (p : Pid). p.0) (choice_of (next_tick s.inner)).chosen;
+  inner = after_choice no_io (next_tick s.inner);
+  chosen = option_map (λ (p : Pid). p.0) (choice_of no_io (next_tick s.inner)).chosen;
 }
 
 -- the state after a slice of so many events

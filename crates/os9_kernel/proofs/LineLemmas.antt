@@ -5,7 +5,7 @@ use Rattle.std.proofs.lemmas.List.{take_more_set, append-nil}
 use Rattle.std.proofs.Math.Nat.{sub-zero}
 use Rattle.std.proofs.lemmas.Bool.{eq-eqb, ne_eqb, lt-ltb, le-ltb}
 use Rattle.user_names.specs.UserNames.{user_cell}
-use Rattle.machine_model.specs.Line.{line_at}
+use Rattle.user_names.specs.UserLines.{line_at}
 
 -- a line whose first bytes were read into the front of a buffer goes on behind them
 abbrev pub IsReadTo : (ℕ → Option ℕ) → ℕ → ℕ → ℕ → List ℕ → Type 0

@@ -11,7 +11,8 @@ use Rattle.guest_memory.proofs.Seen.{cells_of-seen}
 use Rattle.call_rules.specs.CallResult.{CallResult, done, refused}
 use Rattle.call_rules.specs.Inner.{Inner, cells_at, regs_at, with_regs_of}
 use Rattle.proc_state.specs.Tie.{Represents as RepresentsProcesses}
-use Rattle.machine_model.specs.Line.{line_at, shown, is_standard_path}
+use Rattle.user_names.specs.UserLines.{line_at}
+use Rattle.machine_model.specs.Line.{shown, is_standard_path}
 use Rattle.machine_model.specs.Line.{WritesLine, PutsLine}
 use Rattle.machine_model.specs.State.{State}
 use Rattle.os9_kernel.specs.declared.act.Act.TheVariants.{Attempt}

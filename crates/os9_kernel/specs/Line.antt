@@ -5,7 +5,8 @@ use Rattle.os9_base.specs.declared.errors.TheConstants.{E_BPNUM, E_BPADDR, E_WRI
 use Rattle.os9_outer.specs.TerminalState.{TerminalState, fault_counts}
 use Rattle.call_rules.specs.Inner.{regs_at, cells_at}
 use Rattle.call_rules.specs.Ready.{attempts, act_of}
-use Rattle.machine_model.specs.Line.{IsGiven, FailsAtByte, line_at, shown, is_standard_path}
+use Rattle.user_names.specs.UserLines.{line_at}
+use Rattle.machine_model.specs.Line.{IsGiven, FailsAtByte, shown, is_standard_path}
 use Rattle.machine_model.specs.State.{State}
 use Rattle.os9_kernel.specs.declared.line.LineEnd.{LineEnd}
 use Rattle.os9_kernel.specs.declared.line.LineEnd.TheVariants.{Written, Refused, NoMemory}

@@ -6,6 +6,7 @@ ghost use Rattle.os9_kernel.specs.Calls.{HasEvent, HasSlice};
 ghost use Rattle.os9_kernel.specs.Tie.{Represents, IsGoing, ticks};
 
 use crate::act::Act;
+use call_rules::io_ready::IoReady;
 use device_table::devices::Devices;
 use machine_model::ends::{EventEnd, SliceEnd};
 use os9_base::call::OutOfMemory;
@@ -52,7 +53,7 @@ impl Kernel {
         ensures going { IfSome result (λ p. IsGoing self.new) }
         ensures count { ticks self.new ≡ ticks self.old }
     {
-        self.chosen = self.processes.choose();
+        self.chosen = self.processes.choose(&IoReady::none());
         self.chosen
     }
 

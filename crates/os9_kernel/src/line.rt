@@ -2,7 +2,8 @@ ghost use Rattle.std.specs.Prelude.{◌≡◌, ◌<◌, ◌≤◌, None, Some, I
 ghost use Rattle.os9_base.specs.declared.registers.Regs.{Regs};
 ghost use Rattle.os9_outer.specs.TerminalState.{terminal_states, ChangesOneTerminal, Puts};
 ghost use Rattle.guest_memory.specs.Tie.{cells_of};
-ghost use Rattle.machine_model.specs.Line.{line_at, shown, ends_in_return as ends_in_return_lem};
+ghost use Rattle.user_names.specs.UserLines.{line_at};
+ghost use Rattle.machine_model.specs.Line.{shown, ends_in_return as ends_in_return_lem};
 ghost use Rattle.std.specs.Bool.{OnTrue};
 ghost use Rattle.os9_kernel.specs.Line.{HasLineEnd};
 

@@ -29,15 +29,15 @@ priority_of records schedule turns p = by_life (is_living records p) refl
     by_life true is = turns.priorities p is
     by_life false is = no_priority (member_of schedule.members p) (turns.members p ∙ is)
 
-module _ (state : ProcState) (active : AreActive state) (m : Inner) (tied : Represents state m) where
+module _ (io : ℕ → Bool) (state : ProcState) (active : AreActive io state) (m : Inner) (tied : Represents state m) where
   order_is : state.sched.order ≡ m.order
   order_is = λ i. (sym tied.is i).order
 
-  ready : (p : ℕ) → is_active_in state.sched.members p ≡ is_ready m p
-  ready p = active p ∙ sym (ap (λ (s : Inner). is_ready s p) tied.is)
+  ready : (p : ℕ) → is_active_in state.sched.members p ≡ is_ready io m p
+  ready p = active p ∙ sym (ap (λ (s : Inner). is_ready io s p) tied.is)
 
   priority : (p : ℕ) → priority_in state.sched.members p ≡ turn_priority m p
   priority p = priority_of state.table state.sched state.turns p ∙ sym (ap (λ (s : Inner). turn_priority s p) tied.is)
 
-  pub choice_is : choose (is_active_in state.sched.members) (priority_in state.sched.members) state.sched.order ≡ choice_of m
+  pub choice_is : choose (is_active_in state.sched.members) (priority_in state.sched.members) state.sched.order ≡ choice_of io m
   choice_is = λ i. choose (λ p. ready p i) (λ p. priority p i) (order_is i)

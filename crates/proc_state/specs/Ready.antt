@@ -6,10 +6,11 @@ use Rattle.call_rules.specs.Ready.{is_ready}
 use Rattle.proc_state.specs.Tie.{inner_of}
 use Rattle.proc_state.specs.declared.state.ProcState.{ProcState}
 
--- a process is Ready by what these processes are; their memory says nothing of it
-abbrev pub ready_in : ProcState → ℕ → Bool
-ready_in state p = is_ready (inner_of state (first_memory 0)) p
+-- a process is Ready by what these processes are, where input and output let the calls of these go on; their memory
+-- says nothing of it
+abbrev pub ready_in : (ℕ → Bool) → ProcState → ℕ → Bool
+ready_in io state p = is_ready io (inner_of state (first_memory 0)) p
 
 -- the scheduler has exactly the Ready processes active
-abbrev pub AreActive : ProcState → Type 0
-AreActive state = (p : ℕ) → is_active_in state.sched.members p ≡ ready_in state p
+abbrev pub AreActive : (ℕ → Bool) → ProcState → Type 0
+AreActive io state = (p : ℕ) → is_active_in state.sched.members p ≡ ready_in io state p

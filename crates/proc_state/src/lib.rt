@@ -19,6 +19,7 @@ mod turns;
 #[cfg(test)]
 mod tests {
     use crate::state::ProcState;
+    use call_rules::io_ready::IoReady;
     use os9_base::registers::Pid;
     use std::test::Fail;
 
@@ -26,8 +27,8 @@ mod tests {
     fn ample_memory(rt: HostRuntime) -> Result<(), Fail> {
         let mut state = ProcState::new(rt.alloc(), 8)?;
         assert_eq!(rt; state.living(), 0);
-        assert!(rt; !state.ready(Pid(2)));
-        assert_eq!(rt; state.choose(), None);
+        assert!(rt; !state.ready(Pid(2), &IoReady::none()));
+        assert_eq!(rt; state.choose(&IoReady::none()), None);
         Ok(())
     }
 }

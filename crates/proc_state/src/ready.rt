@@ -4,6 +4,7 @@ ghost use Rattle.std.specs.Prelude.{◌≡◌, ◌<◌, is_some, length};
 ghost use Rattle.proc_rules.specs.Records.{record_of, record_passes};
 ghost use Rattle.proc_rules.specs.Ends.{ended_child, is_ended_child as is_ended_child_lem};
 ghost use Rattle.call_rules.specs.Inner.{Inner, own_at, no_own};
+ghost use Rattle.call_rules.specs.IoReady.{has_io};
 ghost use Rattle.call_rules.specs.Ready.{is_ready, may_go_on as may_go_on_lem};
 ghost use Rattle.call_rules.specs.Send.{is_call as is_call_lem};
 ghost use Rattle.call_rules.specs.Sleep.{may_wake as may_wake_lem};
@@ -12,6 +13,7 @@ ghost use Rattle.proc_state.specs.Ready.{ready_in};
 ghost use Rattle.proc_state.specs.Tie.{Represents, inner_of};
 
 use crate::state::ProcState;
+use call_rules::io_ready::IoReady;
 use os9_base::calls::{F_SLEEP, F_WAIT};
 use os9_base::limits::PROCESS_PLACES;
 use os9_base::registers::Pid;
@@ -21,15 +23,18 @@ use process_table::Table;
 
 impl ProcState {
     /// Is this process Ready: does it live, and not wait, or is a signal pending, or may its wait
-    /// for a child or its sleep end?
-    pub fn ready(&self, p: Pid) -> bool
+    /// for a child, its sleep or its call on input and output end?
+    pub fn ready(&self, p: Pid, io: &IoReady) -> bool
         requires { p.0 < 33 }
-        ensures here { result ≡ ready_in self.now p.0 }
-        ensures tied { (m : Inner) → Represents self.now m → result ≡ is_ready m p.0 }
+        ensures here { result ≡ ready_in (has_io io.now) self.now p.0 }
+        ensures tied { (m : Inner) → Represents self.now m
+            → result ≡ is_ready (has_io io.now) m p.0 }
     {
         match self.table.life(p) {
             Some(Life::Running) => true,
-            Some(Life::Waiting) => self.table.due_signal(p).is_some() || self.may_go_on(p),
+            Some(Life::Waiting) => {
+                self.table.due_signal(p).is_some() || self.may_go_on(p) || io.allows(p)
+            }
             Some(Life::Ended(_)) | None => false,
         }
     }

@@ -1,1 +1,2 @@
+pub mod UserLines
 pub mod UserNames
