@@ -1,9 +1,10 @@
 -- What a call may leave where a drive's fault ended it. The fault came before the call's last write to the disk.
 use Rattle.std.specs.Prelude.{◌≡◌, ◌⊎◌, ℕ, ◌+◌, ◌%◌, ◌<◌, ◌&&◌, ◌||◌, Bool, true, List, [], length, take, Some}
 use Rattle.os9_base.specs.declared.registers.TimePacket.{TimePacket}
+use Rattle.rbf_model.specs.Geometry.{sector as image_sector}
 use Rattle.rbf_model.specs.Segments.{has}
 use Rattle.rbf_model.specs.File.{DiskFile}
-use Rattle.rbf_model.specs.Space.{has_cluster, is_whole}
+use Rattle.rbf_model.specs.Space.{has_cluster, is_marked, is_whole}
 use Rattle.rbf_model.specs.Volume.{DiskVolume}
 use Rattle.rbf_model.specs.Writes.{put_at, with_lost}
 use Rattle.rbf_change.specs.Contents.{written}
@@ -33,6 +34,11 @@ pub data IsFront (size at : ℕ) (bytes : List ℕ) : ℕ → Type 0 where
 abbrev pub with_front : DiskFile → ℕ → List ℕ → ℕ → DiskFile
 with_front file at bytes count = record file { contents = put_at file.contents at (take count bytes) }
 
+-- the clusters that a file gains for a size have all been taken: they are lost, since no descriptor has them yet
+pub record AllAreTaken (v w : DiskVolume) (old : DiskFile) (size : ℕ) (clusters : List ℕ) : Type 0 where
+  pub choice : IsChoice (cluster_size v) (is_free_in v) old.segments size clusters
+  pub lost : (c : ℕ) → has clusters c ≡ true → w.lost c ≡ true
+
 -- a write to file n that was ended: a front of its bytes may be there, and clusters that it took may be lost
 pub record WriteEnds (v w : DiskVolume) (n at : ℕ) (bytes : List ℕ) : Type 0 where
   pub some : 0 < length bytes
@@ -43,6 +49,8 @@ pub record WriteEnds (v w : DiskVolume) (n at : ℕ) (bytes : List ℕ) : Type 0
   pub taken : List ℕ
   pub planned : IsPlanned v old (length (written old.contents at bytes)) taken
   pub volume : MayLose (replaced v n (Some (with_front old at bytes count))) w (has taken)
+  -- the first byte comes after the last mark
+  pub order : (count ≡ 0) ⊎ AllAreTaken v w old (length (written old.contents at bytes)) taken
 
 -- a file that was to be made longer: it is as it was, and clusters that it took may be lost
 pub record LengthenEnds (v w : DiskVolume) (n size : ℕ) : Type 0 where
@@ -53,26 +61,26 @@ pub record LengthenEnds (v w : DiskVolume) (n size : ℕ) : Type 0 where
   pub planned : IsPlanned v old size taken
   pub volume : MayLose v w (has taken)
 
--- of the clusters that were given up one is still marked, since the fault came before the call's last write: it is
--- lost, if it is whole
-abbrev pub OneIsMarked : DiskVolume → DiskVolume → (ℕ → Bool) → Type 0
-OneIsMarked v w given_up = (c : ℕ) × (given_up c ≡ true) × (is_whole (shape v) c ≡ true → w.lost c ≡ true)
+-- of the clusters that were given up one is still marked in the image that is left, since the fault came before the
+-- call's last write
+abbrev pub OneIsMarked : List ℕ → (ℕ → Bool) → Type 0
+OneIsMarked left given_up = (c : ℕ) × (given_up c ≡ true) × (is_marked (image_sector left) c ≡ true)
 
 -- a file that was to be cut and has been: whole clusters that it gave up may be lost
-pub record CutEnds (v w : DiskVolume) (n size : ℕ) (now : TimePacket) : Type 0 where
+pub record CutEnds (left : List ℕ) (v w : DiskVolume) (n size : ℕ) (now : TimePacket) : Type 0 where
   pub old : DiskFile
   pub is : v.files n ≡ Some old
   pub shorter : size < length old.contents
   pub new : DiskFile
   pub cut : new ≡ cut_file (cluster_size v) n old size (minute_of now)
   pub volume : MayLose (replaced v n (Some new)) w (λ c. is_whole (shape v) c && is_given_up (shape v) n old new c)
-  pub unfinished : OneIsMarked v w (is_given_up (shape v) n old new)
+  pub unfinished : OneIsMarked left (is_given_up (shape v) n old new)
 
--- a change of a size that was ended
-pub data SizeEnds (v w : DiskVolume) (n size : ℕ) (now : TimePacket) : Type 0 where
-  before : w ≡ v → SizeEnds v w n size now
-  longer : LengthenEnds v w n size → SizeEnds v w n size now
-  cut : CutEnds v w n size now → SizeEnds v w n size now
+-- a change of a size that was ended, and the image that is left
+pub data SizeEnds (left : List ℕ) (v w : DiskVolume) (n size : ℕ) (now : TimePacket) : Type 0 where
+  before : w ≡ v → SizeEnds left v w n size now
+  longer : LengthenEnds v w n size → SizeEnds left v w n size now
+  cut : CutEnds left v w n size now → SizeEnds left v w n size now
 
 -- a new file n and its directory d, of whose clusters some have been taken
 pub record EntryEnds (v w : DiskVolume) (d n : ℕ) (name : List ℕ) (plan : Plan) : Type 0 where
@@ -84,9 +92,10 @@ pub data NewFileEnds (v w : DiskVolume) (d : ℕ) (name : List ℕ) (plan : ℕ 
   before : w ≡ v → NewFileEnds v w d name plan
   taken : {n : ℕ} → EntryEnds v w d n name (plan n) → NewFileEnds v w d name plan
 
--- a deletion that was ended: the tree is as it was, or file n has gone and its whole clusters may be lost
-pub data DeletionEnds (v w : DiskVolume) (d n : ℕ) (name : List ℕ) : Type 0 where
-  before : w ≡ v → DeletionEnds v w d n name
+-- a deletion that was ended, and the image that is left: the tree is as it was, or file n has gone and its whole
+-- clusters may be lost
+pub data DeletionEnds (left : List ℕ) (v w : DiskVolume) (d n : ℕ) (name : List ℕ) : Type 0 where
+  before : w ≡ v → DeletionEnds left v w d n name
   gone : {u : DiskVolume} {file : DiskFile} → Deletes v u d n name → v.files n ≡ Some file
       → MayLose u w (λ c. is_whole (shape v) c && has_cluster (shape v) n file c)
-      → OneIsMarked v w (has_cluster (shape v) n file) → DeletionEnds v w d n name
+      → OneIsMarked left (has_cluster (shape v) n file) → DeletionEnds left v w d n name

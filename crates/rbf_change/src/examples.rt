@@ -41,8 +41,8 @@ pub fn write_fault()
 
 /// A deletion that a fault ended has left the volume as it was, or the file has gone.
 pub fn delete_fault()
-    ensures { (v w : DiskVolume) (d n : ℕ) (name : List ℕ) → DeletionEnds v w d n name
-        → (w ≡ v) ⊎ (w.files n ≡ None) }
+    ensures { (left : List ℕ) (v w : DiskVolume) (d n : ℕ) (name : List ℕ)
+        → DeletionEnds left v w d n name → (w ≡ v) ⊎ (w.files n ≡ None) }
 {}
 
 /// With four sectors a cluster a new file has three sectors behind its descriptor. They hold 768
