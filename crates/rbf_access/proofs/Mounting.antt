@@ -21,8 +21,8 @@ use Rattle.rbf_change.proofs.LawfulWrites.{shape-image}
 use Rattle.rbf_sector.specs.Ident.{geometry_of}
 use Rattle.rbf_sector.specs.declared.ident.Ident.{Ident}
 use Rattle.rbf_access.specs.Drive.{DriveCounts, MovesCounts, Made}
-use Rattle.rbf_access.proofs.Counting.{no_calls, counts_then, made_then}
-use Rattle.rbf_access.specs.Mounted.{FitsDrive, HoldsVolume, IsIdentOf, IsMapOf, IsVolumeOf, IsMounted, Represents, kept, map_bytes, image_calls}
+use Rattle.rbf_access.proofs.Counting.{no_calls, counts_then, counts_most, made_then}
+use Rattle.rbf_access.specs.Mounted.{FitsDrive, HoldsVolume, IsIdentOf, IsMapOf, IsVolumeOf, IsMounted, Represents, kept, map_bytes, media_calls}
 use Rattle.rbf_access.specs.declared.volume.Volume.{Volume}
 
 -- an image that a drive holds with an identification sector that fits it
@@ -38,11 +38,14 @@ held image sectors count fits =
       map = fits.map;
     }
 
-pub ident_of : (media : Option (List ℕ)) (bytes : List ℕ) (sectors : ℕ) (ident : Ident) → IsSome media → sectors ≡ sector_count media
+pub ident_of : (media : Option (List ℕ)) (bytes : List ℕ) (sectors : ℕ) (ident : Ident) → sectors ≡ sector_count media
     → bytes ≡ sector_at media 0 → FitsDrive bytes sectors → geometry_of ident ≡ geometry bytes → IsIdentOf media ident
 unfolding held
-ident_of None bytes sectors ident some count read fits sizes = cc
-ident_of (Some image) bytes sectors ident some count read fits sizes =
+ident_of None bytes sectors ident count read fits sizes =
+    let least = fits.header.least in
+    let below = fits.fits in
+    absurd (omega arith)
+ident_of (Some image) bytes sectors ident count read fits sizes =
     record {
       holds = held image sectors count (subst (λ b. FitsDrive b sectors) read fits);
       sizes = sizes ∙ ap geometry read;
@@ -207,12 +210,16 @@ volume_of old mid now volume first then_kept known map =
     } in
     subst (λ m. IsVolumeOf m volume) (sym (then_kept ∙ first)) there
 
--- the calls that a mount makes of a drive with this image
-pub image_calls_of : (media : Option (List ℕ)) (ident : Ident) (image : List ℕ) → IsIdentOf media ident → media ≡ Some image
-    → 1 + map_sectors (geometry_of ident) ≡ image_calls image
-image_calls_of media ident image known is =
-    let same : known.holds.image ≡ image = one_image media known.holds.image image known.holds.is is in
-    ap (λ g. 1 + map_sectors g) (known.sizes ∙ ap image_geometry same)
+-- the calls that a mount makes of a drive with this media
+pub media_calls_of : (media : Option (List ℕ)) (ident : Ident) → IsIdentOf media ident → 1 + map_sectors (geometry_of ident) ≡ media_calls media
+media_calls_of media ident known = ap (λ g. 1 + map_sectors g) known.sizes ∙ sym (ap media_calls known.holds.is)
+
+-- the identification sector alone has been read, if there is one
+pub first_call : (media : Option (List ℕ)) (f : Option ℕ) (s t : DriveCounts) → (sector_count media ≡ 0 → t.calls ≡ s.calls) → MovesCounts f 1 s t → MovesCounts f (media_calls media) s t
+first_call None f s t empty moved =
+    let same = empty refl in
+    record { calls_made = omega arith; never_falls = moved.never_falls; rose = moved.rose; number = moved.number; kept = moved.kept }
+first_call (Some image) f s t empty moved = counts_most f 1 (1 + map_sectors (image_geometry image)) s t (omega arith) moved
 
 -- the root and the free clusters of a volume that is kept are those of the volume that the image represents
 pub root_is : (volume : Volume) (image : List ℕ) (v : DiskVolume) → Agrees (kept volume) image → Vol image v → volume.ident.root ≡ (shape v).root

@@ -46,8 +46,9 @@ pub record IsVolumeOf (media : Option (List ℕ)) (volume : Volume) : Type 0 whe
   pub agrees : Agrees (kept volume) holds.image
 
 -- how many calls of the drive mount it: one for its identification sector, and one for each sector of the map
-abbrev pub image_calls : List ℕ → ℕ
-image_calls image = 1 + map_sectors (image_geometry image)
+abbrev pub media_calls : Option (List ℕ) → ℕ
+media_calls None = 0
+media_calls (Some image) = 1 + map_sectors (image_geometry image)
 
 abbrev pub mount_calls : Volume → ℕ
 mount_calls volume = 1 + map_sectors (kept volume).sizes

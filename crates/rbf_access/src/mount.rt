@@ -1,11 +1,11 @@
-ghost use Rattle.std.specs.Prelude.{◌≡◌, ℕ, List, Some, ◌+◌, ◌-◌, ◌≤◌, IfOk, OnOk, IsSome, IsErrOf, MatchOption};
+ghost use Rattle.std.specs.Prelude.{◌≡◌, ℕ, ◌+◌, ◌-◌, ◌≤◌, IfOk, OnOk, IsErrOf, MatchOption};
 ghost use Rattle.os9_outer.specs.Drive.{sector_count};
 ghost use Rattle.rbf_model.specs.Geometry.{geometry, map_sectors};
 ghost use Rattle.rbf_model.specs.Volume.{DiskVolume};
 ghost use Rattle.rbf_sector.specs.Ident.{geometry_of};
 ghost use Rattle.rbf_access.specs.Drive.{Counts, Made};
 ghost use Rattle.rbf_access.specs.Faults.{volume_fault};
-ghost use Rattle.rbf_access.specs.Mounted.{FitsDrive, HoldsVolume, IsIdentOf, IsMapOf, IsVolumeOf, IsMounted, Represents, map_bytes, mount_calls, image_calls};
+ghost use Rattle.rbf_access.specs.Mounted.{FitsDrive, HoldsVolume, IsIdentOf, IsMapOf, IsVolumeOf, IsMounted, Represents, map_bytes, mount_calls, media_calls};
 
 use crate::faults::VolFault;
 use crate::sector::read_sector;
@@ -20,10 +20,9 @@ impl Volume {
     ///
     /// # Errors
     ///
-    /// `NotRbf` if the media holds no RBF volume, `Device` if a read of the drive fails, or out of
+    /// `NotRbf` if the drive has no media or the media holds no RBF volume, `Device` if a read of the drive fails, or out of
     /// memory.
     pub fn mount(alloc: Global, d: &mut dyn BlockDriver) -> Result<Volume, VolFault>
-        requires { IsSome (media d.old) }
         ensures kept { IfOk result (IsVolumeOf (media d.new)) }
         ensures mounted { (v : DiskVolume) → Represents (media d.old) v
             → IfOk result (λ volume. IsMounted volume (media d.new)) }
@@ -31,9 +30,10 @@ impl Volume {
         ensures media_kept { media d.new ≡ media d.old }
         ensures made { IfOk result (λ volume.
             Made (mount_calls volume) (drive_calls d.old) (drive_calls d.new)) }
-        ensures counts { (image : List ℕ) → media d.old ≡ Some image
-            → Counts ⟦<dyn BlockDriver as BlockDriver>⟧
-            (volume_fault result) (image_calls image) d.old d.new }
+        ensures counts { Counts ⟦<dyn BlockDriver as BlockDriver>⟧
+            (volume_fault result) (media_calls (media d.old)) d.old d.new }
+        ensures refused_calls { IsErrOf result VolFault.NotRbf
+            → drive_calls d.new ≤ drive_calls d.old + 1 }
     {
         let ident = read_identification(d)?;
         let map = read_map(alloc, d, &ident)?;
@@ -43,11 +43,11 @@ impl Volume {
 
 // What the identification sector says, if it is that of a volume that the media holds.
 fn read_identification(d: &mut dyn BlockDriver) -> Result<Ident, VolFault>
-    requires { IsSome (media d.old) }
     ensures ident { IfOk result (IsIdentOf (media d.old)) }
     ensures not_rbf { IsErrOf result VolFault.NotRbf → ¬ HoldsVolume (media d.old) }
     ensures media_kept { media d.new ≡ media d.old }
     ensures counts { Counts ⟦<dyn BlockDriver as BlockDriver>⟧ (volume_fault result) 1 d.old d.new }
+    ensures empty { sector_count (media d.old) ≡ 0 → drive_calls d.new ≡ drive_calls d.old }
     ensures made { OnOk result (Made 1 (drive_calls d.old) (drive_calls d.new)) }
 {
     let sectors = d.sectors();
