@@ -37,6 +37,8 @@ pub fn grow(
     ensures grows { (v : DiskVolume) → Represents (media d.old) v
         → Grows v count segs.now (media d.old) (media d.new) result }
     ensures refused { OnErr result (IsNone (file_fault result) → media d.new ≡ media d.old) }
+    ensures refused_calls { OnErr result (IsNone (file_fault result)
+        → drive_calls d.new ≡ drive_calls d.old) }
     ensures mounted { IsMounted volume.new (media d.new) }
     ensures counts { Counts ⟦<dyn BlockDriver as BlockDriver>⟧
         (file_fault result) count d.old d.new }
