@@ -1,5 +1,5 @@
 -- A file that has gained clusters and over which bytes are laid: what the media represents at each answer.
-use Rattle.std.proofs.Common.{◌≡◌, ◌≢◌, ℕ, ◌+◌, ◌-◌, ◌*◌, ◌/◌, ◌%◌, ◌<◌, ◌≤◌, min, max, Bool, true, false, ◌==◌, ◌||◌, Option, Some, List, [], length, take, get_or, refl, sym, ap, ◌∙◌, subst, inl, arith, slice_index, eq-eqb, eqb-true, le-leb, length-take, length-append}
+use Rattle.std.proofs.Common.{◌≡◌, ◌≢◌, ℕ, ◌+◌, ◌-◌, ◌*◌, ◌/◌, ◌%◌, ◌<◌, ◌≤◌, min, max, Bool, true, false, ◌==◌, ◌||◌, Option, Some, List, [], length, take, get_or, refl, sym, ap, ◌∙◌, subst, inl, inr, arith, slice_index, eq-eqb, eqb-true, le-leb, length-take, length-append}
 use Rattle.std.specs.Prelude.{if◌then◌else◌, flat_map}
 use Rattle.std.specs.Int.{bit_at}
 use mathlib.Core.Path.{fun_ext}
@@ -133,6 +133,7 @@ module _ (before : Option (List ℕ)) (v : DiskVolume) (on : Represents before v
     left = ends.left;
     on = record { image = ends.now; is = ends.is; vol = ends.vol };
     lose = subst (λ x. MayLose x ends.left (has ends.taken)) (sym same_volume) ends.lose;
+    order = inl refl;
     tidy = tidy_of before after ends.image ends.now ends.now n (with_clusters k old.segments ends.taken) ends.was ends.is ends.changes (λ s low. refl) (λ s map differ out. refl)
         (same_end (sector ends.image n) (sector ends.now n) (ends.changes.others n (not_map ends.image ends.was)));
   }
@@ -242,6 +243,7 @@ module _ (before : Option (List ℕ)) (v : DiskVolume) (on : Represents before v
           still = λ c was. or_left (v.lost c) (has taken c) was;
           only = λ c now. now;
         };
+        order = inr (λ c gained. or_right (v.lost c) (has taken c) gained);
         tidy = tidy_laid;
       }
 

@@ -96,6 +96,7 @@ module _ (before : Option (List ℕ)) (v : DiskVolume) (old : DiskFile) (on : Re
           volume = ap (λ fs. record { ident = v.ident; files = fs; lost = v.lost; rest = v.rest }) (sym (put_same_file v.files n old is));
         };
         tidy = tidy_size before after n old.segments (giving_up v old sizing) (none_given_up (omega arith)) (nothing_changed before after v on kept n old.segments);
+        same = λ stays_so. kept;
       }
 
   -- a fault at the descriptor's read
@@ -154,6 +155,7 @@ module _ (before : Option (List ℕ)) (v : DiskVolume) (old : DiskFile) (on : Re
         volume = refl;
       };
       tidy = tidy_size before after n (with_clusters k old.segments laid.gained) (giving_up v old sizing) (none_given_up (omega arith)) laid.tidy;
+      same = λ stays_so. absurd (omega arith);
     }
     longer_answers after (Err (Device m)) laid =
         let choice : IsChoice k (is_free_in v) old.segments sizing.size laid.taken = subst (λ s. IsChoice k (is_free_in v) old.segments s laid.taken) size_is laid.choice in

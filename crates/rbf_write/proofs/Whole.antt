@@ -1,5 +1,5 @@
 -- A whole write: what it answers is what the laying of its bytes answers.
-use Rattle.std.proofs.Common.{◌≡◌, ℕ, ◌+◌, ◌-◌, ◌<◌, ◌≤◌, Bool, true, false, not, ◌==◌, ◌&&◌, Option, Some, None, IsSome, Result, Ok, Err, List, [], ◌∷◌, length, refl, sym, ap, ◌∙◌, subst, inl, inr, arith, eq-eqb, eqb-true}
+use Rattle.std.proofs.Common.{◌≡◌, ℕ, ◌+◌, ◌-◌, ◌<◌, ◌≤◌, Bool, true, false, not, ◌==◌, ◌&&◌, Option, Some, None, IsSome, Result, Ok, Err, List, [], ◌∷◌, length, refl, sym, ap, ◌∙◌, subst, inl, inr, ⊎_elim, arith, eq-eqb, eqb-true}
 use Rattle.std.specs.Prelude.{if◌then◌else◌}
 use Rattle.std.proofs.lemmas.Bool.{both_ways, or_left, cond-true, cond-false, false_from_ne_true}
 use Rattle.os9_base.specs.declared.registers.TimePacket.{TimePacket}
@@ -79,6 +79,7 @@ module _ (before : Option (List ℕ)) (v : DiskVolume) (old : DiskFile) (on : Re
           volume = ap (λ fs. record { ident = v.ident; files = fs; lost = v.lost; rest = v.rest }) (sym (put_same_file v.files write.number old is));
         };
         tidy = nothing_changed before before v on refl write.number old.segments;
+        nothing = λ empty. refl;
       }
 
   module _ (some : 1 ≤ length write.bytes) where
@@ -105,6 +106,7 @@ module _ (before : Option (List ℕ)) (v : DiskVolume) (old : DiskFile) (on : Re
         planned = inl refl;
         volume = subst (λ x. MayLose x v (has [])) (sym (same_volume before v on write old is))
             (record { same = refl; still = λ c was. was; only = λ c lost. or_left (v.lost c) false lost });
+        order = inl refl;
       };
       tidy = nothing_changed before after v on same write.number old.segments;
     }
@@ -130,22 +132,26 @@ module _ (before : Option (List ℕ)) (v : DiskVolume) (old : DiskFile) (on : Re
         volume = refl;
       };
       tidy = laid.tidy;
+      nothing = λ empty. let none = ap length empty in absurd (omega arith);
     }
-    write_answers after (Err (Device n)) laid = record {
-      volume = laid.left;
-      on = laid.on;
-      ends = record {
-        some = some;
-        old = old;
-        is = is;
-        count = laid.count;
-        front = laid.front;
-        taken = laid.taken;
-        planned = inr (subst (λ c. IsChoice k (is_free_in v) old.segments (length c) laid.taken) contents_are laid.choice);
-        volume = laid.lose;
-      };
-      tidy = laid.tidy;
-    }
+    write_answers after (Err (Device n)) laid =
+        let chosen : IsChoice k (is_free_in v) old.segments (length (contents_written old write)) laid.taken = subst (λ c. IsChoice k (is_free_in v) old.segments (length c) laid.taken) contents_are laid.choice in
+        record {
+          volume = laid.left;
+          on = laid.on;
+          ends = record {
+            some = some;
+            old = old;
+            is = is;
+            count = laid.count;
+            front = laid.front;
+            taken = laid.taken;
+            planned = inr chosen;
+            volume = laid.lose;
+            order = ⊎_elim (λ none_yet. inl none_yet) (λ all. inr (record { choice = chosen; lost = all })) laid.order;
+          };
+          tidy = laid.tidy;
+        }
     write_answers after (Err NoCluster) laid = record { few = subst (λ m. free_total v < m) needs_are laid.few; media_kept = laid.media_kept }
     write_answers after (Err TooManyRuns) laid = record {
       enough = subst (λ m. m ≤ free_total v) needs_are laid.enough;

@@ -1,5 +1,5 @@
 -- Bytes that are laid over those of a file from a place on, with zeros between its end and that place.
-use Rattle.std.specs.Prelude.{◌≡◌, ◌≢◌, ℕ, ◌<◌, ◌≤◌, ◌==◌, false, Option, Some, List, length, Result, Ok, Err, if◌then◌else◌}
+use Rattle.std.specs.Prelude.{◌≡◌, ◌≢◌, ◌⊎◌, ℕ, ◌<◌, ◌≤◌, ◌==◌, true, false, Option, Some, List, length, Result, Ok, Err, if◌then◌else◌}
 use Rattle.os9_base.specs.declared.registers.TimePacket.{TimePacket}
 use Rattle.rbf_model.specs.Geometry.{image_geometry, sector}
 use Rattle.rbf_model.specs.Segments.{sectors_of, has}
@@ -77,6 +77,8 @@ pub record LayingEnds (v : DiskVolume) (old : DiskFile) (laying : Laying) (befor
   pub left : DiskVolume
   pub on : Represents after left
   pub lose : MayLose (replaced v laying.number (Some (with_front old laying.at laying.bytes count))) left (has taken)
+  -- the first byte comes after the last mark
+  pub order : (count ≡ 0) ⊎ ((c : ℕ) → has taken c ≡ true → left.lost c ≡ true)
   pub tidy : IsTidyChange before after laying.number (with_clusters (cluster_size v) old.segments taken)
 
 -- fewer clusters are free than it needs

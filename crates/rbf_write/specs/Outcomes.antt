@@ -1,5 +1,5 @@
 -- What a write answers, and what it leaves then.
-use Rattle.std.specs.Prelude.{◌≡◌, ℕ, ◌+◌, ◌*◌, ◌<◌, ◌≤◌, ◌==◌, min, Option, List, length, Result, Ok, Err, if◌then◌else◌}
+use Rattle.std.specs.Prelude.{◌≡◌, ℕ, ◌+◌, ◌*◌, ◌<◌, ◌≤◌, ◌==◌, min, Option, List, [], length, Result, Ok, Err, if◌then◌else◌}
 use Rattle.rbf_model.specs.File.{DiskFile}
 use Rattle.rbf_model.specs.Volume.{DiskVolume}
 use Rattle.rbf_change.specs.Contents.{written, sector_span}
@@ -26,6 +26,7 @@ pub record IsWritten (v : DiskVolume) (old : DiskFile) (write : Laying) (before 
   pub on : Represents after volume
   pub writes : Writes v volume write.number write.at write.bytes write.now
   pub tidy : IsTidyChange before after write.number writes.new.segments
+  pub nothing : write.bytes ≡ [] → after ≡ before
 
 -- a fault has ended the write
 pub record WriteIsEnded (v : DiskVolume) (write : Laying) (before after : Option (List ℕ)) : Type 0 where

@@ -69,13 +69,14 @@ pub record IsSized (v : DiskVolume) (old : DiskFile) (sizing : Sizing) (before a
   pub on : Represents after volume
   pub sets : SetsSize v volume sizing.number sizing.size sizing.now
   pub tidy : IsTidySize before after sizing.number sets.new.segments (giving_up v old sizing)
+  pub same : length old.contents ≡ sizing.size → after ≡ before
 
 -- a fault has ended the call
 pub record SizeIsEnded (v : DiskVolume) (old : DiskFile) (sizing : Sizing) (before after : Option (List ℕ))
     : Type 0 where
   pub volume : DiskVolume
   pub on : Represents after volume
-  pub ends : SizeEnds v volume sizing.number sizing.size sizing.now
+  pub ends : SizeEnds on.image v volume sizing.number sizing.size sizing.now
   -- clusters that were to be gained
   pub taken : List ℕ
   pub planned : IsPlanned v old sizing.size taken

@@ -4,11 +4,9 @@
 
 pub use laying::lay_over;
 pub use loaded::{Loaded, load_file};
-pub use longer::lengthen;
 pub use write::write_at;
 
 mod clusters;
 mod laying;
 mod loaded;
-mod longer;
 mod write;

@@ -1,4 +1,4 @@
-use Rattle.std.proofs.Common.{length, sym, ◌∙◌, eqb-true, Ok, Err}
+use Rattle.std.proofs.Common.{◌≡◌, ◌+◌, ◌≤◌, length, sym, ◌∙◌, eqb-true, Ok, Err, arith}
 use Rattle.std.proofs.lemmas.List.{nil_from_length}
 use Rattle.std.proofs.lemmas.Result.{err_from_is_err_and}
 use Rattle.rbf_access.proofs.Reading.{mounted_still}
@@ -45,3 +45,9 @@ pub returns-clause-counts : goal.returns-clause-counts
 returns-clause-counts g c v file on is =
     whole_calls _ _ c.args.fd c.in_ok-loaded.loaded.number c.args.at c.args.from.now c.args.now c.in_ok-loaded.ensures.media_kept c.in_ok-loaded.ensures.ok.number_is
     (some_room c.args.from.now c.is_empty.result c.if-is_empty.false c.is_empty.ensures) _ _ _ _ c.in_ok-loaded.ensures.counts c.in_ok-lay_over.ensures.counts v file on is
+
+pub returns-in_err-lay_over-clause-refused_calls : goal.returns-in_err-lay_over-clause-refused_calls
+returns-in_err-lay_over-clause-refused_calls g c =
+    let p = err_from_is_err_and c.from_residual-in_err-lay_over.result c.from_residual-in_err-lay_over.ensures.1 in
+    rw (p.1, p.2)
+    (λ none. let one = c.in_ok-loaded.ensures.counts.calls_made in let same = c.in_err-lay_over.ensures.refused_calls none in omega arith)
