@@ -55,6 +55,6 @@ pub record DropEnds (v : DiskVolume) (n : ℕ) (file : DiskFile) (old new : Opti
   pub left : DiskVolume
   pub vol : Vol now left
   pub lose : MayLose (freed v n file) left (λ c. is_whole (shape v) c && has_cluster (shape v) n file c)
-  pub unfinished : OneIsMarked v left (has_cluster (shape v) n file)
+  pub unfinished : OneIsMarked now (has_cluster (shape v) n file)
   pub others : OnlyMap image now
   pub end : MayKeepMapEnd image now (has_cluster (shape v) n file)
