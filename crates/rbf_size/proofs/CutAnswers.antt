@@ -13,7 +13,7 @@ use Rattle.rbf_model.specs.Space.{is_whole, is_marked, has_cluster}
 use Rattle.rbf_model.specs.Volume.{DiskVolume, Vol}
 use Rattle.rbf_model.specs.Writes.{put_sector, put_file, with_file, with_lost}
 use Rattle.rbf_model.specs.Laws.{IsMapSector}
-use Rattle.rbf_model.proofs.Owners.{cluster_positive}
+use Rattle.rbf_model.proofs.Owners.{cluster_positive, mark_sector, file_cluster_below}
 use Rattle.rbf_segs.proofs.Runs.{sectors_of-shortened}
 use Rattle.rbf_change.specs.Agrees.{KeptVolume, Agrees}
 use Rattle.rbf_change.specs.Calls.{shape, cluster_size, free_total, replaced, minute_of, cuts}
@@ -242,6 +242,7 @@ module _ (media mid : Option (List ℕ)) (loaded : Loaded) (size : ℕ) (now : T
         map_end = λ c past. marks_then gone after last clear c past.in_map ∙ ap (λ t. is_marked (sector image) c && not t) (sym (giving_is c));
         list = list_then gone after last clear;
       };
+      same = λ stays_so. let shorter_then = less in absurd (omega arith);
     }
 
   -- a fault came before all had been
@@ -271,14 +272,16 @@ module _ (media mid : Option (List ℕ)) (loaded : Loaded) (size : ℕ) (now : T
           (lost_from image v on.vol n old new is not_directory bytes stored.says.whole list_is inside c parts.0);
     }
 
-    still_marked : ends.OneIsMarked v left (λ c. has_cluster (shape v) n old c && not (has_cluster (shape v) n new c))
+    still_marked : ends.OneIsMarked so_far.now (λ c. has_cluster (shape v) n old c && not (has_cluster (shape v) n new c))
     still_marked =
-        let given : (has_cluster g n old ended.some && not (has_cluster g n new ended.some)) ≡ true = sym (rest ended.some) ∙ ended.given_up in (
+        let given : (has_cluster g n old ended.some && not (has_cluster g n new ended.some)) ≡ true = sym (rest ended.some) ∙ ended.given_up in
+        let had : has_cluster g n old ended.some ≡ true = (and_parts (has_cluster g n old ended.some) (not (has_cluster g n new ended.some)) given).0 in
+        let place_of_mark = mark_sector g on.vol.sound.shape ended.some (file_cluster_below g (sector image) v on.vol.sound n old ended.some is had) in
+        let below : ended.some < 2048 * map_sectors g = omega arith in (
           ended.some,
           subst (λ s. (has_cluster s n old ended.some && not (has_cluster s n new ended.some)) ≡ true) (sym shaped) given,
-          λ whole. and_from (lessened.lost ended.some) (not (before gone place ended.some))
-              (given_up_lost image v on.vol n old new is not_directory bytes stored.says.whole list_is inside ended.some given (subst (λ s. is_whole s ended.some ≡ true) shaped whole))
-              (ap not ended.still),
+          marks_then (before gone place) after last so_far ended.some below
+          ∙ and_from (is_marked (sector image) ended.some) (not (before gone place ended.some)) (on.vol.sound.mapped.marks n old ended.some is had) (ap not ended.still),
         )
 
     cut_ended : SizeIsEnded v old sizing media after

@@ -1,7 +1,7 @@
 -- A loaded file that is cut or made longer: what is said of it where its descriptor has been read is said of it before.
-use Rattle.std.proofs.Common.{◌≡◌, ℕ, ◌+◌, ◌<◌, max, false, Option, Some, None, Result, List, [], length, sym, ap, ◌∙◌, subst, arith}
-use Rattle.std.specs.Prelude.{if◌then◌else◌, nat_lt}
-use Rattle.std.proofs.lemmas.Bool.{cond-true, cond-false, false_from_ne_true, ltb-true, lt-ltb}
+use Rattle.std.proofs.Common.{◌≡◌, ℕ, ◌+◌, ◌<◌, ◌≤◌, max, false, Option, Some, None, IsSome, Result, Ok, Err, List, [], length, sym, ap, ◌∙◌, subst, arith}
+use Rattle.std.specs.Prelude.{if◌then◌else◌, nat_lt, OnErr, IsNone}
+use Rattle.std.proofs.lemmas.Bool.{cond-true, cond-false, false_from_ne_true, ltb-true, lt-ltb, false≢true}
 use Rattle.os9_base.specs.declared.registers.TimePacket.{TimePacket}
 use Rattle.rbf_model.specs.Geometry.{map_sectors}
 use Rattle.rbf_model.specs.File.{DiskFile}
@@ -11,6 +11,8 @@ use Rattle.rbf_change.specs.Calls.{shape}
 use Rattle.rbf_change.proofs.LawfulWrites.{shape-image}
 use Rattle.rbf_access.specs.declared.volume.Volume.{Volume}
 use Rattle.rbf_access.specs.declared.faults.FileFault.{FileFault}
+use Rattle.rbf_access.specs.declared.faults.FileFault.TheVariants.{Device, NoCluster, TooManyRuns}
+use Rattle.rbf_access.specs.Faults.{file_fault}
 use Rattle.rbf_access.specs.Drive.{DriveCounts, MovesCounts}
 use Rattle.rbf_access.specs.Mounted.{kept, Represents, IsMounted}
 use Rattle.rbf_access.proofs.Counting.{counts_then}
@@ -19,6 +21,18 @@ use Rattle.rbf_write.specs.Laying.{AnswersLaying}
 use Rattle.rbf_write.specs.Outcomes.{laying_calls}
 use Rattle.rbf_write.specs.Sizes.{AnswersSize, size_calls}
 use Rattle.rbf_write.proofs.Sized.{sized_answers, sized_calls}
+
+-- where every error is a fault of the drive, none is a refusal
+pub never_refused : (r : Result (Unit {0}) FileFault) (P : Type 0) → OnErr r (IsSome (file_fault r)) → OnErr r (IsNone (file_fault r) → P)
+never_refused (Ok done) P device = tt
+never_refused (Err (Device n)) P device = λ none. absurd (cc none)
+never_refused (Err NoCluster) P device = absurd (false≢true device)
+never_refused (Err TooManyRuns) P device = absurd (false≢true device)
+
+-- a refusal that makes no call, after one has been made
+pub refused_later : (r : Result (Unit {0}) FileFault) (a b c : ℕ) → b ≤ a + 1 → OnErr r (IsNone (file_fault r) → c ≡ b) → OnErr r (IsNone (file_fault r) → c ≤ a + 1)
+refused_later (Ok done) a b c one refused = tt
+refused_later (Err fault) a b c one refused = λ none. let same = refused none in omega arith
 
 module _ (before mid : Option (List ℕ)) (n m size : ℕ) (now : TimePacket) (same : mid ≡ before) (number : m ≡ n) (v : DiskVolume) (file : DiskFile) (on : Represents before v) (is : v.files n ≡ Some file) where
   pub cut_answers : (after : Option (List ℕ)) (result : Result (Unit {0}) FileFault)

@@ -42,6 +42,7 @@ pub fn cut(
     ensures answer { OnVolumeFile (media d.old) loaded.now.number (λ v file. AnswersSize v file
         (record { number = loaded.now.number; size = size; now = now })
         (media d.old) (media d.new) result) }
+    ensures device { OnErr result (IsSome (file_fault result)) }
     ensures mounted { IsMounted volume.new (media d.new) }
     ensures counts { Counts ⟦<dyn BlockDriver as BlockDriver>⟧ (file_fault result)
         (1 + map_sectors (kept volume.old).sizes) d.old d.new }

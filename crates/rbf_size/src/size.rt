@@ -1,4 +1,4 @@
-ghost use Rattle.std.specs.Prelude.{◌≡◌};
+ghost use Rattle.std.specs.Prelude.{◌≡◌, ◌+◌, ◌≤◌, IsNone, OnErr};
 ghost use Rattle.rbf_access.specs.Drive.{Counts};
 ghost use Rattle.rbf_access.specs.Faults.{file_fault};
 ghost use Rattle.rbf_access.specs.Mounted.{IsMounted};
@@ -33,6 +33,8 @@ pub fn set_size(
     ensures answer { OnVolumeFile (media d.old) fd (λ v file. AnswersSize v file
         (record { number = fd; size = size; now = now })
         (media d.old) (media d.new) result) }
+    ensures refused_calls { OnErr result (IsNone (file_fault result)
+        → drive_calls d.new ≤ drive_calls d.old + 1) }
     ensures mounted { IsMounted volume.new (media d.new) }
     ensures counts { OnVolumeFile (media d.old) fd (λ v file.
         Counts ⟦<dyn BlockDriver as BlockDriver>⟧ (file_fault result)

@@ -3,7 +3,7 @@ use Rattle.std.proofs.lemmas.Result.{err_from_is_err_and}
 use Rattle.rbf_access.proofs.Counting.{counts_most}
 use Rattle.rbf_access.proofs.Reading.{mounted_still}
 use Rattle.rbf_write.proofs.Sized.{unread_ends, size_stays, stays_calls}
-use Rattle.rbf_size.proofs.SetSizes.{cut_answers, cut_counts, longer_answers, longer_counts}
+use Rattle.rbf_size.proofs.SetSizes.{never_refused, refused_later, cut_answers, cut_counts, longer_answers, longer_counts}
 use Rattle.rbf_size.proofs.size.set_size.Goals as goal
 
 pub returns-in_err-loaded-clause-answer : goal.returns-in_err-loaded-clause-answer
@@ -60,3 +60,9 @@ returns-clause-counts g c v file on is =
     let size = (c.in_ok-loaded.ensures.ok.says v file on is).size_is in
     longer_counts _ _ c.args.fd c.in_ok-loaded.loaded.number c.args.size c.args.now c.in_ok-loaded.ensures.media_kept c.in_ok-loaded.ensures.ok.number_is v file on is
     _ _ _ _ (omega arith) c.in_ok-loaded.ensures.counts c.lay_over.ensures.counts
+
+pub returns-then-size-loaded-2-clause-refused_calls : goal.returns-then-size-loaded-2-clause-refused_calls
+returns-then-size-loaded-2-clause-refused_calls g c = never_refused c.cut.result _ c.cut.ensures.device
+
+pub returns-clause-refused_calls : goal.returns-clause-refused_calls
+returns-clause-refused_calls g c = refused_later c.lay_over.result _ _ _ c.in_ok-loaded.ensures.counts.calls_made c.lay_over.ensures.refused_calls
