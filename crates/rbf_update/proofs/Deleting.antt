@@ -1,5 +1,5 @@
 -- The entry of a file that may be deleted.
-use Rattle.std.proofs.Common.{◌≡◌, ℕ, zero, suc, ◌+◌, ◌≤◌, Bool, true, false, not, ◌&&◌, Option, Some, None, Result, Err, List, [], ◌∷◌, length, ◌==◌, refl, ap, ap₂, sym, subst, ◌∙◌, arith}
+use Rattle.std.proofs.Common.{◌≡◌, ℕ, zero, suc, ◌+◌, ◌≤◌, Bool, true, false, not, ◌&&◌, Option, Some, None, is_some, Result, Err, List, [], ◌∷◌, length, ◌==◌, refl, ap, ap₂, sym, subst, ◌∙◌, arith}
 use Rattle.std.specs.Prelude.{if◌then◌else◌}
 use Rattle.std.specs.Int.{bit_at}
 use Rattle.std.proofs.lemmas.Bool.{and_parts, cond-true, cond-false, both_ways, false≢true}
@@ -24,7 +24,7 @@ use Rattle.rbf_access.specs.declared.faults.FileFault.TheVariants.{Device, NoClu
 use Rattle.rbf_change.specs.Parts.{EntryIsFreed}
 use Rattle.rbf_walk.specs.declared.error.DirError.{DirError}
 use Rattle.rbf_walk.specs.declared.error.DirError.TheVariants.{NotAllowed, BadPath, NotFound, Exists, File}
-use Rattle.rbf_walk.specs.Walk.{AnswersWalk, directory_fault}
+use Rattle.rbf_walk.specs.Walk.{AnswersWalk, calls_on, directory_fault}
 use Rattle.rbf_update.specs.Becomes.{Becomes}
 use Rattle.rbf_walk.specs.declared.directory.Searched.{Searched}
 use Rattle.rbf_walk.specs.declared.directory.Searched.TheVariants.{Found, Absent}
@@ -97,6 +97,9 @@ module _ (media : Option (List ℕ)) (dir : ℕ) (has : HasFile media dir) (fd :
       at : (v : DiskVolume) (file : DiskFile) → Represents media v → v.files dir ≡ Some file → IsFoundAt file.contents name place n
       at v file on is = subst (IsSearched file.contents name) found (searched v dir file (on_now v on) is (known v file on is))
 
+      pub name_found : (v : DiskVolume) (file : DiskFile) → Represents media v → v.files dir ≡ Some file → is_some (look_up file.contents name) ≡ true
+      name_found v file on is = ap is_some (at v file on is).names
+
       -- the entry that is found names a file
       pub names_file : HasFile media n
       names_file =
@@ -157,19 +160,35 @@ module _ (media : Option (List ℕ)) (dir : ℕ) (has : HasFile media dir) (fd :
             not_true false h = refl
 
 -- How many calls that takes.
-module _ (dir : DiskFile) (size : ℕ) (is : size ≡ length dir.contents) (f : Option ℕ) (s t : DriveCounts) where
-  pub one_look : MovesCounts f 1 s t → MovesCounts f (deletion_calls dir) s t
-  one_look one = counts_most f 1 (deletion_calls dir) s t (omega arith) one
+module _ (dir : DiskFile) (name : List ℕ) (user : ℕ) (execute : Bool) (f : Option ℕ) (s t : DriveCounts) where
+  abbrev sectors : ℕ
+  sectors = sector_count (length dir.contents)
 
-  pub two_looks : (mid : DriveCounts) → MovesCounts None 1 s mid → MovesCounts f (sector_count size) mid t → MovesCounts f (deletion_calls dir) s t
-  two_looks mid one other =
-      let same : sector_count size ≡ sector_count (length dir.contents) = ap sector_count is in
-      counts_most f (1 + sector_count size) (deletion_calls dir) s t (omega arith) (counts_then f 1 (sector_count size) s mid t one other)
+  abbrev last_look : ℕ
+  last_look = if is_some (look_up dir.contents name) then 1 else 0
 
-  pub three_looks : (mid half : DriveCounts) → MovesCounts None 1 s mid → MovesCounts None (sector_count size) mid half → MovesCounts f 1 half t → MovesCounts f (deletion_calls dir) s t
-  three_looks mid half one other last =
-      let same : sector_count size ≡ sector_count (length dir.contents) = ap sector_count is in
-      counts_most f (1 + sector_count size + 1) (deletion_calls dir) s t (omega arith) (counts_then f (1 + sector_count size) 1 s half t (counts_then None 1 (sector_count size) s mid half one other) last)
+  pub one_look : MovesCounts f 1 s t → MovesCounts f (deletion_calls dir name user execute) s t
+  one_look one = counts_most f 1 (deletion_calls dir name user execute) s t (either (may_change dir user execute) last_look) one
+    where
+      either : (b : Bool) (x : ℕ) → 1 ≤ (if b then 1 + sectors + x else 1)
+      either true x = omega arith
+      either false x = omega arith
+
+  module _ (allowed : may_change dir user execute ≡ true) (size : ℕ) (is : size ≡ length dir.contents) where
+    open_is : deletion_calls dir name user execute ≡ 1 + sectors + last_look
+    open_is = cond-true (may_change dir user execute) (1 + sectors + last_look) 1 allowed
+
+    pub two_looks : (mid : DriveCounts) → MovesCounts None 1 s mid → MovesCounts f (sector_count size) mid t → MovesCounts f (deletion_calls dir name user execute) s t
+    two_looks mid one other =
+        let same : sector_count size ≡ sectors = ap sector_count is in
+        subst (λ n. MovesCounts f n s t) (sym open_is)
+        (counts_most f (1 + sector_count size) (1 + sectors + last_look) s t (omega arith) (counts_then f 1 (sector_count size) s mid t one other))
+
+    pub three_looks : is_some (look_up dir.contents name) ≡ true → (mid half : DriveCounts) → MovesCounts None 1 s mid → MovesCounts None (sector_count size) mid half → MovesCounts f 1 half t → MovesCounts f (deletion_calls dir name user execute) s t
+    three_looks found mid half one other last =
+        subst (λ n. MovesCounts f n s t)
+        (ap₂ (λ a b. 1 + a + b) (ap sector_count is) (sym (cond-true (is_some (look_up dir.contents name)) 1 0 found)) ∙ sym open_is)
+        (counts_then f (1 + sector_count size) 1 s half t (counts_then None 1 (sector_count size) s mid half one other) last)
 
 -- Facts of a media that has only been read since.
 
@@ -214,12 +233,12 @@ frees_on media mid now d name found at same written = record {
       written place.content place.dir (record { image = place.on.image; is = same ∙ place.on.is; vol = place.on.vol }) place.is ∙ ap (λ m. with_entry_bytes m place.dir found.place (0 ∷ [])) same;
 }
 
-pub all_calls : (f : Option ℕ) (n : ℕ) (s t u : DriveCounts) → MovesCounts None n s t → MovesCounts f 3 t u → MovesCounts f (3 + n) s u
-all_calls f n s t u one other = counts_most f (n + 3) (3 + n) s u (omega arith) (counts_then f n 3 s t u one other)
+pub all_calls : (end : WalkEnd) (k : ℕ) → end ≡ arrives k → (f : Option ℕ) (n : ℕ) (s t u : DriveCounts) → MovesCounts None n s t → MovesCounts f 3 t u → MovesCounts f (n + calls_on end (λ i. 3)) s u
+all_calls end k is f n s t u one other = subst (λ e. MovesCounts f (n + calls_on e (λ i. 3)) s u) (sym is) (counts_then f n 3 s t u one other)
 
-pub fewer_calls : (n : ℕ) (e : DirError) (r : Result ℕ DirError) (s t : DriveCounts) → r ≡ Err e → MovesCounts (directory_fault {A = Deletable} (Err e)) n s t → MovesCounts (directory_fault r) (3 + n) s t
-fewer_calls n e r s t is moved =
-    subst (λ f. MovesCounts f (3 + n) s t) (sym (ap directory_fault is ∙ same e)) (counts_most (directory_fault {A = Deletable} (Err e)) n (3 + n) s t (omega arith) moved)
+pub fewer_calls : (n more : ℕ) (e : DirError) (r : Result ℕ DirError) (s t : DriveCounts) → r ≡ Err e → MovesCounts (directory_fault {A = Deletable} (Err e)) n s t → MovesCounts (directory_fault r) (n + more) s t
+fewer_calls n more e r s t is moved =
+    subst (λ f. MovesCounts f (n + more) s t) (sym (ap directory_fault is ∙ same e)) (counts_most (directory_fault {A = Deletable} (Err e)) n (n + more) s t (omega arith) moved)
   where
     same : (x : DirError) → directory_fault {A = ℕ} (Err x) ≡ directory_fault {A = Deletable} (Err x)
     same NotAllowed = refl

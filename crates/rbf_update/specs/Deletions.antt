@@ -1,12 +1,14 @@
 -- A name that is deleted from a directory.
-use Rattle.std.specs.Prelude.{◌≡◌, ℕ, ◌+◌, Option, Some, List, [], ◌∷◌, length, Result, Ok, Err}
+use Rattle.std.specs.Prelude.{◌≡◌, ℕ, ◌+◌, Bool, Option, Some, is_some, List, [], ◌∷◌, length, Result, Ok, Err, if◌then◌else◌}
 use Rattle.rbf_model.specs.Fields.{directory_entry, descriptor_field}
 use Rattle.rbf_model.specs.File.{DiskFile}
 use Rattle.rbf_model.specs.Volume.{DiskVolume}
+use Rattle.rbf_model.specs.Walk.{look_up}
 use Rattle.rbf_change.specs.Contents.{sector_count}
-use Rattle.rbf_change.specs.Names.{place_of}
+use Rattle.rbf_change.specs.Names.{place_of, may_change, deletion_end}
 use Rattle.rbf_change.specs.Parts.{EntryIsFreed}
 use Rattle.rbf_access.specs.Mounted.{Represents}
+use Rattle.rbf_walk.specs.Walk.{calls_on}
 use Rattle.rbf_walk.specs.declared.error.DirError.{DirError}
 use Rattle.rbf_update.specs.Entries.{MayFree, with_entry_bytes}
 use Rattle.rbf_update.specs.declared.deletion.Deletable.{Deletable}
@@ -42,6 +44,14 @@ pub record FreesName (v w : DiskVolume) (d : ℕ) (name : List ℕ) : Type 0 whe
   pub there : place_of dir.contents name ≡ Some place
   pub freed : EntryIsFreed v w d place
 
--- how many calls look for it at most: those of the two descriptors, and one for each sector of the directory
-abbrev pub deletion_calls : DiskFile → ℕ
-deletion_calls dir = 2 + sector_count (length dir.contents)
+-- how many calls look for it at most: that of the directory's descriptor, and where the user may change the directory,
+-- one for each of its sectors, and that of the descriptor that is found
+abbrev pub deletion_calls : DiskFile → List ℕ → ℕ → Bool → ℕ
+deletion_calls dir name user execute =
+    if may_change dir user execute
+    then 1 + sector_count (length dir.contents) + (if is_some (look_up dir.contents name) then 1 else 0) else 1
+
+-- and where the file may be deleted, three more make its entry free
+abbrev pub freeing_calls : DiskVolume → DiskFile → List ℕ → ℕ → Bool → ℕ
+freeing_calls v dir name user execute =
+    deletion_calls dir name user execute + calls_on (deletion_end v.files dir name user execute) (λ n. 3)

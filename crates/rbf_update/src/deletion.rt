@@ -1,4 +1,4 @@
-ghost use Rattle.std.specs.Prelude.{◌≡◌, ◌+◌, IfOk, OnOk, OnErr, Some};
+ghost use Rattle.std.specs.Prelude.{◌≡◌, IfOk, OnOk, OnErr, Some};
 ghost use Rattle.rbf_model.specs.File.{DiskFile};
 ghost use Rattle.rbf_change.specs.Names.{deletion_end, may_change as may_change_lem, may_delete as may_delete_lem};
 ghost use Rattle.rbf_access.specs.Drive.{Counts};
@@ -6,7 +6,7 @@ ghost use Rattle.rbf_access.specs.Mounted.{kept, HasFile, IsMounted};
 ghost use Rattle.rbf_access.specs.Reading.{IsFdOf, OnFile};
 ghost use Rattle.rbf_walk.specs.Walk.{AnswersWalk, directory_fault};
 ghost use Rattle.rbf_update.specs.Becomes.{Becomes};
-ghost use Rattle.rbf_update.specs.Deletions.{FreesName, FreesOn, IsDeletable, OnNumbered, deletion_calls, descriptor_found};
+ghost use Rattle.rbf_update.specs.Deletions.{FreesName, FreesOn, IsDeletable, OnNumbered, deletion_calls, freeing_calls, descriptor_found};
 
 use crate::entry::free_entry;
 use os9_base::name::Name;
@@ -51,16 +51,24 @@ pub fn delete_entry(
     ensures media_kept { OnErr result (media d.new ≡ media d.old) }
     ensures mounted { IsMounted v.new (media d.new) }
     ensures volume_kept { kept v.new ≡ kept v.old }
-    ensures counts { OnFile (media d.old) dir (λ file. Counts ⟦<dyn BlockDriver as BlockDriver>⟧
-        (directory_fault result) (3 + deletion_calls file) d.old d.new) }
+    ensures counts { OnNumbered (media d.old) dir (λ on file.
+        Counts ⟦<dyn BlockDriver as BlockDriver>⟧ (directory_fault result)
+        (freeing_calls on file name.now user execute) d.old d.new) }
 {
     let found = find_deletable(v, d, dir, name, user, execute)?;
     free_entry(v, d, dir, found.place)?;
     Ok(found.descriptor)
 }
 
-// The entry of a directory that has a name, if a user may delete it.
-fn find_deletable(
+/// The entry of a directory that has a name, if a user may delete it: an entry of a file, and not
+/// of a directory (OS-9 Technical Reference, I$Delete). No sector is read twice.
+///
+/// # Errors
+///
+/// `NotAllowed` if the user may not search or may not write the directory, before any access of its
+/// sectors; `NotFound` if the name is not there; `NotAllowed` for a directory or a file that the
+/// user may not write; `Device` if an access of the drive fails. The media stays.
+pub fn find_deletable(
     v: &mut Volume,
     d: &mut dyn BlockDriver,
     dir: u32,
@@ -78,7 +86,7 @@ fn find_deletable(
     ensures media_kept { media d.new ≡ media d.old }
     ensures volume_kept { kept v.new ≡ kept v.old }
     ensures counts { OnFile (media d.old) dir (λ file. Counts ⟦<dyn BlockDriver as BlockDriver>⟧
-        (directory_fault result) (deletion_calls file) d.old d.new) }
+        (directory_fault result) (deletion_calls file name.now user execute) d.old d.new) }
 {
     let fd = v.fd(d, dir)?;
     if !may_change(&fd, user, execute) {

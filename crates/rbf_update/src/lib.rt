@@ -3,7 +3,7 @@
 #![tactic(auto)]
 
 pub use attributes::{set_attr, set_fd_attr};
-pub use deletion::delete_entry;
+pub use deletion::{Deletable, delete_entry, find_deletable};
 pub use entry::{fill_entry, free_entry};
 
 mod attributes;

@@ -13,7 +13,7 @@ returns-in_err-found-clause-answer g c v file on is =
 pub returns-in_err-found-clause-counts : goal.returns-in_err-found-clause-counts
 returns-in_err-found-clause-counts g c v file on is =
     let p = err_from_is_err_and c.from_residual.result c.from_residual.ensures.1 in
-    fewer_calls _ c.in_err-found.field-0.0 _ _ _ (p.1 ∙ ap Err p.2) (c.in_err-found.ensures.counts v file on is)
+    fewer_calls _ _ c.in_err-found.field-0.0 _ _ _ (p.1 ∙ ap Err p.2) (c.in_err-found.ensures.counts v file on is)
 
 pub free_entry-requires-clause-place : goal.free_entry-requires-clause-place
 free_entry-requires-clause-place g c = free_still _ _ c.args.dir c.in_ok-found.found.place c.in_ok-found.ensures.media_kept c.in_ok-found.ensures.ok.free
@@ -26,7 +26,7 @@ returns-in_err-free_entry-clause-answer g c v file on is =
 pub returns-in_err-free_entry-clause-counts : goal.returns-in_err-free_entry-clause-counts
 returns-in_err-free_entry-clause-counts g c v file on is =
     let p = err_from_is_err_and c.from_residual-in_err-free_entry.result c.from_residual-in_err-free_entry.ensures.1 in
-    all_calls _ _ _ _ _ (c.in_ok-found.ensures.counts v file on is) (fault_counts Unit _ c.in_err-free_entry.field-0.0 _ 3 _ _ (p.1 ∙ ap Err p.2) c.in_err-free_entry.ensures.counts)
+    all_calls _ _ (c.in_ok-found.ensures.answer v file on is) _ _ _ _ _ (c.in_ok-found.ensures.counts v file on is) (fault_counts Unit _ c.in_err-free_entry.field-0.0 _ 3 _ _ (p.1 ∙ ap Err p.2) c.in_err-free_entry.ensures.counts)
 
 pub returns-clause-answer : goal.returns-clause-answer
 returns-clause-answer g c v file on is = c.in_ok-found.ensures.answer v file on is
@@ -36,7 +36,7 @@ returns-clause-ok g c =
     frees_name _ _ c.args.dir c.args.name.now c.in_ok-found.found c.in_ok-found.ensures.ok (becomes_after _ _ _ _ c.in_ok-found.ensures.media_kept c.in_ok-free_entry.ensures.ok)
 
 pub returns-clause-counts : goal.returns-clause-counts
-returns-clause-counts g c v file on is = all_calls _ _ _ _ _ (c.in_ok-found.ensures.counts v file on is) c.in_ok-free_entry.ensures.counts
+returns-clause-counts g c v file on is = all_calls _ _ (c.in_ok-found.ensures.answer v file on is) _ _ _ _ _ (c.in_ok-found.ensures.counts v file on is) c.in_ok-free_entry.ensures.counts
 
 pub returns-clause-written : goal.returns-clause-written
 returns-clause-written g c = frees_on _ _ _ c.args.dir c.args.name.now c.in_ok-found.found c.in_ok-found.ensures.ok c.in_ok-found.ensures.media_kept c.in_ok-free_entry.ensures.written
