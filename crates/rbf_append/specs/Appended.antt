@@ -1,0 +1,91 @@
+-- An entry that is appended to a directory.
+use Rattle.std.specs.Prelude.{◌≡◌, ◌≢◌, ℕ, ◌*◌, ◌/◌, ◌%◌, true, false, Option, Some, List, length, get_or, Result, Ok, Err}
+use Rattle.os9_base.specs.declared.registers.TimePacket.{TimePacket}
+use Rattle.rbf_model.specs.Disk.{image_disk}
+use Rattle.rbf_model.specs.Fields.{descriptor_field}
+use Rattle.rbf_model.specs.File.{DiskFile, is_directory}
+use Rattle.rbf_model.specs.Geometry.{image_geometry, sector}
+use Rattle.rbf_model.specs.Laws.{IsMapSector, IsReady}
+use Rattle.rbf_model.specs.Segments.{sectors_of, has}
+use Rattle.rbf_model.specs.Volume.{DiskVolume, Vol}
+use Rattle.rbf_model.specs.Writes.{put_at, IsNewEntry}
+use Rattle.rbf_change.specs.Calls.{cluster_size, is_free_in}
+use Rattle.rbf_change.specs.Contents.{written}
+use Rattle.rbf_change.specs.Faults.{MayLose}
+use Rattle.rbf_change.specs.Growth.{with_clusters, IsChoice}
+use Rattle.rbf_change.specs.Parts.{EntryIsPut}
+use Rattle.rbf_change.specs.Tidy.{KeepsListEnd, KeepsMapEnd}
+use Rattle.rbf_access.specs.Mounted.{Represents}
+use Rattle.rbf_access.specs.declared.faults.FileFault.{FileFault}
+use Rattle.rbf_access.specs.declared.faults.FileFault.TheVariants.{Device, NoCluster, TooManyRuns}
+use Rattle.rbf_append.specs.Rooms.{HasRoom}
+
+-- an entry that is appended to a directory, in the place behind its last one, at a time
+pub record Appending : Type 0 where
+  pub directory : ℕ
+  pub place : ℕ
+  pub entry : List ℕ
+  pub now : TimePacket
+
+-- the place behind the last entry of directory d, and the entry of a new file, which stands on the disk, by a name that
+-- is not in the directory
+pub record MayAppend (media : Option (List ℕ)) (d place : ℕ) (entry : List ℕ) : Type 0 where
+  pub content : DiskVolume
+  pub on : Represents media content
+  pub dir : DiskFile
+  pub is : content.files d ≡ Some dir
+  pub directory : is_directory dir ≡ true
+  pub end : length dir.contents ≡ 32 * place
+  pub new : IsNewEntry dir.contents place entry (descriptor_field entry)
+  pub ready : IsReady (image_disk on.image) content d (descriptor_field entry)
+  pub room : HasRoom content dir place 0
+
+-- the sector of a file with these segments that holds an entry
+abbrev pub sector_of_place : List (ℕ × ℕ) → ℕ → ℕ
+sector_of_place segments place = get_or (sectors_of segments) (place / 8) 0
+
+-- on the media the entry has its 32 bytes, and beside its sector only the map and the directory's descriptor have
+-- changed; the directory has these segments
+pub record WritesEntry (old now : List ℕ) (segments : List (ℕ × ℕ)) (a : Appending) : Type 0 where
+  pub filled : sector now (sector_of_place segments a.place)
+      ≡ put_at (sector old (sector_of_place segments a.place)) (32 * (a.place % 8)) a.entry
+  pub others : (s : ℕ) → ¬ IsMapSector (image_geometry old) s → s ≢ a.directory → s ≢ sector_of_place segments a.place
+      → sector now s ≡ sector old s
+  pub list : KeepsListEnd (sector old a.directory) (sector now a.directory)
+  pub end : KeepsMapEnd old now (λ _. false)
+
+-- the entry has been appended
+pub record IsAppended (v : DiskVolume) (a : Appending) (old new : Option (List ℕ)) : Type 0 where
+  pub image : List ℕ
+  pub now : List ℕ
+  pub was : old ≡ Some image
+  pub is : new ≡ Some now
+  pub after : DiskVolume
+  pub vol : Vol now after
+  pub put : EntryIsPut v after (sector image) a.directory a.place a.entry a.now
+  pub writes : WritesEntry image now put.new.segments a
+
+-- a fault came before the descriptor was written: the tree is as it was, and a cluster that was taken may be lost
+pub record AppendStops (v : DiskVolume) (dir : DiskFile) (a : Appending) (old new : Option (List ℕ)) : Type 0 where
+  pub image : List ℕ
+  pub now : List ℕ
+  pub was : old ≡ Some image
+  pub is : new ≡ Some now
+  pub taken : List ℕ
+  pub choice : IsChoice (cluster_size v) (is_free_in v) dir.segments
+      (length (written dir.contents (32 * a.place) a.entry)) taken
+  pub left : DiskVolume
+  pub vol : Vol now left
+  pub lose : MayLose v left (has taken)
+  -- only the map and the entry's sector have changed
+  pub others : (s : ℕ) → ¬ IsMapSector (image_geometry image) s
+      → s ≢ sector_of_place (with_clusters (cluster_size v) dir.segments taken) a.place → sector now s ≡ sector image s
+  pub end : KeepsMapEnd image now (λ _. false)
+
+-- each answer, and what it leaves
+abbrev pub AnswersAppend : DiskVolume → DiskFile → Appending → Option (List ℕ) → Option (List ℕ)
+    → Result (Unit {0}) FileFault → Type 0
+AnswersAppend v dir a old new (Ok done) = IsAppended v a old new
+AnswersAppend v dir a old new (Err (Device n)) = AppendStops v dir a old new
+AnswersAppend v dir a old new (Err NoCluster) = ⊥
+AnswersAppend v dir a old new (Err TooManyRuns) = ⊥

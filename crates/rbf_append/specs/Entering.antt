@@ -1,0 +1,105 @@
+-- A new file that a user enters into a directory by a name: what such a call answers, and what it leaves.
+use Rattle.std.specs.Prelude.{◌≡◌, ◌≢◌, ℕ, ◌*◌, ◌/◌, ◌%◌, Bool, true, false, Option, Some, None, List, length, Result, Ok, Err}
+use Rattle.rbf_model.specs.Disk.{image_disk}
+use Rattle.rbf_model.specs.File.{DiskFile}
+use Rattle.rbf_model.specs.Geometry.{image_geometry, sector}
+use Rattle.rbf_model.specs.Laws.{IsMapSector, IsReady}
+use Rattle.rbf_model.specs.Segments.{has}
+use Rattle.rbf_model.specs.Space.{has_cluster, own_sectors}
+use Rattle.rbf_model.specs.Volume.{DiskVolume, Vol}
+use Rattle.rbf_model.specs.Writes.{put_at}
+use Rattle.rbf_change.specs.Calls.{shape, cluster_size, free_total, is_free_in}
+use Rattle.rbf_change.specs.Faults.{NewFileEnds}
+use Rattle.rbf_change.specs.Names.{new_entry, entry_place}
+use Rattle.rbf_change.specs.NewFiles.{Plan, Enters, Refusal, bad_path, not_allowed, exists, no_cluster, too_many_runs, entry_refusal}
+use Rattle.rbf_change.specs.Parts.{FileIsMade}
+use Rattle.rbf_change.specs.Tidy.{IsNewList, KeepsListEnd, KeepsMapEnd}
+use Rattle.rbf_access.specs.declared.faults.FileFault.TheVariants.{Device, NoCluster, TooManyRuns}
+use Rattle.rbf_walk.specs.declared.error.DirError.{DirError}
+use Rattle.rbf_walk.specs.declared.error.DirError.TheVariants.{NotAllowed, BadPath, NotFound, Exists, File}
+use Rattle.rbf_append.specs.Appended.{sector_of_place}
+
+-- a new file n, made as planned for directory d: its clusters, which were free, are lost until an entry names it, and
+-- only its own sectors and the map have changed
+pub record IsMadeFor (v : DiskVolume) (d n : ℕ) (plan : Plan) (old new : Option (List ℕ)) : Type 0 where
+  pub image : List ℕ
+  pub now : List ℕ
+  pub was : old ≡ Some image
+  pub is : new ≡ Some now
+  pub left : DiskVolume
+  pub vol : Vol now left
+  pub made : FileIsMade v left (sector now) n plan
+  pub fresh : (c : ℕ) → has_cluster (shape v) n made.file c ≡ true → is_free_in v c ≡ true
+  pub ready : IsReady (image_disk now) left d n
+  pub others : (s : ℕ) → ¬ IsMapSector (image_geometry image) s → has (own_sectors n made.file) s ≡ false
+      → sector now s ≡ sector image s
+  pub end : KeepsMapEnd image now (λ _. false)
+
+-- what a user asks for: a file of this plan, which may depend on the file's number, by a name in a directory
+pub record Entering : Type 0 where
+  pub directory : ℕ
+  pub name : List ℕ
+  pub user : ℕ
+  pub execute : Bool
+  pub plan : ℕ → Plan
+
+-- whether it is refused in the volume, and why
+abbrev pub refusal_of : DiskVolume → DiskFile → Entering → Option Refusal
+refusal_of v dir e =
+    entry_refusal (cluster_size v) (free_total v) dir e.name e.user e.execute (length (e.plan 0).contents)
+
+-- the file has been entered
+pub record IsEnteredOn (v : DiskVolume) (dir : DiskFile) (e : Entering) (old new : Option (List ℕ)) (n : ℕ)
+    : Type 0 where
+  pub allowed : refusal_of v dir e ≡ None
+  pub image : List ℕ
+  pub now : List ℕ
+  pub was : old ≡ Some image
+  pub is : new ≡ Some now
+  pub after : DiskVolume
+  pub vol : Vol now after
+  pub enters : Enters v after e.directory n e.name (e.plan n)
+  -- the sector of the entry has its 32 bytes besides what it had
+  pub filled : sector now (sector_of_place enters.both.new.segments (entry_place dir.contents))
+      ≡ put_at (sector image (sector_of_place enters.both.new.segments (entry_place dir.contents)))
+      (32 * (entry_place dir.contents % 8)) (new_entry e.name n)
+  -- all other sectors stay but those of the map, of the new file, and the directory's descriptor
+  pub others : (s : ℕ) → ¬ IsMapSector (image_geometry image) s → has (own_sectors n enters.both.file) s ≡ false
+      → s ≢ e.directory → s ≢ sector_of_place enters.both.new.segments (entry_place dir.contents)
+      → sector now s ≡ sector image s
+  -- the bytes behind the lists of both descriptors, and the marks behind the whole clusters
+  pub list : IsNewList (sector now n)
+  pub kept_list : KeepsListEnd (sector image e.directory) (sector now e.directory)
+  pub end : KeepsMapEnd image now (λ _. false)
+
+-- a fault came before the entry was in the directory: the tree is as it was, and clusters may be lost
+pub record EnteringStops (v : DiskVolume) (dir : DiskFile) (e : Entering) (old new : Option (List ℕ)) : Type 0 where
+  pub image : List ℕ
+  pub now : List ℕ
+  pub was : old ≡ Some image
+  pub is : new ≡ Some now
+  pub left : DiskVolume
+  pub vol : Vol now left
+  pub ends : NewFileEnds v left e.directory e.name e.plan
+  -- only sectors of the map, of clusters that were free, and that of the entry have changed
+  pub others : (s : ℕ) → ¬ IsMapSector (image_geometry image) s → is_free_in v (s / cluster_size v) ≡ false
+      → s ≢ sector_of_place dir.segments (entry_place dir.contents) → sector now s ≡ sector image s
+  pub end : KeepsMapEnd image now (λ _. false)
+
+-- it was refused, and the media is as it was
+pub record EnteringIsRefused (v : DiskVolume) (dir : DiskFile) (e : Entering) (reason : Refusal)
+    (old new : Option (List ℕ)) : Type 0 where
+  pub because : refusal_of v dir e ≡ Some reason
+  pub media_kept : new ≡ old
+
+-- each answer with its cause and what it leaves; a file that is entered is answered by its number
+abbrev pub AnswersEntering : DiskVolume → DiskFile → Entering → Option (List ℕ) → Option (List ℕ)
+    → Result ℕ DirError → Type 0
+AnswersEntering v dir e old new (Ok n) = IsEnteredOn v dir e old new n
+AnswersEntering v dir e old new (Err NotAllowed) = EnteringIsRefused v dir e not_allowed old new
+AnswersEntering v dir e old new (Err BadPath) = EnteringIsRefused v dir e bad_path old new
+AnswersEntering v dir e old new (Err NotFound) = ⊥
+AnswersEntering v dir e old new (Err Exists) = EnteringIsRefused v dir e exists old new
+AnswersEntering v dir e old new (Err (File (Device n))) = EnteringStops v dir e old new
+AnswersEntering v dir e old new (Err (File NoCluster)) = EnteringIsRefused v dir e no_cluster old new
+AnswersEntering v dir e old new (Err (File TooManyRuns)) = EnteringIsRefused v dir e too_many_runs old new
