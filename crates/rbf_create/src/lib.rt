@@ -3,6 +3,7 @@
 #![tactic(auto)]
 
 pub use made::create_fd;
+pub use parts::descriptor;
 
-mod descriptor;
 mod made;
+mod parts;

@@ -6,7 +6,7 @@ ghost use Rattle.rbf_access.specs.Faults.{file_fault};
 ghost use Rattle.rbf_access.specs.Mounted.{IsMounted, Represents};
 ghost use Rattle.rbf_create.specs.Made.{Makes};
 
-use crate::descriptor::{descriptor, first_segs, new_file};
+use crate::parts::{descriptor, first_segs, new_file};
 use os9_base::registers::TimePacket;
 use os9_outer::drive::BlockDriver;
 use rbf_access::{FileFault, Volume};

@@ -17,7 +17,7 @@ use Rattle.rbf_update.specs.Entries.{MayFill, with_entry_bytes}
 use Rattle.rbf_walk.proofs.Stepping.{same_content}
 use Rattle.rbf_make.specs.Created.{IsOpenPlace, Creation}
 use Rattle.rbf_change.specs.Names.{new_entry}
-use Rattle.rbf_make.proofs.Filled.{unmade, unnamed, low, created_by, may_fill_with}
+use Rattle.rbf_make.proofs.Named.{unmade, unnamed, low, created_by, may_fill_with}
 
 module _ (media mid : Option (List ℕ)) (d i : ℕ) (name : List ℕ) (attr user : ℕ) (time : TimePacket) (spot : IsOpenPlace media d name i) (u : DiskVolume) (on : Represents media u) where
   abbrev v : DiskVolume

@@ -4,7 +4,7 @@ use Rattle.std.specs.Prelude.{if◌then◌else◌, replicate}
 use Rattle.std.specs.List.{range_with_len}
 use mathlib.Core.Path.{fun_ext}
 use Rattle.std.proofs.Math.Nat.{div-eq_of_lt, mul-le-mul_left}
-use Rattle.std.proofs.lemmas.Bool.{cond-true, both_ways, or_left, or_right, or_cases}
+use Rattle.std.proofs.lemmas.Bool.{cond-true, both_ways, false_from_ne_true, or_left, or_right, or_cases}
 use Rattle.std.proofs.lemmas.List.{append-nil}
 use Rattle.std.proofs.lemmas.List.Sums.{prefix_len-le-length}
 use Rattle.std.proofs.lemmas.List.Folds.{length-prefix_len}
@@ -33,20 +33,20 @@ use Rattle.rbf_model.proofs.Placed.{news_full}
 use Rattle.rbf_model.proofs.Space.{cluster_from_owns}
 use Rattle.rbf_change.specs.Calls.{shape, cluster_size, is_free_in, minute_of, replaced, written_file, WritesFile}
 use Rattle.rbf_change.specs.Contents.{sector_count, written}
-use Rattle.rbf_change.specs.Faults.{MayLose, EntryEnds, taken}
+use Rattle.rbf_change.specs.Faults.{MayLose, EntryEnds}
 use Rattle.rbf_change.specs.Names.{new_entry}
-use Rattle.rbf_change.specs.NewFiles.{Plan, file_plan, free_without, IsEntered, IsNewFile}
-use Rattle.rbf_change.specs.Tidy.{IsNewList}
+use Rattle.rbf_change.specs.NewFiles.{Plan, free_without, Enters, IsEntered, IsNewFile}
+use Rattle.rbf_change.specs.Parts.{FileIsMade}
+use Rattle.rbf_change.specs.Tidy.{IsNewList, KeepsMapEnd}
 use Rattle.rbf_change.proofs.LawfulWrites.{shape-image}
 use Rattle.rbf_access.specs.Mounted.{Represents}
 use Rattle.rbf_access.specs.Reading.{OnFile}
 use Rattle.rbf_access.proofs.ReadFile.{room_for}
-use Rattle.rbf_create.specs.Made.{IsMade, MakingEnds}
 use Rattle.rbf_update.specs.Becomes.{RepresentsOne}
 use Rattle.rbf_update.specs.Entries.{IsPlace, MayFill, sector_of_entry, with_entry_bytes}
 use Rattle.rbf_update.proofs.Puts.{filled, fill_stored}
 use Rattle.rbf_update.proofs.Stored.{becomes_now}
-use Rattle.rbf_make.specs.Created.{IsOpenPlace, FillsEntry, IsCreated, CreationStops}
+use Rattle.rbf_make.specs.Created.{IsOpenPlace}
 use Rattle.rbf_make.proofs.NewEntries.{new_length, new_number, may_enter}
 
 -- A write inside a directory gains no cluster.
@@ -79,7 +79,7 @@ no_clusters k size sectors some fits =
     let low : k - 1 < k = omega arith in
     sym (ap (λ n. n / k) none ∙ div-eq_of_lt low)
 
-entry_write : (media : Option (List ℕ)) (d i : ℕ) (place : IsPlace media d i) (bytes : List ℕ) → length bytes ≡ 32 → (free : ℕ → Bool) (now : TimePacket)
+pub entry_write : (media : Option (List ℕ)) (d i : ℕ) (place : IsPlace media d i) (bytes : List ℕ) → length bytes ≡ 32 → (free : ℕ → Bool) (now : TimePacket)
     → WritesFile (cluster_size place.content) free (32 * i) bytes now place.dir (with_directory_entry place.dir i bytes)
 entry_write media d i place bytes whole free now =
     let within = place.within in
@@ -105,32 +105,47 @@ none_from : (o : Option DiskFile) → ((f : DiskFile) → o ≡ Some f → ⊥) 
 none_from None h = refl
 none_from (Some f) h = absurd (h f refl)
 
-module _ (media mid : Option (List ℕ)) (d i : ℕ) (name : List ℕ) (attr user : ℕ) (time : TimePacket) (spot : IsOpenPlace media d name i) where
-  is_name : IsName name
+-- a new file n that is on the media and for whose entry directory d waits: beside the map these sectors have changed,
+-- which lie in clusters that were free
+pub record IsPending (v : DiskVolume) (d n : ℕ) (plan : Plan) (changed : ℕ → Bool) (old new : Option (List ℕ)) : Type 0 where
+  pub image : List ℕ
+  pub now : List ℕ
+  pub was : old ≡ Some image
+  pub is : new ≡ Some now
+  pub left : DiskVolume
+  pub vol : Vol now left
+  pub made : FileIsMade v left (sector now) n plan
+  pub fresh : (c : ℕ) → has_cluster (shape v) n made.file c ≡ true → is_free_in v c ≡ true
+  pub ready : IsReady (image_disk now) left d n
+  pub inside : (s : ℕ) → changed s ≡ true → is_free_in v (s / cluster_size v) ≡ true
+  pub own : changed n ≡ true
+  pub others : (s : ℕ) → ¬ IsMapSector (image_geometry image) s → changed s ≡ false → sector now s ≡ sector image s
+  pub first : sector now 0 ≡ sector image 0
+  pub end : KeepsMapEnd image now (λ _. false)
+
+module _ (media mid : Option (List ℕ)) (d i : ℕ) (name : List ℕ) (plan : Plan) (spot : IsOpenPlace media d name i) where
+  pub is_name : IsName name
   is_name = spot.named
 
-  abbrev v : DiskVolume
+  abbrev pub v : DiskVolume
   v = spot.place.content
 
-  abbrev dir : DiskFile
+  abbrev pub dir : DiskFile
   dir = spot.place.dir
 
-  abbrev plan : Plan
-  plan = file_plan attr user time
-
   -- a new file, and the directory that has its entry
-  abbrev both : (n : ℕ) (file : DiskFile) → IsNewFile (cluster_size v) (is_free_in v) n plan file → IsEntered v d n name plan
+  abbrev pub both : (n : ℕ) (file : DiskFile) → IsNewFile (cluster_size v) (is_free_in v) n plan file → IsEntered v d n name plan
   both n file new = record {
     old = dir;
     new = with_directory_entry dir i (new_entry name n);
     file = file;
     is = spot.place.is;
     made = new;
-    entry = subst (λ p. WritesFile (cluster_size v) (free_without (shape v) (is_free_in v) n file) (32 * p) (new_entry name n) time dir (with_directory_entry dir i (new_entry name n))) spot.absent.free_is
-        (entry_write media d i spot.place (new_entry name n) (new_length name n is_name) (free_without (shape v) (is_free_in v) n file) time);
+    entry = subst (λ p. WritesFile (cluster_size v) (free_without (shape v) (is_free_in v) n file) (32 * p) (new_entry name n) plan.made dir (with_directory_entry dir i (new_entry name n))) spot.absent.free_is
+        (entry_write media d i spot.place (new_entry name n) (new_length name n is_name) (free_without (shape v) (is_free_in v) n file) plan.made);
   }
 
-  lose_more : (n : ℕ) (file : DiskFile) (new : IsNewFile (cluster_size v) (is_free_in v) n plan file) (left : DiskVolume) → MayLose v left (has_cluster (shape v) n file) → EntryEnds v left d n name plan
+  pub lose_more : (n : ℕ) (file : DiskFile) (new : IsNewFile (cluster_size v) (is_free_in v) n plan file) (left : DiskVolume) → MayLose v left (has_cluster (shape v) n file) → EntryEnds v left d n name plan
   lose_more n file new left lose = record {
     both = both n file new;
     volume = record {
@@ -143,21 +158,7 @@ module _ (media mid : Option (List ℕ)) (d i : ℕ) (name : List ℕ) (attr use
     };
   }
 
-  -- a fault came before the descriptor was written
-  pub unmade : (new : Option (List ℕ)) → MakingEnds v plan media new → CreationStops v d name plan media new
-  unmade new ends = record {
-    image = ends.image;
-    now = ends.now;
-    was = ends.was;
-    is = ends.is;
-    left = ends.left;
-    vol = ends.vol;
-    ends = taken (lose_more ends.number ends.file ends.chosen ends.left ends.lose);
-    others = λ s none _. ends.others s none;
-    end = ends.end;
-  }
-
-  module _ (n : ℕ) (made : IsMade v n plan media mid) where
+  module _ (n : ℕ) (changed : ℕ → Bool) (made : IsPending v d n plan changed media mid) where
     abbrev entry : List ℕ
     entry = new_entry name n
 
@@ -189,7 +190,7 @@ module _ (media mid : Option (List ℕ)) (d i : ℕ) (name : List ℕ) (attr use
 
     pub low : n < 16777216
     low =
-        let below = (made.ready d).number.below in
+        let below = made.ready.number.below in
         let most = made.vol.header.header.most in
         omega arith
 
@@ -204,7 +205,7 @@ module _ (media mid : Option (List ℕ)) (d i : ℕ) (name : List ℕ) (attr use
       place = place_mid;
       free = spot.free;
       new = may_enter dir.contents name i n is_name spot.proper spot.absent.nowhere;
-      ready = subst (IsReady (image_disk image1) left d) (sym number) (made.ready d);
+      ready = subst (IsReady (image_disk image1) left d) (sym number) made.ready;
     }
 
     -- the descriptor's cluster was free
@@ -230,22 +231,15 @@ module _ (media mid : Option (List ℕ)) (d i : ℕ) (name : List ℕ) (attr use
     apart same = none-some dir (sym no_file ∙ ap v.files same ∙ spot.place.is)
 
     -- a fault came before the entry was written
-    pub unnamed : (new : Option (List ℕ)) → new ≡ mid → CreationStops v d name plan media new
-    unnamed new same = record {
-      image = made.image;
-      now = image1;
-      was = made.was;
-      is = same ∙ made.is;
-      left = left;
-      vol = made.vol;
-      ends = taken (lose_more n file made.made.made left (record {
-        same = made.made.volume ∙ ap (with_lost v) (sym (ap (λ (x : DiskVolume). x.lost) made.made.volume));
-        still = λ c h. ap (λ (x : DiskVolume). x.lost c) made.made.volume ∙ or_left (v.lost c) (has_cluster (shape v) n file c) h;
-        only = λ c h. sym (ap (λ (x : DiskVolume). x.lost c) made.made.volume) ∙ h;
-      }));
-      others = λ s none taken_already. made.writes.others s none (λ is. both_ways (is_free_in v (s / cluster_size v)) taken_already (subst (λ x. is_free_in v (x / cluster_size v) ≡ true) (sym is) first_free));
-      end = made.writes.end;
-    }
+    pub unnamed_ends : EntryEnds v left d n name plan
+    unnamed_ends = lose_more n file made.made.made left (record {
+      same = made.made.volume ∙ ap (with_lost v) (sym (ap (λ (x : DiskVolume). x.lost) made.made.volume));
+      still = λ c h. ap (λ (x : DiskVolume). x.lost c) made.made.volume ∙ or_left (v.lost c) (has_cluster (shape v) n file c) h;
+      only = λ c h. sym (ap (λ (x : DiskVolume). x.lost c) made.made.volume) ∙ h;
+    })
+
+    pub unnamed_others : (s : ℕ) → ¬ IsMapSector (image_geometry made.image) s → is_free_in v (s / cluster_size v) ≡ false → sector image1 s ≡ sector made.image s
+    unnamed_others s none taken_already = made.others s none (false_from_ne_true (changed s) (λ h. both_ways (is_free_in v (s / cluster_size v)) taken_already (made.inside s h)))
 
     -- the entry is written
     module _ (new : Option (List ℕ)) (written_is : new ≡ with_entry_bytes mid dir i entry) where
@@ -258,7 +252,7 @@ module _ (media mid : Option (List ℕ)) (d i : ℕ) (name : List ℕ) (attr use
       abbrev g1 : Geometry
       g1 = image_geometry image1
 
-      abbrev lsn : ℕ
+      abbrev pub lsn : ℕ
       lsn = sector_of_entry dir i
 
       at_sector : IsFileSector left d dir (i / 8) lsn
@@ -289,13 +283,13 @@ module _ (media mid : Option (List ℕ)) (d i : ℕ) (name : List ℕ) (attr use
           let room = made.vol.header.fits in
           omega arith
 
-      abbrev half : List ℕ
+      abbrev pub half : List ℕ
       half = put_sector image1 lsn news
 
       half_sectors : sector half ≡ put (sector image1) lsn news
       half_sectors = sector_put image1 lsn news news_whole fits
 
-      new_is : new ≡ Some half
+      pub new_is : new ≡ Some half
       new_is = written_is ∙ ap (λ m. with_sector m lsn (put_at (sector_at m lsn) (32 * (i % 8)) entry)) made.is
 
       half_vol : Vol half w
@@ -335,7 +329,7 @@ module _ (media mid : Option (List ℕ)) (d i : ℕ) (name : List ℕ) (attr use
           pick false false whole_one true e none = refl
           pick false false whole_one false e none = refl
 
-      abbrev after : DiskVolume
+      abbrev pub after : DiskVolume
       after = replaced (replaced v d (Some new_dir)) n (Some file)
 
       after_is : w ≡ after
@@ -344,14 +338,13 @@ module _ (media mid : Option (List ℕ)) (d i : ℕ) (name : List ℕ) (attr use
       -- what has changed on the media
       shape_made : image_geometry made.image ≡ g1
       shape_made =
-          let after_first = (made.ready d).number.after in
-          ap geometry (sym (made.writes.others 0 (λ map. let low = map.after in absurd (omega arith)) (λ same. absurd (omega arith))))
+          ap geometry (sym made.first)
 
-      elsewhere : n ≢ lsn
-      elsewhere same =
+      elsewhere : (s : ℕ) → changed s ≡ true → s ≢ lsn
+      elsewhere s h same =
           let used : has_cluster (shape v) d dir (lsn / (shape v).cluster) ≡ true = cluster_from_owns (shape v) d dir lsn (owns_own (shape v) d dir lsn its_own) in
-          both_ways (has_cluster (shape v) d dir (n / (shape v).cluster)) ((free_facts (n / (shape v).cluster) first_free).1 d dir spot.place.is)
-          (subst (λ s. has_cluster (shape v) d dir (s / (shape v).cluster) ≡ true) (sym same) used)
+          both_ways (has_cluster (shape v) d dir (s / (shape v).cluster)) ((free_facts (s / (shape v).cluster) (made.inside s h)).1 d dir spot.place.is)
+          (subst (λ x. has_cluster (shape v) d dir (x / (shape v).cluster) ≡ true) (sym same) used)
 
       lsn_no_map : ¬ IsMapSector (image_geometry made.image) lsn
       lsn_no_map map =
@@ -360,32 +353,35 @@ module _ (media mid : Option (List ℕ)) (d i : ℕ) (name : List ℕ) (attr use
           let low = past in
           absurd (omega arith)
 
-      fills : FillsEntry made.image half dir i entry n
-      fills = record {
-        filled = ap (λ (x : ℕ → List ℕ). x lsn) half_sectors ∙ put_here (sector image1) lsn news
-            ∙ ap (λ b. put_at b (32 * (i % 8)) entry) (made.writes.others lsn lsn_no_map (λ same. elsewhere (sym same)));
-        others = λ s none other differ. ap (λ (x : ℕ → List ℕ). x s) half_sectors ∙ put_beside (sector image1) lsn news s differ ∙ made.writes.others s none other;
-      }
+      pub entry_filled : sector half lsn ≡ put_at (sector made.image lsn) (32 * (i % 8)) entry
+      entry_filled =
+          ap (λ (x : ℕ → List ℕ). x lsn) half_sectors ∙ put_here (sector image1) lsn news
+          ∙ ap (λ b. put_at b (32 * (i % 8)) entry) (made.others lsn lsn_no_map (false_from_ne_true (changed lsn) (λ h. elsewhere lsn h refl)))
 
-      pub created : IsCreated v d name plan media new n
-      created = record {
-        image = made.image;
-        now = half;
-        was = made.was;
-        is = new_is;
-        after = after;
-        vol = subst (Vol half) after_is half_vol;
-        enters = record { both = both n file made.made.made; volume = refl };
-        list = subst IsNewList (sym (ap (λ (x : ℕ → List ℕ). x n) half_sectors ∙ put_beside (sector image1) lsn news n elsewhere)) made.made.rest;
-        writes = subst (λ p. FillsEntry made.image half dir p entry n) spot.absent.free_is fills;
-        end = λ c behind.
-            let in_map : c < 2048 * map_sectors g1 = subst (λ x. c < 2048 * map_sectors x) shape_made behind.in_map in
-            let low = past in
-            ap (λ x. is_marked x c) half_sectors ∙ marked_beside (sector image1) lsn news c (λ same. absurd (omega arith)) ∙ made.writes.end c behind;
-      }
+      pub others_kept : (s : ℕ) → ¬ IsMapSector (image_geometry made.image) s → changed s ≡ false → s ≢ lsn → sector half s ≡ sector made.image s
+      others_kept s none other differ = ap (λ (x : ℕ → List ℕ). x s) half_sectors ∙ put_beside (sector image1) lsn news s differ ∙ made.others s none other
 
-    pub created_by : (new : Option (List ℕ)) (bytes : List ℕ) → bytes ≡ entry → OnFile mid d (λ f. new ≡ with_entry_bytes mid f i bytes) → IsCreated v d name plan media new n
-    created_by new bytes is written = created new (written left dir on_mid place_mid.is ∙ ap (with_entry_bytes mid dir i) is)
+      -- what was written before stays
+      pub still : (s : ℕ) → changed s ≡ true → sector half s ≡ sector image1 s
+      still s h = ap (λ (x : ℕ → List ℕ). x s) half_sectors ∙ put_beside (sector image1) lsn news s (elsewhere s h)
+
+      pub after_vol : Vol half after
+      after_vol = subst (Vol half) after_is half_vol
+
+      abbrev pub enters : Enters v after d n name plan
+      enters = record { both = both n file made.made.made; volume = refl }
+
+      pub list_kept : IsNewList (sector half n)
+      list_kept = subst IsNewList (sym (still n made.own)) made.made.rest
+
+      pub end_kept : KeepsMapEnd made.image half (λ _. false)
+      end_kept c behind =
+          let in_map : c < 2048 * map_sectors g1 = subst (λ x. c < 2048 * map_sectors x) shape_made behind.in_map in
+          let low = past in
+          ap (λ x. is_marked x c) half_sectors ∙ marked_beside (sector image1) lsn news c (λ same. absurd (omega arith)) ∙ made.end c behind
+
+    pub written_as : (new : Option (List ℕ)) (bytes : List ℕ) → bytes ≡ entry → OnFile mid d (λ f. new ≡ with_entry_bytes mid f i bytes) → new ≡ with_entry_bytes mid dir i entry
+    written_as new bytes is written = written left dir on_mid place_mid.is ∙ ap (with_entry_bytes mid dir i) is
 
     pub may_fill_with : (bytes : List ℕ) → bytes ≡ entry → MayFill mid d i bytes
     may_fill_with bytes is = subst (MayFill mid d i) (sym is) may

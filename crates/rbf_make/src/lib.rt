@@ -3,6 +3,7 @@
 #![tactic(auto)]
 
 pub use create::create_in_place;
+pub use entry::new_entry;
 pub use place::find_place;
 
 mod create;

@@ -23,7 +23,8 @@ pub fn first_segs(k: u16, n: u32) -> Segs
     segs
 }
 
-// The descriptor of a new file: zeros are behind its list of segments.
+/// The sector of a new descriptor with these fields: zeros are behind its list of segments (OS-9
+/// Technical Reference, Random Block File Manager, "File Descriptors").
 pub fn descriptor(file: &Fd) -> [u8; 256]
     ensures whole { length result ≡ 256 }
     ensures fields { IsReadAs file.now result }
