@@ -145,7 +145,7 @@ module _ (media mid : Option (List ℕ)) (d i : ℕ) (name : List ℕ) (plan : P
         (entry_write media d i spot.place (new_entry name n) (new_length name n is_name) (free_without (shape v) (is_free_in v) n file) plan.made);
   }
 
-  pub lose_more : (n : ℕ) (file : DiskFile) (new : IsNewFile (cluster_size v) (is_free_in v) n plan file) (left : DiskVolume) → MayLose v left (has_cluster (shape v) n file) → EntryEnds v left d n name plan
+  abbrev pub lose_more : (n : ℕ) (file : DiskFile) (new : IsNewFile (cluster_size v) (is_free_in v) n plan file) (left : DiskVolume) → MayLose v left (has_cluster (shape v) n file) → EntryEnds v left d n name plan
   lose_more n file new left lose = record {
     both = both n file new;
     volume = record {
@@ -231,7 +231,7 @@ module _ (media mid : Option (List ℕ)) (d i : ℕ) (name : List ℕ) (plan : P
     apart same = none-some dir (sym no_file ∙ ap v.files same ∙ spot.place.is)
 
     -- a fault came before the entry was written
-    pub unnamed_ends : EntryEnds v left d n name plan
+    abbrev pub unnamed_ends : EntryEnds v left d n name plan
     unnamed_ends = lose_more n file made.made.made left (record {
       same = made.made.volume ∙ ap (with_lost v) (sym (ap (λ (x : DiskVolume). x.lost) made.made.volume));
       still = λ c h. ap (λ (x : DiskVolume). x.lost c) made.made.volume ∙ or_left (v.lost c) (has_cluster (shape v) n file c) h;

@@ -1,0 +1,5 @@
+pub mod Entries
+pub mod Space
+pub mod Stores
+pub mod Making
+pub mod Named

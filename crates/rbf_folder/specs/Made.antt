@@ -1,0 +1,80 @@
+-- A new directory whose descriptor is on the media, before it has a name.
+use Rattle.std.specs.Prelude.{◌≡◌, ◌≢◌, ◌↔◌, ℕ, ◌-◌, ◌<◌, ◌==◌, true, false, Option, Some, List, get_or, if◌then◌else◌, Result, IfOk, IfSome, IsErrOf}
+use Rattle.rbf_model.specs.File.{DiskFile}
+use Rattle.rbf_model.specs.Geometry.{image_geometry, sector}
+use Rattle.rbf_model.specs.Disk.{image_disk}
+use Rattle.rbf_model.specs.Laws.{IsMapSector, IsReady}
+use Rattle.rbf_model.specs.Segments.{sectors_of}
+use Rattle.rbf_model.specs.Space.{has_cluster}
+use Rattle.rbf_model.specs.Volume.{DiskVolume, Vol}
+use Rattle.rbf_change.specs.Calls.{shape, cluster_size, free_total, is_free_in}
+use Rattle.rbf_change.specs.Contents.{extended}
+use Rattle.rbf_change.specs.Faults.{MayLose}
+use Rattle.rbf_change.specs.NewFiles.{Plan, IsNewFile, file_clusters}
+use Rattle.rbf_change.specs.Parts.{FileIsMade}
+use Rattle.rbf_change.specs.Tidy.{KeepsMapEnd}
+use Rattle.rbf_access.specs.Faults.{file_fault}
+use Rattle.rbf_access.specs.declared.faults.FileFault.{FileFault}
+use Rattle.rbf_access.specs.declared.faults.FileFault.TheVariants as fault
+
+-- how many sectors a new directory has: the rest of its descriptor's cluster, or one in a cluster of its own
+abbrev pub own_sectors : ℕ → ℕ
+own_sectors k = if k == 1 then 1 else k - 1
+
+-- the first sector of a file
+abbrev pub first_sector : DiskFile → ℕ
+first_sector file = get_or (sectors_of file.segments) 0 0
+
+-- a directory's first sector has its entries and zeros behind them; beside it only sector n and the map have changed,
+-- and no mark past the clusters
+pub record WritesFolder (old now : List ℕ) (n first : ℕ) (entries : List ℕ) : Type 0 where
+  pub first_is : sector now first ≡ extended entries 256
+  pub others : (s : ℕ) → ¬ IsMapSector (image_geometry old) s → s ≢ n → s ≢ first → sector now s ≡ sector old s
+  pub end : KeepsMapEnd old now (λ _. false)
+
+-- directory n has been made: its descriptor is in that sector, and its clusters are lost until an entry of its parent
+-- names it
+pub record IsFolderMade (v : DiskVolume) (parent n : ℕ) (plan : Plan) (old new : Option (List ℕ)) : Type 0 where
+  pub image : List ℕ
+  pub now : List ℕ
+  pub was : old ≡ Some image
+  pub is : new ≡ Some now
+  pub left : DiskVolume
+  pub vol : Vol now left
+  pub made : FileIsMade v left (sector now) n plan
+  -- its clusters were free
+  pub fresh : (c : ℕ) → has_cluster (shape v) n made.file c ≡ true → is_free_in v c ≡ true
+  -- and may be given an entry in its parent
+  pub ready : IsReady (image_disk now) left parent n
+  pub writes : WritesFolder image now n (first_sector made.file) plan.contents
+
+-- a fault came before that: clusters that the directory was to have may be lost
+pub record FolderEnds (v : DiskVolume) (plan : ℕ → Plan) (old new : Option (List ℕ)) : Type 0 where
+  pub image : List ℕ
+  pub now : List ℕ
+  pub was : old ≡ Some image
+  pub is : new ≡ Some now
+  pub number : ℕ
+  pub file : DiskFile
+  pub chosen : IsNewFile (cluster_size v) (is_free_in v) number (plan number) file
+  pub left : DiskVolume
+  pub vol : Vol now left
+  pub lose : MayLose v left (has_cluster (shape v) number file)
+  -- its descriptor, which is written last, was not
+  pub undescribed : sector now number ≡ sector image number
+  -- only its first sector and the map have changed
+  pub others : (s : ℕ) → ¬ IsMapSector (image_geometry image) s → s ≢ first_sector file
+      → sector now s ≡ sector image s
+  pub end : KeepsMapEnd image now (λ _. false)
+
+-- what a call that makes a directory answers, in the volume that the media represents before
+pub record MakesFolder (v : DiskVolume) (parent : ℕ) (plan : ℕ → Plan) (old new : Option (List ℕ))
+    (result : Result ℕ FileFault) : Type 0 where
+  -- the answer is the number of the directory, which is on the media
+  pub made : IfOk result (λ n. IsFolderMade v parent n (plan n) old new)
+  -- too few clusters are free for its descriptor and 64 bytes
+  pub full : IsErrOf result fault.NoCluster ↔ (free_total v < file_clusters (cluster_size v) 64)
+  -- its segments are few
+  pub runs : ¬ IsErrOf result fault.TooManyRuns
+  -- an access of the drive has failed
+  pub ends : IfSome (file_fault result) (λ _. FolderEnds v plan old new)

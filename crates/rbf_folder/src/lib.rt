@@ -1,0 +1,11 @@
+//! New directories of a mounted RBF volume, over a drive that may fail: their descriptors and
+//! their first sectors, and their entries.
+#![tactic(auto)]
+
+pub use folder::create_folder;
+pub use in_place::make_dir_in_place;
+
+mod folder;
+mod in_place;
+mod listing;
+mod parts;
