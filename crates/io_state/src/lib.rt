@@ -1,0 +1,6 @@
+//! Input and output: the paths, the terminals, the pipes and the calls that wait on them, as the
+//! kernel keeps them.
+#![tactic(auto)]
+
+pub mod state;
+mod terminals;

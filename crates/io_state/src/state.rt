@@ -1,0 +1,129 @@
+//! The state of input and output.
+
+ghost use Rattle.std.specs.Prelude.{◌≡◌, ◌<◌, Some, None, IfOk, IfSome, IsSome, option_map, length, replicate};
+ghost use Rattle.std.specs.Result.{result_ok};
+ghost use Rattle.io_model.specs.Path.{IsOpen, slot_of, new_number, free_number, paths_after_begin, paths_after_dup};
+ghost use Rattle.io_model.specs.Pipe.{pipes_after_begin};
+ghost use Rattle.io_model.specs.declared.path.Target.TheVariants.{Pipe};
+ghost use Rattle.io_rules.specs.Close.{after_close};
+ghost use Rattle.io_rules.specs.Io.{first_io, first_paths as first_paths_lem, new_desc as new_desc_lem, with_paths, with_pipes, with_call, kept_at};
+
+use crate::terminals::Terminals;
+use io_model::kept::Kept;
+use io_model::path::{Desc, PathsFull, SysPath, Target};
+use io_model::pipe::PipeId;
+use os9_base::call::OutOfMemory;
+use os9_base::registers::Pid;
+use path_desc::paths::Paths;
+use pipe_mgr::pipes::Pipes;
+use std::alloc::Global;
+use std::marker::Model;
+
+/// Processes, by number from 0 to 32.
+const PROCESSES: usize = 33;
+
+/// The paths, the terminals, the pipes, and of each process its call that waits on one of them
+/// (Level Two manual, "I/O system").
+#[derive(Drop)]
+pub struct IoState {
+    paths: Paths,
+    terminals: Terminals,
+    pipes: Pipes,
+    calls: [Option<Kept>; PROCESSES],
+}
+
+impl Model for IoState {
+    ghost use Rattle.io_rules.specs.Io.{Io};
+    ghost use Rattle.io_state.specs.Sound.{IsIo};
+
+    ghost Value = { Io };
+
+    ghost view = { λ s. record { paths = s.paths; terminals = s.terminals; pipes = s.pipes; calls = s.calls } };
+
+    ghost invariant = { λ s. IsIo
+        (record { paths = s.paths; terminals = s.terminals; pipes = s.pipes; calls = s.calls }) };
+}
+
+impl IoState {
+    /// The state of a machine with process 2, whose standard paths are one path on TERM.
+    pub fn new(alloc: Global) -> Result<IoState, OutOfMemory>
+        ensures { IfOk result (λ io. io ≡ first_io) }
+    {
+        Ok(IoState {
+            paths: first_paths(alloc)?,
+            terminals: Terminals::new(alloc)?,
+            pipes: Pipes::new(alloc)?,
+            calls: [None; PROCESSES],
+        })
+    }
+
+    /// The system path that a number of a process names; None if it names none.
+    pub fn slot(&self, p: Pid, n: u8) -> Option<SysPath>
+        ensures { result ≡ slot_of self.now.paths p.0 n }
+    {
+        self.paths.slot(p, n)
+    }
+
+    /// Gives a path of a process another number.
+    ///
+    /// # Errors
+    ///
+    /// `PathsFull` if the process's sixteen numbers are in use. Nothing changes then.
+    pub fn dup(&mut self, p: Pid, n: u8) -> Result<u8, PathsFull>
+        requires { IsOpen self.old.paths p.0 n }
+        ensures number { result_ok result ≡ free_number self.old.paths p.0 }
+        ensures io { self.new
+            ≡ with_paths self.old (paths_after_dup self.old.paths p.0 n) }
+    {
+        self.paths.dup(p, n)
+    }
+
+    /// Closes a number of a process. The path goes with its last number, and a pipe with its path.
+    pub fn close(&mut self, p: Pid, n: u8)
+        requires { IsOpen self.old.paths p.0 n }
+        ensures { self.new ≡ after_close self.old p.0 n }
+    {
+        let Some(desc) = self.paths.close(p, n) else {
+            return;
+        };
+        if let Target::Pipe(pipe) = desc.target {
+            self.pipes.finish(PipeId(pipe));
+        }
+    }
+
+    /// Keeps a call of a process that waits, or none.
+    pub fn keep(&mut self, p: Pid, kept: Option<Kept>)
+        requires { p.0 < 33 }
+        ensures { self.new ≡ with_call self.old p.0 kept }
+    {
+        self.calls[p.0 as usize] = kept;
+    }
+}
+
+/// The paths of process 2: its numbers 0, 1 and 2 are images of one path on TERM.
+fn first_paths(alloc: Global) -> Result<Paths, OutOfMemory>
+    ensures { IfOk result (λ paths. paths ≡ first_paths_lem) }
+{
+    let mut paths = Paths::new(alloc)?;
+    let first = Pid(2);
+    let number = paths.begin(first, new_desc(Target::Term(0), 3));
+    if let Ok(n) = number {
+        let _second = paths.dup(first, n);
+        let _third = paths.dup(first, n);
+    }
+    Ok(paths)
+}
+
+/// The descriptor of a new path: it begins at 0, and its requests do not wait.
+pub fn new_desc(target: Target, mode: u8) -> Desc
+    ensures { result ≡ new_desc_lem target mode }
+{
+    let at = 0;
+    let ticks = 0;
+    Desc {
+        target,
+        mode,
+        at,
+        ticks,
+    }
+}
