@@ -1,11 +1,10 @@
 -- How a deletion ends, and how many calls of the drive it makes.
-use Rattle.std.proofs.Common.{◌≡◌, ℕ, ◌+◌, Option, None, IsSome, List, Result, Ok, Err, refl, sym, ap, ◌∙◌, subst, arith}
+use Rattle.std.proofs.Common.{◌≡◌, ℕ, ◌+◌, ◌≤◌, Option, None, IsSome, List, Result, Ok, Err, refl, sym, ap, ◌∙◌, subst, arith}
 use Rattle.std.specs.Prelude.{OnErr, IsNone}
 use Rattle.std.proofs.lemmas.Bool.{false≢true}
-use Rattle.rbf_model.specs.File.{DiskFile}
 use Rattle.rbf_model.specs.Geometry.{map_sectors}
 use Rattle.rbf_model.specs.Volume.{DiskVolume}
-use Rattle.rbf_model.specs.Walk.{WalkEnd}
+use Rattle.rbf_model.specs.Walk.{WalkEnd, arrives, not_allowed, not_found}
 use Rattle.rbf_change.specs.Calls.{shape}
 use Rattle.rbf_change.proofs.LawfulWrites.{shape-image}
 use Rattle.rbf_access.specs.Drive.{DriveCounts, MovesCounts}
@@ -16,11 +15,10 @@ use Rattle.rbf_access.specs.declared.faults.FileFault.TheVariants.{Device, NoClu
 use Rattle.rbf_access.specs.declared.volume.Volume.{Volume}
 use Rattle.rbf_access.proofs.Counting.{counts_then, counts_most}
 use Rattle.rbf_drop.proofs.Dropping.{agrees_on}
-use Rattle.rbf_update.specs.Deletions.{deletion_calls}
-use Rattle.rbf_walk.specs.Walk.{AnswersWalk, directory_fault}
+use Rattle.rbf_walk.specs.Walk.{AnswersWalk, calls_on, directory_fault}
 use Rattle.rbf_walk.specs.declared.error.DirError.{DirError}
 use Rattle.rbf_walk.specs.declared.error.DirError.TheVariants.{NotAllowed, BadPath, NotFound, Exists, File}
-use Rattle.rbf_dirs.specs.Deleted.{AnswersDeletion, deletion_total}
+use Rattle.rbf_dirs.specs.Deleted.{AnswersDeletion}
 
 -- no entry was made free
 pub kept_answer : (end : WalkEnd) (e : DirError) (r : Result (Unit {0}) DirError) → r ≡ Err e → AnswersWalk end (Err e) → AnswersDeletion end r
@@ -57,11 +55,18 @@ no_refusal fault r P is device none = by_fault fault device (subst (λ x. IsNone
 pub map_is : (volume : Volume) (media : Option (List ℕ)) (u : DiskVolume) → IsMounted volume media → Represents media u → map_sectors (kept volume).sizes ≡ map_sectors (shape u)
 map_is volume media u mounted on = ap map_sectors ((agrees_on volume media u mounted on).sizes_are ∙ sym (shape-image on.image u on.vol))
 
-pub kept_calls : (u : DiskVolume) (dir : DiskFile) (e : DirError) (r : Result (Unit {0}) DirError) (s t : DriveCounts) → r ≡ Err e → MovesCounts (directory_fault {A = ℕ} (Err e)) (3 + deletion_calls dir) s t
-    → MovesCounts (directory_fault r) (deletion_total u dir) s t
-kept_calls u dir e r s t is moved =
-    subst (λ f. MovesCounts f (deletion_total u dir) s t) (sym (ap directory_fault is ∙ same e))
-    (counts_most (directory_fault {A = ℕ} (Err e)) (3 + deletion_calls dir) (deletion_total u dir) s t (omega arith) moved)
+-- the calls behind those that look for the entry
+least : (end : WalkEnd) (m : ℕ) → calls_on end (λ i. 3) ≤ calls_on end (λ i. 4 + m)
+least (arrives n) m = omega arith
+least not_allowed m = omega arith
+least not_found m = omega arith
+
+pub kept_calls : (n m : ℕ) (end : WalkEnd) (e : DirError) (r : Result (Unit {0}) DirError) (s t : DriveCounts) → r ≡ Err e → MovesCounts (directory_fault {A = ℕ} (Err e)) (n + calls_on end (λ i. 3)) s t
+    → MovesCounts (directory_fault r) (n + calls_on end (λ i. 4 + m)) s t
+kept_calls n m end e r s t is moved =
+    let few = least end m in
+    subst (λ f. MovesCounts f (n + calls_on end (λ i. 4 + m)) s t) (sym (ap directory_fault is ∙ same e))
+    (counts_most (directory_fault {A = ℕ} (Err e)) (n + calls_on end (λ i. 3)) (n + calls_on end (λ i. 4 + m)) s t (omega arith) moved)
   where
     same : (x : DirError) → directory_fault {A = Unit {0}} (Err x) ≡ directory_fault {A = ℕ} (Err x)
     same NotAllowed = refl
@@ -72,15 +77,18 @@ kept_calls u dir e r s t is moved =
     same (File NoCluster) = refl
     same (File TooManyRuns) = refl
 
-pub all_calls : (u : DiskVolume) (dir : DiskFile) (m : ℕ) (f : Option ℕ) (s t w : DriveCounts) → m ≡ map_sectors (shape u) → MovesCounts None (3 + deletion_calls dir) s t → MovesCounts f (1 + m) t w
-    → MovesCounts f (deletion_total u dir) s w
-all_calls u dir m f s t w same one other =
-    counts_most f (3 + deletion_calls dir + (1 + m)) (deletion_total u dir) s w (omega arith) (counts_then f (3 + deletion_calls dir) (1 + m) s t w one other)
+pub all_calls : (n m : ℕ) (end : WalkEnd) (k : ℕ) → end ≡ arrives k → (most : ℕ) (f : Option ℕ) (s t w : DriveCounts) → most ≡ m → MovesCounts None (n + calls_on end (λ i. 3)) s t → MovesCounts f (1 + most) t w
+    → MovesCounts f (n + calls_on end (λ i. 4 + m)) s w
+all_calls n m end k goes most f s t w same one other =
+    subst (λ x. MovesCounts f (n + calls_on x (λ i. 4 + m)) s w) (sym goes)
+    (counts_most f (n + 3 + (1 + most)) (n + (4 + m)) s w (omega arith)
+    (counts_then f (n + 3) (1 + most) s t w (subst (λ x. MovesCounts None (n + calls_on x (λ i. 3)) s t) goes one) other))
 
-pub fault_calls : (u : DiskVolume) (dir : DiskFile) (m : ℕ) (fault : FileFault) (r : Result (Unit {0}) DirError) (s t w : DriveCounts) → m ≡ map_sectors (shape u) → r ≡ Err (File fault)
-    → MovesCounts None (3 + deletion_calls dir) s t → MovesCounts (file_fault {A = Unit {0}} (Err fault)) (1 + m) t w → MovesCounts (directory_fault r) (deletion_total u dir) s w
-fault_calls u dir m fault r s t w same is one other =
-    subst (λ f. MovesCounts f (deletion_total u dir) s w) (sym (ap directory_fault is ∙ by_fault fault)) (all_calls u dir m (file_fault {A = Unit {0}} (Err fault)) s t w same one other)
+pub fault_calls : (n m : ℕ) (end : WalkEnd) (k : ℕ) → end ≡ arrives k → (most : ℕ) (fault : FileFault) (r : Result (Unit {0}) DirError) (s t w : DriveCounts) → most ≡ m → r ≡ Err (File fault)
+    → MovesCounts None (n + calls_on end (λ i. 3)) s t → MovesCounts (file_fault {A = Unit {0}} (Err fault)) (1 + most) t w → MovesCounts (directory_fault r) (n + calls_on end (λ i. 4 + m)) s w
+fault_calls n m end k goes most fault r s t w same is one other =
+    subst (λ f. MovesCounts f (n + calls_on end (λ i. 4 + m)) s w) (sym (ap directory_fault is ∙ by_fault fault))
+    (all_calls n m end k goes most (file_fault {A = Unit {0}} (Err fault)) s t w same one other)
   where
     by_fault : (f : FileFault) → directory_fault {A = Unit {0}} (Err (File f)) ≡ file_fault {A = Unit {0}} (Err f)
     by_fault (Device k) = refl

@@ -22,8 +22,6 @@ use Rattle.rbf_model.proofs.Lifted.{sector_put}
 use Rattle.rbf_model.proofs.Owners.{own_below, own_apart, marks_stay, file_cluster_below}
 use Rattle.rbf_model.proofs.Placed.{news_full}
 use Rattle.rbf_change.specs.Calls.{shape}
-use Rattle.rbf_change.specs.Faults.{MayLose, OneIsMarked, DeletionEnds}
-use Rattle.rbf_change.specs.Faults as faults
 use Rattle.rbf_change.specs.Names.{freed_entry}
 use Rattle.rbf_change.specs.NewFiles.{Deletes}
 use Rattle.rbf_change.specs.Tidy.{IsMapEnd, KeepsMapEnd, MayKeepMapEnd}
@@ -261,6 +259,7 @@ module _ (media mid : Option (List ℕ)) (d n : ℕ) (name : List ℕ) (frees : 
       }
 
   pub stopped : (new : Option (List ℕ)) → DropEnds w n file mid new → LeavesLost v d n name media new
+  unfolding deletes
   stopped new drop =
       let same : drop.image ≡ half = same_Some drop.image half (sym drop.was ∙ mid_is) in
       let end : MayKeepMapEnd half drop.now (has_cluster (shape w) n file) = subst (λ i. MayKeepMapEnd i drop.now (has_cluster (shape w) n file)) same drop.end in
@@ -271,11 +270,12 @@ module _ (media mid : Option (List ℕ)) (d n : ℕ) (name : List ℕ) (frees : 
         is = drop.is;
         file = file;
         there = file_there;
-        dir = dir;
-        place = place;
+        after = freed w n file;
+        deletes = deletes;
         left = drop.left;
         vol = drop.vol;
-        ends = faults.gone deletes file_there drop.lose drop.unfinished;
+        lose = drop.lose;
+        unfinished = drop.unfinished;
         writes = clears drop.now (subst (λ i. OnlyMap i drop.now) same drop.others);
         end = λ c behind. ⊎_elim
             (λ still. inl (still ∙ end_mark c behind))

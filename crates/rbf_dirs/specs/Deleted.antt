@@ -1,19 +1,21 @@
 -- A deletion as a whole.
-use Rattle.std.specs.Prelude.{◌≡◌, ◌≢◌, ℕ, ◌+◌, ◌*◌, ◌%◌, Option, Some, List, [], ◌∷◌, length, Result, Ok, Err}
+use Rattle.std.specs.Prelude.{◌≡◌, ◌≢◌, ℕ, ◌+◌, ◌*◌, ◌%◌, ◌&&◌, Bool, Option, Some, List, [], ◌∷◌, Result, Ok, Err}
 use Rattle.rbf_model.specs.File.{DiskFile}
 use Rattle.rbf_model.specs.Geometry.{image_geometry, sector, map_sectors}
 use Rattle.rbf_model.specs.Laws.{IsMapSector}
-use Rattle.rbf_model.specs.Space.{has_cluster}
+use Rattle.rbf_model.specs.Space.{is_whole, has_cluster}
 use Rattle.rbf_model.specs.Volume.{DiskVolume, Vol}
 use Rattle.rbf_model.specs.Walk.{WalkEnd, arrives, not_allowed, not_found}
 use Rattle.rbf_model.specs.Writes.{put_at}
 use Rattle.rbf_change.specs.Calls.{shape}
-use Rattle.rbf_change.specs.Contents.{sector_count}
-use Rattle.rbf_change.specs.Faults.{DeletionEnds}
+use Rattle.rbf_change.specs.Faults.{MayLose, OneIsMarked}
+use Rattle.rbf_change.specs.Names.{deletion_end}
 use Rattle.rbf_change.specs.NewFiles.{Deletes}
 use Rattle.rbf_change.specs.Tidy.{KeepsMapEnd, MayKeepMapEnd}
 use Rattle.rbf_access.specs.declared.faults.FileFault.TheVariants.{Device, NoCluster, TooManyRuns}
+use Rattle.rbf_update.specs.Deletions.{deletion_calls}
 use Rattle.rbf_update.specs.Entries.{sector_of_entry}
+use Rattle.rbf_walk.specs.Walk.{calls_on}
 use Rattle.rbf_walk.specs.declared.error.DirError.{DirError}
 use Rattle.rbf_walk.specs.declared.error.DirError.TheVariants.{NotAllowed, BadPath, NotFound, Exists, File}
 
@@ -43,7 +45,7 @@ pub record IsDeletedBy (v : DiskVolume) (d : ℕ) (name : List ℕ) (old new : O
   pub number : ℕ
   pub is : IsDeleted v d number name old new
 
--- a fault came when the entry was free already: some clusters of the file may be lost
+-- a fault came when the entry was free already: some clusters of the file may be lost, and one of them is still marked
 pub record LeavesLost (v : DiskVolume) (d n : ℕ) (name : List ℕ) (old new : Option (List ℕ)) : Type 0 where
   pub image : List ℕ
   pub now : List ℕ
@@ -51,12 +53,13 @@ pub record LeavesLost (v : DiskVolume) (d n : ℕ) (name : List ℕ) (old new : 
   pub is : new ≡ Some now
   pub file : DiskFile
   pub there : v.files n ≡ Some file
-  pub dir : DiskFile
-  pub place : ℕ
+  pub after : DiskVolume
+  pub deletes : Deletes v after d n name
   pub left : DiskVolume
   pub vol : Vol now left
-  pub ends : DeletionEnds v left d n name
-  pub writes : ClearsEntry image now dir place
+  pub lose : MayLose after left (λ c. is_whole (shape v) c && has_cluster (shape v) n file c)
+  pub unfinished : OneIsMarked now (has_cluster (shape v) n file)
+  pub writes : ClearsEntry image now deletes.dir deletes.place
   pub end : MayKeepMapEnd image now (has_cluster (shape v) n file)
 
 -- a deletion that a fault ended: nothing has changed, or the file has gone
@@ -75,7 +78,9 @@ AnswersDeletion end (Err (File (Device n))) = Unit
 AnswersDeletion end (Err (File NoCluster)) = ⊥
 AnswersDeletion end (Err (File TooManyRuns)) = ⊥
 
--- how many calls of the drive a deletion makes at most: six, one for each sector of the directory, and one for each of
--- the map
-abbrev pub deletion_total : DiskVolume → DiskFile → ℕ
-deletion_total v dir = 6 + sector_count (length dir.contents) + map_sectors (shape v)
+-- how many calls of the drive a deletion makes at most: those that look for the entry, and where the file goes, three
+-- for the entry, one for the descriptor, and one for each sector of the map
+abbrev pub deletion_total : DiskVolume → DiskFile → List ℕ → ℕ → Bool → ℕ
+deletion_total v dir name user execute =
+    deletion_calls dir name user execute
+    + calls_on (deletion_end v.files dir name user execute) (λ n. 4 + map_sectors (shape v))

@@ -42,7 +42,7 @@ pub fn delete(
     ensures refused { OnErr result (IsNone (directory_fault result) → media d.new ≡ media d.old) }
     ensures mounted { IsMounted v.new (media d.new) }
     ensures counts { OnNumbered (media d.old) dir (λ on f. Counts ⟦<dyn BlockDriver as BlockDriver>⟧
-        (directory_fault result) (deletion_total on f) d.old d.new) }
+        (directory_fault result) (deletion_total on f name.now user execute) d.old d.new) }
 {
     let gone = delete_entry(v, d, dir, name, user, execute)?;
     drop_fd(v, d, gone)?;

@@ -22,7 +22,7 @@ returns-in_err-gone-clause-refused g c = refused_still _ _ _ c.in_err-gone.ensur
 pub returns-in_err-gone-clause-counts : goal.returns-in_err-gone-clause-counts
 returns-in_err-gone-clause-counts g c v file on is =
     let p = err_from_is_err_and c.from_residual.result c.from_residual.ensures.1 in
-    kept_calls v file c.in_err-gone.field-0.0 _ _ _ (p.1 ∙ ap Err p.2) (c.in_err-gone.ensures.counts v file on is)
+    kept_calls _ _ _ c.in_err-gone.field-0.0 _ _ _ (p.1 ∙ ap Err p.2) (c.in_err-gone.ensures.counts v file on is)
 
 pub drop_fd-requires-clause-gone : goal.drop_fd-requires-clause-gone
 drop_fd-requires-clause-gone g c = has_gone _ _ c.args.dir c.in_ok-gone.gone c.args.name.now c.in_ok-gone.ensures.written
@@ -44,7 +44,7 @@ returns-in_err-drop_fd-clause-refused g c =
 pub returns-in_err-drop_fd-clause-counts : goal.returns-in_err-drop_fd-clause-counts
 returns-in_err-drop_fd-clause-counts g c v file on is =
     let p = err_from_is_err_and c.from_residual-in_err-drop_fd.result c.from_residual-in_err-drop_fd.ensures.1 in
-    fault_calls v file _ c.in_err-drop_fd.field-0.0 _ _ _ _ (ap (λ (kv : KeptVolume). map_sectors kv.sizes) c.in_ok-gone.ensures.volume_kept ∙ map_is c.args.v.now _ v c.requires.mounted on) (p.1 ∙ ap Err p.2)
+    fault_calls _ _ _ c.in_ok-gone.gone (c.in_ok-gone.ensures.answer v file on is) _ c.in_err-drop_fd.field-0.0 _ _ _ _ (ap (λ (kv : KeptVolume). map_sectors kv.sizes) c.in_ok-gone.ensures.volume_kept ∙ map_is c.args.v.now _ v c.requires.mounted on) (p.1 ∙ ap Err p.2)
     (c.in_ok-gone.ensures.counts v file on is) c.in_err-drop_fd.ensures.counts
 
 pub returns-clause-answer : goal.returns-clause-answer
@@ -55,4 +55,4 @@ returns-clause-ok g c u on = deleted_on _ _ _ c.args.dir c.in_ok-gone.gone c.arg
 
 pub returns-clause-counts : goal.returns-clause-counts
 returns-clause-counts g c v file on is =
-    all_calls v file _ _ _ _ _ (ap (λ (kv : KeptVolume). map_sectors kv.sizes) c.in_ok-gone.ensures.volume_kept ∙ map_is c.args.v.now _ v c.requires.mounted on) (c.in_ok-gone.ensures.counts v file on is) c.in_ok-drop_fd.ensures.counts
+    all_calls _ _ _ c.in_ok-gone.gone (c.in_ok-gone.ensures.answer v file on is) _ _ _ _ _ (ap (λ (kv : KeptVolume). map_sectors kv.sizes) c.in_ok-gone.ensures.volume_kept ∙ map_is c.args.v.now _ v c.requires.mounted on) (c.in_ok-gone.ensures.counts v file on is) c.in_ok-drop_fd.ensures.counts
