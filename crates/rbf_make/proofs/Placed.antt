@@ -1,5 +1,6 @@
 -- The place of a new entry, or why there is none.
-use Rattle.std.proofs.Common.{◌≡◌, ℕ, ◌+◌, Bool, true, false, not, Option, Some, None, IsSome, is_some, Result, Err, List, length, sym, ap, ◌∙◌, subst, arith}
+use Rattle.std.proofs.Common.{◌≡◌, ℕ, ◌+◌, ◌≤◌, Bool, true, false, not, Option, Some, None, IsSome, is_some, Result, Err, List, length, sym, ap, ◌∙◌, subst, arith}
+use Rattle.std.specs.Prelude.{if◌then◌else◌}
 use Rattle.std.proofs.lemmas.Bool.{cond-true, cond-false, false≢true}
 use Rattle.os9_base.specs.Name.{IsName}
 use Rattle.rbf_model.specs.File.{DiskFile}
@@ -15,20 +16,20 @@ use Rattle.rbf_access.specs.Mounted.{Represents}
 use Rattle.rbf_access.specs.Reading.{IsFdOf, OnFile}
 use Rattle.rbf_access.specs.declared.faults.FileFault.{FileFault}
 use Rattle.rbf_access.specs.declared.faults.FileFault.TheVariants.{Device, NoCluster, TooManyRuns}
-use Rattle.rbf_access.proofs.Counting.{counts_then, counts_most}
+use Rattle.rbf_access.proofs.Counting.{no_calls, counts_then, counts_most}
 use Rattle.rbf_walk.specs.Search.{OnFd, IsFoundAt, IsSearched}
 use Rattle.rbf_walk.specs.declared.directory.Searched.{Searched}
 use Rattle.rbf_walk.specs.declared.directory.Searched.TheVariants.{Found, Absent}
 use Rattle.rbf_walk.specs.declared.error.DirError.{DirError}
 use Rattle.rbf_walk.specs.declared.error.DirError.TheVariants.{File}
-use Rattle.rbf_make.specs.Places.{IsRefused, IsNewPlace, AnswersPlace}
+use Rattle.rbf_make.specs.Places.{IsRefused, IsNewPlace, AnswersPlace, place_calls}
 
 -- a fault of the drive
-pub fault_placed : (A : Type 0) (dir : DiskFile) (name : List ℕ) (user : ℕ) (execute : Bool) (fault : FileFault) (r : Result ℕ DirError) → r ≡ Err (File fault) → IsSome (file_fault {A = A} (Err fault)) → AnswersPlace dir name user execute r
-fault_placed A dir name user execute fault r is device = subst (AnswersPlace dir name user execute) (sym is) (by_fault fault device)
+pub fault_placed : (A : Type 0) (dir : DiskFile) (name : List ℕ) (user : ℕ) (execute : Bool) → is_dots name ≡ false → (fault : FileFault) (r : Result ℕ DirError) → r ≡ Err (File fault) → IsSome (file_fault {A = A} (Err fault)) → AnswersPlace dir name user execute r
+fault_placed A dir name user execute proper fault r is device = subst (AnswersPlace dir name user execute) (sym is) (by_fault fault device)
   where
     by_fault : (f : FileFault) → IsSome (file_fault {A = A} (Err f)) → AnswersPlace dir name user execute (Err (File f))
-    by_fault (Device n) some = tt
+    by_fault (Device n) some = proper
     by_fault NoCluster some = absurd (false≢true some)
     by_fault TooManyRuns some = absurd (false≢true some)
 
@@ -62,12 +63,27 @@ module _ (media : Option (List ℕ)) (dir : ℕ) (fd : Fd) (known : OnFile media
     pub absent_placed : (place : ℕ) → answer ≡ Absent place → IsNewPlace file name user execute place
     absent_placed place absent = record { named = named; proper = none_dots; allowed = allowed; absent = subst (IsSearched file.contents name) absent answered }
 
--- one look at the descriptor, and one at each sector
-module _ (dir : DiskFile) (size : ℕ) (is : size ≡ length dir.contents) (f : Option ℕ) (s t : DriveCounts) where
-  pub one_look : MovesCounts f 1 s t → MovesCounts f (1 + sector_count (length dir.contents)) s t
-  one_look moved = counts_most f 1 (1 + sector_count (length dir.contents)) s t (omega arith) moved
+-- no look at all
+pub no_look : (dir : DiskFile) (name : List ℕ) (user : ℕ) (execute : Bool) (s : DriveCounts) → MovesCounts None (place_calls dir name user execute) s s
+no_look dir name user execute s = counts_most None 0 (place_calls dir name user execute) s s (omega arith) (no_calls s)
 
-  pub all_looks : (mid : DriveCounts) → MovesCounts None 1 s mid → MovesCounts f (sector_count size) mid t → MovesCounts f (1 + sector_count (length dir.contents)) s t
-  all_looks mid one other =
-      let same : sector_count size ≡ sector_count (length dir.contents) = ap sector_count is in
-      counts_most f (1 + sector_count size) (1 + sector_count (length dir.contents)) s t (omega arith) (counts_then f 1 (sector_count size) s mid t one other)
+-- one look at the descriptor, and one at each sector
+module _ (dir : DiskFile) (name : List ℕ) (user : ℕ) (execute : Bool) (proper : is_dots name ≡ false) (f : Option ℕ) (s t : DriveCounts) where
+  abbrev sectors : ℕ
+  sectors = sector_count (length dir.contents)
+
+  calls_are : place_calls dir name user execute ≡ (if may_change dir user execute then 1 + sectors else 1)
+  calls_are = cond-false (is_dots name) 0 (if may_change dir user execute then 1 + sectors else 1) proper
+
+  pub one_look : MovesCounts f 1 s t → MovesCounts f (place_calls dir name user execute) s t
+  one_look moved = counts_most f 1 (place_calls dir name user execute) s t (subst (λ n. 1 ≤ n) (sym calls_are) (either (may_change dir user execute))) moved
+    where
+      either : (b : Bool) → 1 ≤ (if b then 1 + sectors else 1)
+      either true = omega arith
+      either false = omega arith
+
+  pub all_looks : may_change dir user execute ≡ true → (size : ℕ) → size ≡ length dir.contents → (mid : DriveCounts) → MovesCounts None 1 s mid → MovesCounts f (sector_count size) mid t → MovesCounts f (place_calls dir name user execute) s t
+  all_looks allowed size is mid one other =
+      subst (λ n. MovesCounts f n s t)
+      (ap (λ n. 1 + sector_count n) is ∙ sym (calls_are ∙ cond-true (may_change dir user execute) (1 + sectors) 1 allowed))
+      (counts_then f 1 (sector_count size) s mid t one other)

@@ -1,7 +1,8 @@
 -- The place of a new entry, and why it is refused.
-use Rattle.std.specs.Prelude.{◌≡◌, ℕ, Bool, true, false, Some, List, Result, Ok, Err}
+use Rattle.std.specs.Prelude.{◌≡◌, ℕ, ◌+◌, Bool, true, false, Some, List, length, Result, Ok, Err, if◌then◌else◌}
 use Rattle.os9_base.specs.Name.{IsName}
 use Rattle.rbf_model.specs.File.{DiskFile}
+use Rattle.rbf_change.specs.Contents.{sector_count}
 use Rattle.rbf_change.specs.Names.{may_change, is_dots}
 use Rattle.rbf_change.specs.NewFiles.{Refusal, bad_path, not_allowed, exists, entry_refusal}
 use Rattle.rbf_access.specs.declared.faults.FileFault.TheVariants.{Device, NoCluster, TooManyRuns}
@@ -28,6 +29,13 @@ AnswersPlace dir name user execute (Err NotAllowed) = IsRefused dir name user ex
 AnswersPlace dir name user execute (Err BadPath) = IsRefused dir name user execute bad_path
 AnswersPlace dir name user execute (Err NotFound) = ⊥
 AnswersPlace dir name user execute (Err Exists) = IsRefused dir name user execute exists
-AnswersPlace dir name user execute (Err (File (Device n))) = Unit
+AnswersPlace dir name user execute (Err (File (Device n))) = is_dots name ≡ false
 AnswersPlace dir name user execute (Err (File NoCluster)) = ⊥
 AnswersPlace dir name user execute (Err (File TooManyRuns)) = ⊥
+
+-- how many calls of the drive find the place at most: none for `.` and `..`, one for a directory that the user may not
+-- change, and one more for each sector of another
+abbrev pub place_calls : DiskFile → List ℕ → ℕ → Bool → ℕ
+place_calls dir name user execute =
+    if is_dots name then 0
+    else (if may_change dir user execute then 1 + sector_count (length dir.contents) else 1)

@@ -1,13 +1,12 @@
-ghost use Rattle.std.specs.Prelude.{◌≡◌, ◌+◌, length};
+ghost use Rattle.std.specs.Prelude.{◌≡◌};
 ghost use Rattle.os9_base.specs.Name.{IsName};
 ghost use Rattle.rbf_model.specs.File.{DiskFile};
-ghost use Rattle.rbf_change.specs.Contents.{sector_count};
 ghost use Rattle.rbf_change.specs.Names.{is_dots as is_dots_lem, may_change as may_change_lem};
 ghost use Rattle.rbf_access.specs.Drive.{Counts};
 ghost use Rattle.rbf_access.specs.Mounted.{kept, HasFile, IsMounted};
 ghost use Rattle.rbf_access.specs.Reading.{IsFdOf, OnFile};
 ghost use Rattle.rbf_walk.specs.Walk.{directory_fault};
-ghost use Rattle.rbf_make.specs.Places.{AnswersPlace};
+ghost use Rattle.rbf_make.specs.Places.{AnswersPlace, place_calls};
 
 use os9_base::name::Name;
 use os9_outer::drive::BlockDriver;
@@ -24,8 +23,9 @@ const WRITE: u8 = 2;
 /// # Errors
 ///
 /// In this order: `BadPath` for the names `.` and `..`, before any access of the drive;
-/// `NotAllowed` if the user may not search or may not write the directory; `Exists` if the name is
-/// there. `Device` if an access of the drive fails. Nothing has changed then.
+/// `NotAllowed` if the user may not search or may not write the directory, before any access of its
+/// sectors; `Exists` if the name is there. `Device` if an access of the drive fails. Nothing has
+/// changed then.
 pub fn find_place(
     v: &mut Volume,
     d: &mut dyn BlockDriver,
@@ -42,7 +42,7 @@ pub fn find_place(
     ensures media_kept { media d.new ≡ media d.old }
     ensures volume_kept { kept v.new ≡ kept v.old }
     ensures counts { OnFile (media d.old) dir (λ file. Counts ⟦<dyn BlockDriver as BlockDriver>⟧
-        (directory_fault result) (1 + sector_count (length file.contents)) d.old d.new) }
+        (directory_fault result) (place_calls file name.now user execute) d.old d.new) }
 {
     if is_dots(name) {
         return Err(DirError::BadPath);
