@@ -1,5 +1,5 @@
 -- What the words behind a command give: options with their values, and arguments (this project's own).
-use Rattle.std.specs.Prelude.{ℕ, ◌==◌, ◌&&◌, ◌||◌, not, nat_eq, bytes_eq, codes, Bool, false, Option, Some, None, List, [], ◌∷◌, ◌++◌, drop, if◌then◌else◌}
+use Rattle.std.specs.Prelude.{ℕ, ◌==◌, find, option_map, ◌&&◌, ◌||◌, not, nat_eq, bytes_eq, codes, Bool, false, Option, Some, None, List, [], ◌∷◌, ◌++◌, drop, if◌then◌else◌}
 use Rattle.std.specs.List.{list_any, before_first, after_first, starts_with}
 
 -- an option with its value
@@ -41,6 +41,19 @@ is_equals byte = byte == 61
 -- the name of the option that a word `--name` or `--name=value` is
 abbrev pub option_name : List ℕ → List ℕ
 option_name word = before_first is_equals (drop 2 word)
+
+-- the element of a list of one
+abbrev pub only : {X : Type 0} → List X → Option X
+only (x ∷ []) = Some x
+only _ = None
+
+-- the value of the option of this name
+abbrev pub value_of : Given → List ℕ → Option (List ℕ)
+value_of words name = option_map (λ option. option.value) (find (λ option. bytes_eq option.name name) words.options)
+
+-- the argument, where there is exactly one
+abbrev pub only_argument : Given → Option (List ℕ)
+only_argument words = only words.arguments
 
 -- an option of this name was given
 abbrev pub is_given : Given → List ℕ → Bool

@@ -1,0 +1,2 @@
+pub mod Dash
+pub mod Rows
