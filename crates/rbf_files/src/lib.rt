@@ -1,10 +1,9 @@
-//! Files of a mounted RBF volume that are changed, over a drive that may fail.
+//! Bytes that are laid over those of files of a mounted RBF volume, over a drive that may fail, and
+//! their descriptors.
 #![tactic(auto)]
 
-pub use attributes::set_fd_attr;
 pub use data::fill;
 pub use descriptor::{minute, with_descriptor};
 
-mod attributes;
 mod data;
 mod descriptor;
