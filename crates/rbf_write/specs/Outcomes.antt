@@ -1,5 +1,5 @@
 -- What a write answers, and what it leaves then.
-use Rattle.std.specs.Prelude.{◌≡◌, ℕ, ◌+◌, ◌*◌, ◌<◌, ◌≤◌, ◌==◌, min, Option, List, [], length, Result, Ok, Err, if◌then◌else◌}
+use Rattle.std.specs.Prelude.{◌≡◌, ℕ, ◌+◌, ◌*◌, ◌<◌, ◌≤◌, ◌==◌, min, Option, List, [], length, Result, Ok, Err, if◌then◌else◌, IsNone}
 use Rattle.rbf_model.specs.File.{DiskFile}
 use Rattle.rbf_model.specs.Volume.{DiskVolume}
 use Rattle.rbf_change.specs.Contents.{written, sector_span}
@@ -8,6 +8,7 @@ use Rattle.rbf_change.specs.Calls.{cluster_size, is_free_in, free_total, Writes}
 use Rattle.rbf_change.specs.Faults.{WriteEnds}
 use Rattle.rbf_access.specs.declared.faults.FileFault.{FileFault}
 use Rattle.rbf_access.specs.declared.faults.FileFault.TheVariants.{Device, NoCluster, TooManyRuns}
+use Rattle.rbf_access.specs.Faults.{file_fault}
 use Rattle.rbf_access.specs.Mounted.{Represents}
 use Rattle.rbf_write.specs.Laying.{Laying, IsTidyChange}
 
@@ -56,6 +57,10 @@ AnswersWrite v old write before after (Ok done) = IsWritten v old write before a
 AnswersWrite v old write before after (Err (Device n)) = WriteIsEnded v write before after
 AnswersWrite v old write before after (Err NoCluster) = WriteIsFull v old write before after
 AnswersWrite v old write before after (Err TooManyRuns) = WriteIsTooLong v old write before after
+
+-- an error that is no fault of the drive
+abbrev pub IsRefusal : Result (Unit {0}) FileFault → Type 0
+IsRefusal result = IsNone (file_fault result)
 
 -- how many calls of the drive a write of bytes up to an end makes at most behind that of the descriptor: one for each
 -- sector of the map that gains a mark, two for each sector of bytes, and one for the descriptor

@@ -1,4 +1,4 @@
-ghost use Rattle.std.specs.Prelude.{◌≡◌, ℕ, ◌+◌, ◌*◌, ◌^◌, ◌<◌, ◌≤◌, length, min, OnOk, OnErr, IsNone, IsSome};
+ghost use Rattle.std.specs.Prelude.{◌≡◌, ℕ, ◌+◌, ◌*◌, ◌^◌, ◌<◌, ◌≤◌, length, min, OnOk, OnErr, IsSome};
 ghost use Rattle.os9_outer.specs.Drive.{sector_count};
 ghost use Rattle.rbf_model.specs.Fields.{segments_field};
 ghost use Rattle.rbf_model.specs.Segments.{sectors_of};
@@ -8,7 +8,7 @@ ghost use Rattle.rbf_access.specs.Mounted.{IsMounted, kept};
 ghost use Rattle.rbf_write.specs.Files.{HasDataFile, IsLoaded, OnVolumeFile};
 ghost use Rattle.rbf_write.specs.Finished.{IsFinished};
 ghost use Rattle.rbf_write.specs.Laying.{AnswersLaying};
-ghost use Rattle.rbf_write.specs.Outcomes.{laying_calls};
+ghost use Rattle.rbf_write.specs.Outcomes.{IsRefusal, laying_calls};
 
 use crate::clusters::clusters_for;
 use crate::loaded::Loaded;
@@ -42,8 +42,7 @@ pub fn lay_over(
     ensures answer { OnVolumeFile (media d.old) loaded.now.number (λ v file. AnswersLaying v file
         (record { number = loaded.now.number; at = at; bytes = from.now; now = now })
         (media d.old) (media d.new) result) }
-    ensures refused_calls { OnErr result (IsNone (file_fault result)
-        → drive_calls d.new ≡ drive_calls d.old) }
+    ensures calls_kept { OnErr result (IsRefusal result → drive_calls d.new ≡ drive_calls d.old) }
     ensures mounted { IsMounted volume.new (media d.new) }
     ensures counts { OnVolumeFile (media d.old) loaded.now.number (λ v file.
         Counts ⟦<dyn BlockDriver as BlockDriver>⟧ (file_fault result)

@@ -1,9 +1,9 @@
-ghost use Rattle.std.specs.Prelude.{◌≡◌, ◌+◌, ◌≤◌, ℕ, length, IsNone, OnErr};
+ghost use Rattle.std.specs.Prelude.{◌≡◌, ◌+◌, ◌≤◌, ℕ, length, OnErr};
 ghost use Rattle.rbf_access.specs.Drive.{Counts};
 ghost use Rattle.rbf_access.specs.Faults.{file_fault};
 ghost use Rattle.rbf_access.specs.Mounted.{IsMounted};
 ghost use Rattle.rbf_write.specs.Files.{HasDataFile, OnVolumeFile};
-ghost use Rattle.rbf_write.specs.Outcomes.{AnswersWrite, write_calls};
+ghost use Rattle.rbf_write.specs.Outcomes.{AnswersWrite, IsRefusal, write_calls};
 
 use crate::laying::lay_over;
 use crate::loaded::load_file;
@@ -34,7 +34,7 @@ pub fn write_at(
     ensures answer { OnVolumeFile (media d.old) fd (λ v file. AnswersWrite v file
         (record { number = fd; at = at; bytes = from.now; now = now })
         (media d.old) (media d.new) result) }
-    ensures refused_calls { OnErr result (IsNone (file_fault result)
+    ensures refused_calls { OnErr result (IsRefusal result
         → drive_calls d.new ≤ drive_calls d.old + 1) }
     ensures mounted { IsMounted volume.new (media d.new) }
     ensures counts { OnVolumeFile (media d.old) fd (λ v file.

@@ -64,7 +64,7 @@ returns-clause-mounted g c = done_mounted _ c.args.loaded.now c.args.at c.args.f
 pub returns-clause-counts : goal.returns-clause-counts
 returns-clause-counts g c v file on is = calls_finish _ c.args.loaded.now c.args.at c.args.from.now c.args.now c.requires.loaded c.requires.file c.args.volume.now c.requires.mounted c.in-Some.count c.in-Some.ensures v file on is _ _ _ _ _ c.in_ok-longer.ensures.counts c.in_ok-fill.ensures.counts c.in_ok-finish.ensures.counts
 
-pub returns-in_err-longer-clause-refused_calls : goal.returns-in_err-longer-clause-refused_calls
-returns-in_err-longer-clause-refused_calls g c =
+pub returns-in_err-longer-clause-calls_kept : goal.returns-in_err-longer-clause-calls_kept
+returns-in_err-longer-clause-calls_kept g c =
     let p = err_from_is_err_and c.from_residual.result c.from_residual.ensures.1 in
     rw (p.1, p.2) c.in_err-longer.ensures.refused_calls

@@ -50,4 +50,4 @@ pub returns-in_err-lay_over-clause-refused_calls : goal.returns-in_err-lay_over-
 returns-in_err-lay_over-clause-refused_calls g c =
     let p = err_from_is_err_and c.from_residual-in_err-lay_over.result c.from_residual-in_err-lay_over.ensures.1 in
     rw (p.1, p.2)
-    (λ none. let one = c.in_ok-loaded.ensures.counts.calls_made in let same = c.in_err-lay_over.ensures.refused_calls none in omega arith)
+    (λ none. let one = c.in_ok-loaded.ensures.counts.calls_made in let same = c.in_err-lay_over.ensures.calls_kept none in omega arith)
