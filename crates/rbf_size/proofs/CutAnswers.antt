@@ -281,7 +281,7 @@ module _ (media mid : Option (List ℕ)) (loaded : Loaded) (size : ℕ) (now : T
           ended.some,
           subst (λ s. (has_cluster s n old ended.some && not (has_cluster s n new ended.some)) ≡ true) (sym shaped) given,
           marks_then (before gone place) after last so_far ended.some below
-          ∙ and_from (is_marked (sector image) ended.some) (not (before gone place ended.some)) (on.vol.sound.mapped.marks n old ended.some is had) (ap not ended.still),
+              ∙ and_from (is_marked (sector image) ended.some) (not (before gone place ended.some)) (on.vol.sound.mapped.marks n old ended.some is had) (ap not ended.still),
         )
 
     cut_ended : SizeIsEnded v old sizing media after

@@ -65,4 +65,4 @@ pub returns-then-size-loaded-2-clause-refused_calls : goal.returns-then-size-loa
 returns-then-size-loaded-2-clause-refused_calls g c = never_refused c.cut.result _ c.cut.ensures.device
 
 pub returns-clause-refused_calls : goal.returns-clause-refused_calls
-returns-clause-refused_calls g c = refused_later c.lay_over.result _ _ _ c.in_ok-loaded.ensures.counts.calls_made c.lay_over.ensures.refused_calls
+returns-clause-refused_calls g c = refused_later c.lay_over.result _ _ _ c.in_ok-loaded.ensures.counts.calls_made c.lay_over.ensures.calls_kept
