@@ -254,7 +254,7 @@ module _ (media : Option (List ℕ)) (n : ℕ) (segs : List (ℕ × ℕ)) (segs_
         c,
         his_cluster,
         state.marks c (let low = mark_sector g gone.on.vol.sound.shape c (in_shape c his_cluster) in omega arith)
-        ∙ and_from (is_marked (sector image) c) (not (before (in_own k owner) place c)) (gone.marked c his_cluster)
+            ∙ and_from (is_marked (sector image) c) (not (before (in_own k owner) place c)) (gone.marked c his_cluster)
             (ap (λ t. not (in_own k owner c && t)) past ∙ ap not (and_false (in_own k owner c))),
       );
       others = state.others;
