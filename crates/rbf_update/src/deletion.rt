@@ -51,9 +51,8 @@ pub fn delete_entry(
     ensures media_kept { OnErr result (media d.new ≡ media d.old) }
     ensures mounted { IsMounted v.new (media d.new) }
     ensures volume_kept { kept v.new ≡ kept v.old }
-    ensures counts { OnNumbered (media d.old) dir (λ on file.
-        Counts ⟦<dyn BlockDriver as BlockDriver>⟧ (directory_fault result)
-        (freeing_calls on file name.now user execute) d.old d.new) }
+    ensures counts { OnNumbered (media d.old) dir (λ on f. Counts ⟦<dyn BlockDriver as BlockDriver>⟧
+        (directory_fault result) (freeing_calls on f name.now user execute) d.old d.new) }
 {
     let found = find_deletable(v, d, dir, name, user, execute)?;
     free_entry(v, d, dir, found.place)?;
