@@ -1,16 +1,17 @@
 -- A new file that a user enters into a directory by a name: what such a call answers, and what it leaves.
-use Rattle.std.specs.Prelude.{◌≡◌, ◌≢◌, ℕ, ◌*◌, ◌/◌, ◌%◌, Bool, true, false, Option, Some, None, List, length, Result, Ok, Err}
+use Rattle.std.specs.Prelude.{◌≡◌, ◌≢◌, ℕ, ◌*◌, ◌%◌, Bool, true, false, Option, Some, None, List, ◌∷◌, length, take, Result, Ok, Err}
 use Rattle.rbf_model.specs.Disk.{image_disk}
 use Rattle.rbf_model.specs.File.{DiskFile}
 use Rattle.rbf_model.specs.Geometry.{image_geometry, sector}
 use Rattle.rbf_model.specs.Laws.{IsMapSector, IsReady}
-use Rattle.rbf_model.specs.Segments.{has}
-use Rattle.rbf_model.specs.Space.{has_cluster, own_sectors}
+use Rattle.rbf_model.specs.Segments.{has, sectors_of}
+use Rattle.rbf_model.specs.Space.{has_cluster}
 use Rattle.rbf_model.specs.Volume.{DiskVolume, Vol}
 use Rattle.rbf_model.specs.Writes.{put_at}
 use Rattle.rbf_change.specs.Calls.{shape, cluster_size, free_total, is_free_in}
-use Rattle.rbf_change.specs.Faults.{NewFileEnds}
-use Rattle.rbf_change.specs.Names.{new_entry, entry_place}
+use Rattle.rbf_change.specs.Contents.{sector_count}
+use Rattle.rbf_change.specs.Faults.{EntryEnds}
+use Rattle.rbf_change.specs.Names.{new_entry, entry_place, is_dots}
 use Rattle.rbf_change.specs.NewFiles.{Plan, Enters, Refusal, bad_path, not_allowed, exists, no_cluster, too_many_runs, entry_refusal}
 use Rattle.rbf_change.specs.Parts.{FileIsMade}
 use Rattle.rbf_change.specs.Tidy.{IsNewList, KeepsListEnd, KeepsMapEnd}
@@ -18,6 +19,10 @@ use Rattle.rbf_access.specs.declared.faults.FileFault.TheVariants.{Device, NoClu
 use Rattle.rbf_walk.specs.declared.error.DirError.{DirError}
 use Rattle.rbf_walk.specs.declared.error.DirError.TheVariants.{NotAllowed, BadPath, NotFound, Exists, File}
 use Rattle.rbf_append.specs.Appended.{sector_of_place}
+
+-- the sectors of a new file n that are written: its descriptor's, and those of its contents
+abbrev pub written_sectors : ℕ → DiskFile → List ℕ
+written_sectors n file = n ∷ take (sector_count (length file.contents)) (sectors_of file.segments)
 
 -- a new file n, made as planned for directory d: its clusters, which were free, are lost until an entry names it, and
 -- only its own sectors and the map have changed
@@ -31,7 +36,7 @@ pub record IsMadeFor (v : DiskVolume) (d n : ℕ) (plan : Plan) (old new : Optio
   pub made : FileIsMade v left (sector now) n plan
   pub fresh : (c : ℕ) → has_cluster (shape v) n made.file c ≡ true → is_free_in v c ≡ true
   pub ready : IsReady (image_disk now) left d n
-  pub others : (s : ℕ) → ¬ IsMapSector (image_geometry image) s → has (own_sectors n made.file) s ≡ false
+  pub others : (s : ℕ) → ¬ IsMapSector (image_geometry image) s → has (written_sectors n made.file) s ≡ false
       → sector now s ≡ sector image s
   pub end : KeepsMapEnd image now (λ _. false)
 
@@ -64,7 +69,7 @@ pub record IsEnteredOn (v : DiskVolume) (dir : DiskFile) (e : Entering) (old new
       ≡ put_at (sector image (sector_of_place enters.both.new.segments (entry_place dir.contents)))
       (32 * (entry_place dir.contents % 8)) (new_entry e.name n)
   -- all other sectors stay but those of the map, of the new file, and the directory's descriptor
-  pub others : (s : ℕ) → ¬ IsMapSector (image_geometry image) s → has (own_sectors n enters.both.file) s ≡ false
+  pub others : (s : ℕ) → ¬ IsMapSector (image_geometry image) s → has (written_sectors n enters.both.file) s ≡ false
       → s ≢ e.directory → s ≢ sector_of_place enters.both.new.segments (entry_place dir.contents)
       → sector now s ≡ sector image s
   -- the bytes behind the lists of both descriptors, and the marks behind the whole clusters
@@ -72,19 +77,26 @@ pub record IsEnteredOn (v : DiskVolume) (dir : DiskFile) (e : Entering) (old new
   pub kept_list : KeepsListEnd (sector image e.directory) (sector now e.directory)
   pub end : KeepsMapEnd image now (λ _. false)
 
--- a fault came before the entry was in the directory: the tree is as it was, and clusters may be lost
-pub record EnteringStops (v : DiskVolume) (dir : DiskFile) (e : Entering) (old new : Option (List ℕ)) : Type 0 where
+-- a fault came when a new file and its directory had begun to take clusters: the tree is as it was, and the clusters may
+-- be lost
+pub record EnteringTook (v : DiskVolume) (dir : DiskFile) (e : Entering) (old new : Option (List ℕ)) : Type 0 where
   pub image : List ℕ
   pub now : List ℕ
   pub was : old ≡ Some image
   pub is : new ≡ Some now
   pub left : DiskVolume
   pub vol : Vol now left
-  pub ends : NewFileEnds v left e.directory e.name e.plan
-  -- only sectors of the map, of clusters that were free, and that of the entry have changed
-  pub others : (s : ℕ) → ¬ IsMapSector (image_geometry image) s → is_free_in v (s / cluster_size v) ≡ false
-      → s ≢ sector_of_place dir.segments (entry_place dir.contents) → sector now s ≡ sector image s
+  pub number : ℕ
+  pub ends : EntryEnds v left e.directory number e.name (e.plan number)
+  -- only sectors of the map and of the file, and that of the entry have changed
+  pub others : (s : ℕ) → ¬ IsMapSector (image_geometry image) s → has (written_sectors number ends.both.file) s ≡ false
+      → s ≢ sector_of_place ends.both.new.segments (entry_place dir.contents) → sector now s ≡ sector image s
   pub end : KeepsMapEnd image now (λ _. false)
+
+-- a fault came before the entry was in the directory
+pub data EnteringStops (v : DiskVolume) (dir : DiskFile) (e : Entering) (old new : Option (List ℕ)) : Type 0 where
+  unchanged : new ≡ old → EnteringStops v dir e old new
+  took : EnteringTook v dir e old new → EnteringStops v dir e old new
 
 -- it was refused, and the media is as it was
 pub record EnteringIsRefused (v : DiskVolume) (dir : DiskFile) (e : Entering) (reason : Refusal)
@@ -100,6 +112,7 @@ AnswersEntering v dir e old new (Err NotAllowed) = EnteringIsRefused v dir e not
 AnswersEntering v dir e old new (Err BadPath) = EnteringIsRefused v dir e bad_path old new
 AnswersEntering v dir e old new (Err NotFound) = ⊥
 AnswersEntering v dir e old new (Err Exists) = EnteringIsRefused v dir e exists old new
-AnswersEntering v dir e old new (Err (File (Device n))) = EnteringStops v dir e old new
+AnswersEntering v dir e old new (Err (File (Device n))) =
+    (is_dots e.name ≡ false) × EnteringStops v dir e old new
 AnswersEntering v dir e old new (Err (File NoCluster)) = EnteringIsRefused v dir e no_cluster old new
 AnswersEntering v dir e old new (Err (File TooManyRuns)) = EnteringIsRefused v dir e too_many_runs old new
