@@ -1,12 +1,14 @@
 //! The state of input and output.
 
-ghost use Rattle.std.specs.Prelude.{◌≡◌, ◌<◌, Some, None, IfOk, IfSome, IsSome, option_map, length, replicate};
+ghost use Rattle.std.specs.Prelude.{◌≡◌, ◌<◌, Some, None, IfOk, IfSome, IsOk, IsErr, option_map, length, replicate};
 ghost use Rattle.std.specs.Result.{result_ok};
 ghost use Rattle.io_model.specs.Path.{IsOpen, slot_of, new_number, free_number, paths_after_begin, paths_after_dup};
 ghost use Rattle.io_model.specs.Pipe.{pipes_after_begin};
-ghost use Rattle.io_model.specs.declared.path.Target.TheVariants.{Pipe};
+ghost use Rattle.io_model.specs.declared.path.Target.TheVariants.{Term};
+ghost use Rattle.io_rules.specs.Status.{ready_count as ready_count_lem};
+ghost use Rattle.io_state.specs.Sound.{IsThere, pipe_number, pipe_opened};
 ghost use Rattle.io_rules.specs.Close.{after_close};
-ghost use Rattle.io_rules.specs.Io.{first_io, first_paths as first_paths_lem, new_desc as new_desc_lem, with_paths, with_pipes, with_call, kept_at};
+ghost use Rattle.io_rules.specs.Io.{first_io, first_paths as first_paths_lem, new_desc as new_desc_lem, open_path as open_path_lem, with_paths, with_pipes, with_call, kept_at};
 
 use crate::terminals::Terminals;
 use io_model::kept::Kept;
@@ -62,6 +64,67 @@ impl IoState {
         ensures { result ≡ slot_of self.now.paths p.0 n }
     {
         self.paths.slot(p, n)
+    }
+
+    /// The path that a number of a process names, and its descriptor; None if it names none.
+    pub fn open_path(&self, p: Pid, n: u8) -> Option<(SysPath, Desc)>
+        ensures path { option_map (λ found. record { path = found.0; desc = found.1 }) result
+            ≡ open_path_lem self.now p.0 n }
+        ensures there { IfSome result (λ found. IsThere self.now found.1.target) }
+    {
+        let path = self.paths.slot(p, n)?;
+        let desc = self.paths.desc(path);
+        Some((path, desc))
+    }
+
+    /// How many bytes a terminal or a pipe that is there has for a read.
+    pub fn ready_count(&self, target: Target) -> u16
+        requires { IsThere self.now target }
+        ensures { result ≡ ready_count_lem self.now target }
+    {
+        match target {
+            Target::File(_, _) | Target::Folder(_, _) => 0,
+            Target::Term(terminal) => self.terminals.waiting(terminal),
+            Target::Pipe(pipe) => self.pipes.held(PipeId(pipe)),
+        }
+    }
+
+    /// Opens a path of a process on a terminal. It gets the least number of the process that is free.
+    ///
+    /// # Errors
+    ///
+    /// `PathsFull` if the process's sixteen numbers or the 64 system paths are in use. Nothing changes
+    /// then.
+    pub fn begin_terminal(&mut self, p: Pid, terminal: u8, mode: u8) -> Result<u8, PathsFull>
+        requires process { p.0 < 33 }
+        requires terminal { terminal < 4 }
+        ensures number { result_ok result ≡ new_number self.old.paths p.0 }
+        ensures io { self.new ≡ with_paths self.old
+            (paths_after_begin self.old.paths p.0 (new_desc_lem (Term terminal) mode)) }
+    {
+        self.paths.begin(p, new_desc(Target::Term(terminal), mode))
+    }
+
+    /// Makes a pipe, and opens a path of a process on it, which gets the least number of the process
+    /// that is free.
+    ///
+    /// # Errors
+    ///
+    /// `PathsFull` if the process's sixteen numbers, the 64 system paths or the sixteen pipes are in
+    /// use. Nothing changes then.
+    pub fn begin_pipe(&mut self, p: Pid, mode: u8) -> Result<u8, PathsFull>
+        requires { p.0 < 33 }
+        ensures number { result_ok result ≡ pipe_number self.old p.0 }
+        ensures opened { IsOk result → self.new ≡ pipe_opened self.old p.0 mode }
+        ensures kept { IsErr result → self.new ≡ self.old }
+    {
+        if self.paths.next_number(p).is_none() {
+            return Err(PathsFull);
+        }
+        let Some(pipe) = self.pipes.begin() else {
+            return Err(PathsFull);
+        };
+        self.paths.begin(p, new_desc(Target::Pipe(pipe.0), mode))
     }
 
     /// Gives a path of a process another number.

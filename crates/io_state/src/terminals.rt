@@ -1,6 +1,6 @@
 //! The terminals of a machine.
 
-ghost use Rattle.std.specs.Prelude.{◌≡◌, ◌<◌, IfOk, length, replicate, slice_get};
+ghost use Rattle.std.specs.Prelude.{◌≡◌, ◌<◌, IfOk, length, replicate, slice_index_or};
 ghost use Rattle.io_model.specs.Terminal.{new_terminal};
 
 use os9_base::call::OutOfMemory;
@@ -36,6 +36,14 @@ impl Terminals {
         Ok(Terminals {
             terms: new_terms(alloc)?,
         })
+    }
+
+    /// How many keys the type-ahead of a terminal holds.
+    pub fn waiting(&self, n: u8) -> u16
+        requires { n < 4 }
+        ensures { result ≡ length (slice_index_or self.now n new_terminal).ahead }
+    {
+        self.terms[n as usize].waiting()
     }
 }
 

@@ -64,6 +64,18 @@ impl Paths {
         Ok(n)
     }
 
+    /// The number that a new path of a process gets; None if its sixteen numbers or the 64 system
+    /// paths are in use.
+    pub fn next_number(&self, p: Pid) -> Option<u8>
+        requires { p.0 < 33 }
+        ensures number { result ≡ new_number self.now p.0 }
+        ensures shape { ArePaths self.now }
+    {
+        let n = self.free_number(p)?;
+        self.free_path()?;
+        Some(n)
+    }
+
     /// Makes the least free number of the process an image of the path that its number `n` names
     /// (Level Two manual, I$Dup).
     ///

@@ -1,0 +1,61 @@
+//! Calls on path numbers.
+
+ghost use Rattle.std.specs.Prelude.{◌≡◌, ℕ, List};
+ghost use Rattle.os9_outer.specs.TerminalState.{TerminalState};
+ghost use Rattle.proc_rules.specs.Records.{IsLiving};
+ghost use Rattle.call_rules.specs.Inner.{Inner};
+ghost use Rattle.io_rules.specs.Attempts.{caller_of};
+ghost use Rattle.io_rules.specs.Close.{i_close as i_close_lem};
+ghost use Rattle.io_rules.specs.Dup.{i_dup as i_dup_lem};
+ghost use Rattle.io_rules.specs.declared.io_call.IoCall.TheVariants as Call;
+ghost use Rattle.io_state.specs.Attempt.{Attempts};
+ghost use Rattle.path_calls.specs.Quiet.{Ends};
+ghost use Rattle.proc_state.specs.Tie.{Represents};
+
+use io_model::path::PathsFull;
+use io_state::state::IoState;
+use os9_base::call::CallEnd;
+use os9_base::errors::{E_BPNUM, E_PTHFUL};
+use os9_base::registers::{Pid, Regs};
+use proc_state::state::ProcState;
+
+/// I$Dup: gives a path another number (System Programmer's Manual, I$Dup). Takes the number of the
+/// path in A; answers its new number, the least free one, in A.
+///
+/// # Errors
+///
+/// E$BPNum exactly if the number names no path, else E$PthFul exactly if the process's sixteen
+/// numbers are in use. Nothing has changed then.
+pub fn i_dup(s: &mut ProcState, io: &mut IoState, p: Pid) -> CallEnd
+    requires lives { IsLiving s.old.table p.0 }
+    ensures call { (m : Inner) (drives : ℕ) (terms : List TerminalState) → Represents s.old m
+        → Attempts Call.Dup m io.old drives p.0 result s.new io.new terms terms }
+    ensures lives { IsLiving s.new.table p.0 }
+{
+    double(s, io, p)
+}
+
+/// Gives the path in A another number.
+fn double(s: &mut ProcState, io: &mut IoState, p: Pid) -> CallEnd
+    requires lives { IsLiving s.old.table p.0 }
+    ensures call { (m : Inner) → Represents s.old m
+        → Ends (i_dup_lem (caller_of m p.0) io.old) m io.old p.0 result s.new io.new }
+    ensures lives { IsLiving s.new.table p.0 }
+{
+    let regs = s.regs(p);
+    if io.slot(p, regs.a).is_none() {
+        io.keep(p, None);
+        return CallEnd::Error(E_BPNUM);
+    }
+    match io.dup(p, regs.a) {
+        Err(PathsFull) => {
+            io.keep(p, None);
+            CallEnd::Error(E_PTHFUL)
+        }
+        Ok(a) => {
+            io.keep(p, None);
+            s.set_regs(p, Regs { a, ..regs });
+            CallEnd::Done
+        }
+    }
+}
