@@ -1,10 +1,11 @@
--- Bytes that are stored one after another, and slots that hold a range of addresses.
-use Rattle.std.proofs.Common.{◌≡◌, ℕ, ◌+◌, ◌-◌, ◌<◌, ◌≤◌, ◌==◌, true, false, Option, Some, List, length, get_or, take, nat_le, nat_lt, slice_get, arith, sym, ap, ◌∙◌, inl, inr}
+-- Bytes that are stored one after another.
+use Rattle.std.proofs.Common.{◌≡◌, ℕ, ◌+◌, ◌-◌, ◌<◌, ◌≤◌, true, false, Option, Some, List, ◌++◌, length, get_or, take, drop, nat_le, nat_lt, slice_get, arith, refl, sym, ap, ◌∙◌, inl, inr}
 use Rattle.std.proofs.Math.Path.{fun_ext}
-use Rattle.std.proofs.lemmas.List.{length-take-le, get_or-take}
+use Rattle.std.proofs.Math.Seq.{take-add}
+use Rattle.std.proofs.lemmas.List.{length-take-le, length-append, get_or_append_left, get_or-append_right}
 use Rattle.std.proofs.lemmas.Option.{slice_get-get_or}
-use Rattle.std.proofs.lemmas.Bool.{cond-true, cond-false, cases_eq, cases_lt, eq-eqb, ne_eqb, lt-ltb, le-ltb, le-leb, lt-leb, and_from, and_left, and_right}
-use Rattle.os9_base.specs.Cells.{put_cell, store_cells, is_in_range}
+use Rattle.std.proofs.lemmas.Bool.{cond-true, cond-false, cases_lt, lt-ltb, le-ltb, le-leb, lt-leb, and_from, and_left, and_right}
+use Rattle.os9_base.specs.Cells.{store_cells, is_in_range}
 
 -- an address of the range
 pub in_range : (at count address : ℕ) → at ≤ address → address < at + count → is_in_range at count address ≡ true
@@ -31,29 +32,38 @@ stored-past cells at bytes address past = cond-false (is_in_range at (length byt
 stored-before : (cells : ℕ → Option ℕ) (at : ℕ) (bytes : List ℕ) (address : ℕ) → address < at → store_cells cells at bytes address ≡ cells address
 stored-before cells at bytes address before = cond-false (is_in_range at (length bytes) address) (slice_get bytes (address - at)) (cells address) (before_range at (length bytes) address before)
 
--- one byte more is stored
-pub stored_more : (cells : ℕ → Option ℕ) (at : ℕ) (bytes : List ℕ) (k : ℕ) → k < length bytes → put_cell (store_cells cells at (take k bytes)) (at + k) (get_or bytes k 0) ≡ store_cells cells at (take (k + 1) bytes)
-stored_more cells at bytes k within =
-    let few = length-take-le k bytes (omega arith) in
-    let more = length-take-le (k + 1) bytes (omega arith) in
+-- bytes that are stored behind others are stored with them
+pub stored_behind : (cells : ℕ → Option ℕ) (at : ℕ) (front rest : List ℕ) → store_cells (store_cells cells at front) (at + length front) rest ≡ store_cells cells at (front ++ rest)
+stored_behind cells at front rest =
+    let long = length-append front rest in
     fun_ext (λ address.
-    let before = store_cells cells at (take k bytes) address in
-    elim (cases_eq address (at + k)) [
-      | inl here ↦
-          cond-true (address == at + k) (Some (get_or bytes k 0)) before (eq-eqb address (at + k) here)
-          ∙ ap (λ byte. Some byte) (sym (get_or-take (k + 1) bytes k 0 (omega arith)) ∙ ap (λ place. get_or (take (k + 1) bytes) place 0) (omega arith))
-          ∙ sym (stored-in cells at (take (k + 1) bytes) address (omega arith) (omega arith))
-      | inr elsewhere ↦
-          cond-false (address == at + k) (Some (get_or bytes k 0)) before (ne_eqb address (at + k) elsewhere)
+    elim (cases_lt address (at + length front)) [
+      | inl before ↦
+          stored-before (store_cells cells at front) (at + length front) rest address before
           ∙ elim (cases_lt address at) [
-            | inl low ↦ stored-before cells at (take k bytes) address low ∙ sym (stored-before cells at (take (k + 1) bytes) address low)
+            | inl low ↦ stored-before cells at front address low ∙ sym (stored-before cells at (front ++ rest) address low)
             | inr high ↦
-                elim (cases_lt address (at + k)) [
-                  | inl inside ↦
-                      stored-in cells at (take k bytes) address high (omega arith)
-                      ∙ ap (λ byte. Some byte) (get_or-take k bytes (address - at) 0 (omega arith) ∙ sym (get_or-take (k + 1) bytes (address - at) 0 (omega arith)))
-                      ∙ sym (stored-in cells at (take (k + 1) bytes) address high (omega arith))
-                  | inr past ↦ stored-past cells at (take k bytes) address (omega arith) ∙ sym (stored-past cells at (take (k + 1) bytes) address (omega arith))
-                ]
+                stored-in cells at front address high before
+                ∙ ap (λ byte. Some byte) (sym (get_or_append_left front rest 0 (address - at) (omega arith)))
+                ∙ sym (stored-in cells at (front ++ rest) address high (omega (arith, long)))
+          ]
+      | inr behind ↦
+          elim (cases_lt address ((at + length front) + length rest)) [
+            | inl inside ↦
+                let place : address - (at + length front) ≡ (address - at) - length front = omega arith in
+                stored-in (store_cells cells at front) (at + length front) rest address behind inside
+                ∙ ap (λ byte. Some byte) (ap (λ k. get_or rest k 0) place ∙ sym (get_or-append_right front rest (length front) (address - at) 0 refl (omega arith)))
+                ∙ sym (stored-in cells at (front ++ rest) address (omega arith) (omega (arith, long)))
+            | inr past ↦
+                stored-past (store_cells cells at front) (at + length front) rest address past
+                ∙ stored-past cells at front address behind
+                ∙ sym (stored-past cells at (front ++ rest) address (omega (arith, long)))
           ]
     ])
+
+-- so many bytes more are stored
+pub stored_more : (cells : ℕ → Option ℕ) (at : ℕ) (bytes : List ℕ) (done count : ℕ) → done ≤ length bytes → store_cells (store_cells cells at (take done bytes)) (at + done) (take count (drop done bytes)) ≡ store_cells cells at (take (done + count) bytes)
+stored_more cells at bytes done count within =
+    ap (λ n. store_cells (store_cells cells at (take done bytes)) (at + n) (take count (drop done bytes))) (sym (length-take-le done bytes within))
+    ∙ stored_behind cells at (take done bytes) (take count (drop done bytes))
+    ∙ ap (store_cells cells at) (sym (take-add done count bytes))

@@ -102,16 +102,22 @@ impl UserMem for View<'_> {
     }
 
     fn load(&self, at: u16, into: &mut [u8]) {
-        for (k, byte) in into.iter_mut().enumerate() {
-            if let Some(cell) = self.read(at + k as u16) {
-                *byte = cell;
-            }
+        let mut done = 0;
+        'pieces: while done < into.len() {
+            let bytes = self.slice_from(at + done as u16);
+            let count = bytes.len().min(into.len() - done);
+            into[done..done + count].copy_from_slice(&bytes[..count]);
+            done += count;
         }
     }
 
     fn store(&mut self, at: u16, from: &[u8]) {
-        for (k, byte) in from.iter().enumerate() {
-            self.put(at + k as u16, *byte);
+        let mut done = 0;
+        'pieces: while done < from.len() {
+            let start = at + done as u16;
+            let count = piece_len(start, from.len() - done);
+            self.store_slice(start, &from[done..done + count]);
+            done += count;
         }
     }
 }
@@ -157,6 +163,15 @@ fn slot_of(at: u16) -> u8
     ensures { result ≡ at / 8192 }
 {
     (at / 8192) as u8
+}
+
+// How many of so many bytes from an address on lie in its slot.
+fn piece_len(at: u16, most: usize) -> usize
+    ensures slot { at % 8192 + result ≤ 8192 }
+    ensures few { result ≤ most }
+    ensures some { 0 < most → 0 < result }
+{
+    most.min(BLOCK_LEN - offset_in_block(at) as usize)
 }
 
 // The place of an address in the block of its slot.

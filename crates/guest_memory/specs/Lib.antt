@@ -1,2 +1,3 @@
+pub mod Pieces
 pub mod Tie
 pub mod Running

@@ -6,6 +6,7 @@ mod bytes;
 mod data_area;
 mod entering;
 mod groups;
+mod lines;
 mod links;
 pub mod memory;
 mod new;
@@ -35,6 +36,22 @@ mod tests {
         assert_eq!(rt; memory.grow(second, 2), Ok(()));
         memory.clear(second);
         assert_eq!(rt; memory.grow(first, 7), Ok(()));
+        Ok(())
+    }
+
+    #[test]
+    fn line_over_two_blocks(rt: HostRuntime) -> Result<(), Fail> {
+        let mut memory = Memory::new(rt.alloc(), 8)?;
+        let mut line = [0; 12];
+        let first = Pid(2);
+        assert_eq!(rt; memory.grow(first, 2), Ok(()));
+        assert!(rt; memory.is_named(first, 8188, 8196) && !memory.is_named(first, 8188, 8197));
+        assert_eq!(rt; memory.read_line(first, 16_380, 5, &mut line), None);
+        assert_eq!(rt; memory.read_line(first, 16_380, 4, &mut line), Some(4));
+        assert!(rt; memory.fits(first, 8188, 8));
+        memory.store(first, 8188, b"over\rtwo");
+        assert_eq!(rt; memory.read_line(first, 8188, 12, &mut line), Some(5));
+        assert_eq!(rt; memory.read_line(first, 8188, 3, &mut line), Some(3));
         Ok(())
     }
 

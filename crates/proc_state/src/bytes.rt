@@ -1,10 +1,11 @@
 //! The bytes of a process that a call reads.
 
-ghost use Rattle.std.specs.Prelude.{◌≡◌, ◌<◌, ◌≤◌, length};
+ghost use Rattle.std.specs.Prelude.{◌≡◌, ◌<◌, ◌≤◌, ◌↔◌, IsTrue, IfSome, is_some, option_map, length, take};
 ghost use Rattle.std.specs.Bool.{OnTrue};
 ghost use Rattle.os9_base.specs.Cells.{FitsIn};
 ghost use Rattle.call_rules.specs.Inner.{Inner, cells_at};
 ghost use Rattle.call_rules.specs.UserBytes.{user_bytes};
+ghost use Rattle.user_names.specs.UserLines.{line_at};
 ghost use Rattle.guest_memory.specs.Tie.{IsSame as IsSameMemory, cells_of};
 ghost use Rattle.proc_state.specs.Tie.{Represents, IsSame, bytes_read};
 
@@ -23,6 +24,31 @@ impl ProcState {
         ensures same { IsSame self.old self.new }
     {
         read_front(&mut self.memory, p, at, count, &mut self.buffer)
+    }
+
+    /// Is each of so many bytes of a process from an address on in a named slot, and none past
+    /// `FFFF`?
+    pub fn is_named(&self, p: Pid, at: u16, count: u16) -> bool
+        requires { p.0 < 33 }
+        ensures there { (m : Inner) → Represents self.now m
+            → result ≡ is_some (user_bytes (cells_at m p.0) at count) }
+        ensures fits { IsTrue result ↔ FitsIn (cells_of self.now.memory p.0) at count }
+    {
+        self.memory.is_named(p, at, count)
+    }
+
+    /// Reads the bytes of a process from an address on, up to and with the first carriage return,
+    /// but at most `most`, into the front of the buffer, and answers how many they are; None where
+    /// one of them is in no named slot or past `FFFF`.
+    pub fn read_line(&mut self, p: Pid, at: u16, most: u16) -> Option<usize>
+        requires { p.0 < 33 }
+        ensures line { (m : Inner) → Represents self.old m
+            → line_at (cells_at m p.0) at most
+            ≡ option_map (λ count. take count self.new.buffer.items) result }
+        ensures short { IfSome result (λ count. count ≤ most) }
+        ensures same { IsSame self.old self.new }
+    {
+        self.memory.read_line(p, at, most, &mut self.buffer)
     }
 }
 
