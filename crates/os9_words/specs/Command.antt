@@ -1,38 +1,48 @@
 -- Which words are a command line (this project's own).
-use Rattle.std.specs.Prelude.{◌≡◌, ℕ, ◌≤◌, length, ◌&&◌, Option, Some, None, option_and_then, Result, Ok, Err, ⊤, List, [], ◌∷◌, bytes_eq, codes, if◌then◌else◌}
+use Rattle.std.specs.Prelude.{◌≡◌, ℕ, ◌≤◌, length, Option, Some, None, option_and_then, option_map, Result, Ok, Err, ⊤, List, [], ◌∷◌, bytes_eq, codes, if◌then◌else◌}
+use Rattle.std.specs.Option.{option_map_or}
 use Rattle.number_text.specs.Number.{number_of, within}
-use Rattle.word_options.specs.Given.{is_argument, is_value}
+use Rattle.word_options.specs.Given.{Given, only_argument, value_of, words_give}
 use Rattle.os9_words.specs.declared.command.Command.{Command}
 use Rattle.os9_words.specs.declared.command.Command.TheVariants.{Run, Check}
 use Rattle.os9_words.specs.declared.command.WordsFault.{WordsFault}
 use Rattle.os9_words.specs.declared.command.WordsFault.TheVariants.{Refused, OutOfMemory}
 
+-- the options of `run`, and those of `check`
+abbrev pub run_options : List (List ℕ)
+run_options = codes "slices" ∷ codes "blocks" ∷ []
+
+abbrev pub check_options : List (List ℕ)
+check_options = []
+
+-- the number of blocks: 64 without `--blocks`, and N, from 8 to 256, by `--blocks N`
+abbrev pub blocks_of : Given → Option ℕ
+blocks_of words =
+    option_map_or (λ number. within 8 256 (number_of number)) (value_of words (codes "blocks")) (Some 64)
+
+-- `run` of this file of modules, over these slices and blocks, where all three are given
+abbrev pub run_with : Option (List ℕ) → Option (List ℕ) → Option ℕ → Option Command
+run_with (Some modules) (Some slices) (Some blocks) =
+    Some (Run (record { files = modules ∷ []; slices = slices; blocks = blocks }))
+run_with _ _ _ = None
+
+-- `run MODULES --slices SLICES`, with `--blocks N` or not
+abbrev pub run_of : Given → Option Command
+run_of words = run_with (only_argument words) (value_of words (codes "slices")) (blocks_of words)
+
 -- `check IMAGE`
-abbrev pub check_of : List ℕ → List ℕ → Option Command
-check_of command image =
-    if bytes_eq command (codes "check") && is_argument image then Some (Check image) else None
+abbrev pub check_of : Given → Option Command
+check_of words = option_map Check (only_argument words)
 
--- `run MODULES --slices SLICES`, over this number of blocks
-abbrev pub run_of : List ℕ → List ℕ → List ℕ → List ℕ → ℕ → Option Command
-run_of command modules option slices blocks =
-    if bytes_eq command (codes "run") && is_argument modules && bytes_eq option (codes "--slices") && is_value slices
-    then Some (Run (record { files = modules ∷ []; slices = slices; blocks = blocks })) else None
-
--- the number of blocks that the words behind `run MODULES --slices SLICES` give: 64 where there are
--- none, and N, from 8 to 256, by `--blocks N`
-abbrev pub blocks_of : List (List ℕ) → Option ℕ
-blocks_of [] = Some 64
-blocks_of (option ∷ number ∷ []) =
-    if bytes_eq option (codes "--blocks") then within 8 256 (number_of number) else None
-blocks_of _ = None
-
--- the command that the words spell, or nothing where they spell none: `check IMAGE`, or
--- `run MODULES --slices SLICES` and behind it nothing or `--blocks N`
+-- the command that the words spell, or nothing where they spell none
 abbrev pub command_of : List (List ℕ) → Option Command
-command_of (command ∷ image ∷ []) = check_of command image
-command_of (command ∷ modules ∷ option ∷ slices ∷ options) =
-    option_and_then (run_of command modules option slices) (blocks_of options)
-command_of _ = None
+command_of [] = None
+command_of (command ∷ words) =
+    if bytes_eq command (codes "run")
+    then option_and_then run_of (words_give run_options words)
+    else (if bytes_eq command (codes "check")
+    then option_and_then check_of (words_give check_options words)
+    else None)
 
 -- a command that runs programs names one file of modules
 abbrev pub HasOneFile : Command → Type 0

@@ -1,9 +1,12 @@
-ghost use Rattle.std.specs.Prelude.{◌≡◌, None, Some, IfOk, [], ◌∷◌, map, string_bytes};
-ghost use Rattle.os9_words.specs.Command.{command_of, check_of, run_of, blocks_of, HasOneFile, HasBlocks, OnRefused};
-ghost use Rattle.word_options.specs.Given.{is_argument as is_argument_lem, is_value as is_value_lem};
+ghost use Rattle.std.specs.Prelude.{◌≡◌, ◌≢◌, None, Some, IfOk, [], ◌∷◌, map, option_and_then, string_bytes};
+ghost use Rattle.std.specs.List.{All};
+ghost use Rattle.os9_words.specs.Command.{command_of, check_options, run_options, HasOneFile, HasBlocks, OnRefused};
+ghost use Rattle.os9_words.specs.Command.{blocks_of as blocks_of_lem, check_of as check_of_lem, run_of as run_of_lem};
+ghost use Rattle.word_options.specs.Given.{words_give};
 
 use crate::word::{Word, Words};
 use number_text::read_number;
+use option_reader::{GivenWords, read_given};
 use std::alloc::{AllocError, Global};
 use thiserror::Error;
 
@@ -21,8 +24,8 @@ pub struct RunWords {
 /// A command line.
 #[derive(Debug, Drop)]
 pub enum Command {
-    /// `run MODULES --slices SLICES`, and `--blocks N` after it or not: runs the program of a file
-    /// of modules.
+    /// `run MODULES --slices SLICES`, with `--blocks N` or not: runs the program of a file of
+    /// modules.
     Run(RunWords),
     /// `check IMAGE`: tests the image in a file.
     Check(Word),
@@ -60,51 +63,85 @@ pub fn read_words(alloc: Global, words: &[String]) -> Result<Command, WordsFault
     ensures blocks { IfOk result HasBlocks }
     ensures refused { OnRefused result (command_of (map string_bytes words.now) ≡ None) }
 {
-    match words {
-        [command, image] => read_check(alloc, command, image),
-        [command, modules, option, slices, options @ ..] => {
-            let Some(blocks) = read_blocks(options) else {
-                return Err(WordsFault::Refused);
-            };
-            read_run(alloc, command, modules, option, slices, blocks)
-        }
+    let [command, words @ ..] = words else {
+        return Err(WordsFault::Refused);
+    };
+    match command.as_str() {
+        "run" => read_run(alloc, words),
+        "check" => read_check(alloc, words),
         _ => Err(WordsFault::Refused),
     }
 }
 
-// Reads `check IMAGE`.
-fn read_check(alloc: Global, command: &str, image: &str) -> Result<Command, WordsFault>
-    ensures command { IfOk result (λ read. check_of command.now image.now ≡ Some read) }
-    ensures refused { OnRefused result (check_of command.now image.now ≡ None) }
+// Reads the words behind `run`.
+fn read_run(alloc: Global, words: &[String]) -> Result<Command, WordsFault>
+    ensures command { IfOk result (λ read. option_and_then run_of_lem
+        (words_give run_options (map string_bytes words.now)) ≡ Some read) }
+    ensures refused { OnRefused result (option_and_then run_of_lem
+        (words_give run_options (map string_bytes words.now)) ≡ None) }
 {
-    if command != "check" || !is_argument(image) {
-        return Err(WordsFault::Refused);
-    }
-    match Word::copy_of(alloc, image) {
-        Ok(image) => Ok(Command::Check(image)),
+    let names = ["slices", "blocks"];
+    let given = read_options(alloc, &names, words)?;
+    run_of(alloc, &given)
+}
+
+// Reads the words behind `check`.
+fn read_check(alloc: Global, words: &[String]) -> Result<Command, WordsFault>
+    ensures command { IfOk result (λ read. option_and_then check_of_lem
+        (words_give check_options (map string_bytes words.now)) ≡ Some read) }
+    ensures refused { OnRefused result (option_and_then check_of_lem
+        (words_give check_options (map string_bytes words.now)) ≡ None) }
+{
+    let given = read_options(alloc, &[], words)?;
+    check_of(alloc, &given)
+}
+
+// Reads the words behind a command, whose options have these names.
+fn read_options<'a>(
+    alloc: Global,
+    names: &'a [&'a str],
+    words: &'a [String],
+) -> Result<GivenWords<'a>, WordsFault>
+    requires { All (λ name. name.now ≢ []) names.now }
+    ensures given { IfOk result (λ given. words_give (map (λ name. name.now) names.now)
+        (map string_bytes words.now) ≡ Some given) }
+    ensures refused { OnRefused result (words_give (map (λ name. name.now) names.now)
+        (map string_bytes words.now) ≡ None) }
+{
+    match read_given(alloc, names, words) {
+        Ok(Some(given)) => Ok(given),
+        Ok(None) => Err(WordsFault::Refused),
         Err(_) => Err(WordsFault::OutOfMemory),
     }
 }
 
-// Reads `run MODULES --slices SLICES`, over this number of blocks.
-fn read_run(
-    alloc: Global,
-    command: &str,
-    modules: &str,
-    option: &str,
-    slices: &str,
-    blocks: u16,
-) -> Result<Command, WordsFault>
-    ensures command { IfOk result (λ read.
-        run_of command.now modules.now option.now slices.now blocks ≡ Some read) }
-    ensures refused { OnRefused result
-        (run_of command.now modules.now option.now slices.now blocks ≡ None) }
+// `run MODULES --slices SLICES`, with `--blocks N` or not.
+fn run_of(alloc: Global, given: &GivenWords<'_>) -> Result<Command, WordsFault>
+    ensures command { IfOk result (λ read. run_of_lem given.now ≡ Some read) }
+    ensures refused { OnRefused result (run_of_lem given.now ≡ None) }
 {
-    if command != "run" || !is_argument(modules) || option != "--slices" || !is_value(slices) {
+    let modules = given.only_argument();
+    let slices = given.value("slices");
+    let blocks = blocks_of(given);
+    let (Some(modules), Some(slices), Some(blocks)) = (modules, slices, blocks) else {
         return Err(WordsFault::Refused);
-    }
+    };
     match run_words(alloc, modules, slices, blocks) {
         Ok(run) => Ok(Command::Run(run)),
+        Err(_) => Err(WordsFault::OutOfMemory),
+    }
+}
+
+// `check IMAGE`.
+fn check_of(alloc: Global, given: &GivenWords<'_>) -> Result<Command, WordsFault>
+    ensures command { IfOk result (λ read. check_of_lem given.now ≡ Some read) }
+    ensures refused { OnRefused result (check_of_lem given.now ≡ None) }
+{
+    let Some(image) = given.only_argument() else {
+        return Err(WordsFault::Refused);
+    };
+    match Word::copy_of(alloc, image) {
+        Ok(image) => Ok(Command::Check(image)),
         Err(_) => Err(WordsFault::OutOfMemory),
     }
 }
@@ -126,32 +163,15 @@ fn run_words(
     })
 }
 
-// Reads the words behind `--slices SLICES`: none, or `--blocks N`.
-fn read_blocks(options: &[String]) -> Option<u16>
-    ensures { result ≡ blocks_of (map string_bytes options.now) }
+// The number of blocks: 64 without `--blocks`.
+fn blocks_of(given: &GivenWords<'_>) -> Option<u16>
+    ensures { result ≡ blocks_of_lem given.now }
 {
-    match options {
-        [] => Some(DEFAULT_BLOCKS),
-        [option, number] if option.as_str() == "--blocks" => {
-            let blocks = read_number(number.as_bytes(), FEWEST_BLOCKS, MOST_BLOCKS)?;
-            Some(blocks as u16)
-        }
-        _ => None,
-    }
-}
-
-// Is the word an argument: does it not begin with `-`, or is it `-` alone?
-fn is_argument(word: &str) -> bool
-    ensures { result ≡ is_argument_lem word.now }
-{
-    !word.starts_with('-') || word == "-"
-}
-
-// Is the word an option's value: is it not empty, and does it not begin with `-`?
-fn is_value(word: &str) -> bool
-    ensures { result ≡ is_value_lem word.now }
-{
-    !word.is_empty() && !word.starts_with('-')
+    let Some(number) = given.value("blocks") else {
+        return Some(DEFAULT_BLOCKS);
+    };
+    let blocks = read_number(number.as_bytes(), FEWEST_BLOCKS, MOST_BLOCKS)?;
+    Some(blocks as u16)
 }
 
 #[cfg(test)]
@@ -172,6 +192,8 @@ mod tests {
             (["run", "h", "--slices", "s"].as_slice(), 64),
             (&["run", "h", "--slices", "s", "--blocks", "8"], 8),
             (&["run", "h", "--slices", "s", "--blocks", "0000256"], 256),
+            (&["run", "--blocks=9", "--slices=s", "h"], 9),
+            (&["run", "--slices", "s", "--", "h"], 64),
         ] {
             let words = words_of(rt.alloc(), words)?;
             let Command::Run(run) = read_words(rt.alloc(), &words)? else {
@@ -187,8 +209,14 @@ mod tests {
 
     #[test]
     fn check_words_are_read(rt: HostRuntime) -> Result<(), Fail> {
-        for image in ["e", "-", ""] {
-            let words = words_of(rt.alloc(), &["check", image])?;
+        for (words, image) in [
+            (["check", "e"].as_slice(), "e"),
+            (&["check", "-"], "-"),
+            (&["check", ""], ""),
+            (&["check", "help"], "help"),
+            (&["check", "--", "--slices"], "--slices"),
+        ] {
+            let words = words_of(rt.alloc(), words)?;
             let Command::Check(word) = read_words(rt.alloc(), &words)? else {
                 return Err(Fail::from("no check"));
             };
@@ -205,7 +233,13 @@ mod tests {
             &["run", "h", "--slices", ""],
             &["run", "h", "--slices", "-"],
             &["run", "-h", "--slices", "s"],
-            &["run", "--slices", "s", "h"],
+            &["run", "h", "--slices="],
+            &["run", "--slices", "--", "h"],
+            &["run", "h", "s", "--slices", "s"],
+            &["run", "h", "--slices", "s", "--script", "t"],
+            &["run", "h", "--slices", "s", "--time", "1990-01-01T00:00:00"],
+            &["boot", "e", "--script", "t", "--slices", "s"],
+            &["stress", "1"],
             &["run", "h", "--slices", "s", "--slices", "s"],
             &["run", "h", "--slices", "s", "--blocks"],
             &["run", "h", "--slices", "s", "--blocks", "x"],
@@ -219,14 +253,16 @@ mod tests {
                 "--blocks",
                 "18446744073709551624",
             ],
-            &["run", "h", "--slices", "s", "--blocks=8"],
-            &["run", "h", "--blocks", "8", "--slices", "s"],
+            &["run", "h", "--slices", "s", "--blocks="],
+            &["run", "h", "--slices", "s", "--blocks", "+8"],
             &[
                 "run", "h", "--slices", "s", "--blocks", "8", "--blocks", "8",
             ],
             &["check"],
             &["check", "-x"],
             &["check", "a", "b"],
+            &["check", "--slices=s", "a"],
+            &["Check", "a"],
             &["run", "h"],
         ] {
             let words = words_of(rt.alloc(), words)?;
