@@ -1,30 +1,18 @@
 -- What the chosen process does is an event of the machine.
-use Rattle.std.proofs.Common.{◌≡◌, ◌≢◌, ℕ, ◌+◌, ◌*◌, ◌<◌, ◌≤◌, ◌==◌, Bool, true, false, Option, Some, None, option_map, List, refl, sym, ap, ◌∙◌, subst, arith}
-use Rattle.std.specs.Prelude.{MatchBool, MatchOption, is_some, slice_index_or}
-use Rattle.std.proofs.lemmas.Bool.{ne_eqb}
+use Rattle.std.proofs.Common.{◌≡◌, Some, option_map, List, refl, sym, ap, ◌∙◌, subst}
 use Rattle.os9_base.specs.declared.registers.Pid.{Pid}
-use Rattle.os9_base.specs.declared.registers.Regs.{Regs}
-use Rattle.os9_base.specs.declared.calls.TheConstants.{I_WRITLN}
-use Rattle.os9_base.specs.declared.errors.TheConstants.{E_UNKSVC}
 use Rattle.os9_outer.specs.TerminalState.{TerminalState}
-use Rattle.proc_rules.specs.declared.record.Record.{Record}
-use Rattle.proc_rules.specs.Records.{IsLiving, IsProcess, record_at, is_waiting}
-use Rattle.call_rules.specs.Attempts.{after_attempt, goes_on, refused_regs}
-use Rattle.call_rules.specs.CallResult.{CallResult, refused}
-use Rattle.call_rules.specs.Codes.{call_of}
-use Rattle.call_rules.specs.Inner.{Inner, no_own, own_at, regs_at}
-use Rattle.call_rules.specs.Ready.{Act as MachineAct, attempts, delivers, executes, act_of, next_act}
-use Rattle.proc_state.specs.declared.state.ProcState.{ProcState}
+use Rattle.proc_rules.specs.Records.{IsLiving, IsProcess}
+use Rattle.call_rules.specs.Inner.{Inner}
+use Rattle.call_rules.specs.Ready.{Act as MachineAct, act_of}
 use Rattle.proc_state.specs.Tie.{Represents as RepresentsProcesses}
 use Rattle.machine_model.specs.declared.ends.EventEnd.{EventEnd}
-use Rattle.machine_model.specs.declared.ends.EventEnd.TheVariants.{Ran}
-use Rattle.machine_model.specs.Event.{Acts, Attempts, Event, cost, cost_of}
+use Rattle.machine_model.specs.Event.{Acts, Event, cost, cost_of}
 use Rattle.machine_model.specs.State.{State}
 use Rattle.os9_kernel.specs.declared.act.Act.{Act}
-use Rattle.os9_kernel.specs.declared.act.Act.TheVariants.{Attempt, Delivery, Instruction}
 use Rattle.os9_kernel.specs.declared.kernel.Kernel.{Kernel}
 use Rattle.os9_kernel.specs.Next.{DoesNext, act_in_machine, next_of}
-use Rattle.os9_kernel.specs.Tie.{Represents, IsGoing, pending, pending_of}
+use Rattle.os9_kernel.specs.Tie.{Represents, IsGoing}
 use Rattle.os9_kernel.proofs.Represented.{act-tied}
 
 -- the process that was chosen does this next

@@ -1,7 +1,6 @@
 -- What a process's own calls come to for the machine.
-use Rattle.std.proofs.Common.{◌≡◌, ◌≢◌, ℕ, Option, Some, None, List, refl, sym, ap, ◌∙◌}
+use Rattle.std.proofs.Common.{◌≡◌, ℕ, Option, List, refl}
 use Rattle.os9_base.specs.declared.call.CallEnd.{CallEnd}
-use Rattle.os9_base.specs.declared.call.CallEnd.TheVariants as CallEnd
 use Rattle.os9_base.specs.declared.registers.Regs.{Regs}
 use Rattle.proc_rules.specs.declared.record.Record.{Record}
 use Rattle.proc_rules.specs.Records.{IsLiving}
@@ -9,8 +8,7 @@ use Rattle.call_rules.specs.Attempts.{attempt_end, after_attempt, done_regs, ref
 use Rattle.call_rules.specs.Inner.{Inner, regs_at}
 use Rattle.proc_calls.specs.Telling.{LivesOn}
 use Rattle.call_rules.specs.CallResult.{CallResult, done, refused, waits, ends}
-use Rattle.machine_model.specs.declared.ends.EventEnd.{EventEnd}
-use Rattle.machine_model.specs.declared.ends.EventEnd.TheVariants.{Ran, Waits, Ended, NoMemory}
+use Rattle.machine_model.specs.declared.ends.EventEnd.TheVariants.{Ran, NoMemory}
 use Rattle.machine_model.specs.Event.{call_event_end}
 use Rattle.os9_kernel.specs.Ends.{event_end_of}
 

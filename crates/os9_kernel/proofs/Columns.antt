@@ -1,14 +1,13 @@
 -- What the columns of the processes are after a change of one process.
-use Rattle.std.proofs.Common.{◌≡◌, ℕ, ◌<◌, ◌≤◌, Bool, true, false, Option, Some, None, List, length, get_or, set, refl, sym, ap, ◌∙◌, inl, inr, arith}
-use Rattle.std.specs.Prelude.{not, slice_set, slice_index_or, unwrap_or}
-use Rattle.std.proofs.lemmas.List.{get_or-set_same, get_or_past, length-set, set-set, set-get_or}
+use Rattle.std.proofs.Common.{◌≡◌, ℕ, ◌<◌, true, Option, Some, None, List, length, refl, sym, ap, ◌∙◌, inl, inr}
+use Rattle.std.specs.Prelude.{not, slice_set, unwrap_or}
+use Rattle.std.proofs.lemmas.List.{get_or-set_same, get_or_past, set-set, set-get_or}
 use Rattle.std.proofs.lemmas.Bool.{cases_lt}
 use Rattle.os9_base.specs.declared.registers.Regs.{Regs}
 use Rattle.proc_model.specs.Memory.{MemoryState}
-use Rattle.proc_rules.specs.declared.own.Own.{Own}
 use Rattle.proc_rules.specs.declared.record.Record.{Record}
-use Rattle.proc_rules.specs.Records.{IsLiving, is_living, record_of, record_at, record_passes, has_ended, new_record, with_record, with_regs}
-use Rattle.call_rules.specs.Inner.{Inner, no_own, own_at, regs_at, with_memory, with_regs_of, with_own}
+use Rattle.proc_rules.specs.Records.{IsLiving, record_of, record_at, record_passes, has_ended, new_record, with_record, with_regs}
+use Rattle.call_rules.specs.Inner.{Inner, regs_at, with_memory, with_regs_of}
 
 -- a process that lives has a place
 pub living-within : (records : List (Option Record)) (p : ℕ) → IsLiving records p → p < length records

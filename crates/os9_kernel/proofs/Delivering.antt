@@ -1,23 +1,21 @@
 -- What is left of a call and a signal when the routine of an intercept has begun.
-use Rattle.std.proofs.Common.{◌≡◌, ◌≢◌, ℕ, ◌+◌, ◌-◌, ◌<◌, ◌≤◌, ◌==◌, Bool, true, false, Option, Some, None, Result, Ok, Err, List, length, get_or, set, refl, sym, ap, ◌∙◌, subst, arith}
+use Rattle.std.proofs.Common.{◌≡◌, ◌≢◌, ℕ, ◌-◌, ◌<◌, ◌==◌, Bool, true, false, Option, Some, None, Result, Ok, Err, List, length, refl, sym, ap, ◌∙◌, subst, arith}
 use Rattle.std.specs.Prelude.{if◌then◌else◌}
 use Rattle.std.proofs.lemmas.List.{get_or-set_same, length-set}
 use Rattle.os9_base.specs.declared.call.CallEnd.{CallEnd}
-use Rattle.os9_base.specs.declared.call.CallEnd.TheVariants as CallEnd
 use Rattle.os9_base.specs.declared.errors.TheConstants.{E_PRCABT}
 use Rattle.os9_base.specs.declared.registers.Regs.{Regs}
 use Rattle.proc_rules.specs.declared.record.Intercept.{Intercept}
 use Rattle.proc_rules.specs.declared.own.Own.{Own}
 use Rattle.proc_rules.specs.declared.record.Life.TheVariants.{Running}
 use Rattle.proc_rules.specs.declared.record.Record.{Record}
-use Rattle.proc_rules.specs.Records.{record_at, is_waiting, with_record, with_regs, with_waiting}
+use Rattle.proc_rules.specs.Records.{record_at, is_waiting, with_regs}
 use Rattle.proc_rules.specs.Signals.{with_signal}
 use Rattle.call_rules.specs.Attempts.{goes_on}
 use Rattle.call_rules.specs.Delivery.{delivered, after_delivery, interrupted, routine_regs, interrupted_regs, with_frame, routine_begun, has_no_room, stack_top}
 use Rattle.call_rules.specs.Inner.{Inner, no_own, own_at, regs_at, with_records}
 use Rattle.call_rules.specs.Ready.{next_act, delivers}
 use Rattle.proc_state.specs.Delivery.{delivery_end as call_end}
-use Rattle.machine_model.specs.declared.ends.EventEnd.{EventEnd}
 use Rattle.machine_model.specs.declared.ends.EventEnd.TheVariants.{Ran, Ended}
 use Rattle.machine_model.specs.Event.{delivery_end}
 use Rattle.os9_kernel.proofs.Columns.{record-put}

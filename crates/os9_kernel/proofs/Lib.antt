@@ -3,7 +3,6 @@ mod Calling
 mod Columns
 mod Delivering
 mod Executing
-mod LineLemmas
 mod Lines
 mod Pending
 mod PutLemmas

@@ -1,5 +1,5 @@
 -- What the kernel answers for a line is what the machine answers.
-use Rattle.std.proofs.Common.{◌≡◌, ◌≢◌, ℕ, ◌<◌, Bool, true, false, Option, Some, None, List, length, refl, sym, ap, ◌∙◌, inl, inr, subst, arith}
+use Rattle.std.proofs.Common.{◌≡◌, ◌≢◌, ℕ, Bool, true, false, Option, Some, None, List, length, sym, ap, inl, inr, subst}
 use Rattle.std.specs.Prelude.{MatchBool, MatchOption, slice_get}
 use Rattle.os9_base.specs.declared.errors.TheConstants.{E_BPNUM, E_BPADDR, E_WRITE}
 use Rattle.os9_base.specs.declared.calls.TheConstants.{I_WRITLN}
@@ -12,7 +12,7 @@ use Rattle.call_rules.specs.CallResult.{CallResult, done, refused}
 use Rattle.call_rules.specs.Inner.{Inner, cells_at, regs_at, with_regs_of}
 use Rattle.proc_state.specs.Tie.{Represents as RepresentsProcesses}
 use Rattle.user_names.specs.UserLines.{line_at}
-use Rattle.machine_model.specs.Line.{shown, is_standard_path}
+use Rattle.machine_model.specs.Line.{is_standard_path}
 use Rattle.machine_model.specs.Line.{WritesLine, PutsLine}
 use Rattle.machine_model.specs.State.{State}
 use Rattle.os9_kernel.specs.declared.act.Act.TheVariants.{Attempt}
@@ -20,7 +20,7 @@ use Rattle.os9_kernel.specs.declared.kernel.Kernel.{Kernel}
 use Rattle.os9_kernel.specs.declared.line.LineEnd.{LineEnd}
 use Rattle.os9_kernel.specs.declared.line.LineEnd.TheVariants.{Written, Refused, NoMemory}
 use Rattle.os9_kernel.specs.Calls.{WantsMemory}
-use Rattle.os9_kernel.specs.Line.{IsLineAnswer, IsPut, HasByteToPut, HasLineEnd, PutsByte}
+use Rattle.os9_kernel.specs.Line.{IsLineAnswer, IsPut, HasByteToPut, HasLineEnd}
 use Rattle.os9_kernel.specs.Next.{DoesNext}
 use Rattle.os9_kernel.specs.Tie.{Represents}
 use Rattle.os9_kernel.proofs.Acting.{chosen-is, acts-so, terms-are}

@@ -1,14 +1,14 @@
 -- What is pending for the chosen process.
-use Rattle.std.proofs.Common.{◌≡◌, ℕ, ◌+◌, ◌*◌, ◌<◌, ◌≤◌, Bool, true, false, Option, Some, None, refl, sym, ap, ◌∙◌, subst, arith}
+use Rattle.std.proofs.Common.{◌≡◌, ℕ, ◌+◌, ◌*◌, ◌<◌, ◌≤◌, Bool, true, false, Option, Some, None, refl, ap, ◌∙◌, arith}
 use Rattle.std.specs.Prelude.{is_some, slice_index_or}
 use Rattle.os9_base.specs.declared.registers.Pid.{Pid}
 use Rattle.proc_rules.specs.Records.{record_at, is_waiting}
 use Rattle.call_rules.specs.Inner.{no_own}
 use Rattle.call_rules.specs.Ready.{attempts, delivers, next_act}
 use Rattle.proc_state.specs.declared.state.ProcState.{ProcState}
-use Rattle.os9_kernel.specs.declared.act.Act.TheVariants.{Attempt, Delivery, Instruction}
+use Rattle.os9_kernel.specs.declared.act.Act.TheVariants.{Attempt, Delivery}
 use Rattle.os9_kernel.specs.declared.kernel.Kernel.{Kernel}
-use Rattle.os9_kernel.specs.Next.{DoesNext, next_of}
+use Rattle.os9_kernel.specs.Next.{DoesNext}
 use Rattle.os9_kernel.specs.Tie.{one_if, pending, pending_of}
 
 at_most-one : (b : Bool) → one_if b ≤ 1

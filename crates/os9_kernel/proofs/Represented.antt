@@ -1,21 +1,16 @@
 -- What the processes of a kernel keep, since they represent those of a machine.
-use Rattle.std.proofs.Common.{◌≡◌, ℕ, ◌+◌, ◌*◌, ◌<◌, ◌≤◌, Bool, true, false, Option, Some, None, is_some, List, length, get_or, set, refl, sym, ap, ◌∙◌, arith}
-use Rattle.std.specs.Prelude.{slice_index_or, slice_set}
-use Rattle.std.specs.Vec.{vec_len}
+use Rattle.std.proofs.Common.{◌≡◌, ℕ, ◌<◌, false, None, List, length, get_or, set, refl, sym, ap, ◌∙◌, arith}
+use Rattle.std.specs.Prelude.{slice_index_or}
 use Rattle.std.proofs.lemmas.List.{get_or-set_same, length-set}
-use Rattle.os9_base.specs.declared.registers.Pid.{Pid}
 use Rattle.os9_base.specs.declared.registers.Regs.{Regs}
-use Rattle.os9_base.specs.declared.limits.TheConstants.{PROCESS_PLACES}
 use Rattle.proc_rules.specs.declared.own.Own.{Own}
-use Rattle.proc_rules.specs.Records.{record_at, is_waiting}
 use Rattle.call_rules.specs.Attempts.{goes_on}
 use Rattle.call_rules.specs.Inner.{Inner, no_own, own_at}
-use Rattle.call_rules.specs.Ready.{act_of, next_act}
+use Rattle.call_rules.specs.Ready.{act_of}
 use Rattle.proc_state.specs.declared.state.ProcState.{ProcState}
-use Rattle.proc_state.specs.Tie.{Represents, inner_of}
+use Rattle.proc_state.specs.Tie.{Represents}
 use Rattle.proc_state.proofs.Entered.{represented}
 use Rattle.os9_kernel.specs.Next.{next_of}
-use Rattle.os9_kernel.specs.Tie.{pending_of}
 
 -- all processes are those of some machine
 pub some-inner : (processes : ProcState) → (m : Inner) × Represents processes m

@@ -1,26 +1,20 @@
 -- Instructions that a process executes are events of the machine.
-use Rattle.std.proofs.Common.{◌≡◌, ◌≢◌, ℕ, zero, suc, ◌+◌, ◌-◌, ◌<◌, ◌≤◌, Option, Some, None, List, refl, sym, ap, ◌∙◌, subst, arith}
-use Rattle.os9_base.specs.declared.registers.Pid.{Pid}
+use Rattle.std.proofs.Common.{◌≡◌, ℕ, ◌+◌, ◌-◌, ◌<◌, ◌≤◌, Some, refl, sym, ap, ◌∙◌, subst, arith}
 use Rattle.os9_base.specs.declared.registers.Regs.{Regs}
-use Rattle.os9_outer.specs.TerminalState.{TerminalState}
-use Rattle.cpu_model.specs.declared.stop.Stop.{Stop}
-use Rattle.cpu_model.specs.declared.stop.Stop.TheVariants.{Next, Call, Abort}
 use Rattle.cpu_model.specs.Effects.{Effect}
-use Rattle.cpu_model.specs.Step.{Outcome, Done, Calls, Aborts, step_of}
+use Rattle.cpu_model.specs.Step.{Outcome, Done}
 use Rattle.proc_model.specs.Memory.{MemoryState}
 use Rattle.proc_model.specs.MemoryChanges.{written}
-use Rattle.proc_rules.specs.declared.record.Record.{Record}
 use Rattle.proc_rules.specs.Records.{IsLiving, record_at, is_waiting}
-use Rattle.call_rules.specs.End.{ended}
-use Rattle.call_rules.specs.Inner.{Inner, own_at, regs_at, cells_at, with_memory, with_regs_of, with_own}
+use Rattle.call_rules.specs.Inner.{Inner, own_at, regs_at}
 use Rattle.call_rules.specs.Ready.{Act as MachineAct, executes, act_of, next_act}
 use Rattle.machine_model.specs.declared.ends.EventEnd.{EventEnd}
-use Rattle.machine_model.specs.declared.ends.EventEnd.TheVariants.{Ran, Ended}
+use Rattle.machine_model.specs.declared.ends.EventEnd.TheVariants.{Ran}
 use Rattle.machine_model.specs.Event.{Acts, Event, cost, next_instruction, after_instruction, instruction_end}
 use Rattle.machine_model.specs.State.{State}
 use Rattle.os9_kernel.specs.Slice.{Events, last, more}
 use Rattle.os9_kernel.proofs.Executing.{AreDone, none, first, next_outcome}
-use Rattle.os9_kernel.proofs.Columns.{inner_at, inner_at-same, inner_at-then, inner_at-regs, lives-set, regs-set, living-within, record-put}
+use Rattle.os9_kernel.proofs.Columns.{inner_at, inner_at-same, inner_at-then, inner_at-regs, lives-set, living-within, record-put}
 
 -- ---- a process that was chosen and executes an instruction next, with other memory and registers
 

@@ -1,5 +1,5 @@
 -- What a run of instructions comes to for the machine.
-use Rattle.std.proofs.Common.{◌≡◌, ℕ, ◌+◌, ◌-◌, ◌<◌, ◌≤◌, Option, Some, None, List, refl, sym, ap, ◌∙◌, subst, arith}
+use Rattle.std.proofs.Common.{◌≡◌, ℕ, ◌+◌, ◌-◌, ◌<◌, Some, refl, sym, subst, arith}
 use Rattle.os9_base.specs.declared.registers.Regs.{Regs}
 use Rattle.cpu_model.specs.declared.stop.Stop.{Stop}
 use Rattle.cpu_model.specs.declared.stop.Stop.TheVariants.{Next, Call, Abort}

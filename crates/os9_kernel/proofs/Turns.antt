@@ -1,11 +1,9 @@
 -- Turns, one after another, make a slice.
-use Rattle.std.proofs.Common.{◌≡◌, ◌≢◌, ℕ, ◌+◌, ◌-◌, ◌*◌, ◌<◌, ◌≤◌, Bool, true, false, Option, Some, None, List, [], ◌∷◌, refl, sym, ap, ◌∙◌, subst, arith}
+use Rattle.std.proofs.Common.{◌≡◌, ℕ, ◌+◌, ◌-◌, ◌<◌, false, Option, Some, None, List, [], ◌∷◌, refl, sym, ◌∙◌, subst, arith}
 use Rattle.std.specs.Prelude.{MatchOption}
 use Rattle.os9_base.specs.declared.registers.Pid.{Pid}
 use Rattle.os9_outer.specs.TerminalState.{TerminalState}
 use Rattle.machine_model.specs.declared.ends.EventEnd.{EventEnd}
-use Rattle.machine_model.specs.declared.ends.EventEnd.TheVariants as EventEnd
-use Rattle.machine_model.specs.declared.ends.SliceEnd.{SliceEnd}
 use Rattle.machine_model.specs.declared.ends.SliceEnd.TheVariants.{Idle, Ran}
 use Rattle.machine_model.specs.Event.{Event, cost, cost_of}
 use Rattle.machine_model.specs.Run.{Steps, FirstSteps, Slice, Tick, Choose, is_going}
@@ -15,7 +13,7 @@ use Rattle.os9_kernel.specs.declared.kernel.Kernel.{Kernel}
 use Rattle.os9_kernel.specs.Calls.{HasEvent}
 use Rattle.os9_kernel.specs.Next.{DoesNext, HasTurn, act_in_machine}
 use Rattle.os9_kernel.specs.Slice.{Events, last, more, ContinuesFrom, BeginsFrom}
-use Rattle.os9_kernel.specs.Tie.{Represents, pending}
+use Rattle.os9_kernel.specs.Tie.{pending}
 use Rattle.os9_kernel.proofs.Acting.{cost-is}
 
 -- an event that costs nothing is a turn

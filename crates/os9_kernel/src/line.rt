@@ -28,27 +28,6 @@ pub enum LineEnd {
     NoMemory,
 }
 
-/// Reads the bytes from an address on, up to and with the first carriage return, but at most
-/// `most`, into the front of a buffer, and answers how many they are; None where one of them is in
-/// no named slot or past `FFFF`.
-fn read_line(memory: &Memory, p: Pid, at: u16, most: u16, into: &mut [u8]) -> Option<usize>
-    requires process { p.0 < 33 }
-    requires room { most ≤ length into.old }
-    ensures none { IfNone result (line_at (cells_of memory.now p.0) at most ≡ None) }
-    ensures some { IfSome result (λ count. line_at (cells_of memory.now p.0) at most
-        ≡ Some (take count into.new)) }
-    ensures short { IfSome result (λ count. count ≤ most) }
-{
-    for count in 0..most {
-        let byte = memory.byte(p, at, count)?;
-        into[count as usize] = byte;
-        if byte == RETURN {
-            return Some(count as usize + 1);
-        }
-    }
-    Some(most as usize)
-}
-
 /// Puts the line on TERM, and a line feed behind the carriage return at its end.
 fn put_line(devices: &mut Devices, line: &[u8]) -> Result<(), PutFault>
     requires { 0 < vec_len devices.old.terms }
@@ -100,7 +79,7 @@ pub fn write_line(
     ensures terminals { vec_len devices.new.terms ≡ vec_len devices.old.terms }
     ensures drives_kept { devices.new.drives ≡ devices.old.drives }
 {
-    let Some(count) = read_line(memory, p, regs.x, regs.y, buffer) else {
+    let Some(count) = memory.read_line(p, regs.x, regs.y, buffer) else {
         return LineEnd::Refused(E_BPADDR);
     };
     if regs.a > 2 {

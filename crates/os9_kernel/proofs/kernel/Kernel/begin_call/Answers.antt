@@ -1,6 +1,5 @@
-use Rattle.std.proofs.Common.{Some, refl, subst}
-use Rattle.proc_rules.specs.declared.own.Own.{Own}
-use Rattle.call_rules.specs.Inner.{Inner, own_at, with_own}
+use Rattle.std.proofs.Common.{refl}
+use Rattle.call_rules.specs.Inner.{Inner, with_own}
 use Rattle.os9_kernel.proofs.Represented.{tick-kept}
 use Rattle.os9_kernel.proofs.kernel.Kernel.begin_call.Goals as goal
 

@@ -4,7 +4,6 @@ use Rattle.call_rules.specs.Choice.{choice_of, after_choice}
 use Rattle.call_rules.specs.IoReady.{has_io}
 use Rattle.call_rules.specs.Ready.{no_io}
 use Rattle.proc_state.specs.Tie.{Represents as RepresentsProcesses}
-use Rattle.machine_model.specs.State.{State}
 use Rattle.os9_kernel.proofs.Represented.{tick-kept}
 use Rattle.os9_kernel.proofs.kernel.Kernel.choose.Goals as goal
 

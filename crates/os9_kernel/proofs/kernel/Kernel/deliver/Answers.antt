@@ -1,7 +1,5 @@
-use Rattle.std.proofs.Common.{◌≡◌, ◌<◌, ℕ, Option, Some, false, None, List, length, refl, sym, ap, ◌∙◌, subst, arith}
+use Rattle.std.proofs.Common.{◌≡◌, ◌<◌, ℕ, Some, false, None, length, refl, sym, ap, ◌∙◌, subst, arith}
 use Rattle.std.specs.Prelude.{slice_index_or}
-use Rattle.os9_base.specs.declared.call.CallEnd.TheVariants as CallEnd
-use Rattle.proc_rules.specs.declared.own.Own.{Own}
 use Rattle.proc_rules.specs.Records.{IsLiving, record_at, is_waiting}
 use Rattle.call_rules.specs.Delivery.{delivered, after_delivery}
 use Rattle.call_rules.specs.Inner.{Inner, no_own, own_at}
@@ -14,7 +12,7 @@ use Rattle.os9_kernel.proofs.Represented.{some-inner, tick-kept}
 use Rattle.os9_kernel.proofs.kernel.Kernel.deliver.Goals as goal
 use Rattle.os9_kernel.proofs.kernel.Kernel.deliver.Goals.{After-deliver}
 use Rattle.proc_state.specs.Tie.{Represents as RepresentsProcesses}
-use Rattle.std.proofs.Common.{Ok, Result}
+use Rattle.std.proofs.Common.{Result}
 
 -- the signal is pending in the machine
 signal_in : (c : After-deliver) (m : Inner) → RepresentsProcesses c.args.self.now.processes m → (record_at m.records c.args.p.0).signal ≡ Some c.args.signal

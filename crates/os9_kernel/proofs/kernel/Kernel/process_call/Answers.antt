@@ -1,4 +1,4 @@
-use Rattle.std.proofs.Common.{◌≡◌, ℕ, refl, sym, ap, ◌∙◌, subst}
+use Rattle.std.proofs.Common.{refl, sym, ap, ◌∙◌, subst}
 use Rattle.call_rules.specs.Attempts.{attempted, after_attempt}
 use Rattle.call_rules.specs.Inner.{Inner}
 use Rattle.os9_kernel.specs.declared.act.Act.TheVariants.{Attempt}

@@ -1,8 +1,8 @@
-use Rattle.std.proofs.Common.{◌≡◌, ℕ, Some, refl, sym, ap, ◌∙◌}
+use Rattle.std.proofs.Common.{◌≡◌, refl, sym, ap, ◌∙◌}
 use Rattle.os9_base.specs.declared.calls.TheConstants.{I_WRITLN}
 use Rattle.os9_base.specs.declared.registers.Regs.{Regs}
 use Rattle.call_rules.specs.Attempts.{after_attempt, goes_on, done_regs, refused_regs}
-use Rattle.call_rules.specs.CallResult.{CallResult, done, refused}
+use Rattle.call_rules.specs.CallResult.{done, refused}
 use Rattle.call_rules.specs.Inner.{Inner, regs_at, with_regs_of}
 use Rattle.os9_kernel.specs.declared.act.Act.TheVariants.{Attempt}
 use Rattle.os9_kernel.specs.declared.line.LineEnd.TheVariants.{Written, Refused, NoMemory}
