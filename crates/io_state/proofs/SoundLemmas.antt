@@ -1,16 +1,19 @@
 -- What paths are opened on: at the start, and after paths and pipes go.
-use Rattle.std.proofs.Common.{◌≡◌, ◌≢◌, ℕ, Bool, true, false, Option, Some, None, IsSome, option_map, List, length, get_or, set, replicate, inl, inr, sym, ap, refl, ◌∙◌, subst, arith, if◌then◌else◌}
-use Rattle.std.proofs.lemmas.Bool.{cases_eq, cases_lt}
+use Rattle.std.proofs.Common.{◌≡◌, ◌≢◌, ◌<◌, ◌⊎◌, [], ◌∷◌, length-drop, ℕ, Bool, true, false, Option, Some, None, IsSome, option_map, List, length, get_or, set, replicate, inl, inr, sym, ap, refl, ◌∙◌, subst, arith, if◌then◌else◌, ◌+◌, is_none, drop, nat_lt, cond}
+use Rattle.std.specs.List.{position_or_len}
+use Rattle.std.specs.Option.{option_map_or}
+use Rattle.std.proofs.lemmas.Grind.{get_or_after_one}
+use Rattle.std.proofs.lemmas.Bool.{cases_eq, cases_lt, ltb-true}
 use Rattle.std.proofs.lemmas.List.{length-set, length-replicate, get_or-set_same, get_or-set_other, get_or_past, get_or-replicate}
 use Rattle.io_model.specs.declared.path.Desc.{Desc}
 use Rattle.io_model.specs.Terminal.{Terminal, new_terminal}
 use Rattle.io_model.specs.declared.kept.Kept.{Kept}
 use Rattle.io_model.specs.declared.path.Target.{Target}
-use Rattle.io_model.specs.declared.path.Target.TheVariants.{Term, Pipe}
-use Rattle.io_model.specs.Path.{PathTable, desc_of, with_desc, with_slot, path_at, is_held, paths_after_close, closed_desc}
-use Rattle.io_model.specs.Pipe.{IsPipe, without_pipe}
+use Rattle.io_model.specs.declared.path.Target.TheVariants.{File, Folder, Term, Pipe}
+use Rattle.io_model.specs.Path.{PathTable, desc_of, with_desc, with_slot, path_at, is_held, paths_after_close, paths_after_begin, with_path, free_number, free_path, closed_desc}
+use Rattle.io_model.specs.Pipe.{IsPipe, pipe_of, with_pipe, without_pipe, free_pipe, pipes_after_begin}
 use Rattle.io_rules.specs.Io.{Io, first_paths, new_desc, with_paths, with_pipes}
-use Rattle.io_state.specs.Sound.{target_at, AreTargets, IsIo}
+use Rattle.io_state.specs.Sound.{target_at, AreTargets, IsIo, IsThere, opened_on}
 
 abbrev nothing : {X : Type 0} → Option X
 nothing = None
@@ -110,3 +113,130 @@ is-first paths terminals pipes calls first new places = record {
   where
     at-first : (t : ℕ) (x : Target) → target_at paths t ≡ Some x → x ≡ Term 0
     at-first t x e = first-target t x (sym (ap (λ (paths : PathTable). target_at paths t) first) ∙ e)
+
+-- a path that is opened is one that was there, or the new one
+opened-target : (paths : PathTable) (s t : ℕ) (desc : Desc) (x : Target) → target_at (with_desc paths s (Some desc)) t ≡ Some x → ((t ≡ s) × (desc.target ≡ x)) ⊎ (target_at paths t ≡ Some x)
+opened-target paths s t desc x e = elim (cases_eq t s) [
+  | inl same ↦ elim (cases_lt s (length paths.descs)) [
+    | inl within ↦ inl (same, (let there : Some desc.target ≡ Some x = sym (ap (option_map (λ (d : Desc). d.target)) (ap (λ (k : ℕ). get_or (set paths.descs s (Some desc)) k None) same ∙ get_or-set_same paths.descs s (Some desc) None within)) ∙ e in cc))
+    | inr past ↦ absurd (none-some x (sym (ap (option_map (λ (d : Desc). d.target)) (get_or_past (set paths.descs s (Some desc)) t None (omega (arith, same, length-set paths.descs s (Some desc))))) ∙ e))
+  ]
+  | inr differ ↦ inr (sym (ap (option_map (λ (d : Desc). d.target)) (get_or-set_other paths.descs s t (Some desc) None differ)) ∙ e)
+]
+
+-- a path may be opened on this: it is there, and no path was opened on this pipe
+pub record MayOpen (io : Io) (desc : Desc) : Type 0 where
+  pub pipe : (n : ℕ) → desc.target ≡ Pipe n → IsPipe io.pipes n
+  pub fresh : (s n : ℕ) → desc.target ≡ Pipe n → target_at io.paths s ≡ Some (Pipe n) → ⊥
+  pub terminal : (n : ℕ) → desc.target ≡ Term n → n < 4
+
+are-opened : (io : Io) (s : ℕ) (desc : Desc) → MayOpen io desc → AreTargets io → AreTargets (with_paths io (with_desc io.paths s (Some desc)))
+are-opened io s desc may are = record {
+  pipes = λ t n e. elim (opened-target io.paths s t desc (Pipe n) e) [
+    | inl new ↦ may.pipe n new.1
+    | inr old ↦ are.pipes t n old
+  ];
+  one_path = λ t u n e f. elim (opened-target io.paths s t desc (Pipe n) e) [
+    | inl new ↦ elim (opened-target io.paths s u desc (Pipe n) f) [
+      | inl too ↦ new.0 ∙ sym too.0
+      | inr old ↦ absurd (may.fresh u n new.1 old)
+    ]
+    | inr old ↦ elim (opened-target io.paths s u desc (Pipe n) f) [
+      | inl new ↦ absurd (may.fresh t n new.1 old)
+      | inr too ↦ are.one_path t u n old too
+    ]
+  ];
+  terminals = λ t n e. elim (opened-target io.paths s t desc (Term n) e) [
+    | inl new ↦ may.terminal n new.1
+    | inr old ↦ are.terminals t n old
+  ];
+}
+
+begun-by : (io : Io) (p : ℕ) (desc : Desc) (number path : Option ℕ) → MayOpen io desc → AreTargets io → AreTargets (with_paths io (option_map_or (λ n. option_map_or (with_path io.paths p desc n) path io.paths) number io.paths))
+begun-by io p desc None path may are = are
+begun-by io p desc (Some n) None may are = are
+begun-by io p desc (Some n) (Some s) may are =
+    let opened = are-opened io s desc may are in
+    record { pipes = opened.pipes; one_path = opened.one_path; terminals = opened.terminals }
+
+-- after a path was opened
+pub are-begun : (io : Io) (p : ℕ) (desc : Desc) → MayOpen io desc → AreTargets io → AreTargets (with_paths io (paths_after_begin io.paths p desc))
+are-begun io p desc may are = begun-by io p desc (free_number io.paths p) (free_path io.paths) may are
+
+-- a path may be opened on a terminal
+pub may-open_terminal : (io : Io) (desc : Desc) (terminal : ℕ) → desc.target ≡ Term terminal → terminal < 4 → MayOpen io desc
+may-open_terminal io desc terminal on within = record {
+  pipe = λ n e. absurd (let x : Term terminal ≡ Pipe n = sym on ∙ e in cc);
+  fresh = λ s n e. absurd (let x : Term terminal ≡ Pipe n = sym on ∙ e in cc);
+  terminal = λ n e. (let x : Term terminal ≡ Term n = sym on ∙ e in let y : terminal ≡ n = cc in omega (arith, y, within));
+}
+
+-- what a path is opened on is there
+pub is-there : (io : Io) (s : ℕ) (x : Target) → target_at io.paths s ≡ Some x → AreTargets io → IsThere io x
+is-there io s (File drive sector) e are = tt
+is-there io s (Folder drive sector) e are = tt
+is-there io s (Term terminal) e are = are.terminals s terminal e
+is-there io s (Pipe pipe) e are = are.pipes s pipe e
+
+-- the first place that has nothing
+first-free : (pipes : List (Option (List ℕ))) → get_or pipes (position_or_len is_none pipes) None ≡ None
+first-free [] = refl
+first-free (None ∷ pipes) = refl
+first-free (Some bytes ∷ pipes) =
+    sym (get_or_after_one (Some bytes ∷ pipes) (position_or_len is_none pipes) None) ∙ first-free pipes
+
+free-by : (pipes : List (Option (List ℕ))) (j k : ℕ) (found : Bool) → get_or (drop 1 pipes) j None ≡ None → option_map (λ (k : ℕ). k + 1) (cond found (Some j) None) ≡ Some k → pipe_of pipes k ≡ None
+free-by pipes j k true free e =
+    let at : j + 1 ≡ k = (let some : Some (j + 1) ≡ Some k = e in cc) in
+    ap (λ (i : ℕ). get_or pipes i None) (omega (arith, at)) ∙ (sym (get_or_after_one pipes j None) ∙ free)
+free-by pipes j k false free e = absurd (none-some k e)
+
+-- a free number is no pipe's
+pub free-pipe : (pipes : List (Option (List ℕ))) (k : ℕ) → free_pipe pipes ≡ Some k → pipe_of pipes k ≡ None
+free-pipe pipes k e =
+    free-by pipes (position_or_len is_none (drop 1 pipes)) k (nat_lt (position_or_len is_none (drop 1 pipes)) (length (drop 1 pipes))) (first-free (drop 1 pipes)) e
+
+within-by : (pipes : List (Option (List ℕ))) (j k : ℕ) (found : Bool) → nat_lt j (length (drop 1 pipes)) ≡ found → option_map (λ (k : ℕ). k + 1) (cond found (Some j) None) ≡ Some k → k < length pipes
+within-by pipes j k true there e =
+    let at : j + 1 ≡ k = (let some : Some (j + 1) ≡ Some k = e in cc) in
+    omega (arith, at, ltb-true j (length (drop 1 pipes)) there, length-drop 1 pipes)
+within-by pipes j k false there e = absurd (none-some k e)
+
+free-within : (pipes : List (Option (List ℕ))) (k : ℕ) → free_pipe pipes ≡ Some k → k < length pipes
+free-within pipes k e =
+    within-by pipes (position_or_len is_none (drop 1 pipes)) k (nat_lt (position_or_len is_none (drop 1 pipes)) (length (drop 1 pipes))) refl e
+
+-- a free number is not that of a pipe that is there
+not-free : (pipes : List (Option (List ℕ))) (k n : ℕ) → pipe_of pipes k ≡ None → n ≡ k → IsPipe pipes n → ⊥
+not-free pipes k n free same is =
+    let none : IsSome {T = List ℕ} None =
+    subst (λ (o : Option (List ℕ)). IsSome o) (ap (λ (i : ℕ). get_or pipes i None) same ∙ free) is
+    in cc
+
+-- the pipes with a new one
+are-with_pipe : (io : Io) (k : ℕ) → pipe_of io.pipes k ≡ None → AreTargets io → AreTargets (with_pipes io (with_pipe io.pipes k []))
+are-with_pipe io k free are = record {
+  pipes = λ t n e.
+      subst (λ (o : Option (List ℕ)). IsSome o) (sym (get_or-set_other io.pipes k n (Some []) None (λ same. not-free io.pipes k n free same (are.pipes t n e)))) (are.pipes t n e);
+  one_path = are.one_path;
+  terminals = are.terminals;
+}
+
+-- a path may be opened on a new pipe
+may-open_pipe : (io : Io) (k mode : ℕ) → pipe_of io.pipes k ≡ None → k < length io.pipes → AreTargets io → MayOpen (with_pipes io (with_pipe io.pipes k [])) (new_desc (Pipe k) mode)
+may-open_pipe io k mode free within are = record {
+  pipe = λ n e.
+      let same : n ≡ k = (let x : Pipe k ≡ Pipe n = e in cc) in
+      subst (λ (o : Option (List ℕ)). IsSome o) (sym (ap (λ (i : ℕ). get_or (set io.pipes k (Some [])) i None) same ∙ get_or-set_same io.pipes k (Some []) None within)) refl;
+  fresh = λ s n e old.
+      let same : n ≡ k = (let x : Pipe k ≡ Pipe n = e in cc) in
+      not-free io.pipes k n free same (are.pipes s n old);
+  terminal = λ n e. absurd (let x : Pipe k ≡ Term n = e in cc);
+}
+
+-- after a path was opened on a new pipe
+pub are-opened_on : (io : Io) (p mode k : ℕ) → free_pipe io.pipes ≡ Some k → AreTargets io → AreTargets (opened_on io p mode k)
+are-opened_on io p mode k e are =
+    let free = free-pipe io.pipes k e in
+    let begun : with_pipe io.pipes k [] ≡ pipes_after_begin io.pipes = ap (λ (o : Option ℕ). option_map_or (λ number. with_pipe io.pipes number []) o io.pipes) (sym e) in
+    subst (λ (pipes : List (Option (List ℕ))). AreTargets (with_paths (with_pipes io pipes) (paths_after_begin io.paths p (new_desc (Pipe k) mode)))) begun (are-begun (with_pipes io (with_pipe io.pipes k [])) p (new_desc (Pipe k) mode) (may-open_pipe io k mode free (free-within io.pipes k e) are) (are-with_pipe io k free are))

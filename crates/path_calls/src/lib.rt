@@ -1,5 +1,7 @@
-//! The calls on paths that reach no device: numbers are opened, doubled and closed, and asked for
-//! their status.
+//! The calls on paths that reach no device: numbers are doubled and closed, and asked for their
+//! status.
 #![tactic(auto)]
 
+mod ends;
 pub mod numbers;
+pub mod status;

@@ -12,6 +12,7 @@ ghost use Rattle.io_state.specs.Attempt.{Attempts};
 ghost use Rattle.path_calls.specs.Quiet.{Ends};
 ghost use Rattle.proc_state.specs.Tie.{Represents};
 
+use crate::ends::{answer, refuse};
 use io_model::path::PathsFull;
 use io_state::state::IoState;
 use os9_base::call::CallEnd;
@@ -44,18 +45,40 @@ fn double(s: &mut ProcState, io: &mut IoState, p: Pid) -> CallEnd
 {
     let regs = s.regs(p);
     if io.slot(p, regs.a).is_none() {
-        io.keep(p, None);
-        return CallEnd::Error(E_BPNUM);
+        return refuse(io, p, E_BPNUM);
     }
     match io.dup(p, regs.a) {
-        Err(PathsFull) => {
-            io.keep(p, None);
-            CallEnd::Error(E_PTHFUL)
-        }
-        Ok(a) => {
-            io.keep(p, None);
-            s.set_regs(p, Regs { a, ..regs });
-            CallEnd::Done
-        }
+        Err(PathsFull) => refuse(io, p, E_PTHFUL),
+        Ok(a) => answer(s, io, p, Regs { a, ..regs }),
     }
+}
+
+/// I$Close: closes a path number (System Programmer's Manual, I$Close). Takes the number in A, which
+/// is free then. The path goes with its last number, and a pipe with its path.
+///
+/// # Errors
+///
+/// E$BPNum exactly if the number names no path. Nothing has changed then.
+pub fn i_close(s: &mut ProcState, io: &mut IoState, p: Pid) -> CallEnd
+    requires lives { IsLiving s.old.table p.0 }
+    ensures call { (m : Inner) (drives : ℕ) (terms : List TerminalState) → Represents s.old m
+        → Attempts Call.Close m io.old drives p.0 result s.new io.new terms terms }
+    ensures lives { IsLiving s.new.table p.0 }
+{
+    close(s, io, p)
+}
+
+/// Closes the path number in A.
+fn close(s: &mut ProcState, io: &mut IoState, p: Pid) -> CallEnd
+    requires lives { IsLiving s.old.table p.0 }
+    ensures call { (m : Inner) → Represents s.old m
+        → Ends (i_close_lem (caller_of m p.0) io.old) m io.old p.0 result s.new io.new }
+    ensures lives { IsLiving s.new.table p.0 }
+{
+    let regs = s.regs(p);
+    if io.slot(p, regs.a).is_none() {
+        return refuse(io, p, E_BPNUM);
+    }
+    io.close(p, regs.a);
+    answer(s, io, p, regs)
 }

@@ -1,0 +1,35 @@
+//! How calls end.
+
+ghost use Rattle.std.specs.Prelude.{◌≡◌, ◌<◌, None};
+ghost use Rattle.io_rules.specs.Io.{with_call};
+ghost use Rattle.proc_rules.specs.Records.{IsLiving};
+ghost use Rattle.call_rules.specs.Inner.{Inner, with_regs_of};
+ghost use Rattle.proc_state.specs.Tie.{Represents};
+
+use io_state::state::IoState;
+use os9_base::call::CallEnd;
+use os9_base::registers::{Pid, Regs};
+use proc_state::state::ProcState;
+
+/// The call is refused with this number. Nothing is kept of it.
+pub(crate) fn refuse(io: &mut IoState, p: Pid, number: u8) -> CallEnd
+    requires { p.0 < 33 }
+    ensures end { result ≡ CallEnd.Error number }
+    ensures io { io.new ≡ with_call io.old p.0 None }
+{
+    io.keep(p, None);
+    CallEnd::Error(number)
+}
+
+/// The call is done, and its process has these registers. Nothing is kept of it.
+pub(crate) fn answer(s: &mut ProcState, io: &mut IoState, p: Pid, regs: Regs) -> CallEnd
+    requires { IsLiving s.old.table p.0 }
+    ensures end { result ≡ CallEnd.Done }
+    ensures tied { (m : Inner) → Represents s.old m → Represents s.new (with_regs_of m p.0 regs) }
+    ensures io { io.new ≡ with_call io.old p.0 None }
+    ensures lives { IsLiving s.new.table p.0 }
+{
+    s.set_regs(p, regs);
+    io.keep(p, None);
+    CallEnd::Done
+}
