@@ -1,0 +1,53 @@
+ghost use Rattle.std.specs.Prelude.{◌≡◌, ◌+◌, ◌<◌};
+ghost use Rattle.rbf_access.specs.Drive.{Counts};
+ghost use Rattle.rbf_access.specs.Mounted.{HasFile, IsMounted};
+ghost use Rattle.rbf_access.specs.Reading.{OnFile};
+ghost use Rattle.rbf_walk.specs.Walk.{directory_fault};
+ghost use Rattle.rbf_update.specs.Deletions.{OnNumbered};
+ghost use Rattle.rbf_append.specs.Entering.{AnswersEntering};
+ghost use Rattle.rbf_make.specs.Places.{place_calls};
+ghost use Rattle.rbf_creation.specs.Creating.{request, more_calls};
+
+use crate::placed::create_at;
+use os9_base::name::Name;
+use os9_base::registers::TimePacket;
+use os9_outer::drive::BlockDriver;
+use rbf_access::Volume;
+use rbf_make::find_place;
+use rbf_walk::DirError;
+
+/// Creates a file without contents in a directory, for a user, and answers the number of its
+/// descriptor (OS-9 Technical Reference, I$Create). Its entry goes into the first free place of the
+/// directory, or behind the last entry, and is there by the last sector that is written.
+///
+/// # Errors
+///
+/// In this order: `BadPath` for the names `.` and `..`, before any access of the drive; `NotAllowed`
+/// if the user may not search or may not write the directory; `Exists` if the name is there;
+/// `NoCluster` if fewer clusters are free than the file and its entry need; `TooManyRuns` if the
+/// directory needs a cluster and has all its segments already. Then nothing has changed. `Device` if
+/// an access of the drive fails: then the tree is as it was, and clusters may be lost.
+pub fn create(
+    v: &mut Volume,
+    d: &mut dyn BlockDriver,
+    dir: u32,
+    name: &Name,
+    attr: u8,
+    user: u16,
+    execute: bool,
+    now: TimePacket,
+) -> Result<u32, DirError>
+    requires mounted { IsMounted v.old (media d.old) }
+    requires file { HasFile (media d.old) dir }
+    requires attributes { attr < 128 }
+    ensures answer { OnNumbered (media d.old) dir (λ on file. AnswersEntering on file
+        (request dir name.now attr user execute now) (media d.old) (media d.new) result) }
+    ensures mounted { IsMounted v.new (media d.new) }
+    ensures counts { OnFile (media d.old) dir (λ file. Counts ⟦<dyn BlockDriver as BlockDriver>⟧
+        (directory_fault result) (place_calls file name.now user execute + more_calls result)
+        d.old d.new) }
+{
+    let place = find_place(v, d, dir, name, user, execute)?;
+    let n = create_at(v, d, dir, place, name, attr, user, now)?;
+    Ok(n)
+}
