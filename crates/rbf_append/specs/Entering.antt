@@ -77,8 +77,8 @@ pub record IsEnteredOn (v : DiskVolume) (dir : DiskFile) (e : Entering) (old new
   pub kept_list : KeepsListEnd (sector image e.directory) (sector now e.directory)
   pub end : KeepsMapEnd image now (λ _. false)
 
--- a fault came when a new file and its directory had begun to take clusters: the tree is as it was, and the clusters may
--- be lost
+-- a fault came when a new file and its directory had begun to take clusters: the tree is as it was, and the clusters
+-- may be lost
 pub record EnteringTook (v : DiskVolume) (dir : DiskFile) (e : Entering) (old new : Option (List ℕ)) : Type 0 where
   pub image : List ℕ
   pub now : List ℕ
