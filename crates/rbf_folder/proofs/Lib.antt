@@ -3,3 +3,6 @@ pub mod Space
 pub mod Stores
 pub mod Making
 pub mod Named
+pub mod Last
+pub mod LastPlace
+pub mod Answering

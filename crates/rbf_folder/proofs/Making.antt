@@ -43,7 +43,7 @@ use Rattle.rbf_sector.specs.declared.fd.Fd.{Fd}
 use Rattle.rbf_update.proofs.Stored.{IsStored}
 use Rattle.rbf_create.specs.Described.{IsReadAs}
 use Rattle.rbf_create.proofs.NewDescriptor.{same_file}
-use Rattle.rbf_folder.specs.Made.{own_sectors, first_sector, IsFolderMade, FolderEnds, MakesFolder}
+use Rattle.rbf_folder.specs.Made.{own_sectors, first_sector, ClustersTaken, IsFolderMade, FolderEnds, MakesFolder}
 use Rattle.rbf_folder.proofs.Entries.{new_directory_is, sector_front, sector_whole}
 use Rattle.rbf_folder.proofs.Space.{IsSpace, space_of, run_of, some_sector, few_needed}
 use Rattle.rbf_folder.proofs.Stores.{placed, on_drive, image_then, here, beside, shape_then, marks_then, vol_then, now_is, on_then, stored}
@@ -155,11 +155,11 @@ module _ (media : Option (List ℕ)) (v : DiskVolume) (on : Represents media v) 
   number_own : has (n ∷ sectors_of (run_of k first)) n ≡ true
   number_own = or_left (n == n) (has (sectors_of (run_of k first)) n) (eq-eqb n n refl)
 
+  first_in : has (sectors_of (run_of k first)) first ≡ true
+  first_in = let s = starts k first (positive_of media v on) in ap (λ xs. has xs first) s.1 ∙ or_left (first == first) (has s.0 first) (eq-eqb first first refl)
+
   first_own : has (n ∷ sectors_of (run_of k first)) first ≡ true
-  first_own =
-      let s = starts k first (positive_of media v on) in
-      or_right (n == first) (has (sectors_of (run_of k first)) first)
-      (ap (λ xs. has xs first) s.1 ∙ or_left (first == first) (has s.0 first) (eq-eqb first first refl))
+  first_own = or_right (n == first) (has (sectors_of (run_of k first)) first) first_in
 
   pub number_taken : has taken (n / k) ≡ true
   number_taken = space.inside n number_own
@@ -252,6 +252,15 @@ module _ (media : Option (List ℕ)) (v : DiskVolume) (on : Represents media v) 
       let most = on.vol.header.header.most in
       omega arith
 
+  pub takes_all : ClustersTaken v n file
+  takes_all = record {
+    clusters = taken;
+    are = cluster_is;
+    counted = chosen.counted;
+    free = taken_free;
+    some = ap (λ s. has (sectors_of (run_of k first)) s) (first_is k first (positive_of media v on)) ∙ first_in;
+  }
+
   -- the clusters could not all be taken
   pub untaken : (mid : Option (List ℕ)) (ends : GrowthEnds v (file_clusters k 64) media mid []) → ends.taken ≡ taken → FolderEnds v plan media mid
   untaken mid ends same = record {
@@ -262,6 +271,7 @@ module _ (media : Option (List ℕ)) (v : DiskVolume) (on : Represents media v) 
     number = n;
     file = file;
     chosen = new_file;
+    takes = takes_all;
     left = ends.left;
     vol = ends.vol;
     lose = lose_as ends.left (subst (λ xs. MayLose v ends.left (has xs)) same ends.lose);
@@ -330,6 +340,7 @@ module _ (media mid : Option (List ℕ)) (v : DiskVolume) (on : Represents media
     number = number;
     file = folder;
     chosen = new_file media v on parent attr owner now grown.taken grown.chosen;
+    takes = takes_all media v on parent attr owner now grown.taken grown.chosen;
     left = u;
     vol = grown.vol;
     lose = lose_as media v on parent attr owner now grown.taken grown.chosen u grown_loses;
@@ -370,6 +381,7 @@ module _ (media mid : Option (List ℕ)) (v : DiskVolume) (on : Represents media
       number = number;
       file = folder;
       chosen = new_file media v on parent attr owner now grown.taken grown.chosen;
+      takes = takes_all media v on parent attr owner now grown.taken grown.chosen;
       left = u;
       vol = vol_then mid u on_mid start start_lost one one_whole;
       lose = lose_as media v on parent attr owner now grown.taken grown.chosen u grown_loses;
@@ -473,7 +485,7 @@ module _ (media mid : Option (List ℕ)) (v : DiskVolume) (on : Represents media
           rest = subst IsNewList (sym number_here) rest;
           volume = refl;
         };
-        fresh = cluster_free media v on parent attr owner now grown.taken grown.chosen;
+        takes = takes_all media v on parent attr owner now grown.taken grown.chosen;
         ready = ready;
         writes = record {
           first_is = ap (sector image2) first_name ∙ start_here;

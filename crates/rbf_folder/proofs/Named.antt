@@ -7,7 +7,7 @@ use Rattle.rbf_model.specs.Fields.{size_field}
 use Rattle.rbf_model.specs.File.{DiskFile}
 use Rattle.rbf_model.specs.Geometry.{image_geometry, sector}
 use Rattle.rbf_model.specs.Segments.{has, sectors_of}
-use Rattle.rbf_model.specs.Space.{own_sectors as owned_sectors}
+use Rattle.rbf_model.specs.Space.{has_cluster, own_sectors as owned_sectors}
 use Rattle.rbf_model.specs.Volume.{DiskVolume}
 use Rattle.rbf_model.proofs.Owners.{owns_own, own_below}
 use Rattle.rbf_model.proofs.Space.{cluster_from_owns}
@@ -65,6 +65,9 @@ module _ (media mid : Option (List ℕ)) (d i : ℕ) (name : List ℕ) (attr use
     abbrev start : ℕ
     start = first_sector made.made.file
 
+    fresh : (c : ℕ) → has_cluster (shape u) n made.made.file c ≡ true → is_free_in u c ≡ true
+    fresh c h = made.takes.free c (made.takes.are c ∙ h)
+
     -- its descriptor and its first sector were written
     abbrev changed : ℕ → Bool
     changed s = (s == n) || (s == start)
@@ -84,7 +87,7 @@ module _ (media mid : Option (List ℕ)) (d i : ℕ) (name : List ℕ) (attr use
     number_own = or_left (n == n) (has (sectors_of made.made.file.segments) n) (eq-eqb n n refl)
 
     own_free : (s : ℕ) → has (owned_sectors n made.made.file) s ≡ true → is_free_in u (s / cluster_size u) ≡ true
-    own_free s own = made.fresh (s / cluster_size u) (cluster_from_owns (shape u) n made.made.file s (owns_own (shape u) n made.made.file s own))
+    own_free s own = fresh (s / cluster_size u) (cluster_from_owns (shape u) n made.made.file s (owns_own (shape u) n made.made.file s own))
 
     differs : (s : ℕ) → changed s ≡ false → (s ≢ n) × (s ≢ start)
     differs s other = (
@@ -114,7 +117,7 @@ module _ (media mid : Option (List ℕ)) (d i : ℕ) (name : List ℕ) (attr use
       left = made.left;
       vol = made.vol;
       made = made.made;
-      fresh = made.fresh;
+      fresh = fresh;
       ready = made.ready;
       inside = inside;
       own = or_left (n == n) (n == start) (eq-eqb n n refl);

@@ -1,10 +1,10 @@
 -- A new directory whose descriptor is on the media, before it has a name.
-use Rattle.std.specs.Prelude.{◌≡◌, ◌≢◌, ◌↔◌, ℕ, ◌-◌, ◌<◌, ◌==◌, true, false, Option, Some, List, get_or, if◌then◌else◌, Result, IfOk, IfSome, IsErrOf}
+use Rattle.std.specs.Prelude.{◌≡◌, ◌≢◌, ◌↔◌, ℕ, ◌-◌, ◌<◌, ◌==◌, true, false, Option, Some, List, length, get_or, if◌then◌else◌, Result, IfOk, IfSome, IsErrOf}
 use Rattle.rbf_model.specs.File.{DiskFile}
 use Rattle.rbf_model.specs.Geometry.{image_geometry, sector}
 use Rattle.rbf_model.specs.Disk.{image_disk}
 use Rattle.rbf_model.specs.Laws.{IsMapSector, IsReady}
-use Rattle.rbf_model.specs.Segments.{sectors_of}
+use Rattle.rbf_model.specs.Segments.{has, sectors_of}
 use Rattle.rbf_model.specs.Space.{has_cluster}
 use Rattle.rbf_model.specs.Volume.{DiskVolume, Vol}
 use Rattle.rbf_change.specs.Calls.{shape, cluster_size, free_total, is_free_in}
@@ -32,6 +32,14 @@ pub record WritesFolder (old now : List ℕ) (n first : ℕ) (entries : List ℕ
   pub others : (s : ℕ) → ¬ IsMapSector (image_geometry old) s → s ≢ n → s ≢ first → sector now s ≡ sector old s
   pub end : KeepsMapEnd old now (λ _. false)
 
+-- the clusters of a new directory n, which has a sector: all of them were free, and they are as many as 64 bytes need
+pub record ClustersTaken (v : DiskVolume) (n : ℕ) (file : DiskFile) : Type 0 where
+  pub clusters : List ℕ
+  pub are : (c : ℕ) → has clusters c ≡ has_cluster (shape v) n file c
+  pub counted : length clusters ≡ file_clusters (cluster_size v) 64
+  pub free : (c : ℕ) → has clusters c ≡ true → is_free_in v c ≡ true
+  pub some : has (sectors_of file.segments) (first_sector file) ≡ true
+
 -- directory n has been made: its descriptor is in that sector, and its clusters are lost until an entry of its parent
 -- names it
 pub record IsFolderMade (v : DiskVolume) (parent n : ℕ) (plan : Plan) (old new : Option (List ℕ)) : Type 0 where
@@ -42,9 +50,8 @@ pub record IsFolderMade (v : DiskVolume) (parent n : ℕ) (plan : Plan) (old new
   pub left : DiskVolume
   pub vol : Vol now left
   pub made : FileIsMade v left (sector now) n plan
-  -- its clusters were free
-  pub fresh : (c : ℕ) → has_cluster (shape v) n made.file c ≡ true → is_free_in v c ≡ true
-  -- and may be given an entry in its parent
+  pub takes : ClustersTaken v n made.file
+  -- it may be given an entry in its parent
   pub ready : IsReady (image_disk now) left parent n
   pub writes : WritesFolder image now n (first_sector made.file) plan.contents
 
@@ -57,6 +64,7 @@ pub record FolderEnds (v : DiskVolume) (plan : ℕ → Plan) (old new : Option (
   pub number : ℕ
   pub file : DiskFile
   pub chosen : IsNewFile (cluster_size v) (is_free_in v) number (plan number) file
+  pub takes : ClustersTaken v number file
   pub left : DiskVolume
   pub vol : Vol now left
   pub lose : MayLose v left (has_cluster (shape v) number file)

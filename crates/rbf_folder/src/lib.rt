@@ -2,9 +2,11 @@
 //! their first sectors, and their entries.
 #![tactic(auto)]
 
+pub use at_end::make_dir_at_end;
 pub use folder::create_folder;
 pub use in_place::make_dir_in_place;
 
+mod at_end;
 mod folder;
 mod in_place;
 mod listing;
