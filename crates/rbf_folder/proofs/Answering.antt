@@ -47,7 +47,7 @@ module _ (media : Option (List ℕ)) (v : DiskVolume) (on : Represents media v) 
     unmade_refused e r is makes = subst (λ x. AnswersEntering v dir (folder_request d name attr user time) media mid (widened x)) (sym is) (by_fault e makes)
       where
         by_fault : (f : FileFault) → MakesFolder v d (directory_plan attr user time d) media mid (Err f) → AnswersEntering v dir (folder_request d name attr user time) media mid (widened (Err f))
-        by_fault (Device n) makes = unmade media v on d place dir dir_is name attr user time spot room mid makes.ends
+        by_fault (Device n) makes = (spot.proper, unmade media v on d place dir dir_is name attr user time spot room mid makes.ends)
         by_fault NoCluster makes = let less = makes.full.0 refl in let enough = room.enough in absurd (omega arith)
         by_fault TooManyRuns makes = absurd (makes.runs refl)
 
@@ -61,7 +61,7 @@ module _ (media : Option (List ℕ)) (v : DiskVolume) (on : Represents media v) 
           (by_fault e (subst (λ b. AnswersAppend made.left dir (record { directory = d; place = place; entry = b; now = time }) mid new (Err e)) bytes_are answer))
         where
           by_fault : (f : FileFault) → AnswersAppend made.left dir a mid new (Err f) → AnswersEntering v dir (folder_request d name attr user time) media new (widened (Err f))
-          by_fault (Device n0) stops = unnamed media v on d place dir dir_is name attr user time spot room mid n made new stops
+          by_fault (Device n0) stops = (spot.proper, unnamed media v on d place dir dir_is name attr user time spot room mid n made new stops)
           by_fault NoCluster none = absurd none
           by_fault TooManyRuns none = absurd none
 

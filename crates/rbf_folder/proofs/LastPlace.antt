@@ -1,5 +1,5 @@
 -- A new directory whose entry goes behind the last one of its parent: what is answered.
-use Rattle.std.proofs.Common.{◌≡◌, ◌≢◌, ◌==◌, ◌&&◌, ◌||◌, ℕ, zero, suc, ◌+◌, ◌-◌, ◌*◌, ◌/◌, ◌%◌, ◌<◌, ◌≤◌, Bool, true, false, not, Option, Some, None, IsSome, is_some, Result, Ok, Err, List, [], ◌∷◌, ◌++◌, length, length-append, get_or, inl, inr, refl, sym, ap, ◌∙◌, subst, ⊎_elim, eqb-true, eq-eqb, lt-ltb, le-leb, arith}
+use Rattle.std.proofs.Common.{◌≡◌, ◌≢◌, ◌==◌, ◌&&◌, ◌||◌, ℕ, zero, suc, ◌+◌, ◌-◌, ◌*◌, ◌/◌, ◌%◌, ◌<◌, ◌≤◌, Bool, true, false, not, Option, Some, None, IsSome, is_some, Result, Ok, Err, List, [], ◌∷◌, ◌++◌, length, length-append, take, get_or, inl, inr, refl, sym, ap, ◌∙◌, subst, ⊎_elim, eqb-true, eq-eqb, lt-ltb, le-leb, arith}
 use Rattle.std.specs.Prelude.{nat_lt, nat_le, count_by, filter, if◌then◌else◌}
 use Rattle.std.specs.List.{range_with_len}
 use mathlib.Core.Path.{fun_ext}
@@ -22,7 +22,7 @@ use Rattle.rbf_model.specs.Writes.{put_file, put_at, with_file, with_lost}
 use Rattle.rbf_model.proofs.Change.{put_file_beside}
 use Rattle.rbf_model.proofs.Owners.{own_after, own_apart, own_below}
 use Rattle.rbf_change.specs.Calls.{shape, cluster_size, free_total, is_free_in, replaced, written_file, WritesFile}
-use Rattle.rbf_change.specs.Contents.{written}
+use Rattle.rbf_change.specs.Contents.{sector_count, written}
 use Rattle.rbf_change.specs.Faults.{MayLose, EntryEnds, taken}
 use Rattle.rbf_change.specs.Growth.{IsChoice, uses, with_clusters, clusters_needed}
 use Rattle.rbf_change.specs.Names.{new_entry, new_listing, entry_place, is_dots, may_change}
@@ -41,7 +41,7 @@ use Rattle.rbf_model.proofs.Space.{cluster_from_owns}
 use Rattle.rbf_walk.specs.declared.error.DirError.{DirError}
 use Rattle.rbf_walk.specs.declared.error.DirError.TheVariants.{File}
 use Rattle.rbf_append.specs.Appended.{Appending, MayAppend, IsAppended, AppendStops, AnswersAppend, sector_of_place}
-use Rattle.rbf_append.specs.Entering.{Entering, refusal_of, IsEnteredOn, EnteringStops, AnswersEntering}
+use Rattle.rbf_append.specs.Entering.{Entering, refusal_of, written_sectors, IsEnteredOn, EnteringStops, EnteringTook, took}
 use Rattle.rbf_append.specs.Rooms.{place_clusters, HasRoom, HasNoSegment, AnswersRoom}
 use Rattle.rbf_append.proofs.Appending.{written_at_end}
 use Rattle.rbf_append.proofs.Choice.{choice_exists, one_needed, one_passes}
@@ -57,6 +57,10 @@ has_place : (xs : List ℕ) (j : ℕ) → j < length xs → has xs (get_or xs j 
 has_place [] j low = absurd (omega arith)
 has_place (x ∷ xs) zero low = or_left (x == x) (has xs x) (eq-eqb x x refl)
 has_place (x ∷ xs) (suc j) low = or_right (x == get_or xs j 0) (has xs (get_or xs j 0)) (has_place xs j (omega arith))
+
+first_taken : (xs : List ℕ) (size : ℕ) → sector_count size ≡ 1 → has xs (get_or xs 0 0) ≡ true → has (take (sector_count size) xs) (get_or xs 0 0) ≡ true
+first_taken [] size one h = absurd (false≢true h)
+first_taken (x ∷ xs) size one h = subst (λ m. has (take m (x ∷ xs)) x ≡ true) (sym one) (or_left (x == x) false (eq-eqb x x refl))
 
 -- what two steps keep of the marks behind the clusters
 keeps_then : (a b c : List ℕ) → image_geometry b ≡ image_geometry a → KeepsMapEnd a b (λ _. false) → KeepsMapEnd b c (λ _. false) → KeepsMapEnd a c (λ _. false)
@@ -87,7 +91,7 @@ module _ (media : Option (List ℕ)) (v : DiskVolume) (on : Represents media v) 
   abbrev need : ℕ
   need = file_clusters (cluster_size v) 64
 
-  place_is : entry_place dir.contents ≡ place
+  pub place_is : entry_place dir.contents ≡ place
   place_is = sym spot.absent.free_is
 
   clusters_are : entry_clusters k dir ≡ place_clusters v dir place
@@ -165,7 +169,7 @@ module _ (media : Option (List ℕ)) (v : DiskVolume) (on : Represents media v) 
       abbrev entry : List ℕ
       entry = new_entry name n
 
-      left_free : (c : ℕ) → is_free_in left c ≡ free_without (shape v) (is_free_in v) n file c
+      pub left_free : (c : ℕ) → is_free_in left c ≡ free_without (shape v) (is_free_in v) n file c
       left_free = free_left media v on n (plan n) file new fresh
 
       own_cluster : (s : ℕ) → has (owned_sectors n file) s ≡ true → has_cluster (shape v) n file (s / k) ≡ true
@@ -176,6 +180,22 @@ module _ (media : Option (List ℕ)) (v : DiskVolume) (on : Represents media v) 
 
       number_own : has (owned_sectors n file) n ≡ true
       number_own = or_left (n == n) (has (sectors_of file.segments) n) (eq-eqb n n refl)
+
+      -- and both are written
+      number_written : has (written_sectors n file) n ≡ true
+      number_written = or_left (n == n) (has (take (sector_count (length file.contents)) (sectors_of file.segments)) n) (eq-eqb n n refl)
+
+      first_written : has (written_sectors n file) (first_sector file) ≡ true
+      first_written =
+          let sized : length file.contents ≡ 64 = ap (λ (f : DiskFile). length f.contents) new.is in
+          or_right (n == first_sector file) (has (take (sector_count (length file.contents)) (sectors_of file.segments)) (first_sector file))
+          (first_taken (sectors_of file.segments) (length file.contents) (ap sector_count sized) takes.some)
+
+      unwritten : (s : ℕ) → has (written_sectors n file) s ≡ false → (s ≢ n) × (s ≢ first_sector file)
+      unwritten s none = (
+        λ same. both_ways (has (written_sectors n file) s) none (subst (λ x. has (written_sectors n file) x ≡ true) (sym same) number_written),
+        λ same. both_ways (has (written_sectors n file) s) none (subst (λ x. has (written_sectors n file) x ≡ true) (sym same) first_written)
+      )
 
       first_was_free : is_free_in v (first_sector file / k) ≡ true
       first_was_free = fresh (first_sector file / k) (own_cluster (first_sector file) first_own)
@@ -214,7 +234,7 @@ module _ (media : Option (List ℕ)) (v : DiskVolume) (on : Represents media v) 
           (λ one. one_passes (is_free_in left) (range_with_len 0 (cluster_count (shape left))) (let few = free_enough room.enough in let some : 1 ≤ free_total left = omega arith in some)))
 
       -- the tree is as it was, and clusters may be lost
-      pub ends_by : (gained : List ℕ) → IsChoice k (is_free_in left) dir.segments (length (written dir.contents (32 * place) entry)) gained → (w : DiskVolume) → MayLose v w (λ c. has_cluster (shape v) n file c || has gained c) → EntryEnds v w d n name (plan n)
+      abbrev pub ends_by : (gained : List ℕ) → IsChoice k (is_free_in left) dir.segments (length (written dir.contents (32 * place) entry)) gained → (w : DiskVolume) → MayLose v w (λ c. has_cluster (shape v) n file c || has gained c) → EntryEnds v w d n name (plan n)
       ends_by gained choice w lose = record {
         both = record {
           old = dir;
@@ -236,22 +256,22 @@ module _ (media : Option (List ℕ)) (v : DiskVolume) (on : Represents media v) 
     pub unmade : (mid : Option (List ℕ)) → FolderEnds v plan media mid → EnteringStops v dir e media mid
     unmade mid ends =
         let c = some_choice ends.number ends.file ends.chosen ends.takes in
-        record {
+        took (record {
           image = ends.image;
           now = ends.now;
           was = ends.was;
           is = ends.is;
           left = ends.left;
           vol = ends.vol;
-          ends = taken {n = ends.number} (ends_by ends.number ends.file ends.chosen ends.takes c.0 c.1 ends.left (record {
+          number = ends.number;
+          ends = ends_by ends.number ends.file ends.chosen ends.takes c.0 c.1 ends.left (record {
             same = ends.lose.same;
             still = ends.lose.still;
             only = λ x h. wider (v.lost x) (has_cluster (shape v) ends.number ends.file x) (has c.0 x) (ends.lose.only x h);
-          }));
-          others = λ s none used differ. ends.others s none (λ same. both_ways (is_free_in v (s / k)) used
-              (subst (λ t. is_free_in v (t / k) ≡ true) (sym same) (first_was_free ends.number ends.file ends.chosen ends.takes)));
+          });
+          others = λ s none not_own _. ends.others s none (unwritten ends.number ends.file ends.chosen ends.takes s not_own).1;
           end = ends.end;
-        }
+        })
       where
         wider : (l h t : Bool) → (l || h) ≡ true → (l || (h || t)) ≡ true
         wider true h t is = refl
@@ -326,37 +346,6 @@ module _ (media : Option (List ℕ)) (v : DiskVolume) (on : Represents media v) 
       map_made : (s : ℕ) → ¬ IsMapSector (image_geometry made.image) s → ¬ IsMapSector (image_geometry made.now) s
       map_made s none map = none (subst (λ g. IsMapSector g s) shape_made map)
 
-      -- the sector of an entry at the end is the directory's, or of a cluster that was free
-      entry_sector : (gained : List ℕ) → IsChoice k (is_free_in lost_left) dir.segments (length (written dir.contents (32 * place) (new_entry name n))) gained → (s : ℕ) → is_free_in v (s / k) ≡ false → s ≢ sector_of_place dir.segments place
-          → s ≢ sector_of_place (with_clusters k dir.segments gained) place
-      entry_sector gained choice s used differ same = ⊎_elim
-          (λ inside. differ (same ∙ kept_place k dir.segments gained (place / 8) inside))
-          (λ past.
-          let room_is = dir_room in
-          let end = spot.end in
-          let at : place / 8 ≡ length (sectors_of dir.segments) + 0 * k = omega arith in
-          let some : 0 < length gained =
-          (let enough = choice.enough in
-          let sized = size_then n file made.made.made made.takes in
-          let count : clusters_needed k dir.segments (length (written dir.contents (32 * place) (new_entry name n))) ≡ clusters_needed k dir.segments (32 * (place + 1)) = ap (clusters_needed k dir.segments) sized in
-          let one = needs_one_more past in
-          omega arith) in
-          let lsn : sector_of_place (with_clusters k dir.segments gained) place ≡ get_or gained 0 0 * k = ap (λ j. get_or (sectors_of (with_clusters k dir.segments gained)) j 0) at ∙ begins_first gained some in
-          let cluster : s / k ≡ get_or gained 0 0 = ap (λ x. x / k) (same ∙ lsn) ∙ mul-div_cancel (get_or gained 0 0) positive in
-          let free_then : is_free_in lost_left (get_or gained 0 0) ≡ true = gained_free k (is_free_in lost_left) dir.segments gained 0 choice.gained some in
-          let free_too : is_free_in v (get_or gained 0 0) ≡ true =
-          (and_parts (is_free_in v (get_or gained 0 0)) (not (has_cluster (shape v) n file (get_or gained 0 0))) (sym (left_free n file made.made.made made.takes (get_or gained 0 0)) ∙ free_then)).0 in
-          both_ways (is_free_in v (s / k)) used (ap (is_free_in v) cluster ∙ free_too))
-          (cases_lt (place / 8) (length (sectors_of dir.segments)))
-        where
-          needs_one_more : length (sectors_of dir.segments) ≤ place / 8 → 1 ≤ clusters_needed k dir.segments (32 * (place + 1))
-          needs_one_more past =
-              let one : 1 ≤ (32 * (place + 1) + 255) / 256 - length (sectors_of dir.segments) = omega arith in
-              let some = positive in
-              (le-div_iff_mul-le some).1 (omega arith)
-          begins_first : (taken_ones : List ℕ) → 0 < length taken_ones → get_or (sectors_of (with_clusters k dir.segments taken_ones)) (length (sectors_of dir.segments) + 0 * k) 0 ≡ get_or taken_ones 0 0 * k
-          begins_first taken_ones some = begins_at k dir.segments taken_ones 0 positive some
-
       -- the entry was not written
       module _ (new : Option (List ℕ)) (stops : AppendStops made.left dir (record { directory = d; place = place; entry = new_entry name n; now = time }) mid new) where
         stops_image : stops.image ≡ made.now
@@ -370,23 +359,25 @@ module _ (media : Option (List ℕ)) (v : DiskVolume) (on : Represents media v) 
             (subst (λ x. (s : ℕ) → ¬ IsMapSector (image_geometry stops.image) s → s ≢ sector_of_place (with_clusters (cluster_size x) dir.segments stops.taken) place → sector stops.now s ≡ sector stops.image s) left_is stops.others)
 
         pub unnamed : EnteringStops v dir e media new
-        unnamed = record {
+        unnamed = took (record {
           image = made.image;
           now = stops.now;
           was = made.was;
           is = stops.is;
           left = stops.left;
           vol = stops.vol;
-          ends = taken {n = n} (ends_by n file made.made.made made.takes stops.taken stops_choice stops.left (record {
+          number = n;
+          ends = ends_by n file made.made.made made.takes stops.taken stops_choice stops.left (record {
             same = stops.lose.same ∙ ap (λ x. with_lost x stops.left.lost) left_is;
             still = λ x h. stops.lose.still x (ap (λ (y : DiskVolume). y.lost x) left_is ∙ or_left (v.lost x) (has_cluster (shape v) n file x) h);
             only = λ x h. wider (v.lost x) (has_cluster (shape v) n file x) (has stops.taken x) (ap (λ (y : DiskVolume). y.lost x || has stops.taken x) (sym left_is) ∙ stops.lose.only x h);
-          }));
-          others = λ s none used differ.
-              stops_others s (map_made s none) (entry_sector stops.taken stops_choice s used (λ same. differ (same ∙ ap (sector_of_place dir.segments) (sym place_is))))
-              ∙ kept_used s none used;
+          });
+          others = λ s none not_own away.
+              let apart_from = unwritten n file made.made.made made.takes s not_own in
+              stops_others s (map_made s none) (λ same. away (same ∙ ap (sector_of_place (with_clusters k dir.segments stops.taken)) (sym place_is)))
+              ∙ made.writes.others s none apart_from.0 apart_from.1;
           end = keeps_then made.image made.now stops.now shape_made made.writes.end (subst (λ i. KeepsMapEnd i stops.now (λ _. false)) stops_image stops.end);
-        }
+        })
           where
             wider : (l h t : Bool) → ((l || h) || t) ≡ true → (l || (h || t)) ≡ true
             wider true h t is = refl
@@ -524,8 +515,7 @@ module _ (media : Option (List ℕ)) (v : DiskVolume) (on : Represents media v) 
           filled = subst (λ p. sector done.now (sector_of_place new_dir.segments p) ≡ put_at (sector made.image (sector_of_place new_dir.segments p)) (32 * (p % 8)) entry_now) (sym place_is) filled_at;
           others = λ s none not_own differ away.
               written_others s (map_made s none) differ (λ same. away (same ∙ ap (sector_of_place new_dir.segments) (sym place_is)))
-              ∙ made_others s none (λ same. both_ways (has (owned_sectors n file) s) not_own (subst (λ x. has (owned_sectors n file) x ≡ true) (sym same) own_number))
-              (λ same. both_ways (has (owned_sectors n file) s) not_own (subst (λ x. has (owned_sectors n file) x ≡ true) (sym same) own_first));
+              ∙ made_others s none (unwritten n file made.made.made made.takes s not_own).0 (unwritten n file made.made.made made.takes s not_own).1;
           list = subst IsNewList (sym (written_others n (no_map n number_free) other (differs n own_number))) made.made.rest;
           kept_list = subst (λ b. KeepsListEnd b (sector done.now d)) old_at_d done.writes.list;
           end = keeps_then made.image made.now done.now shape_made made.writes.end (subst (λ i. KeepsMapEnd i done.now (λ _. false)) done_image done.writes.end);

@@ -43,7 +43,7 @@ use Rattle.rbf_sector.specs.declared.fd.Fd.{Fd}
 use Rattle.rbf_update.proofs.Stored.{IsStored}
 use Rattle.rbf_create.specs.Described.{IsReadAs}
 use Rattle.rbf_create.proofs.NewDescriptor.{same_file}
-use Rattle.rbf_folder.specs.Made.{own_sectors, first_sector, ClustersTaken, IsFolderMade, FolderEnds, MakesFolder}
+use Rattle.rbf_folder.specs.Made.{new_sectors, first_sector, ClustersTaken, IsFolderMade, FolderEnds, MakesFolder}
 use Rattle.rbf_folder.proofs.Entries.{new_directory_is, sector_front, sector_whole}
 use Rattle.rbf_folder.proofs.Space.{IsSpace, space_of, run_of, some_sector, few_needed}
 use Rattle.rbf_folder.proofs.Stores.{placed, on_drive, image_then, here, beside, shape_then, marks_then, vol_then, now_is, on_then, stored}
@@ -65,7 +65,7 @@ range_starts a zero some = absurd (omega arith)
 range_starts a (suc m) some = (range_with_len (a + 1) m ++ [], refl)
 
 pub starts : (k first : ℕ) → 1 ≤ k → (rest : List ℕ) × (sectors_of (run_of k first) ≡ first ∷ rest)
-starts k first positive = range_starts first (own_sectors k) (some_sector k positive)
+starts k first positive = range_starts first (new_sectors k) (some_sector k positive)
 
 pub first_is : (k first : ℕ) → 1 ≤ k → get_or (sectors_of (run_of k first)) 0 0 ≡ first
 first_is k first positive = let s = starts k first positive in ap (λ xs. get_or xs 0 0) s.1
@@ -187,12 +187,12 @@ module _ (media : Option (List ℕ)) (v : DiskVolume) (on : Represents media v) 
       below_next : (a b : ℕ) → 1 ≤ b → a < (a / b + 1) * b
       below_next a b some = omega arith
 
-  run_end : first + own_sectors k ≤ g.total
+  run_end : first + new_sectors k ≤ g.total
   run_end =
       let some = some_sector k (positive_of media v on) in
-      let last : ℕ = first + (own_sectors k - 1) in
+      let last : ℕ = first + (new_sectors k - 1) in
       let there : has (sectors_of (run_of k first)) last ≡ true =
-      ap (λ xs. has xs last) (append-nil (range_with_len first (own_sectors k))) ∙ has_range first (own_sectors k) last (omega arith) (omega arith) in
+      ap (λ xs. has xs last) (append-nil (range_with_len first (new_sectors k))) ∙ has_range first (new_sectors k) last (omega arith) (omega arith) in
       let low = sector_low last (or_right (n == last) (has (sectors_of (run_of k first)) last) there) in
       omega arith
 
@@ -452,10 +452,10 @@ module _ (media mid : Option (List ℕ)) (v : DiskVolume) (on : Represents media
           below = subst (λ s. number < s.total) (sym (shape_then listed u on_listed number number_lost bytes whole)) (placed listed u on_listed number number_lost bytes whole).1;
         };
         within = subst (LieWithin (image_geometry image2)) (sym list_then)
-            (All-cons (λ s. is_within (image_geometry image2) s ≡ true) (start, own_sectors sectors) []
-            (and_from (nat_le 1 start) (nat_le (start + own_sectors sectors) (image_geometry image2).total)
+            (All-cons (λ s. is_within (image_geometry image2) s ≡ true) (start, new_sectors sectors) []
+            (and_from (nat_le 1 start) (nat_le (start + new_sectors sectors) (image_geometry image2).total)
             (le-leb 1 start (let past = (placed mid u on_mid start start_lost one one_whole).0 in omega arith))
-            (le-leb (start + own_sectors sectors) (image_geometry image2).total (let end = run_end media v on parent attr owner now grown.taken grown.chosen in let total = total_is in omega arith)))
+            (le-leb (start + new_sectors sectors) (image_geometry image2).total (let end = run_end media v on parent attr owner now grown.taken grown.chosen in let total = total_is in omega arith)))
             (All-nil (λ s. is_within (image_geometry image2) s ≡ true)));
         distinct = subst (λ f. AreDistinct (owned_sectors number f)) (sym shown) (space media v on parent attr owner now grown.taken grown.chosen).distinct;
         room =

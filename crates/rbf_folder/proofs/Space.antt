@@ -15,10 +15,10 @@ use Rattle.rbf_change.specs.NewFiles.{first_segments, free_but, file_clusters}
 use Rattle.rbf_growth.specs.Grown.{IsChosen}
 use Rattle.rbf_create.proofs.Making.{one_of}
 use Rattle.rbf_create.proofs.NewDescriptor.{first_more}
-use Rattle.rbf_folder.specs.Made.{own_sectors}
+use Rattle.rbf_folder.specs.Made.{new_sectors}
 
 abbrev pub run_of : ℕ → ℕ → List (ℕ × ℕ)
-run_of k first = (first, own_sectors k) ∷ []
+run_of k first = (first, new_sectors k) ∷ []
 
 -- the descriptor of a new directory and its first sector, in the clusters that were taken for it
 pub record IsSpace (k : ℕ) (free : ℕ → Bool) (taken : List ℕ) : Type 0 where
@@ -152,7 +152,7 @@ space_one free taken chosen =
     }
 
 -- clusters of several sectors: the first sector of the directory is the one behind its descriptor
-several : (k : ℕ) → 1 < k → own_sectors k ≡ k - 1
+several : (k : ℕ) → 1 < k → new_sectors k ≡ k - 1
 several k more = cond-false (k == 1) 1 (k - 1) (false_from_ne_true (k == 1) (λ h. let e : k ≡ 1 = eqb-true k 1 h in absurd (omega arith)))
 
 none_needed : (k n : ℕ) → 1 < k → clusters_needed k (first_segments k n) 64 ≡ 0
@@ -218,12 +218,12 @@ space_of k free taken positive chosen = ⊎_elim
     (cases_Bool (k == 1))
 
 -- the directory has a sector at least
-pub some_sector : (k : ℕ) → 1 ≤ k → 1 ≤ own_sectors k
+pub some_sector : (k : ℕ) → 1 ≤ k → 1 ≤ new_sectors k
 some_sector k positive = ⊎_elim
-    (λ one. let is : own_sectors k ≡ 1 = cond-true (k == 1) 1 (k - 1) one in omega arith)
+    (λ one. let is : new_sectors k ≡ 1 = cond-true (k == 1) 1 (k - 1) one in omega arith)
     (λ many.
     let differ : k ≢ 1 = λ e. both_ways (k == 1) many (eq-eqb k 1 e) in
-    let is : own_sectors k ≡ k - 1 = several k (omega arith) in
+    let is : new_sectors k ≡ k - 1 = several k (omega arith) in
     omega arith)
     (cases_Bool (k == 1))
 

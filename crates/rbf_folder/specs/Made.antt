@@ -18,8 +18,8 @@ use Rattle.rbf_access.specs.declared.faults.FileFault.{FileFault}
 use Rattle.rbf_access.specs.declared.faults.FileFault.TheVariants as fault
 
 -- how many sectors a new directory has: the rest of its descriptor's cluster, or one in a cluster of its own
-abbrev pub own_sectors : ℕ → ℕ
-own_sectors k = if k == 1 then 1 else k - 1
+abbrev pub new_sectors : ℕ → ℕ
+new_sectors k = if k == 1 then 1 else k - 1
 
 -- the first sector of a file
 abbrev pub first_sector : DiskFile → ℕ

@@ -1,7 +1,7 @@
 ghost use Rattle.std.specs.Prelude.{◌≡◌, ℕ, ◌+◌, ◌<◌, ◌≤◌, ◌%◌, [], ◌∷◌, length};
 ghost use Rattle.rbf_change.specs.Calls.{day_of, minute_of};
 ghost use Rattle.rbf_change.specs.NewFiles.{file_clusters};
-ghost use Rattle.rbf_folder.specs.Made.{own_sectors};
+ghost use Rattle.rbf_folder.specs.Made.{new_sectors};
 ghost use Rattle.rbf_sector.specs.declared.fd.Fd.{Fd};
 
 use os9_base::registers::TimePacket;
@@ -25,7 +25,7 @@ pub fn new_clusters(k: u16) -> u32
 pub fn first_segs(k: u16, first: u32) -> Segs
     requires some { 1 ≤ k }
     requires low { first < 524288 }
-    ensures { result ≡ (first, own_sectors k) ∷ [] }
+    ensures { result ≡ (first, new_sectors k) ∷ [] }
 {
     let mut segs = Segs::empty();
     let sectors = if k == 1 { 1 } else { k - 1 };
