@@ -1,30 +1,24 @@
 -- A new file whose entry goes behind the last one of its directory, whatever is planned.
-use Rattle.std.proofs.Common.{◌≡◌, ◌≢◌, ◌==◌, ◌&&◌, ◌||◌, ℕ, zero, suc, ◌+◌, ◌-◌, ◌*◌, ◌/◌, ◌<◌, ◌≤◌, Bool, true, false, not, cond, Option, Some, None, List, [], ◌∷◌, length, get_or, refl, sym, ap, ◌∙◌, subst, ⊎_elim, eqb-true, eq-eqb, arith}
-use Rattle.std.specs.Prelude.{count_by, filter, if◌then◌else◌}
+use Rattle.std.proofs.Common.{◌≡◌, ◌≢◌, ◌==◌, ◌&&◌, ◌||◌, ℕ, zero, suc, ◌+◌, ◌*◌, ◌/◌, ◌<◌, ◌≤◌, Bool, true, false, not, cond, Option, Some, None, List, [], ◌∷◌, length, refl, sym, ap, ◌∙◌, subst, ⊎_elim, eqb-true, eq-eqb, arith}
+use Rattle.std.specs.Prelude.{count_by, if◌then◌else◌}
 use Rattle.std.specs.List.{range_with_len}
 use mathlib.Core.Path.{fun_ext}
-use Rattle.std.proofs.lemmas.Bool.{and_parts, both_ways, or_left, or_right, or_cases, false_from_ne_true, cases_Bool}
+use Rattle.std.proofs.lemmas.Bool.{both_ways, or_left, false_from_ne_true, cases_Bool}
 use Rattle.std.proofs.lemmas.List.Sums.{sum_by-cons}
 use Rattle.std.proofs.lemmas.Option.{none-some}
-use Rattle.os9_base.specs.declared.registers.TimePacket.{TimePacket}
-use Rattle.rbf_model.specs.Fields.{descriptor_field}
-use Rattle.rbf_model.specs.File.{DiskFile, file_at}
+use Rattle.rbf_model.specs.File.{DiskFile}
 use Rattle.rbf_model.specs.Geometry.{Geometry, image_geometry, sector}
 use Rattle.rbf_model.specs.Segments.{has, sectors_of}
-use Rattle.rbf_model.specs.Space.{has_cluster, is_whole, Unused, cluster_count}
+use Rattle.rbf_model.specs.Space.{has_cluster, is_whole, Unused}
 use Rattle.rbf_model.specs.Volume.{DiskVolume, in_file, is_free}
 use Rattle.rbf_model.specs.Writes.{put_file, with_file, with_lost}
 use Rattle.rbf_model.proofs.Change.{put_file_beside}
 use Rattle.rbf_model.proofs.Free.{free_parts}
-use Rattle.rbf_model.proofs.Owners.{clusters_of_own, owns_own, root_file}
+use Rattle.rbf_model.proofs.Owners.{owns_own}
 use Rattle.rbf_model.proofs.Space.{cluster_from_owns}
-use Rattle.rbf_change.specs.Calls.{shape, cluster_size, free_total, is_free_in, replaced, written_file, WritesFile}
-use Rattle.rbf_change.specs.Contents.{written}
-use Rattle.rbf_change.specs.Faults.{MayLose, EntryEnds}
-use Rattle.rbf_change.specs.Growth.{IsChoice, with_clusters}
+use Rattle.rbf_change.specs.Calls.{shape, cluster_size, is_free_in, replaced, WritesFile}
 use Rattle.rbf_change.specs.Names.{new_entry, entry_place}
-use Rattle.rbf_change.specs.NewFiles.{Plan, Enters, IsEntered, IsNewFile, free_without}
-use Rattle.rbf_change.specs.Parts.{EntryIsPut}
+use Rattle.rbf_change.specs.NewFiles.{Plan, IsEntered, IsNewFile, free_without}
 use Rattle.rbf_change.proofs.LawfulWrites.{shape-image}
 use Rattle.rbf_access.specs.Mounted.{Represents}
 
@@ -169,6 +163,7 @@ module _ (media : Option (List ℕ)) (v : DiskVolume) (on : Represents media v) 
         pick false true whole_one l e none = absurd (cc e)
         pick false false whole_one true e none = refl
         pick false false whole_one false e none = refl
+
         lost_same : (c : ℕ) → (with_file (shape v) (replaced left d (Some new_dir)) n (Some file)).lost c ≡ v.lost c
         lost_same c = pick (has_cluster (shape v) n file c) (in_file (shape v) n (put_file v.files d (Some new_dir) n) c) (is_whole (shape v) c) (v.lost c)
             (ap (λ o. in_file (shape v) n o c) (put_file_beside v.files d (Some new_dir) n apart ∙ no_file))

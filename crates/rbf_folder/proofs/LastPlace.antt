@@ -1,54 +1,44 @@
 -- A new directory whose entry goes behind the last one of its parent: what is answered.
-use Rattle.std.proofs.Common.{◌≡◌, ◌≢◌, ◌==◌, ◌&&◌, ◌||◌, ℕ, zero, suc, ◌+◌, ◌-◌, ◌*◌, ◌/◌, ◌%◌, ◌<◌, ◌≤◌, Bool, true, false, not, Option, Some, None, IsSome, is_some, Result, Ok, Err, List, [], ◌∷◌, ◌++◌, length, length-append, take, get_or, inl, inr, refl, sym, ap, ◌∙◌, subst, ⊎_elim, eqb-true, eq-eqb, lt-ltb, le-leb, arith}
-use Rattle.std.specs.Prelude.{nat_lt, nat_le, count_by, filter, if◌then◌else◌}
+use Rattle.std.proofs.Common.{◌≡◌, ◌≢◌, ◌==◌, ◌&&◌, ◌||◌, ℕ, zero, suc, ◌+◌, ◌*◌, ◌/◌, ◌%◌, ◌<◌, ◌≤◌, Bool, true, false, not, Option, Some, None, is_some, List, [], ◌∷◌, length, length-append, take, get_or, refl, sym, ap, ◌∙◌, subst, eqb-true, eq-eqb, lt-ltb, arith}
+use Rattle.std.specs.Prelude.{nat_lt, if◌then◌else◌}
 use Rattle.std.specs.List.{range_with_len}
 use mathlib.Core.Path.{fun_ext}
-use Rattle.std.proofs.lemmas.Bool.{and_parts, and_from, both_ways, or_left, or_right, or_cases, false_from_ne_true, false≢true, cases_Bool, cases_lt, cond-true, cond-false, le-ltb, ltb-true}
+use Rattle.std.proofs.lemmas.Bool.{and_parts, and_from, both_ways, or_left, or_right, false_from_ne_true, false≢true, cond-true, cond-false, le-ltb, ltb-true}
 use Rattle.std.proofs.lemmas.List.Sums.{length-filter}
-use Rattle.std.proofs.Math.Nat.{le-div_iff_mul-le, mul-div_cancel}
 use Rattle.std.proofs.lemmas.Option.{same_Some}
-use Rattle.os9_base.specs.Name.{IsName}
 use Rattle.os9_base.specs.declared.registers.TimePacket.{TimePacket}
 use Rattle.rbf_model.specs.Disk.{image_disk}
 use Rattle.rbf_model.specs.Fields.{descriptor_field}
 use Rattle.rbf_model.specs.File.{DiskFile, file_at, is_directory}
 use Rattle.rbf_model.specs.Geometry.{Geometry, geometry, image_geometry, sector, map_sectors}
-use Rattle.rbf_model.specs.Laws.{IsFileSector, IsMapSector, IsReady}
+use Rattle.rbf_model.specs.Laws.{IsMapSector, IsReady}
 use Rattle.rbf_model.specs.Segments.{has, sectors_of}
 use Rattle.rbf_model.specs.Space.{has_cluster, own_sectors as owned_sectors, cluster_count, is_marked}
-use Rattle.rbf_model.specs.Volume.{DiskVolume, Vol, is_free}
+use Rattle.rbf_model.specs.Volume.{DiskVolume, is_free}
 use Rattle.rbf_model.specs.Walk.{look_up, file_permits}
 use Rattle.rbf_model.specs.Writes.{put_file, put_at, with_file, with_lost}
 use Rattle.rbf_model.proofs.Change.{put_file_beside}
 use Rattle.rbf_model.proofs.Owners.{own_after, own_apart, own_below}
 use Rattle.rbf_change.specs.Calls.{shape, cluster_size, free_total, is_free_in, replaced, written_file, WritesFile}
 use Rattle.rbf_change.specs.Contents.{sector_count, written}
-use Rattle.rbf_change.specs.Faults.{MayLose, EntryEnds, taken}
-use Rattle.rbf_change.specs.Growth.{IsChoice, uses, with_clusters, clusters_needed}
-use Rattle.rbf_change.specs.Names.{new_entry, new_listing, entry_place, is_dots, may_change}
-use Rattle.rbf_change.specs.NewFiles.{Plan, directory_plan, Enters, IsEntered, IsNewFile, file_clusters, free_without, entry_clusters, no_cluster, too_many_runs}
-use Rattle.rbf_change.specs.Parts.{EntryIsPut}
+use Rattle.rbf_change.specs.Faults.{MayLose, EntryEnds}
+use Rattle.rbf_change.specs.Growth.{IsChoice, with_clusters, clusters_needed}
+use Rattle.rbf_change.specs.Names.{new_entry, entry_place, is_dots, may_change}
+use Rattle.rbf_change.specs.NewFiles.{Plan, directory_plan, IsNewFile, file_clusters, free_without, entry_clusters, no_cluster, too_many_runs}
 use Rattle.rbf_change.specs.Tidy.{IsNewList, KeepsListEnd, KeepsMapEnd}
-use Rattle.rbf_change.proofs.LawfulWrites.{shape-image}
-use Rattle.rbf_access.specs.Faults.{file_fault}
 use Rattle.rbf_access.specs.Mounted.{Represents}
-use Rattle.rbf_access.specs.declared.faults.FileFault.{FileFault}
-use Rattle.rbf_access.specs.declared.faults.FileFault.TheVariants.{Device, NoCluster, TooManyRuns}
 use Rattle.rbf_access.proofs.ReadFile.{room_for}
-use Rattle.rbf_growth.proofs.Chosen.{begins_at, gained_free, kept_place}
 use Rattle.rbf_model.proofs.Owners.{owns_own}
 use Rattle.rbf_model.proofs.Space.{cluster_from_owns}
-use Rattle.rbf_walk.specs.declared.error.DirError.{DirError}
-use Rattle.rbf_walk.specs.declared.error.DirError.TheVariants.{File}
-use Rattle.rbf_append.specs.Appended.{Appending, MayAppend, IsAppended, AppendStops, AnswersAppend, sector_of_place}
-use Rattle.rbf_append.specs.Entering.{Entering, refusal_of, written_sectors, IsEnteredOn, EnteringStops, EnteringTook, took}
-use Rattle.rbf_append.specs.Rooms.{place_clusters, HasRoom, HasNoSegment, AnswersRoom}
+use Rattle.rbf_append.specs.Appended.{MayAppend, IsAppended, AppendStops, sector_of_place}
+use Rattle.rbf_append.specs.Entering.{Entering, refusal_of, written_sectors, IsEnteredOn, EnteringStops, took}
+use Rattle.rbf_append.specs.Rooms.{place_clusters, HasRoom, HasNoSegment}
 use Rattle.rbf_append.proofs.Appending.{written_at_end}
 use Rattle.rbf_append.proofs.Choice.{choice_exists, one_needed, one_passes}
 use Rattle.rbf_write.proofs.Steps.{few_segments, own_not_free}
 use Rattle.rbf_make.proofs.NewEntries.{may_enter, new_length, new_number}
-use Rattle.rbf_folder.specs.Ends.{folder_request, IsLastPlace, widened}
-use Rattle.rbf_folder.specs.Made.{first_sector, ClustersTaken, IsFolderMade, FolderEnds, MakesFolder}
+use Rattle.rbf_folder.specs.Ends.{folder_request, IsLastPlace}
+use Rattle.rbf_folder.specs.Made.{first_sector, ClustersTaken, IsFolderMade, FolderEnds}
 use Rattle.rbf_folder.proofs.Last.{split_count, more_count, listed_count, free_left, apart, joined}
 use Rattle.rbf_folder.proofs.Making.{positive_of, past_system}
 
@@ -194,7 +184,7 @@ module _ (media : Option (List ℕ)) (v : DiskVolume) (on : Represents media v) 
       unwritten : (s : ℕ) → has (written_sectors n file) s ≡ false → (s ≢ n) × (s ≢ first_sector file)
       unwritten s none = (
         λ same. both_ways (has (written_sectors n file) s) none (subst (λ x. has (written_sectors n file) x ≡ true) (sym same) number_written),
-        λ same. both_ways (has (written_sectors n file) s) none (subst (λ x. has (written_sectors n file) x ≡ true) (sym same) first_written)
+        λ same. both_ways (has (written_sectors n file) s) none (subst (λ x. has (written_sectors n file) x ≡ true) (sym same) first_written),
       )
 
       first_was_free : is_free_in v (first_sector file / k) ≡ true

@@ -1,5 +1,5 @@
 -- A directory that is made with an entry behind the last one of its parent, and by the whole call.
-use Rattle.std.specs.Prelude.{◌≡◌, ℕ, ◌*◌, true, false, Option, List, length, Result, Ok, Err}
+use Rattle.std.specs.Prelude.{◌≡◌, ℕ, ◌*◌, true, false, List, length, Result, Ok, Err}
 use Rattle.os9_base.specs.Name.{IsName}
 use Rattle.os9_base.specs.declared.registers.TimePacket.{TimePacket}
 use Rattle.rbf_model.specs.File.{DiskFile}
