@@ -1,0 +1,166 @@
+ghost use Rattle.rbf_access.specs.Mounted.{HasFile, IsMounted};
+ghost use Rattle.rbf_write.specs.Files.{HasDataFile};
+ghost use Rattle.std.specs.Int.{bit_at};
+ghost use Rattle.std.specs.Prelude.{◌≡◌, ◌==◌, ◌<◌, OnOk};
+
+use crate::answer::{Done, Undone};
+use crate::call::{Call, FileCall, NameCall};
+use crate::row::NumberedCall;
+use crate::stand_in::{create, make_dir};
+use module_format::crc24;
+use os9_base::errors::{E_BPNAM, E_FNA};
+use os9_base::name::Name;
+use os9_base::registers::TimePacket;
+use os9_outer::drive::BlockDriver;
+use rbf_access::Volume;
+use rbf_dirs::delete;
+use rbf_sector::Fd;
+use rbf_size::set_size;
+use rbf_update::{set_attr, set_fd_attr};
+use rbf_walk::{may, walk};
+use rbf_write::write_at;
+use std::alloc::Global;
+
+// The greatest attributes of a file that is no directory.
+const MOST_FILE_ATTRIBUTES: u8 = 0x7f;
+
+/// Makes a call on a mounted volume.
+pub(crate) fn make_call(
+    alloc: Global,
+    volume: &mut Volume,
+    d: &mut dyn BlockDriver,
+    numbered: &NumberedCall,
+) -> Result<Done, Undone>
+    requires mounted { IsMounted volume.old (media d.old) }
+    ensures mounted { IsMounted volume.new (media d.new) }
+{
+    match &numbered.call {
+        Call::Free => Ok(Done::Free(volume.free_count())),
+        Call::OnFile { path, call } => call_file(alloc, volume, d, path, *call, numbered.time()),
+        Call::OnName { path, call } => call_name(volume, d, path, *call, numbered.time()),
+    }
+}
+
+// A call on the file or directory to which a path leads.
+fn call_file(
+    alloc: Global,
+    volume: &mut Volume,
+    d: &mut dyn BlockDriver,
+    path: &[Name],
+    call: FileCall,
+    now: TimePacket,
+) -> Result<Done, Undone>
+    requires mounted { IsMounted volume.old (media d.old) }
+    ensures mounted { IsMounted volume.new (media d.new) }
+{
+    let root = volume.root();
+    let fd = walk(
+        volume,
+        d,
+        root,
+        path,
+        call.walker(),
+        call.way().is_execute(),
+    )?;
+    match call {
+        FileCall::Walk { .. } => Ok(Done::Walked(volume.fd(d, fd)?)),
+        FileCall::May { user, mode } => Ok(Done::Permitted(may(&volume.fd(d, fd)?, user, mode))),
+        FileCall::Read { at, count } => read_file(alloc, volume, d, fd, at, count),
+        FileCall::Attr { attr, user } => {
+            set_attr(volume, d, fd, attr, user, now)?;
+            Ok(Done::Plainly)
+        }
+        FileCall::FdAttr { attr } => {
+            set_fd_attr(volume, d, fd, attr, now)?;
+            Ok(Done::Plainly)
+        }
+        FileCall::Write { at, pattern } => {
+            let bytes = pattern.bytes(alloc)?;
+            see_data_file(volume, d, fd)?;
+            write_at(volume, d, fd, at, &bytes, now)?;
+            Ok(Done::Plainly)
+        }
+        FileCall::Size { size } => {
+            see_data_file(volume, d, fd)?;
+            set_size(volume, d, fd, size, now)?;
+            Ok(Done::Plainly)
+        }
+    }
+}
+
+// Reads a file into a buffer of so many bytes.
+fn read_file(
+    alloc: Global,
+    volume: &mut Volume,
+    d: &mut dyn BlockDriver,
+    fd: u32,
+    at: u32,
+    room: u32,
+) -> Result<Done, Undone>
+    requires mounted { IsMounted volume.old (media d.old) }
+    requires file { HasFile (media d.old) fd }
+    ensures mounted { IsMounted volume.new (media d.new) }
+{
+    let mut buffer = vec![in alloc; 0u8; room as usize]?;
+    let count = volume.read_at(d, fd, at, &mut buffer)?;
+    buffer.truncate(count as usize);
+    Ok(Done::Read {
+        count,
+        crc: crc24(&buffer),
+    })
+}
+
+// Sees that a file is no directory.
+fn see_data_file(volume: &mut Volume, d: &mut dyn BlockDriver, fd: u32) -> Result<(), Undone>
+    requires mounted { IsMounted volume.old (media d.old) }
+    requires file { HasFile (media d.old) fd }
+    ensures file { OnOk result (HasDataFile (media d.new) fd) }
+    ensures mounted { IsMounted volume.new (media d.new) }
+{
+    let file = volume.fd(d, fd)?;
+    if is_directory(&file) {
+        return Err(Undone::Directory);
+    }
+    Ok(())
+}
+
+fn is_directory(file: &Fd) -> bool
+    ensures { result ≡ (bit_at file.now.attr 7 == 1) }
+{
+    file.attr >> 7 == 1
+}
+
+// A call on the last name of a path, in the directory to which the others lead.
+fn call_name(
+    volume: &mut Volume,
+    d: &mut dyn BlockDriver,
+    path: &[Name],
+    call: NameCall,
+    now: TimePacket,
+) -> Result<Done, Undone>
+    requires mounted { IsMounted volume.old (media d.old) }
+    ensures mounted { IsMounted volume.new (media d.new) }
+{
+    let Some((name, names)) = path.split_last() else {
+        return Err(Undone::Refused(E_BPNAM));
+    };
+    let root = volume.root();
+    let dir = walk(volume, d, root, names, call.user(), call.way().is_execute())?;
+    match call {
+        NameCall::Create { attr, .. } if attr > MOST_FILE_ATTRIBUTES => {
+            Err(Undone::Refused(E_FNA))
+        }
+        NameCall::Create { attr, user, way } => {
+            create(volume, d, dir, name, attr, user, way.is_execute(), now)?;
+            Ok(Done::Plainly)
+        }
+        NameCall::MakeDir { attr, user } => {
+            make_dir(volume, d, dir, name, attr, user, now)?;
+            Ok(Done::Plainly)
+        }
+        NameCall::Delete { user, way } => {
+            delete(volume, d, dir, name, user, way.is_execute())?;
+            Ok(Done::Plainly)
+        }
+    }
+}

@@ -1,0 +1,156 @@
+ghost use Rattle.rbf_access.specs.Mounted.{IsMounted};
+ghost use Rattle.std.specs.Prelude.{◌≡◌, Some, None, IfOk};
+
+use crate::answer::Undone;
+use crate::listing::write_state;
+use crate::making::make_call;
+use crate::row::{NumberedCall, Row, Swept};
+use os9_outer::drive::BlockDriver;
+use os9_outer::ram_drive::RamDrive;
+use rbf_access::{VolFault, Volume};
+use rbf_check::{CheckError, check};
+use std::alloc::{AllocError, Global};
+use std::fmt::Write;
+use thiserror::Error;
+
+/// What a run of a row prints, and whether the swept call came to the driver call that was to fail.
+#[derive(Debug, Drop)]
+pub(crate) struct Outcome {
+    pub(crate) text: String,
+    pub(crate) failed: bool,
+}
+
+/// Runs the calls of a row on a copy of its image. Of the driver calls of the swept one the one of
+/// this number fails.
+pub(crate) fn run_row(alloc: Global, row: &Row, failing: u64) -> Result<Outcome, AllocError> {
+    let mut text = String::from_str(alloc, "outcome\n")?;
+    let mut mounting = RamDrive::new(row.swept.mount_plan(alloc, failing)?);
+    let mut before = RamDrive::new(Vec::new(alloc));
+    let mut swept = RamDrive::new(row.swept.call_plan(alloc, failing)?);
+    let mut after = RamDrive::new(Vec::new(alloc));
+    let _ = mounting.insert(row.image.to_vec(alloc)?);
+    call_row(
+        alloc,
+        row,
+        &mut mounting,
+        &mut before,
+        &mut swept,
+        &mut after,
+        &mut text,
+    )?;
+    let calls = match row.swept {
+        Swept::Nothing => 0,
+        Swept::Mount(_) => mounting.calls(),
+        Swept::Call(..) => swept.calls(),
+    };
+    if let Some(image) = after.eject() {
+        write_state(alloc, &image, &mut text)?;
+    }
+    Ok(Outcome {
+        text,
+        failed: failing <= calls,
+    })
+}
+
+// Why no calls are made on an image.
+#[derive(Clone, Copy, Debug, PartialEq, Eq, Error)]
+enum NotMounted {
+    // It was mounted, but its volume breaks a rule.
+    #[error("ok")]
+    Broken,
+    #[error("not rbf")]
+    NotRbf,
+    #[error("device {0}")]
+    Device(u8),
+    #[error("no memory")]
+    OutOfMemory,
+}
+
+impl From<VolFault> for NotMounted {
+    fn from(fault: VolFault) -> NotMounted {
+        match fault {
+            VolFault::Device(number) => NotMounted::Device(number),
+            VolFault::NotRbf => NotMounted::NotRbf,
+            VolFault::OutOfMemory => NotMounted::OutOfMemory,
+        }
+    }
+}
+
+// Mounts the volume of an image, which has to be well formed.
+fn mount(alloc: Global, image: &[u8], d: &mut dyn BlockDriver) -> Result<Volume, NotMounted>
+    requires { media d.old ≡ Some image.now }
+    ensures { IfOk result (λ volume. IsMounted volume (media d.new)) }
+{
+    let checked = check(alloc, image);
+    let volume = Volume::mount(alloc, d)?;
+    match checked {
+        Ok(_) => Ok(volume),
+        Err(CheckError::Fault(_)) => Err(NotMounted::Broken),
+        Err(CheckError::OutOfMemory) => Err(NotMounted::OutOfMemory),
+    }
+}
+
+// Moves the image of a drive to another one.
+fn move_image(from: &mut dyn BlockDriver, to: &mut dyn BlockDriver)
+    requires { media to.old ≡ None }
+    ensures { media to.new ≡ media from.old }
+{
+    if let Some(image) = from.eject() {
+        let _ = to.insert(image);
+    }
+}
+
+// Mounts the image of a row and makes its calls: those before the swept one, that one, and those
+// after it, each over a drive of its own, in the last of which the image is left.
+fn call_row(
+    alloc: Global,
+    row: &Row,
+    mounting: &mut dyn BlockDriver,
+    before: &mut dyn BlockDriver,
+    swept: &mut dyn BlockDriver,
+    after: &mut dyn BlockDriver,
+    text: &mut String,
+) -> Result<(), AllocError>
+    requires image { media mounting.old ≡ Some row.now.image.items }
+    requires before { media before.old ≡ None }
+    requires swept { media swept.old ≡ None }
+    requires after { media after.old ≡ None }
+{
+    let mut volume = match mount(alloc, &row.image, mounting) {
+        Ok(volume) => volume,
+        Err(NotMounted::OutOfMemory) => return Err(AllocError),
+        Err(cause) => {
+            move_image(mounting, after);
+            return writeln!(text, "1 {cause}");
+        }
+    };
+    writeln!(text, "1 ok")?;
+    let parts = row.parts();
+    move_image(mounting, before);
+    make_calls(alloc, &mut volume, before, parts.before, text)?;
+    move_image(before, swept);
+    make_calls(alloc, &mut volume, swept, parts.swept, text)?;
+    move_image(swept, after);
+    make_calls(alloc, &mut volume, after, parts.after, text)
+}
+
+// Makes calls in their order, and writes a line for each.
+fn make_calls(
+    alloc: Global,
+    volume: &mut Volume,
+    d: &mut dyn BlockDriver,
+    calls: &[NumberedCall],
+    text: &mut String,
+) -> Result<(), AllocError>
+    requires mounted { IsMounted volume.old (media d.old) }
+    ensures mounted { IsMounted volume.new (media d.new) }
+{
+    for call in calls {
+        match make_call(alloc, volume, d, call) {
+            Ok(done) => writeln!(text, "{} {done}", call.number)?,
+            Err(Undone::OutOfMemory) => return Err(AllocError),
+            Err(undone) => writeln!(text, "{} {undone}", call.number)?,
+        }
+    }
+    Ok(())
+}
