@@ -24,7 +24,7 @@ use std::alloc::Global;
 /// Does what a command line says, and answers the status (this project's own).
 ///
 /// The words are those after the program's name. `run MODULES --slices SLICES`, with `--blocks N`
-/// behind it or not, reads the slice text and the file of modules, runs the program `SysGo` of that
+/// or not, reads the slice text and the file of modules, runs the program `SysGo` of that
 /// file, and passes what it puts on the terminals to the output stream. `check IMAGE` reads the
 /// image of a disk and passes the counts of its volume to the output stream.
 ///
