@@ -6,9 +6,9 @@ use os9_outer::drive::{BlockDriver, DriveFault};
 use os9_outer::ram_drive::{PlannedFault, RamDrive};
 use rbf_access::{FileFault, Volume};
 use rbf_check::check;
-use rbf_files::set_fd_attr;
 use rbf_growth::grow;
 use rbf_segs::Segs;
+use rbf_update::set_fd_attr;
 use std::alloc::{AllocError, Global};
 use std::test::Fail;
 

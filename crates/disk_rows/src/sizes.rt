@@ -66,3 +66,23 @@ fn cut_driver_calls(rt: HostRuntime) -> Result<(), Fail> {
     }
     Ok(())
 }
+
+#[test]
+fn longer_file_driver_calls(rt: HostRuntime) -> Result<(), Fail> {
+    let fault = Some(Err(FileFault::Device(E_SEEK)));
+    for (failing, size, answer, calls, file) in [
+        (99, 768, Some(Ok(())), 11, (768, Some(0), 0)),
+        (99, 0, Some(Ok(())), 3, (0, None, 0)),
+        (99, 2817, Some(Err(FileFault::NoCluster)), 3, (0, None, 0)),
+        (3, 768, fault, 3, (0, None, 0)),
+        (11, 768, fault, 11, (0, None, 3)),
+    ] {
+        let image = image_with_a(rt.alloc())?;
+        let mut drive = drive_with(rt.alloc(), &image, failing)?;
+        let longer = set_second(rt.alloc(), &image, &mut drive, size)?;
+        assert_eq!(rt; (longer, drive.calls()), (answer, calls));
+        let after = drive.eject().unwrap_or(image);
+        assert_eq!(rt; second_file(rt.alloc(), &after)?, file);
+    }
+    Ok(())
+}

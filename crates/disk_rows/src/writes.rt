@@ -7,7 +7,7 @@ use os9_base::registers::TimePacket;
 use os9_outer::drive::BlockDriver;
 use rbf_access::{FileFault, Volume};
 use rbf_check::check;
-use rbf_write::{lengthen, write_at};
+use rbf_write::write_at;
 use std::alloc::Global;
 use std::test::Fail;
 
@@ -40,28 +40,6 @@ pub fn write_second(
         return Ok(None);
     }
     let answer = write_at(&mut volume, d, node.fd, at, bytes, NOON);
-    Ok(Some(answer))
-}
-
-// What it answers to make that file as long as this.
-fn lengthen_second(
-    alloc: Global,
-    image: &[u8],
-    d: &mut dyn BlockDriver,
-    size: u32,
-) -> Result<Option<Result<(), FileFault>>, Fail>
-    requires { media d.old ≡ Some image.now }
-{
-    let tree = check(alloc, image)?;
-    let mut volume = Volume::mount(alloc, d)?;
-    if tree.nodes.len() < 2 {
-        return Ok(None);
-    }
-    let node = tree.nodes.node(1);
-    if node.is_directory() {
-        return Ok(None);
-    }
-    let answer = lengthen(&mut volume, d, node.fd, size, NOON);
     Ok(Some(answer))
 }
 
@@ -119,26 +97,6 @@ fn writes_of_many_and_of_no_bytes(rt: HostRuntime) -> Result<(), Fail> {
         assert_eq!(rt; (written, drive.calls()), (Some(answer), calls));
         let after = drive.eject().unwrap_or(image);
         assert_eq!(rt; second_file(rt.alloc(), &after)?.0, size);
-    }
-    Ok(())
-}
-
-#[test]
-fn longer_file_driver_calls(rt: HostRuntime) -> Result<(), Fail> {
-    let fault = Some(Err(FileFault::Device(E_SEEK)));
-    for (failing, size, answer, calls, file) in [
-        (99, 768, Some(Ok(())), 11, (768, Some(0), 0)),
-        (99, 0, Some(Ok(())), 3, (0, None, 0)),
-        (99, 2817, Some(Err(FileFault::NoCluster)), 3, (0, None, 0)),
-        (3, 768, fault, 3, (0, None, 0)),
-        (11, 768, fault, 11, (0, None, 3)),
-    ] {
-        let image = image_with_a(rt.alloc())?;
-        let mut drive = drive_with(rt.alloc(), &image, failing)?;
-        let longer = lengthen_second(rt.alloc(), &image, &mut drive, size)?;
-        assert_eq!(rt; (longer, drive.calls()), (answer, calls));
-        let after = drive.eject().unwrap_or(image);
-        assert_eq!(rt; second_file(rt.alloc(), &after)?, file);
     }
     Ok(())
 }
