@@ -48,7 +48,7 @@ has_place [] j low = absurd (omega arith)
 has_place (x ∷ xs) zero low = or_left (x == x) (has xs x) (eq-eqb x x refl)
 has_place (x ∷ xs) (suc j) low = or_right (x == get_or xs j 0) (has xs (get_or xs j 0)) (has_place xs j (omega arith))
 
-first_taken : (xs : List ℕ) (size : ℕ) → sector_count size ≡ 1 → has xs (get_or xs 0 0) ≡ true → has (take (sector_count size) xs) (get_or xs 0 0) ≡ true
+pub first_taken : (xs : List ℕ) (size : ℕ) → sector_count size ≡ 1 → has xs (get_or xs 0 0) ≡ true → has (take (sector_count size) xs) (get_or xs 0 0) ≡ true
 first_taken [] size one h = absurd (false≢true h)
 first_taken (x ∷ xs) size one h = subst (λ m. has (take m (x ∷ xs)) x ≡ true) (sym one) (or_left (x == x) false (eq-eqb x x refl))
 

@@ -6,3 +6,4 @@ pub mod Named
 pub mod Last
 pub mod LastPlace
 pub mod Answering
+pub mod Whole

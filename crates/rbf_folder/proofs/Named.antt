@@ -57,6 +57,7 @@ module _ (media mid : Option (List ℕ)) (d i : ℕ) (name : List ℕ) (attr use
     vol = ends.vol;
     number = ends.number;
     ends = lose_more media mid d i name (plan ends.number) spot ends.number ends.file ends.chosen ends.left ends.lose;
+    takes = ends.takes;
     others = λ s none _ differ. ends.others s none differ;
     end = ends.end;
   }
@@ -140,6 +141,7 @@ module _ (media mid : Option (List ℕ)) (d i : ℕ) (name : List ℕ) (attr use
       vol = made.vol;
       number = n;
       ends = unnamed_ends media mid d i name (plan n) spot n changed pending;
+      takes = made.takes;
       others = made.writes.others;
       end = made.writes.end;
     }
@@ -153,6 +155,7 @@ module _ (media mid : Option (List ℕ)) (d i : ℕ) (name : List ℕ) (attr use
       after = after media mid d i name (plan n) spot n changed pending new written;
       vol = after_vol media mid d i name (plan n) spot n changed pending new written;
       enters = enters media mid d i name (plan n) spot n changed pending new written;
+      takes = made.takes;
       list = list_kept media mid d i name (plan n) spot n changed pending new written;
       writes = subst (λ p. FillsBoth made.image (half media mid d i name (plan n) spot n changed pending new written) (dir media mid d i name (plan n) spot) p (new_entry name n) n start (new_listing n d)) spot.absent.free_is (record {
         filled = entry_filled media mid d i name (plan n) spot n changed pending new written;

@@ -8,7 +8,7 @@ use Rattle.rbf_change.specs.NewFiles.{directory_plan}
 use Rattle.rbf_access.specs.declared.faults.FileFault.{FileFault}
 use Rattle.rbf_walk.specs.Search.{IsAbsent}
 use Rattle.rbf_walk.specs.declared.error.DirError.{DirError}
-use Rattle.rbf_walk.specs.declared.error.DirError.TheVariants.{File}
+use Rattle.rbf_walk.specs.declared.error.DirError.TheVariants.{NotAllowed, BadPath, NotFound, Exists, File}
 use Rattle.rbf_append.specs.Entering.{Entering}
 
 -- a user asks for a directory by a name in directory d
@@ -33,3 +33,13 @@ pub record IsLastPlace (dir : DiskFile) (name : List ℕ) (user place : ℕ) : T
 abbrev pub widened : Result ℕ FileFault → Result ℕ DirError
 widened (Ok n) = Ok n
 widened (Err fault) = Err (File fault)
+
+-- how many calls of the drive the making of a directory needs at most when its place has been found: ten, and none
+-- where it was refused before
+abbrev pub folder_calls : Result ℕ DirError → ℕ
+folder_calls (Ok n) = 10
+folder_calls (Err NotAllowed) = 0
+folder_calls (Err BadPath) = 0
+folder_calls (Err NotFound) = 0
+folder_calls (Err Exists) = 0
+folder_calls (Err (File fault)) = 10

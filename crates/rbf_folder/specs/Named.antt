@@ -15,7 +15,7 @@ use Rattle.rbf_access.specs.Faults.{file_fault}
 use Rattle.rbf_access.specs.declared.faults.FileFault.{FileFault}
 use Rattle.rbf_access.specs.declared.faults.FileFault.TheVariants as fault
 use Rattle.rbf_update.specs.Entries.{sector_of_entry}
-use Rattle.rbf_folder.specs.Made.{first_sector}
+use Rattle.rbf_folder.specs.Made.{first_sector, ClustersTaken}
 
 -- on the media the parent's entry i has its 32 bytes and the new directory's first sector its entries; beside these two
 -- sectors only the map and sector n have changed
@@ -37,6 +37,7 @@ pub record IsFolderNamed (v : DiskVolume) (d : ℕ) (name : List ℕ) (plan : Pl
   pub after : DiskVolume
   pub vol : Vol now after
   pub enters : Enters v after d n name plan
+  pub takes : ClustersTaken v n enters.both.file
   pub list : IsNewList (sector now n)
   pub writes : FillsBoth image now enters.both.old (entry_place enters.both.old.contents) (new_entry name n) n
       (first_sector enters.both.file) plan.contents
@@ -53,6 +54,7 @@ pub record NamingStops (v : DiskVolume) (d : ℕ) (name : List ℕ) (plan : ℕ 
   pub vol : Vol now left
   pub number : ℕ
   pub ends : EntryEnds v left d number name (plan number)
+  pub takes : ClustersTaken v number ends.both.file
   -- only the descriptor and the first sector that were chosen, and the map, have changed
   pub others : (s : ℕ) → ¬ IsMapSector (image_geometry image) s → s ≢ number → s ≢ first_sector ends.both.file
       → sector now s ≡ sector image s
