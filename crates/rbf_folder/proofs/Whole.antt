@@ -1,5 +1,5 @@
 -- A directory as one call makes it: in a free place of its parent, or behind the last entry.
-use Rattle.std.proofs.Common.{◌≡◌, ◌≢◌, ◌==◌, ◌&&◌, ◌||◌, ℕ, zero, suc, ◌+◌, ◌-◌, ◌*◌, ◌/◌, ◌%◌, ◌<◌, ◌≤◌, Bool, true, false, not, Option, Some, None, IsSome, is_some, Result, Ok, Err, List, [], ◌∷◌, ◌++◌, length, take, get_or, refl, sym, ap, ◌∙◌, subst, ⊎_elim, eqb-true, eq-eqb, lt-ltb, arith}
+use Rattle.std.proofs.Common.{◌≡◌, ◌≢◌, ◌==◌, ◌&&◌, ℕ, suc, ◌+◌, ◌-◌, ◌*◌, ◌/◌, ◌%◌, ◌<◌, ◌≤◌, true, false, not, Option, Some, None, IsSome, is_some, Result, Ok, Err, List, [], ◌∷◌, ◌++◌, length, take, refl, sym, ap, ◌∙◌, subst, ⊎_elim, eq-eqb, lt-ltb, arith}
 use Rattle.std.specs.Prelude.{OnErr, IsNone, nat_lt, replicate, if◌then◌else◌}
 use Rattle.std.proofs.lemmas.Bool.{and_parts, both_ways, or_left, or_right, false_from_ne_true, false≢true, cases_lt, cond-true, cond-false, le-ltb}
 use Rattle.std.proofs.lemmas.List.{append-nil, nil_from_length}
@@ -25,17 +25,14 @@ use Rattle.rbf_change.specs.Contents.{sector_count, written}
 use Rattle.rbf_change.specs.Growth.{with_clusters, clusters_needed}
 use Rattle.rbf_change.specs.Names.{new_entry, entry_place, is_dots, may_change}
 use Rattle.rbf_change.specs.NewFiles.{Plan, directory_plan, file_clusters, entry_clusters, no_cluster, too_many_runs}
-use Rattle.rbf_change.specs.Tidy.{KeepsListEnd}
 use Rattle.rbf_change.proofs.LawfulWrites.{shape-image}
 use Rattle.rbf_access.specs.Drive.{DriveCounts, MovesCounts}
 use Rattle.rbf_access.specs.Faults.{file_fault}
-use Rattle.rbf_access.specs.Mounted.{Represents, HasFile}
-use Rattle.rbf_access.specs.Reading.{OnFile, IsFdOf}
+use Rattle.rbf_access.specs.Mounted.{Represents}
 use Rattle.rbf_access.specs.declared.faults.FileFault.{FileFault}
 use Rattle.rbf_access.specs.declared.faults.FileFault.TheVariants.{Device, NoCluster, TooManyRuns}
 use Rattle.rbf_access.proofs.Counting.{counts_most, counts_then}
 use Rattle.rbf_access.proofs.ReadFile.{room_for}
-use Rattle.rbf_sector.specs.declared.fd.Fd.{Fd}
 use Rattle.rbf_update.specs.Entries.{sector_of_entry}
 use Rattle.rbf_walk.specs.Search.{IsAbsent}
 use Rattle.rbf_walk.specs.Walk.{directory_fault}
@@ -73,7 +70,7 @@ unwritten v n file takes sized s none = (
       (or_left (n == n) (has (take (sector_count (length file.contents)) (sectors_of file.segments)) n) (eq-eqb n n refl))),
   λ same. both_ways (has (written_sectors n file) s) none (subst (λ x. has (written_sectors n file) x ≡ true) (sym same)
       (or_right (n == first_sector file) (has (take (sector_count (length file.contents)) (sectors_of file.segments)) (first_sector file))
-      (first_taken (sectors_of file.segments) (length file.contents) (ap sector_count sized) takes.some)))
+      (first_taken (sectors_of file.segments) (length file.contents) (ap sector_count sized) takes.some))),
 )
 
 -- a file's descriptor lies in no free cluster

@@ -1,4 +1,4 @@
-use Rattle.std.proofs.Common.{Ok, Err, ◌<◌, ◌/◌, ap, ◌∙◌, arith}
+use Rattle.std.proofs.Common.{Err, ◌<◌, ◌/◌, ap, ◌∙◌, arith}
 use Rattle.std.proofs.lemmas.Result.{err_from_is_err_and}
 use Rattle.rbf_sector.specs.declared.fd.Fd.{Fd}
 use Rattle.rbf_access.proofs.Counting.{counts_then, counts_most}
