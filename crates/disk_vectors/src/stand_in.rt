@@ -6,23 +6,6 @@ use os9_outer::drive::BlockDriver;
 use rbf_access::Volume;
 use rbf_walk::DirError;
 
-pub(crate) fn create(
-    _v: &mut Volume,
-    _d: &mut dyn BlockDriver,
-    _dir: u32,
-    _name: &Name,
-    _attr: u8,
-    _user: u16,
-    _execute: bool,
-    _now: TimePacket,
-) -> Result<u32, DirError>
-    requires mounted { IsMounted _v.old (media _d.old) }
-    requires file { HasFile (media _d.old) _dir }
-    ensures mounted { IsMounted _v.new (media _d.new) }
-{
-    Err(DirError::BadPath)
-}
-
 pub(crate) fn make_dir(
     _v: &mut Volume,
     _d: &mut dyn BlockDriver,
