@@ -10,7 +10,6 @@ mod making;
 mod outcome;
 mod outside;
 mod row;
-mod stand_in;
 mod sweep;
 mod words;
 
