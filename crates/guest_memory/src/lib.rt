@@ -48,7 +48,9 @@ mod tests {
         assert!(rt; memory.is_named(first, 8188, 8196) && !memory.is_named(first, 8188, 8197));
         assert_eq!(rt; memory.read_line(first, 16_380, 5, &mut line), None);
         assert_eq!(rt; memory.read_line(first, 16_380, 4, &mut line), Some(4));
-        assert!(rt; memory.fits(first, 8188, 8));
+        if !memory.fits(first, 8188, 8) {
+            return Err("the line does not fit".into());
+        }
         memory.store(first, 8188, b"over\rtwo");
         assert_eq!(rt; memory.read_line(first, 8188, 12, &mut line), Some(5));
         assert_eq!(rt; memory.read_line(first, 8188, 3, &mut line), Some(3));
