@@ -57,7 +57,7 @@ two_calls f b s t u one other = counts_then f 1 b s t u one other
 pub three_calls : (f : Option ℕ) (b : ℕ) (s t u w : DriveCounts) → MovesCounts None 1 s t → MovesCounts None 2 t u → MovesCounts f b u w → MovesCounts f (3 + b) s w
 three_calls f b s t u w one other last = counts_then f 3 b s u w (counts_then None 1 2 s t u one other) last
 
-module _ (m0 : Option (List ℕ)) (d place : ℕ) (name : List ℕ) (attr user : ℕ) (now : TimePacket) (spot : IsPlaceFor m0 d name place) where
+module _ (m0 : Option (List ℕ)) (d place : ℕ) (name : List ℕ) (attr user : ℕ) (now : TimePacket) (spot : IsPlaceFor m0 d name user place) where
   pub has_dir : HasFile m0 d
   has_dir = record { content = spot.content; on = spot.on; file = spot.dir; is = spot.is }
 

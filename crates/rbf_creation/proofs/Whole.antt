@@ -44,7 +44,7 @@ directory_of : (dir : DiskFile) (user : ℕ) (execute : Bool) → may_change dir
 directory_of dir user execute may = (and_parts _ _ (and_parts (may_search dir user execute) _ may).0).0
 
 -- the place has been found
-pub place_for : (m0 m1 : Option (List ℕ)) → m1 ≡ m0 → (d place : ℕ) (name : List ℕ) (user : ℕ) (execute : Bool) → HasFile m0 d → OnFile m0 d (λ file. AnswersPlace file name user execute (Ok place)) → IsPlaceFor m1 d name place
+pub place_for : (m0 m1 : Option (List ℕ)) → m1 ≡ m0 → (d place : ℕ) (name : List ℕ) (user : ℕ) (execute : Bool) → HasFile m0 d → OnFile m0 d (λ file. AnswersPlace file name user execute (Ok place)) → IsPlaceFor m1 d name user place
 place_for m0 m1 same d place name user execute has answer =
     let new : IsNewPlace has.file name user execute place = answer has.content has.file has.on has.is in
     record {
@@ -55,6 +55,8 @@ place_for m0 m1 same d place name user execute has answer =
       directory = directory_of has.file user execute new.allowed;
       named = new.named;
       proper = new.proper;
+      execute = execute;
+      allowed = new.allowed;
       absent = new.absent;
     }
 

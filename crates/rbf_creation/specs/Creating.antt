@@ -4,7 +4,7 @@ use Rattle.os9_base.specs.Name.{IsName}
 use Rattle.os9_base.specs.declared.registers.TimePacket.{TimePacket}
 use Rattle.rbf_model.specs.File.{DiskFile, is_directory}
 use Rattle.rbf_model.specs.Volume.{DiskVolume}
-use Rattle.rbf_change.specs.Names.{is_dots}
+use Rattle.rbf_change.specs.Names.{is_dots, may_change}
 use Rattle.rbf_change.specs.NewFiles.{file_plan}
 use Rattle.rbf_access.specs.Mounted.{Represents}
 use Rattle.rbf_access.specs.declared.faults.FileFault.{FileFault}
@@ -41,8 +41,8 @@ more_calls (Err (File (Device n))) = 8
 more_calls (Err (File NoCluster)) = 1
 more_calls (Err (File TooManyRuns)) = 1
 
--- the place of a new entry in directory d, for a name that the directory has not
-pub record IsPlaceFor (media : Option (List ℕ)) (d : ℕ) (name : List ℕ) (place : ℕ) : Type 0 where
+-- the place of a new entry in directory d, which the user may change, for a name that the directory has not
+pub record IsPlaceFor (media : Option (List ℕ)) (d : ℕ) (name : List ℕ) (user place : ℕ) : Type 0 where
   pub content : DiskVolume
   pub on : Represents media content
   pub dir : DiskFile
@@ -50,4 +50,6 @@ pub record IsPlaceFor (media : Option (List ℕ)) (d : ℕ) (name : List ℕ) (p
   pub directory : is_directory dir ≡ true
   pub named : IsName name
   pub proper : is_dots name ≡ false
+  pub execute : Bool
+  pub allowed : may_change dir user execute ≡ true
   pub absent : IsAbsent dir.contents name place

@@ -39,7 +39,7 @@ pub fn create_at(
     now: TimePacket,
 ) -> Result<u32, FileFault>
     requires mounted { IsMounted v.old (media d.old) }
-    requires place { IsPlaceFor (media d.old) dir name.now place }
+    requires place { IsPlaceFor (media d.old) dir name.now user place }
     requires file { attr < 128 }
     ensures answer { OnNumbered (media d.old) dir (λ on file. (execute : Bool)
         → may_change file user execute ≡ true
