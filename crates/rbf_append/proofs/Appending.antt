@@ -1,6 +1,6 @@
 -- An entry that is appended to a directory: what the media represents at each answer.
 use Rattle.rbf_model.specs.Disk.{disk_of}
-use Rattle.std.proofs.Common.{◌≡◌, ◌≢◌, ℕ, ◌+◌, ◌-◌, ◌*◌, ◌/◌, ◌%◌, ◌<◌, ◌≤◌, Bool, true, false, not, ◌==◌, ◌&&◌, ◌||◌, Option, Some, IsSome, Err, List, [], ◌∷◌, ◌++◌, length, take, drop, get_or, inr, refl, sym, ap, ◌∙◌, subst, ⊎_elim, arith, eq-eqb, eqb-true, le-leb, length-append, length-take, append_assoc}
+use Rattle.std.proofs.Common.{◌≡◌, ◌≢◌, ℕ, ◌+◌, ◌-◌, ◌*◌, ◌/◌, ◌%◌, ◌<◌, ◌≤◌, Bool, true, false, not, ◌==◌, ◌&&◌, ◌||◌, Option, Some, IsSome, Err, List, [], ◌∷◌, ◌++◌, length, take, drop, get_or, inl, inr, refl, sym, ap, ◌∙◌, subst, ⊎_elim, arith, eq-eqb, eqb-true, le-leb, length-append, length-take, append_assoc}
 use Rattle.std.specs.Prelude.{flat_map, replicate}
 use Rattle.std.specs.Int.{bit_at}
 use Rattle.std.specs.List.{range_with_len}
@@ -150,6 +150,7 @@ module _ (m0 : Option (List ℕ)) (a : Appending) (may : MayAppend m0 a.director
         vol = may.on.vol;
         lose = record { same = refl; still = λ x h. h; only = λ x h. or_left (v.lost x) (has c.0 x) h };
         others = λ s none differ. refl;
+        order = inl refl;
         end = λ x h. sym (and_true (is_marked (sector image0) x));
       }
     where
@@ -157,7 +158,44 @@ module _ (m0 : Option (List ℕ)) (a : Appending) (may : MayAppend m0 a.director
       and_true true = refl
       and_true false = refl
 
+  -- a free cluster has no sector of the map
+  free_no_map : (s : ℕ) → is_free_in v (s / k) ≡ true → ¬ IsMapSector g0 s
+  free_no_map s free map =
+      let within = map.within in
+      let r = root_file g0 (sector image0) v may.on.vol.sound in
+      let unused = (free_parts g0 (sector image0) v may.on.vol.sound (s / k) (subst (λ h. is_free h v (s / k) ≡ true) shape_is free)).2 in
+      both_ways (has_cluster g0 g0.root r.0 (s / k)) (unused g0.root r.0 r.1)
+      (subst (λ m. has_cluster g0 g0.root r.0 (s / m) ≡ true) (sym (ap (λ (h : Geometry). h.cluster) shape_is))
+      (cluster_from_owns g0 g0.root r.0 s (owns_system g0 r.0 s (has_range 0 (1 + map_sectors g0) s (omega arith) (omega arith)))))
+
   module _ (count : ℕ) (counted : count ≡ place_clusters v dir place) where
+    module _ (taken : List ℕ) (chosen : IsChosen k count (is_free_in v) dir.segments taken) where
+      within_place : place / 8 < length (sectors_of (with_clusters k dir.segments taken))
+      within_place =
+          let end = may.end in
+          let there = room in
+          let had = length (sectors_of dir.segments) in
+          let missing = sector_count (32 * (place + 1)) - had in
+          let q = clusters_needed k dir.segments (32 * (place + 1)) in
+          let up : missing + (k - 1) < q * k + k = lt-div-mul-add positive in
+          let many : length taken * k ≡ q * k = ap (λ m. m * k) (chosen.counted ∙ counted) in
+          let all : length (sectors_of (with_clusters k dir.segments taken)) ≡ had + length taken * k = length-with k dir.segments taken in
+          let some = positive in
+          omega arith
+
+      -- the entry's sector is one of the directory's or of those that were taken
+      its_sector : has (sectors_of (with_clusters k dir.segments taken)) (sector_of_place (with_clusters k dir.segments taken) place) ≡ true
+      its_sector = has_place (sectors_of (with_clusters k dir.segments taken)) (place / 8) within_place
+
+      at_no_map : ¬ IsMapSector g0 (sector_of_place (with_clusters k dir.segments taken) place)
+      at_no_map map =
+          let at = sector_of_place (with_clusters k dir.segments taken) place in
+          let within = map.within in
+          ⊎_elim
+          (λ own. let past = own_after g0 (sector image0) v may.on.vol.sound d dir at may.is (or_right (d == at) (has (sectors_of dir.segments) at) own) in absurd (omega arith))
+          (λ new. free_no_map at (has_free k (is_free_in v) dir.segments taken (at / k) chosen.gained (in_taken k taken at positive new)) map)
+          (has_cases (sectors_of dir.segments) (cluster_sectors k taken) at (subst (λ xs. has xs at ≡ true) (sectors_with k dir.segments taken) its_sector))
+
     -- a fault while it was taken
     pub growth_stops : (mid : Option (List ℕ)) → GrowthEnds v count m0 mid dir.segments → AppendStops v dir a m0 mid
     growth_stops mid ends = record {
@@ -171,6 +209,7 @@ module _ (m0 : Option (List ℕ)) (a : Appending) (may : MayAppend m0 a.director
       vol = ends.vol;
       lose = ends.lose;
       others = λ s none differ. ends.changes.others s none;
+      order = inl (ends.changes.others (sector_of_place (with_clusters k dir.segments ends.taken) place) (subst (λ i. ¬ IsMapSector (image_geometry i) (sector_of_place (with_clusters k dir.segments ends.taken) place)) (same_Some image0 ends.image (sym may.on.is ∙ ends.was)) (at_no_map ends.taken ends.chosen)));
       end = ends.changes.end;
     }
 
@@ -227,25 +266,8 @@ module _ (m0 : Option (List ℕ)) (a : Appending) (may : MayAppend m0 a.director
       sectors_are : sectors_of segments ≡ sectors_of dir.segments ++ more
       sectors_are = sectors_with k dir.segments taken
 
-      within_place : place / 8 < length (sectors_of segments)
-      within_place =
-          let end = may.end in
-          let there = room in
-          let had = length (sectors_of dir.segments) in
-          let missing = sector_count (32 * (place + 1)) - had in
-          let q = clusters_needed k dir.segments (32 * (place + 1)) in
-          let up : missing + (k - 1) < q * k + k = lt-div-mul-add positive in
-          let many : length taken * k ≡ q * k = ap (λ m. m * k) (grown.chosen.counted ∙ counted) in
-          let all : length (sectors_of segments) ≡ had + length taken * k = length-with k dir.segments taken in
-          let some = positive in
-          omega arith
-
       pub place_there : place / 8 < length (sectors_of longer)
-      place_there = subst (λ xs. place / 8 < length (sectors_of xs)) (sym grown.segments) within_place
-
-      -- the entry's sector is one of the directory's or of those that were taken
-      its_sector : has (sectors_of segments) lsn ≡ true
-      its_sector = has_place (sectors_of segments) (place / 8) within_place
+      place_there = subst (λ xs. place / 8 < length (sectors_of xs)) (sym grown.segments) (within_place taken grown.chosen)
 
       taken_lost : (c : ℕ) → has taken c ≡ true → lost c ≡ true
       taken_lost c h = or_right (v.lost c) (has taken c) h
@@ -257,7 +279,7 @@ module _ (m0 : Option (List ℕ)) (a : Appending) (may : MayAppend m0 a.director
       news = put_at old_bytes (32 * (place % 8)) entry
 
       past : map_sectors g < lsn
-      past = after_map image1 v lost taken grown.vol taken_lost d dir may.is (is_free_in v) grown.chosen.gained lsn its_sector
+      past = after_map image1 v lost taken grown.vol taken_lost d dir may.is (is_free_in v) grown.chosen.gained lsn (its_sector taken grown.chosen)
 
       in_dir : place / 8 < length (sectors_of dir.segments) → IsFileSector u d dir (place / 8) lsn
       in_dir low = record {
@@ -270,7 +292,7 @@ module _ (m0 : Option (List ℕ)) (a : Appending) (may : MayAppend m0 a.director
       in_more high =
           let had = length (sectors_of dir.segments) in
           let all : length (sectors_of segments) ≡ had + length more = ap length sectors_are ∙ length-append (sectors_of dir.segments) more in
-          let within = within_place in
+          let within = within_place taken grown.chosen in
           let there : get_or more (place / 8 - had) 0 ≡ lsn =
           sym (ap (λ xs. get_or xs (place / 8) 0) sectors_are ∙ get_or-append_right (sectors_of dir.segments) more had (place / 8) 0 refl high) in
           subst (λ s. has more s ≡ true) there (has_place more (place / 8 - had) (omega arith))
@@ -285,7 +307,7 @@ module _ (m0 : Option (List ℕ)) (a : Appending) (may : MayAppend m0 a.director
           (has_cases (sectors_of dir.segments) more s (subst (λ xs. has xs s ≡ true) sectors_are h))
 
       pub below : lsn < g.total
-      below = below_all lsn its_sector
+      below = below_all lsn (its_sector taken grown.chosen)
 
       old_whole : length old_bytes ≡ 256
       old_whole = grown.vol.sound.sectors lsn below
@@ -375,6 +397,7 @@ module _ (m0 : Option (List ℕ)) (a : Appending) (may : MayAppend m0 a.director
         vol = grown.vol;
         lose = lose;
         others = λ s none differ. changes.others s none;
+        order = inr taken_lost;
         end = end1;
       }
 
@@ -411,6 +434,7 @@ module _ (m0 : Option (List ℕ)) (a : Appending) (may : MayAppend m0 a.director
           vol = vol2;
           lose = lose;
           others = λ s none differ. beside2 s differ ∙ changes.others s none;
+          order = inr taken_lost;
           end = end2;
         }
 
@@ -481,7 +505,7 @@ module _ (m0 : Option (List ℕ)) (a : Appending) (may : MayAppend m0 a.director
 
           room2 : has_room (segments_field bytes) (size_field bytes) ≡ true
           room2 =
-              let low = within_place in
+              let low = within_place taken grown.chosen in
               ap (λ xs. has_room xs (size_field bytes)) list_is ∙ ap (has_room segments) resized.fields.size_is
               ∙ le-leb (32 * (place + 1)) (256 * length (sectors_of segments)) (omega arith)
 
@@ -502,7 +526,7 @@ module _ (m0 : Option (List ℕ)) (a : Appending) (may : MayAppend m0 a.director
           contents_then =
               let end = may.end in
               let long : 32 * place ≤ length (segment_bytes (sector image2) dir.segments) = omega (arith, ap length old_contents, length-take (length dir.contents) (segment_bytes (sector image2) dir.segments)) in
-              let within : place / 8 < length (sectors_of dir.segments ++ more) = subst (λ xs. place / 8 < length xs) sectors_are within_place in
+              let within : place / 8 < length (sectors_of dir.segments ++ more) = subst (λ xs. place / 8 < length xs) sectors_are (within_place taken grown.chosen) in
               ap (λ s. take s (segment_bytes (sector image2) (segments_field bytes))) resized.fields.size_is
               ∙ ap (λ xs. take (32 * (place + 1)) (segment_bytes (sector image2) xs)) list_is
               ∙ ap (λ xs. take (32 * (place + 1)) (flat_map (sector image2) xs)) sectors_are
@@ -599,7 +623,7 @@ module _ (m0 : Option (List ℕ)) (a : Appending) (may : MayAppend m0 a.director
           lsn_apart : lsn ≢ d
           lsn_apart same = both_ways (has (sectors_of segments) lsn)
               (subst (λ s. has (sectors_of segments) s ≡ false) (sym same) (descriptor_apart image1 v lost taken grown.vol taken_lost d dir may.is (is_free_in v) grown.chosen.gained))
-              its_sector
+              (its_sector taken grown.chosen)
 
           writes : WritesEntry image0 image3 segments a
           writes = record {

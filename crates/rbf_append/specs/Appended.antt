@@ -1,5 +1,5 @@
 -- An entry that is appended to a directory.
-use Rattle.std.specs.Prelude.{◌≡◌, ◌≢◌, ℕ, ◌*◌, ◌/◌, ◌%◌, true, false, Option, Some, List, length, get_or, Result, Ok, Err}
+use Rattle.std.specs.Prelude.{◌≡◌, ◌≢◌, ◌⊎◌, ℕ, ◌*◌, ◌/◌, ◌%◌, Bool, true, false, Option, Some, List, length, get_or, Result, Ok, Err}
 use Rattle.os9_base.specs.declared.registers.TimePacket.{TimePacket}
 use Rattle.rbf_model.specs.Disk.{image_disk}
 use Rattle.rbf_model.specs.Fields.{descriptor_field}
@@ -65,6 +65,12 @@ pub record IsAppended (v : DiskVolume) (a : Appending) (old new : Option (List �
   pub put : EntryIsPut v after (sector image) a.directory a.place a.entry a.now
   pub writes : WritesEntry image now put.new.segments a
 
+-- a sector is as it was, or these clusters were all marked before it was written: they are lost in the volume that is
+-- left
+abbrev pub IsAfterMarks : List ℕ → List ℕ → ℕ → DiskVolume → (ℕ → Bool) → Type 0
+IsAfterMarks old now s left clusters =
+    (sector now s ≡ sector old s) ⊎ ((c : ℕ) → clusters c ≡ true → left.lost c ≡ true)
+
 -- a fault came before the descriptor was written: the tree is as it was, and a cluster that was taken may be lost
 pub record AppendStops (v : DiskVolume) (dir : DiskFile) (a : Appending) (old new : Option (List ℕ)) : Type 0 where
   pub image : List ℕ
@@ -80,6 +86,9 @@ pub record AppendStops (v : DiskVolume) (dir : DiskFile) (a : Appending) (old ne
   -- only the map and the entry's sector have changed
   pub others : (s : ℕ) → ¬ IsMapSector (image_geometry image) s
       → s ≢ sector_of_place (with_clusters (cluster_size v) dir.segments taken) a.place → sector now s ≡ sector image s
+  -- the entry comes after the marks
+  pub order : IsAfterMarks image now (sector_of_place (with_clusters (cluster_size v) dir.segments taken) a.place)
+      left (has taken)
   pub end : KeepsMapEnd image now (λ _. false)
 
 -- each answer, and what it leaves

@@ -18,7 +18,7 @@ use Rattle.rbf_change.specs.Tidy.{IsNewList, KeepsListEnd, KeepsMapEnd}
 use Rattle.rbf_access.specs.declared.faults.FileFault.TheVariants.{Device, NoCluster, TooManyRuns}
 use Rattle.rbf_walk.specs.declared.error.DirError.{DirError}
 use Rattle.rbf_walk.specs.declared.error.DirError.TheVariants.{NotAllowed, BadPath, NotFound, Exists, File}
-use Rattle.rbf_append.specs.Appended.{sector_of_place}
+use Rattle.rbf_append.specs.Appended.{sector_of_place, IsAfterMarks}
 
 -- the sectors of a new file n that are written: its descriptor's, and those of its contents
 abbrev pub written_sectors : ℕ → DiskFile → List ℕ
@@ -91,6 +91,8 @@ pub record EnteringTook (v : DiskVolume) (dir : DiskFile) (e : Entering) (old ne
   -- only sectors of the map and of the file, and that of the entry have changed
   pub others : (s : ℕ) → ¬ IsMapSector (image_geometry image) s → has (written_sectors number ends.both.file) s ≡ false
       → s ≢ sector_of_place ends.both.new.segments (entry_place dir.contents) → sector now s ≡ sector image s
+  -- the descriptor comes after the marks of the file's clusters
+  pub order : IsAfterMarks image now number left (has_cluster (shape v) number ends.both.file)
   pub end : KeepsMapEnd image now (λ _. false)
 
 -- a fault came before the entry was in the directory

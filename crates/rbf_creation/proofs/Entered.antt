@@ -45,7 +45,7 @@ use Rattle.rbf_write.proofs.Contents.{length-laid}
 use Rattle.rbf_write.proofs.Gained.{cluster_sectors, sectors_with}
 use Rattle.rbf_write.proofs.Laid.{needed_is, no_clusters, same_mark, same_end}
 use Rattle.rbf_write.proofs.Steps.{few_segments, own_not_free}
-use Rattle.rbf_append.specs.Appended.{Appending, MayAppend, WritesEntry, IsAppended, AppendStops, sector_of_place}
+use Rattle.rbf_append.specs.Appended.{Appending, MayAppend, WritesEntry, IsAppended, AppendStops, IsAfterMarks, sector_of_place}
 use Rattle.rbf_append.specs.Entering.{Entering, EnteringTook, IsEnteredOn, refusal_of}
 use Rattle.rbf_append.specs.Rooms.{place_clusters, HasRoom}
 use Rattle.rbf_append.proofs.Choice.{one_needed, choice_exists, one_passes}
@@ -135,6 +135,15 @@ module _ (m0 : Option (List ℕ)) (v : DiskVolume) (on : Represents m0 v) (d : �
         (λ one. room.few (let same = needs_written in omega arith)) apart_then
         (λ one. one_passes (free_then n file) (range_with_len 0 (cluster_count (shape v))) (free_some (let same = needs_written in omega arith)))
 
+    -- no free cluster has a sector of the map
+    no_map : (s : ℕ) → is_free_in v (s / k) ≡ true → ¬ IsMapSector g s
+    no_map s free map =
+        let within = map.within in
+        let r = root_file g (sector on.image) v on.vol.sound in
+        both_ways (has_cluster (shape v) g.root r.0 (s / k)) ((free_facts m0 v on n plan refl file new (s / k) free).1 g.root r.0 r.1)
+        (subst (λ h. has_cluster h g.root r.0 (s / h.cluster) ≡ true) (sym volume_shape)
+        (cluster_from_owns g g.root r.0 s (owns_system g r.0 s (has_range 0 (1 + map_sectors g) s (omega arith) (omega arith)))))
+
     module _ (gained : List ℕ) (choice : IsChoice k (free_then n file) dir.segments size_then gained) where
       abbrev new_dir : DiskFile
       new_dir = written_file dir (32 * entry_place dir.contents) entry now (with_clusters k dir.segments gained)
@@ -156,8 +165,8 @@ module _ (m0 : Option (List ℕ)) (v : DiskVolume) (on : Represents m0 v) (d : �
       -- a fault came when clusters of these may have been taken
       pub took : (image image1 : List ℕ) (left : DiskVolume) (m1 : Option (List ℕ)) → m0 ≡ Some image → m1 ≡ Some image1 → Vol image1 left → MayLose v left (λ c. has_cluster (shape v) n file c || has gained c)
           → ((s : ℕ) → ¬ IsMapSector (image_geometry image) s → s ≢ n → s ≢ sector_of_place (with_clusters k dir.segments gained) place → sector image1 s ≡ sector image s)
-          → KeepsMapEnd image image1 (λ _. false) → EnteringTook v dir e m0 m1
-      took image image1 left m1 was now_is vol lose others end = record {
+          → IsAfterMarks image image1 n left (λ c. has_cluster (shape v) n file c) → KeepsMapEnd image image1 (λ _. false) → EnteringTook v dir e m0 m1
+      took image image1 left m1 was now_is vol lose others order end = record {
         image = image;
         now = image1;
         was = was;
@@ -169,6 +178,7 @@ module _ (m0 : Option (List ℕ)) (v : DiskVolume) (on : Represents m0 v) (d : �
         others = λ s none out differ. others s none
             (λ same. (not_has_first n (take (sector_count (length file.contents)) (sectors_of file.segments)) s out).0 (sym same))
             (λ same. differ (same ∙ ap (sector_of_place (with_clusters k dir.segments gained)) absent.free_is));
+        order = order;
         end = end;
       }
 
@@ -182,7 +192,11 @@ module _ (m0 : Option (List ℕ)) (v : DiskVolume) (on : Represents m0 v) (d : �
         still = ends.lose.still;
         only = λ x h. more_of (v.lost x) (has_cluster (shape v) ends.number ends.file x) (has c.0 x) (ends.lose.only x h);
       })
-      (λ s none differ out. ends.others s none) ends.end
+      (λ s none differ out. ends.others s none)
+      (inl (ends.others ends.number
+      (subst (λ i. ¬ IsMapSector (image_geometry i) ends.number) (same_Some on.image ends.image (sym on.is ∙ ends.was))
+      (no_map ends.number ends.file ends.chosen ends.number (first_free m0 v on ends.number plan refl ends.file ends.chosen)))))
+      ends.end
     where
       more_of : (a b t : Bool) → (a || b) ≡ true → (a || (b || t)) ≡ true
       more_of true b t h = refl
@@ -239,13 +253,16 @@ module _ (m0 : Option (List ℕ)) (v : DiskVolume) (on : Represents m0 v) (d : �
     lose_its : MayLose v u its
     lose_its = record { same = refl; still = λ c h. or_left (v.lost c) (its c) h; only = λ c h. h }
 
+    its_lost : (c : ℕ) → its c ≡ true → u.lost c ≡ true
+    its_lost c h = or_right (v.lost c) (its c) h
+
     -- a fault came before the entry was written into a free place
     pub unfilled : (m1 : Option (List ℕ)) → m1 ≡ mid → EnteringTook v dir e m0 m1
     unfilled m1 same =
         let c = some_choice n file new in
         took n file new c.0 c.1 made.image made.now u m1 made.was (same ∙ made.is) vol_mid
         (record { same = refl; still = lose_its.still; only = λ x h. more_of (v.lost x) (its x) (has c.0 x) h })
-        (λ s none differ out. made.writes.others s none differ) made.writes.end
+        (λ s none differ out. made.writes.others s none differ) (inr its_lost) made.writes.end
       where
         more_of : (a b t : Bool) → (a || b) ≡ true → (a || (b || t)) ≡ true
         more_of true b t h = refl
@@ -271,6 +288,7 @@ module _ (m0 : Option (List ℕ)) (v : DiskVolume) (on : Represents m0 v) (d : �
         })
         (λ s none differ out.
         here.others s (λ map. none (subst (λ h. IsMapSector h s) (ap image_geometry same ∙ sym image_same) map)) out ∙ ap (λ i. sector i s) same ∙ made.writes.others s none differ)
+        (inr (λ c h. here.lose.still c (its_lost c h)))
         (λ c behind.
         let there = subst (λ i. KeepsMapEnd i here.now (λ _. false)) same here.end in
         there c (record { not_whole = subst (λ h. h.total / h.cluster ≤ c) image_same behind.not_whole; in_map = subst (λ h. c < 2048 * map_sectors h) image_same behind.in_map })
@@ -425,13 +443,7 @@ module _ (m0 : Option (List ℕ)) (v : DiskVolume) (on : Represents m0 v) (d : �
     apart same = none-some dir (sym no_file ∙ ap v.files same ∙ is)
 
     free_no_map : (s : ℕ) → is_free_in v (s / k) ≡ true → ¬ IsMapSector (image_geometry made.image) s
-    free_no_map s free map =
-        let within = map.within in
-        let same : map_sectors (image_geometry made.image) ≡ map_sectors g = ap map_sectors (image_same ∙ sym shape1 ∙ volume_shape) in
-        let r = root_file g (sector on.image) v on.vol.sound in
-        both_ways (has_cluster (shape v) g.root r.0 (s / k)) ((facts (s / k) free).1 g.root r.0 r.1)
-        (subst (λ h. has_cluster h g.root r.0 (s / h.cluster) ≡ true) (sym volume_shape)
-        (cluster_from_owns g g.root r.0 s (owns_system g r.0 s (has_range 0 (1 + map_sectors g) s (omega arith) (omega arith)))))
+    free_no_map s free = subst (λ i. ¬ IsMapSector (image_geometry i) s) (same_Some on.image made.image (sym on.is ∙ made.was)) (no_map n file new s free)
 
     -- the sector of an entry in a directory that may have gained a cluster
     module _ (gained : List ℕ) (choice : IsChoice k (free_then n file) dir.segments (length (written dir.contents (32 * place) (new_entry name n))) gained) where

@@ -1,5 +1,5 @@
 -- A new directory whose entry goes behind the last one of its parent: what is answered.
-use Rattle.std.proofs.Common.{◌≡◌, ◌≢◌, ◌==◌, ◌&&◌, ◌||◌, ℕ, zero, suc, ◌+◌, ◌*◌, ◌/◌, ◌%◌, ◌<◌, ◌≤◌, Bool, true, false, not, Option, Some, None, is_some, List, [], ◌∷◌, length, length-append, take, get_or, refl, sym, ap, ◌∙◌, subst, eqb-true, eq-eqb, lt-ltb, arith}
+use Rattle.std.proofs.Common.{◌≡◌, ◌≢◌, ◌==◌, ◌&&◌, ◌||◌, ℕ, zero, suc, ◌+◌, ◌*◌, ◌/◌, ◌%◌, ◌<◌, ◌≤◌, Bool, true, false, not, Option, Some, None, is_some, List, [], ◌∷◌, length, length-append, take, get_or, inl, inr, refl, sym, ap, ◌∙◌, subst, eqb-true, eq-eqb, lt-ltb, arith}
 use Rattle.std.specs.Prelude.{nat_lt, if◌then◌else◌}
 use Rattle.std.specs.List.{range_with_len}
 use mathlib.Core.Path.{fun_ext}
@@ -260,6 +260,7 @@ module _ (media : Option (List ℕ)) (v : DiskVolume) (on : Represents media v) 
             only = λ x h. wider (v.lost x) (has_cluster (shape v) ends.number ends.file x) (has c.0 x) (ends.lose.only x h);
           });
           others = λ s none not_own _. ends.others s none (unwritten ends.number ends.file ends.chosen ends.takes s not_own).1;
+          order = inl ends.undescribed;
           end = ends.end;
         })
       where
@@ -366,6 +367,7 @@ module _ (media : Option (List ℕ)) (v : DiskVolume) (on : Represents media v) 
               let apart_from = unwritten n file made.made.made made.takes s not_own in
               stops_others s (map_made s none) (λ same. away (same ∙ ap (sector_of_place (with_clusters k dir.segments stops.taken)) (sym place_is)))
               ∙ made.writes.others s none apart_from.0 apart_from.1;
+          order = inr (λ c h. stops.lose.still c (ap (λ (y : DiskVolume). y.lost c) left_is ∙ or_right (v.lost c) (has_cluster (shape v) n file c) h));
           end = keeps_then made.image made.now stops.now shape_made made.writes.end (subst (λ i. KeepsMapEnd i stops.now (λ _. false)) stops_image stops.end);
         })
           where

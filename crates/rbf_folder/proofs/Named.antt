@@ -1,5 +1,5 @@
 -- A new directory whose entry is written into a free place of its parent.
-use Rattle.std.proofs.Common.{zero, suc, ◌≡◌, ◌≢◌, ◌==◌, ◌||◌, ℕ, ◌/◌, ◌<◌, ◌≤◌, Bool, true, false, Option, None, IsSome, Result, Ok, Err, List, [], ◌∷◌, length, take, get_or, refl, sym, ap, ◌∙◌, subst, ⊎_elim, eqb-true, eq-eqb, arith}
+use Rattle.std.proofs.Common.{zero, suc, ◌≡◌, ◌≢◌, ◌==◌, ◌||◌, ℕ, ◌/◌, ◌<◌, ◌≤◌, Bool, true, false, Option, None, IsSome, Result, Ok, Err, List, [], ◌∷◌, length, take, get_or, inl, inr, refl, sym, ap, ◌∙◌, subst, ⊎_elim, eqb-true, eq-eqb, arith}
 use Rattle.std.specs.Prelude.{flat_map}
 use Rattle.std.proofs.lemmas.Bool.{both_ways, or_left, or_right, or_cases, false_from_ne_true, false≢true}
 use Rattle.os9_base.specs.declared.registers.TimePacket.{TimePacket}
@@ -59,6 +59,7 @@ module _ (media mid : Option (List ℕ)) (d i : ℕ) (name : List ℕ) (attr use
     ends = lose_more media mid d i name (plan ends.number) spot ends.number ends.file ends.chosen ends.left ends.lose;
     takes = ends.takes;
     others = λ s none _ differ. ends.others s none differ;
+    order = inl ends.undescribed;
     end = ends.end;
   }
 
@@ -143,6 +144,7 @@ module _ (media mid : Option (List ℕ)) (d i : ℕ) (name : List ℕ) (attr use
       ends = unnamed_ends media mid d i name (plan n) spot n changed pending;
       takes = made.takes;
       others = made.writes.others;
+      order = inr (λ c h. ap (λ (x : DiskVolume). x.lost c) made.made.volume ∙ or_right (u.lost c) (has_cluster (shape u) n made.made.file c) h);
       end = made.writes.end;
     }
 

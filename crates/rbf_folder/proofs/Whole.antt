@@ -137,6 +137,7 @@ module _ (media : Option (List ℕ)) (v : DiskVolume) (on : Represents media v) 
       left = s.left;
       vol = s.vol;
       number = s.number;
+      order = s.order;
       ends = s.ends;
       others = λ t none not_own _.
           let apart = unwritten v s.number s.ends.both.file s.takes (ap (λ (f : DiskFile). length f.contents) s.ends.both.made.is) t not_own in

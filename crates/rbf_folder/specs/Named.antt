@@ -3,9 +3,10 @@ use Rattle.std.specs.Prelude.{◌≡◌, ◌≢◌, ◌↔◌, ℕ, ◌*◌, ◌
 use Rattle.rbf_model.specs.File.{DiskFile}
 use Rattle.rbf_model.specs.Geometry.{image_geometry, sector}
 use Rattle.rbf_model.specs.Laws.{IsMapSector}
+use Rattle.rbf_model.specs.Space.{has_cluster}
 use Rattle.rbf_model.specs.Volume.{DiskVolume, Vol}
 use Rattle.rbf_model.specs.Writes.{put_at}
-use Rattle.rbf_change.specs.Calls.{cluster_size, free_total}
+use Rattle.rbf_change.specs.Calls.{shape, cluster_size, free_total}
 use Rattle.rbf_change.specs.Contents.{extended}
 use Rattle.rbf_change.specs.Faults.{EntryEnds}
 use Rattle.rbf_change.specs.Names.{new_entry, entry_place}
@@ -15,6 +16,7 @@ use Rattle.rbf_access.specs.Faults.{file_fault}
 use Rattle.rbf_access.specs.declared.faults.FileFault.{FileFault}
 use Rattle.rbf_access.specs.declared.faults.FileFault.TheVariants as fault
 use Rattle.rbf_update.specs.Entries.{sector_of_entry}
+use Rattle.rbf_append.specs.Appended.{IsAfterMarks}
 use Rattle.rbf_folder.specs.Made.{first_sector, ClustersTaken}
 
 -- on the media the parent's entry i has its 32 bytes and the new directory's first sector its entries; beside these two
@@ -58,6 +60,8 @@ pub record NamingStops (v : DiskVolume) (d : ℕ) (name : List ℕ) (plan : ℕ 
   -- only the descriptor and the first sector that were chosen, and the map, have changed
   pub others : (s : ℕ) → ¬ IsMapSector (image_geometry image) s → s ≢ number → s ≢ first_sector ends.both.file
       → sector now s ≡ sector image s
+  -- the descriptor comes after the marks of the directory's clusters
+  pub order : IsAfterMarks image now number left (has_cluster (shape v) number ends.both.file)
   pub end : KeepsMapEnd image now (λ _. false)
 
 -- what a call that makes a directory in directory d answers, in the volume that the media represents before
