@@ -6,4 +6,5 @@ pub mod Named
 pub mod Last
 pub mod LastPlace
 pub mod Answering
+pub mod Counted
 pub mod Whole

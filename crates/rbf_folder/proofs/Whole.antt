@@ -306,10 +306,10 @@ no_place m0 m1 same v dir d name attr user time (File TooManyRuns) refused = abs
 pub no_place_calls : (r : Result ℕ DirError) (n : ℕ) (s t : DriveCounts) → MovesCounts (directory_fault r) n s t → MovesCounts (directory_fault r) (n + folder_calls r) s t
 no_place_calls r n s t moved = counts_most (directory_fault r) n (n + folder_calls r) s t (omega arith) moved
 
-pub fault_calls : (f : FileFault) (n : ℕ) (s t u : DriveCounts) → MovesCounts None n s t → MovesCounts (file_fault {A = ℕ} (Err f)) 10 t u → MovesCounts (directory_fault {A = ℕ} (Err (File f))) (n + folder_calls (Err (File f))) s u
+pub fault_calls : (f : FileFault) (n : ℕ) (s t u : DriveCounts) → MovesCounts None n s t → MovesCounts (file_fault {A = ℕ} (Err f)) (folder_calls (widened (Err f))) t u → MovesCounts (directory_fault {A = ℕ} (Err (File f))) (n + folder_calls (Err (File f))) s u
 fault_calls (Device x) n s t u one other = counts_then (Some x) n 10 s t u one other
-fault_calls NoCluster n s t u one other = counts_then None n 10 s t u one other
-fault_calls TooManyRuns n s t u one other = counts_then None n 10 s t u one other
+fault_calls NoCluster n s t u one other = counts_then None n 1 s t u one other
+fault_calls TooManyRuns n s t u one other = counts_then None n 1 s t u one other
 
 pub from_before : (m0 m1 m2 : Option (List ℕ)) → m1 ≡ m0 → (v : DiskVolume) (dir : DiskFile) (request : Entering) (r : Result ℕ DirError) → AnswersEntering v dir request m1 m2 r → AnswersEntering v dir request m0 m2 r
 from_before m0 m1 m2 same v dir request r answer = subst (λ m. AnswersEntering v dir request m m2 r) same answer

@@ -6,6 +6,7 @@ use Rattle.rbf_model.specs.File.{DiskFile}
 use Rattle.rbf_change.specs.Names.{is_dots, may_change}
 use Rattle.rbf_change.specs.NewFiles.{directory_plan}
 use Rattle.rbf_access.specs.declared.faults.FileFault.{FileFault}
+use Rattle.rbf_access.specs.declared.faults.FileFault.TheVariants.{Device, NoCluster, TooManyRuns}
 use Rattle.rbf_walk.specs.Search.{IsAbsent}
 use Rattle.rbf_walk.specs.declared.error.DirError.{DirError}
 use Rattle.rbf_walk.specs.declared.error.DirError.TheVariants.{NotAllowed, BadPath, NotFound, Exists, File}
@@ -34,12 +35,14 @@ abbrev pub widened : Result ℕ FileFault → Result ℕ DirError
 widened (Ok n) = Ok n
 widened (Err fault) = Err (File fault)
 
--- how many calls of the drive the making of a directory needs at most when its place has been found: ten, and none
--- where it was refused before
+-- how many calls of the drive the making of a directory needs at most when its place has been found: ten, or one where
+-- it is refused then, and none where it was refused before
 abbrev pub folder_calls : Result ℕ DirError → ℕ
 folder_calls (Ok n) = 10
 folder_calls (Err NotAllowed) = 0
 folder_calls (Err BadPath) = 0
 folder_calls (Err NotFound) = 0
 folder_calls (Err Exists) = 0
-folder_calls (Err (File fault)) = 10
+folder_calls (Err (File (Device n))) = 10
+folder_calls (Err (File NoCluster)) = 1
+folder_calls (Err (File TooManyRuns)) = 1

@@ -1,4 +1,4 @@
-ghost use Rattle.std.specs.Prelude.{◌≡◌, ◌<◌, ◌/◌};
+ghost use Rattle.std.specs.Prelude.{◌≡◌, ◌<◌, ◌/◌, OnErr, IsNone};
 ghost use Rattle.rbf_access.specs.Drive.{Counts};
 ghost use Rattle.rbf_access.specs.Faults.{file_fault};
 ghost use Rattle.rbf_access.specs.Mounted.{HasFile, IsMounted};
@@ -45,6 +45,8 @@ pub fn make_dir_at_end(
     ensures answer { OnNumbered (media d.old) dir (λ on file. AnswersEntering on file
         (folder_request dir name.now attr user now)
         (media d.old) (media d.new) (widened result)) }
+    ensures refused_calls { OnErr result (IsNone (file_fault result)
+        → drive_calls d.new ≡ drive_calls d.old) }
     ensures mounted { IsMounted v.new (media d.new) }
     ensures counts { Counts ⟦<dyn BlockDriver as BlockDriver>⟧ (file_fault result) 9 d.old d.new }
 {

@@ -39,6 +39,8 @@ pub fn create_folder(
         → MakesFolder v parent (directory_plan attr owner now parent)
         (media d.old) (media d.new) result }
     ensures refused { OnErr result (IsNone (file_fault result) → media d.new ≡ media d.old) }
+    ensures refused_calls { OnErr result (IsNone (file_fault result)
+        → drive_calls d.new ≡ drive_calls d.old) }
     ensures mounted { IsMounted volume.new (media d.new) }
     ensures counts { Counts ⟦<dyn BlockDriver as BlockDriver>⟧
         (file_fault result) 4 d.old d.new }

@@ -39,6 +39,8 @@ pub fn make_dir_in_place(
         → NamesFolder on dir name.now (directory_plan attr user now dir)
         (media d.old) (media d.new) result }
     ensures refused { OnErr result (IsNone (file_fault result) → media d.new ≡ media d.old) }
+    ensures refused_calls { OnErr result (IsNone (file_fault result)
+        → drive_calls d.new ≡ drive_calls d.old) }
     ensures mounted { IsMounted v.new (media d.new) }
     ensures counts { Counts ⟦<dyn BlockDriver as BlockDriver>⟧
         (file_fault result) 7 d.old d.new }

@@ -78,7 +78,8 @@ pub fn make_dir_at(
         (folder_request dir name.now attr user now)
         (media d.old) (media d.new) (widened result)) }
     ensures mounted { IsMounted v.new (media d.new) }
-    ensures counts { Counts ⟦<dyn BlockDriver as BlockDriver>⟧ (file_fault result) 10 d.old d.new }
+    ensures counts { Counts ⟦<dyn BlockDriver as BlockDriver>⟧
+        (file_fault result) (folder_calls (widened result)) d.old d.new }
 {
     let fd = v.fd(d, dir)?;
     if place < fd.size / 32 {

@@ -2,7 +2,8 @@ use Rattle.std.proofs.Common.{Err, ◌/◌, ap, ◌∙◌}
 use Rattle.std.proofs.lemmas.Result.{err_from_is_err_and}
 use Rattle.rbf_access.proofs.Counting.{counts_then}
 use Rattle.rbf_growth.proofs.Growing.{agrees_on}
-use Rattle.rbf_make.proofs.Creating.{as_number}
+use Rattle.rbf_make.proofs.Creating.{as_number, no_refusal}
+use Rattle.rbf_folder.proofs.Counted.{refused_then}
 use Rattle.rbf_folder.proofs.Making.{kept_size}
 use Rattle.rbf_change.specs.NewFiles.{file_clusters}
 use Rattle.rbf_folder.proofs.LastPlace.{dir_low, low, dir_mid, on_mid, may_append}
@@ -39,6 +40,16 @@ pub append_entry-requires-clause-place : goal.append_entry-requires-clause-place
 append_entry-requires-clause-place g c =
     let f = c.requires.file in
     may_append _ f.content f.on c.args.dir (c.args.fd.now.size / 32) f.file f.is c.args.name.now c.args.attr c.args.user c.args.now (c.requires.place f.content f.file f.on f.is) (has_room _ f.content f.on c.args.dir (c.args.fd.now.size / 32) f.file f.is c.args.name.now c.args.attr c.args.user c.args.now (c.requires.place f.content f.file f.on f.is) c.new_clusters.result c.args.v.now.ident.cluster (c.new_clusters.ensures.value ∙ ap (λ x. file_clusters x 64) (kept_size c.args.v.now _ f.content c.requires.mounted f.on)) (c.in_ok-check_room.ensures f.on.image f.content f.file (agrees_on c.args.v.now _ f.content c.requires.mounted f.on) f.on.vol (c.requires.read f.content f.file f.on f.is))) _ c.in_ok-n.n (c.in_ok-n.ensures.makes f.content f.on).made c.new_entry.result c.new_entry.ensures
+
+pub returns-in_err-n-clause-refused_calls : goal.returns-in_err-n-clause-refused_calls
+returns-in_err-n-clause-refused_calls g c =
+    let p = err_from_is_err_and c.from_residual-in_err-n.result c.from_residual-in_err-n.ensures.1 in
+    refused_then c.in_err-n.field-0.0 _ _ (p.1 ∙ ap Err p.2) c.in_err-n.ensures.refused_calls
+
+pub returns-in_err-append_entry-clause-refused_calls : goal.returns-in_err-append_entry-clause-refused_calls
+returns-in_err-append_entry-clause-refused_calls g c =
+    let p = err_from_is_err_and c.from_residual-in_err-append_entry.result c.from_residual-in_err-append_entry.ensures.1 in
+    no_refusal c.in_err-append_entry.field-0.0 _ _ (p.1 ∙ ap Err p.2) c.in_err-append_entry.ensures.device
 
 pub returns-in_err-append_entry-clause-answer : goal.returns-in_err-append_entry-clause-answer
 returns-in_err-append_entry-clause-answer g c v file on is =

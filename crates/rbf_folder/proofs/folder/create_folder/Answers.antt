@@ -5,7 +5,8 @@ use Rattle.rbf_access.proofs.Reading.{mounted_still}
 use Rattle.rbf_growth.proofs.Growing.{sizes_are}
 use Rattle.rbf_update.proofs.Stored.{mounted_now}
 use Rattle.rbf_create.proofs.Making.{refused_as}
-use Rattle.rbf_make.proofs.Creating.{as_number}
+use Rattle.rbf_make.proofs.Creating.{as_number, no_refusal}
+use Rattle.rbf_folder.proofs.Counted.{refused_then}
 use Rattle.rbf_folder.proofs.Making.{kept_size, empty_grows, folder_refused, folder_fault, taken_or, number_there, first_there, m_low, f_low, f_on_drive, listed_stored, unlisted, ends_undescribed, m_on_drive, described_stored, made_as}
 use Rattle.rbf_folder.proofs.folder.create_folder.Goals as goal
 
@@ -18,6 +19,21 @@ pub returns-in_err-space-clause-refused : goal.returns-in_err-space-clause-refus
 returns-in_err-space-clause-refused g c =
     let p = err_from_is_err_and c.from_residual.result c.from_residual.ensures.1 in
     refused_as c.in_err-space.field-0.0 _ _ _ (p.1 ∙ ap Err p.2) c.in_err-space.ensures.refused
+
+pub returns-in_err-space-clause-refused_calls : goal.returns-in_err-space-clause-refused_calls
+returns-in_err-space-clause-refused_calls g c =
+    let p = err_from_is_err_and c.from_residual.result c.from_residual.ensures.1 in
+    refused_then c.in_err-space.field-0.0 _ _ (p.1 ∙ ap Err p.2) c.in_err-space.ensures.refused_calls
+
+pub returns-in_err-store-clause-refused_calls : goal.returns-in_err-store-clause-refused_calls
+returns-in_err-store-clause-refused_calls g c =
+    let p = err_from_is_err_and c.from_residual-in_err-store.result c.from_residual-in_err-store.ensures.1 in
+    no_refusal c.in_err-store.field-0.0 _ _ (p.1 ∙ ap Err p.2) c.in_err-store.ensures.device
+
+pub returns-in_err-store-2-clause-refused_calls : goal.returns-in_err-store-2-clause-refused_calls
+returns-in_err-store-2-clause-refused_calls g c =
+    let p = err_from_is_err_and c.from_residual-in_err-store-2.result c.from_residual-in_err-store-2.ensures.1 in
+    no_refusal c.in_err-store-2.field-0.0 _ _ (p.1 ∙ ap Err p.2) c.in_err-store-2.ensures.device
 
 pub unwrap-n-requires : goal.unwrap-n-requires
 unwrap-n-requires g c =

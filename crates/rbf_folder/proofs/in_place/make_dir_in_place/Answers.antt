@@ -2,6 +2,7 @@ use Rattle.std.proofs.Common.{Err, ap, ◌∙◌}
 use Rattle.std.proofs.lemmas.Result.{err_from_is_err_and}
 use Rattle.rbf_create.proofs.Making.{refused_as}
 use Rattle.rbf_make.proofs.Creating.{as_number, no_refusal}
+use Rattle.rbf_folder.proofs.Counted.{refused_then}
 use Rattle.rbf_folder.proofs.Named.{parent_low, unmade_answer, unnamed_answer, named_answer, entry_may, number_low, all_calls}
 use Rattle.rbf_folder.proofs.in_place.make_dir_in_place.Goals as goal
 
@@ -17,6 +18,16 @@ pub returns-in_err-n-clause-refused : goal.returns-in_err-n-clause-refused
 returns-in_err-n-clause-refused g c =
     let p = err_from_is_err_and c.from_residual.result c.from_residual.ensures.1 in
     refused_as c.in_err-n.field-0.0 _ _ _ (p.1 ∙ ap Err p.2) c.in_err-n.ensures.refused
+
+pub returns-in_err-n-clause-refused_calls : goal.returns-in_err-n-clause-refused_calls
+returns-in_err-n-clause-refused_calls g c =
+    let p = err_from_is_err_and c.from_residual.result c.from_residual.ensures.1 in
+    refused_then c.in_err-n.field-0.0 _ _ (p.1 ∙ ap Err p.2) c.in_err-n.ensures.refused_calls
+
+pub returns-in_err-fill_entry-clause-refused_calls : goal.returns-in_err-fill_entry-clause-refused_calls
+returns-in_err-fill_entry-clause-refused_calls g c =
+    let p = err_from_is_err_and c.from_residual-in_err-fill_entry.result c.from_residual-in_err-fill_entry.ensures.1 in
+    no_refusal c.in_err-fill_entry.field-0.0 _ _ (p.1 ∙ ap Err p.2) c.in_err-fill_entry.ensures.device
 
 pub new_entry-requires : goal.new_entry-requires
 new_entry-requires g c =

@@ -1,15 +1,20 @@
 use Rattle.std.proofs.Common.{Err, ◌<◌, ◌/◌, ap, ◌∙◌, arith}
 use Rattle.std.proofs.lemmas.Result.{err_from_is_err_and}
 use Rattle.rbf_sector.specs.declared.fd.Fd.{Fd}
-use Rattle.rbf_access.proofs.Counting.{counts_then, counts_most}
 use Rattle.rbf_folder.specs.Ends.{folder_request, widened}
 use Rattle.rbf_folder.proofs.Whole.{represents_then, represents_before, unread, fits, open_place, last_place, in_place, from_before}
+use Rattle.rbf_folder.proofs.Counted.{unread_calls, after_one}
 use Rattle.rbf_folder.proofs.make.make_dir_at.Goals as goal
 
 pub returns-in_err-fd-clause-answer : goal.returns-in_err-fd-clause-answer
 returns-in_err-fd-clause-answer g c v file on is =
     let p = err_from_is_err_and c.from_residual.result c.from_residual.ensures.1 in
     unread Fd _ _ c.in_err-fd.ensures.media_kept v file c.args.dir c.args.name.now c.args.attr c.args.user c.args.now (c.requires.place v file on is).proper c.in_err-fd.field-0.0 _ (p.1 ∙ ap Err p.2) c.in_err-fd.ensures.device
+
+pub returns-in_err-fd-clause-counts : goal.returns-in_err-fd-clause-counts
+returns-in_err-fd-clause-counts g c =
+    let p = err_from_is_err_and c.from_residual.result c.from_residual.ensures.1 in
+    rw (p.1, p.2) (unread_calls c.in_err-fd.field-0.0 _ _ c.in_err-fd.ensures.counts)
 
 pub make_dir_in_place-requires-clause-place : goal.make_dir_in_place-requires-clause-place
 make_dir_in_place-requires-clause-place g c =
@@ -32,7 +37,7 @@ returns-then-place-fd-clause-answer g c v file on is =
 
 pub returns-then-place-fd-clause-counts : goal.returns-then-place-fd-clause-counts
 returns-then-place-fd-clause-counts g c =
-    counts_most _ 8 10 _ _ (omega arith) (counts_then _ 1 7 _ _ _ c.in_ok-fd.ensures.counts c.make_dir_in_place.ensures.counts)
+    after_one 7 (omega arith) _ _ _ _ c.in_ok-fd.ensures.counts c.make_dir_in_place.ensures.counts c.make_dir_in_place.ensures.refused_calls
 
 pub returns-else-place-fd-clause-answer : goal.returns-else-place-fd-clause-answer
 returns-else-place-fd-clause-answer g c v file on is =
@@ -41,4 +46,4 @@ returns-else-place-fd-clause-answer g c v file on is =
 
 pub returns-else-place-fd-clause-counts : goal.returns-else-place-fd-clause-counts
 returns-else-place-fd-clause-counts g c =
-    counts_then _ 1 9 _ _ _ c.in_ok-fd.ensures.counts c.make_dir_at_end.ensures.counts
+    after_one 9 (omega arith) _ _ _ _ c.in_ok-fd.ensures.counts c.make_dir_at_end.ensures.counts c.make_dir_at_end.ensures.refused_calls
