@@ -1,0 +1,17 @@
+-- The names from the address on end as all of them, and no byte has changed.
+use Rattle.std.proofs.Common.{◌-◌, ◌<◌}
+use Rattle.guest_memory.specs.Tie.{IsSame, cells_of}
+use Rattle.io_rules.specs.PathList.{names_at}
+use Rattle.path_lists.specs.Tail.{tail_of}
+use Rattle.path_lists.proofs.NamesLemmas.{NamesSoFar}
+use Rattle.path_lists.proofs.names.read_tail.Given as goal
+
+abbrev pub invariant-names : goal.invariant-names
+invariant-names l = record {
+  names : NamesSoFar (cells_of l.initial.memory l.p.0) (tail_of (names_at (cells_of l.initial.memory l.p.0) l.start 65536)) l.at;
+  within : l.at < 65536;
+  same : IsSame l.initial.memory l.memory;
+}
+
+abbrev pub decreases-names : goal.decreases-names
+decreases-names l = 65536 - l.at

@@ -1,0 +1,39 @@
+-- How the names of a path list end.
+use Rattle.std.specs.Prelude.{ℕ, ◌-◌, ◌<◌, ⊤, Bool, false, Result, Ok, Err, List, length, slice_get}
+use Rattle.std.specs.Option.{option_map_or}
+use Rattle.user_names.specs.declared.name_fault.NameFault.{NameFault}
+use Rattle.io_rules.specs.PathList.{Names, is_dots}
+use Rattle.io_rules.specs.PathList as PathList
+use Rattle.path_lists.specs.declared.names.Behind.{Behind}
+use Rattle.path_lists.specs.declared.names.Behind.TheVariants as Behind
+use Rattle.path_lists.specs.declared.names.Step.{Step}
+use Rattle.path_lists.specs.declared.names.Step.TheVariants.{Another, Last}
+use Rattle.path_lists.specs.declared.names.Tail.{Tail}
+
+-- what stands behind a name, as path lists have it
+abbrev pub behind_of : Behind → PathList.Behind
+behind_of Behind.Another = PathList.another
+behind_of Behind.Slash = PathList.a_slash
+behind_of Behind.Nothing = PathList.nothing
+behind_of Behind.Unreadable = PathList.unreadable
+
+-- the last of some names is that of a directory itself or of the one above it
+abbrev pub last_is_dots : List (List ℕ) → Bool
+last_is_dots names = option_map_or is_dots (slice_get names (length names - 1)) false
+
+-- how these names end
+abbrev pub tail_of : Result Names NameFault → Result Tail NameFault
+tail_of (Ok found) = Ok (record { dots = last_is_dots found.names; slash = found.slash; next = found.next })
+tail_of (Err fault) = Err fault
+
+-- how the names end that begin with one: `rest` is how those from an address on end
+abbrev pub tail_after : (ℕ → Result Tail NameFault) → Result Step NameFault → Result Tail NameFault
+tail_after rest (Ok (Another next)) = rest next
+tail_after rest (Ok (Last tail)) = Ok tail
+tail_after rest (Err fault) = Err fault
+
+-- another name begins behind this address, if one does
+abbrev pub GoesUp : ℕ → Result Step NameFault → Type 0
+GoesUp at (Ok (Another next)) = (at < next) × (next < 65536)
+GoesUp at (Ok (Last tail)) = ⊤
+GoesUp at (Err fault) = ⊤
