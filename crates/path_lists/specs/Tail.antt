@@ -1,11 +1,11 @@
 -- How the names of a path list end.
-use Rattle.std.specs.Prelude.{ℕ, ◌-◌, ◌<◌, ⊤, Bool, false, Result, Ok, Err, List, length, slice_get}
+use Rattle.std.specs.Prelude.{ℕ, ◌-◌, ◌<◌, ⊤, ◌+◌, Bool, true, false, Result, Ok, Err, List, length, slice_get}
 use Rattle.std.specs.Option.{option_map_or}
 use Rattle.user_names.specs.declared.name_fault.NameFault.{NameFault}
+use Rattle.user_names.specs.declared.name_fault.NameFault.TheVariants.{Unreadable}
 use Rattle.io_rules.specs.PathList.{Names, is_dots}
 use Rattle.io_rules.specs.PathList as PathList
 use Rattle.path_lists.specs.declared.names.Behind.{Behind}
-use Rattle.path_lists.specs.declared.names.Behind.TheVariants as Behind
 use Rattle.path_lists.specs.declared.names.Step.{Step}
 use Rattle.path_lists.specs.declared.names.Step.TheVariants.{Another, Last}
 use Rattle.path_lists.specs.declared.names.Tail.{Tail}
@@ -37,3 +37,14 @@ abbrev pub GoesUp : ℕ → Result Step NameFault → Type 0
 GoesUp at (Ok (Another next)) = (at < next) × (next < 65536)
 GoesUp at (Ok (Last tail)) = ⊤
 GoesUp at (Err fault) = ⊤
+
+-- a name that is the last one, and ends before this address
+abbrev pub last_step : List ℕ → Bool → ℕ → Step
+last_step name slash next = Last (record { dots = is_dots name; slash = slash; next = next })
+
+-- a name that ends before an address, by what stands behind it
+abbrev pub step_by : List ℕ → ℕ → PathList.Behind → Result Step NameFault
+step_by name next PathList.another = Ok (Another (next + 1))
+step_by name next PathList.a_slash = Ok (last_step name true next)
+step_by name next PathList.nothing = Ok (last_step name false next)
+step_by name next PathList.unreadable = Err Unreadable

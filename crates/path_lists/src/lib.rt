@@ -2,5 +2,5 @@
 //! are read name by name, and no byte is read that need not be.
 #![tactic(auto)]
 
-
+pub mod list;
 mod names;

@@ -1,10 +1,10 @@
 //! The names of a path list.
 
-ghost use Rattle.std.specs.Prelude.{◌≡◌, ◌+◌, ◌<◌, ℕ, suc, Ok};
+ghost use Rattle.std.specs.Prelude.{◌≡◌, ◌+◌, ◌<◌, ◌≤◌, ℕ, suc, Ok, length};
 ghost use Rattle.guest_memory.specs.Tie.{IsSame, cells_of};
-ghost use Rattle.io_rules.specs.PathList.{behind as behind_lem, behind_slash as behind_slash_lem, names_behind, is_dots as is_dots_lem, is_marked as is_marked_lem, names_at, names_from};
+ghost use Rattle.io_rules.specs.PathList.{behind as behind_lem, behind_slash as behind_slash_lem, names_behind, is_dots as is_dots_lem, is_marked as is_marked_lem, names_at};
 ghost use Rattle.os9_base.specs.Name.{is_name_character as is_name_character_lem, low_bits};
-ghost use Rattle.path_lists.specs.Tail.{behind_of, tail_of, tail_after, GoesUp};
+ghost use Rattle.path_lists.specs.Tail.{behind_of, tail_of, tail_after, GoesUp, step_by};
 
 use guest_memory::memory::Memory;
 use os9_base::name::Name;
@@ -52,7 +52,8 @@ pub enum Step {
 /// `NoName` exactly if a name that has to stand there is none.
 pub fn read_tail(memory: &mut Memory, p: Pid, start: u16) -> Result<Tail, NameFault>
     requires { p.0 < 33 }
-    ensures tail { result ≡ tail_of (names_from (cells_of memory.old p.0) start) }
+    ensures tail { (left : ℕ) → 65536 ≤ left + start
+        → result ≡ tail_of (names_at (cells_of memory.old p.0) start left) }
     ensures same { IsSame memory.old memory.new }
 {
     let mut at = start;
@@ -78,10 +79,13 @@ fn read_step(memory: &mut Memory, p: Pid, at: u16) -> Result<Step, NameFault>
 }
 
 /// What stands behind this name at an address.
-fn step_over(memory: &Memory, p: Pid, at: u16, name: &Name) -> Result<Step, NameFault>
+pub(crate) fn step_over(memory: &Memory, p: Pid, at: u16, name: &Name) -> Result<Step, NameFault>
     requires { p.0 < 33 }
+    ensures exact { result ≡ step_by name.now (at + length name.now)
+        (behind_lem (cells_of memory.now p.0) (at + length name.now)) }
     ensures step { (left : ℕ) → tail_of (names_behind
-        (λ next. names_at (cells_of memory.now p.0) next left) (cells_of memory.now p.0) at (Ok name.now))
+        (λ next. names_at (cells_of memory.now p.0) next left)
+        (cells_of memory.now p.0) at (Ok name.now))
         ≡ tail_after (λ next. tail_of (names_at (cells_of memory.now p.0) next left)) result }
     ensures up { GoesUp at result }
 {

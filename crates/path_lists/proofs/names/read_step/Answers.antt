@@ -1,4 +1,4 @@
-use Rattle.std.proofs.Common.{◌≡◌, ◌∙◌, ℕ, List, Option, Result, Ok, sym, ap, subst}
+use Rattle.std.proofs.Common.{◌≡◌, ◌∙◌, ℕ, List, Result, Ok, sym, ap, subst}
 use Rattle.guest_memory.specs.Tie.{cells_of}
 use Rattle.io_rules.specs.PathList.{names_at, names_behind}
 use Rattle.os9_base.specs.Cells.{Cells}

@@ -1,5 +1,5 @@
 -- The names from the address on end as all of them, and no byte has changed.
-use Rattle.std.proofs.Common.{◌-◌, ◌<◌}
+use Rattle.std.proofs.Common.{◌-◌, ◌<◌, ◌≤◌, ◌+◌, ℕ}
 use Rattle.guest_memory.specs.Tie.{IsSame, cells_of}
 use Rattle.io_rules.specs.PathList.{names_at}
 use Rattle.path_lists.specs.Tail.{tail_of}
@@ -8,7 +8,7 @@ use Rattle.path_lists.proofs.names.read_tail.Given as goal
 
 abbrev pub invariant-names : goal.invariant-names
 invariant-names l = record {
-  names : NamesSoFar (cells_of l.initial.memory l.p.0) (tail_of (names_at (cells_of l.initial.memory l.p.0) l.start 65536)) l.at;
+  names : (left : ℕ) → 65536 ≤ left + l.start → NamesSoFar (cells_of l.initial.memory l.p.0) (tail_of (names_at (cells_of l.initial.memory l.p.0) l.start left)) l.at;
   within : l.at < 65536;
   same : IsSame l.initial.memory l.memory;
 }

@@ -1,0 +1,120 @@
+//! Path lists.
+
+ghost use Rattle.std.specs.Prelude.{◌≡◌, ◌+◌, ◌<◌, length};
+ghost use Rattle.guest_memory.specs.Tie.{IsSame, cells_of};
+ghost use Rattle.io_rules.specs.PathList.{path_list, device_list, relative_list, names_from, behind};
+ghost use Rattle.path_lists.specs.Listed.{listed_of, listed_by, listed_with, tails};
+ghost use Rattle.path_lists.specs.Tail.{step_by};
+
+use crate::names::{Step, Tail, read_tail, step_over};
+use guest_memory::memory::Memory;
+use os9_base::name::Name;
+use os9_base::registers::Pid;
+use user_names::name_fault::NameFault;
+
+/// What a path list says of where it leads.
+#[derive(Clone, Copy, Debug)]
+pub struct Listed {
+    /// The name of the device at which it starts, if it names one.
+    pub device: Option<Name>,
+    /// Names are looked up from there on.
+    pub has_names: bool,
+    /// The last of them is that of a directory itself or of the one above it.
+    pub dots: bool,
+    /// The list ends before a slash.
+    pub slash: bool,
+    /// The address just past it.
+    pub next: u32,
+}
+
+/// Reads the path list at an address of a process (System Programmer's Manual, I$Open): names with
+/// slashes between them. A slash before the first one makes it that of a device.
+///
+/// # Errors
+///
+/// `Unreadable` exactly if a byte that has to be read is in no named slot or past `FFFF`, else
+/// `NoName` exactly if a name that has to stand there is none.
+pub fn read_path_list(memory: &mut Memory, p: Pid, at: u16) -> Result<Listed, NameFault>
+    requires { p.0 < 33 }
+    ensures list { result ≡ listed_of (path_list (cells_of memory.old p.0) at) }
+    ensures same { IsSame memory.old memory.new }
+{
+    match memory.byte(p, at, 0) {
+        None => Err(NameFault::Unreadable),
+        Some(b'/') => read_behind_slash(memory, p, at),
+        Some(_) => read_relative(memory, p, at),
+    }
+}
+
+/// Reads the list that starts at a device, behind the slash at this address.
+fn read_behind_slash(memory: &mut Memory, p: Pid, at: u16) -> Result<Listed, NameFault>
+    requires { p.0 < 33 }
+    ensures list { result
+        ≡ listed_of (device_list (names_from (cells_of memory.old p.0) (at + 1))) }
+    ensures same { IsSame memory.old memory.new }
+{
+    if at == u16::MAX {
+        return Err(NameFault::Unreadable);
+    }
+    read_from_device(memory, p, at + 1)
+}
+
+/// Reads the list whose first name is that of a device.
+fn read_from_device(memory: &mut Memory, p: Pid, at: u16) -> Result<Listed, NameFault>
+    requires { p.0 < 33 }
+    ensures list { result ≡ listed_of (device_list (names_from (cells_of memory.old p.0) at)) }
+    ensures same { IsSame memory.old memory.new }
+{
+    match memory.name(p, at) {
+        Err(fault) => Err(fault),
+        Ok(device) => read_behind_device(memory, p, at, device),
+    }
+}
+
+/// Reads what stands behind the name of this device.
+fn read_behind_device(
+    memory: &mut Memory,
+    p: Pid,
+    at: u16,
+    device: Name,
+) -> Result<Listed, NameFault>
+    requires { p.0 < 33 }
+    ensures list { result ≡ listed_by device (tails (cells_of memory.old p.0))
+        (step_by device (at + length device)
+        (behind (cells_of memory.old p.0) (at + length device))) }
+    ensures same { IsSame memory.old memory.new }
+{
+    match step_over(memory, p, at, &device)? {
+        Step::Another(next) => with_names(Some(device), read_tail(memory, p, next)),
+        Step::Last(tail) => Ok(Listed {
+            device: Some(device),
+            has_names: false,
+            dots: false,
+            slash: tail.slash,
+            next: tail.next,
+        }),
+    }
+}
+
+/// Reads the list that starts at no device.
+fn read_relative(memory: &mut Memory, p: Pid, at: u16) -> Result<Listed, NameFault>
+    requires { p.0 < 33 }
+    ensures list { result ≡ listed_of (relative_list (names_from (cells_of memory.old p.0) at)) }
+    ensures same { IsSame memory.old memory.new }
+{
+    with_names(None, read_tail(memory, p, at))
+}
+
+/// The list that starts at this device, or at none, and goes on with names that end so.
+fn with_names(device: Option<Name>, tail: Result<Tail, NameFault>) -> Result<Listed, NameFault>
+    ensures { result ≡ listed_with device tail }
+{
+    let tail = tail?;
+    Ok(Listed {
+        device,
+        has_names: true,
+        dots: tail.dots,
+        slash: tail.slash,
+        next: tail.next,
+    })
+}
