@@ -3,4 +3,5 @@
 #![tactic(auto)]
 
 pub mod state;
+mod streams;
 mod terminals;

@@ -28,10 +28,10 @@ const PROCESSES: usize = 33;
 /// (Level Two manual, "I/O system").
 #[derive(Drop)]
 pub struct IoState {
-    paths: Paths,
-    terminals: Terminals,
-    pipes: Pipes,
-    calls: [Option<Kept>; PROCESSES],
+    pub(crate) paths: Paths,
+    pub(crate) terminals: Terminals,
+    pub(crate) pipes: Pipes,
+    pub(crate) calls: [Option<Kept>; PROCESSES],
 }
 
 impl Model for IoState {

@@ -1,0 +1,138 @@
+//! Calls that wait, and the bytes of pipes.
+
+ghost use Rattle.std.specs.Prelude.{◌≡◌, ◌<◌, ◌≤◌, length, take};
+ghost use Rattle.io_model.specs.Pipe.{IsPipe, bytes_moved, moved_count, read_answer, read_line_answer, write_answer};
+ghost use Rattle.io_rules.specs.Alone.{is_alone as is_alone_lem, is_direction as is_direction_lem, is_in_wait as is_in_wait_lem, is_outside as is_outside_lem};
+ghost use Rattle.io_rules.specs.Codes.{direction_of as direction_of_lem};
+ghost use Rattle.io_rules.specs.Io.{kept_at, pipe_bytes};
+ghost use Rattle.io_rules.specs.Pipes.{after_taking, after_adding};
+
+use crate::state::IoState;
+use io_model::kept::Kept;
+use io_model::path::SysPath;
+use io_model::pipe::{PIPE_BYTES, PipeAns, PipeId};
+use io_rules::io_call::{Direction, io_call};
+use os9_base::limits::PROCESS_PLACES;
+use os9_base::registers::Pid;
+
+impl IoState {
+    /// The call of a process that waits on a terminal or a pipe; None if none does.
+    pub fn kept(&self, p: Pid) -> Option<Kept>
+        requires { p.0 < 33 }
+        ensures { result ≡ kept_at self.now p.0 }
+    {
+        self.calls[p.0 as usize]
+    }
+
+    /// Would a process that waits on a path in this direction be alone: could no other process end
+    /// its wait?
+    pub fn is_alone(&self, p: Pid, path: SysPath, direction: Direction) -> bool
+        ensures { result ≡ is_alone_lem self.now p.0 path.0 direction }
+    {
+        for number in 0..PROCESS_PLACES {
+            if self.is_outside(p, path, direction, Pid(number)) {
+                return false;
+            }
+        }
+        true
+    }
+
+    /// Does a process other than `p` hold the path, and is it not itself in this wait on it?
+    fn is_outside(&self, p: Pid, path: SysPath, direction: Direction, q: Pid) -> bool
+        requires { q.0 < 33 }
+        ensures { result ≡ is_outside_lem self.now p.0 path.0 direction q.0 }
+    {
+        q != p
+            && self.paths.holds(q, path)
+            && !is_in_wait(path, direction, self.calls[q.0 as usize])
+    }
+
+    /// An attempt of I$Read of at most so many bytes, at least one, of a pipe. What it moves stands at
+    /// the front of `into` then.
+    pub fn read_pipe(
+        &mut self,
+        pipe: u8,
+        alone: bool,
+        most: u16,
+        into: &mut [u8; PIPE_BYTES],
+    ) -> PipeAns
+        requires pipe { IsPipe self.old.pipes pipe }
+        requires some { 0 < most }
+        ensures answer { result ≡ read_answer (pipe_bytes self.old pipe) alone most }
+        ensures moved { take (moved_count result) into.new
+            ≡ bytes_moved result (pipe_bytes self.old pipe) }
+        ensures few { moved_count result ≤ most }
+        ensures room { moved_count result ≤ 256 }
+        ensures io { self.new ≡ after_taking self.old pipe result }
+    {
+        let id = PipeId(pipe);
+        let room = most.min(self.pipes.held(id).max(1));
+        self.pipes.read(id, alone, &mut into[..room as usize])
+    }
+
+    /// An attempt of I$ReadLn of at most so many bytes, at least one, of a pipe. What it moves stands
+    /// at the front of `into` then.
+    pub fn read_pipe_line(
+        &mut self,
+        pipe: u8,
+        alone: bool,
+        most: u16,
+        into: &mut [u8; PIPE_BYTES],
+    ) -> PipeAns
+        requires pipe { IsPipe self.old.pipes pipe }
+        requires some { 0 < most }
+        ensures answer { result ≡ read_line_answer (pipe_bytes self.old pipe) alone most }
+        ensures moved { take (moved_count result) into.new
+            ≡ bytes_moved result (pipe_bytes self.old pipe) }
+        ensures few { moved_count result ≤ most }
+        ensures room { moved_count result ≤ 256 }
+        ensures io { self.new ≡ after_taking self.old pipe result }
+    {
+        let id = PipeId(pipe);
+        let room = most.min(self.pipes.held(id).max(1));
+        self.pipes.read_line(id, alone, &mut into[..room as usize])
+    }
+
+    /// An attempt of a write of these bytes, at least one, into a pipe.
+    pub fn write_pipe(&mut self, pipe: u8, alone: bool, from: &[u8]) -> PipeAns
+        requires pipe { IsPipe self.old.pipes pipe }
+        requires some { 0 < length from.now }
+        ensures answer { result
+            ≡ write_answer (pipe_bytes self.old pipe) alone (length from.now) }
+        ensures few { moved_count result ≤ length from.now }
+        ensures io { self.new ≡ after_adding self.old pipe result from.now }
+    {
+        self.pipes.write(PipeId(pipe), alone, from)
+    }
+}
+
+/// Is a call that waits in this wait: does it move bytes in this direction, on this path?
+fn is_in_wait(path: SysPath, direction: Direction, kept: Option<Kept>) -> bool
+    ensures { result ≡ is_in_wait_lem path.0 direction kept }
+{
+    match kept {
+        Some(kept) => kept.path == path && is_direction(direction, direction_of(kept.code)),
+        None => false,
+    }
+}
+
+/// Is this the direction?
+fn is_direction(direction: Direction, other: Option<Direction>) -> bool
+    ensures { result ≡ is_direction_lem direction other }
+{
+    matches!(
+        (direction, other),
+        (Direction::Reading, Some(Direction::Reading))
+            | (Direction::Writing, Some(Direction::Writing))
+    )
+}
+
+/// The way in which the call of a code moves bytes; None if it moves none.
+fn direction_of(code: u8) -> Option<Direction>
+    ensures { result ≡ direction_of_lem code }
+{
+    match io_call(code) {
+        Some(call) => call.direction(),
+        None => None,
+    }
+}
