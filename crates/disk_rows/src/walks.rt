@@ -165,11 +165,10 @@ fn deletion_driver_calls(rt: HostRuntime) -> Result<(), Fail> {
 fn attributes_driver_calls(rt: HostRuntime) -> Result<(), Fail> {
     let fault = Err(DirError::File(FileFault::Device(E_SEEK)));
     for (failing, user, answer, calls) in [
-        (99, 0, Ok(()), 5),
+        (99, 0, Ok(()), 4),
         (99, 7, Err(DirError::NotAllowed), 3),
         (3, 0, fault, 3),
         (4, 0, fault, 4),
-        (5, 0, fault, 5),
     ] {
         let image = image_with_a(rt.alloc())?;
         let mut drive = drive_with(rt.alloc(), &image, failing)?;

@@ -1,5 +1,5 @@
 -- A file whose attributes are others.
-use Rattle.std.proofs.Common.{◌≡◌, ℕ, ◌==◌, ◌+◌, ◌-◌, ◌*◌, ◌/◌, ◌%◌, ◌<◌, ◌≤◌, Bool, false, Option, Some, Result, Err, IsSome, List, [], ◌∷◌, ◌++◌, length, take, drop, get_or, map, take_while, cond, refl, ap, ap₂, sym, subst, ◌∙◌, inl, inr, ⊎_elim, arith, append_assoc, length-append, length-take}
+use Rattle.std.proofs.Common.{◌≡◌, ℕ, ◌==◌, ◌+◌, ◌-◌, ◌*◌, ◌/◌, ◌%◌, ◌<◌, ◌≤◌, Bool, true, false, Option, Some, None, Result, Err, IsSome, List, [], ◌∷◌, ◌++◌, length, take, drop, get_or, map, take_while, cond, refl, ap, ap₂, sym, subst, ◌∙◌, ◌⊎◌, inl, inr, ⊎_elim, arith, append_assoc, length-append, length-take}
 use mathlib.Core.Path.{fun_ext}
 use Rattle.std.specs.Prelude.{slice_index}
 use Rattle.std.specs.List.{range_with_len}
@@ -25,8 +25,13 @@ use Rattle.rbf_model.proofs.Pieces.{length-put_at}
 use Rattle.rbf_model.proofs.SectorBytes.{length_of_file}
 use Rattle.rbf_sector.specs.Parts.{KeepsBeside}
 use Rattle.rbf_sector.proofs.Written.{number_kept, byte_kept, bytes_kept}
+use Rattle.rbf_sector.specs.declared.fd.Fd.{Fd}
 use Rattle.rbf_change.specs.Calls.{replaced, minute_of, changed_attributes, with_attributes, SetsAttributes}
+use Rattle.rbf_change.specs.NewFiles.{owns_file}
 use Rattle.rbf_access.specs.Mounted.{HasFile}
+use Rattle.rbf_access.specs.Reading.{IsFdOf, OnFile}
+use Rattle.rbf_access.proofs.Counting.{counts_then, counts_most}
+use Rattle.rbf_access.proofs.Reading.{IsReadFrom, fd_of}
 use Rattle.rbf_access.specs.Drive.{DriveCounts, MovesCounts}
 use Rattle.rbf_access.specs.Faults.{file_fault}
 use Rattle.rbf_access.specs.declared.faults.FileFault.{FileFault}
@@ -35,7 +40,7 @@ use Rattle.rbf_walk.specs.Walk.{directory_fault}
 use Rattle.rbf_walk.specs.declared.error.DirError.{DirError}
 use Rattle.rbf_walk.specs.declared.error.DirError.TheVariants.{File}
 use Rattle.rbf_update.specs.Becomes.{Becomes}
-use Rattle.rbf_update.specs.Attributes.{attributed, with_new_attributes, AnswersOwner}
+use Rattle.rbf_update.specs.Attributes.{attributed, attribute_calls, with_new_attributes, AnswersOwner}
 use Rattle.rbf_update.proofs.Stored.{IsStored}
 
 -- bytes that are put leave those beside them
@@ -206,12 +211,30 @@ module _ (media : Option (List ℕ)) (n attributes : ℕ) (now : TimePacket) (ha
   attributes_set = record { old = has.file; new = changed; is = has.is; changed = refl; volume = refl }
 
 -- the bytes that are written, as the code makes them
-pub attributes_written : (media mid after : Option (List ℕ)) (n attributes : ℕ) (now : TimePacket) (bytes one both : List ℕ) (value : ℕ) → bytes ≡ sector_at media n → mid ≡ media
-    → value ≡ 128 * (slice_index bytes 0 / 128) + attributes % 128 → one ≡ put_at bytes 0 (value ∷ []) → both ≡ put_at one 3 (minute_of now) → after ≡ with_sector mid n both
-    → after ≡ with_new_attributes media n attributes now
-attributes_written media mid after n attributes now bytes one both value read same is first second wrote =
-    wrote ∙ ap (λ m. with_sector m n both) same
-    ∙ ap (with_sector media n) (second ∙ ap (λ b. put_at b 3 (minute_of now)) (first ∙ ap (λ x. put_at bytes 0 (x ∷ [])) is) ∙ ap (λ b. attributed b attributes now) read)
+pub attributes_written : (media mid after : Option (List ℕ)) (n attributes : ℕ) (now : TimePacket) (bytes news : List ℕ) → bytes ≡ sector_at media n → mid ≡ media
+    → news ≡ attributed bytes attributes now → after ≡ with_sector mid n news → after ≡ with_new_attributes media n attributes now
+attributes_written media mid after n attributes now bytes news read same are wrote =
+    wrote ∙ ap (λ m. with_sector m n news) same ∙ ap (with_sector media n) (are ∙ ap (λ b. attributed b attributes now) read)
+
+-- whether the user may change them, as the code asks the descriptor that it has read
+pub owner_known : (media : Option (List ℕ)) (n : ℕ) (bytes : List ℕ) (fd : Fd) → bytes ≡ sector_at media n → IsReadFrom bytes fd → (user : ℕ) (said : Bool)
+    → ((of : DiskFile) → IsFdOf of fd → said ≡ owns_file of user) → (b : Bool) → said ≡ b → OnFile media n (λ file. owns_file file user ≡ b)
+owner_known media n bytes fd are read user said asked b is v file on there = sym (asked file (fd_of media n bytes fd are read v file on there)) ∙ is
+
+-- the descriptor is read for any user
+pub first_call : (f : Option ℕ) (file : DiskFile) (user : ℕ) (s t : DriveCounts) → MovesCounts f 1 s t → MovesCounts f (attribute_calls file user) s t
+first_call f file user s t one = counts_most f 1 (attribute_calls file user) s t (least (cases_Bool (owns_file file user))) one
+  where
+    least : (owns_file file user ≡ true) ⊎ (owns_file file user ≡ false) → 1 ≤ attribute_calls file user
+    least (inl owns) = let two : attribute_calls file user ≡ 2 = cond-true (owns_file file user) 2 1 owns in omega arith
+    least (inr other) = let first : attribute_calls file user ≡ 1 = cond-false (owns_file file user) 2 1 other in omega arith
+
+-- and it is written for its owner
+pub second_call : (f : Option ℕ) (file : DiskFile) (user : ℕ) (s t u : DriveCounts) → owns_file file user ≡ true → MovesCounts None 1 s t → MovesCounts f 1 t u
+    → MovesCounts f (attribute_calls file user) s u
+second_call f file user s t u owns one other =
+    let two : attribute_calls file user ≡ 2 = cond-true (owns_file file user) 2 1 owns in
+    counts_most f 2 (attribute_calls file user) s u (omega arith) (counts_then f 1 1 s t u one other)
 
 -- the answer of a fault, whoever the user is
 pub fault_answers : (A B : Type 0) (file : DiskFile) (user : ℕ) (fault : FileFault) (r : Result B DirError) → r ≡ Err (File fault) → IsSome (file_fault {A = A} (Err fault)) → AnswersOwner file user r

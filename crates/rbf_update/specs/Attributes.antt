@@ -1,5 +1,5 @@
 -- Other attributes for a file.
-use Rattle.std.specs.Prelude.{◌≡◌, ℕ, true, false, Option, List, [], ◌∷◌, Result, Ok, Err, slice_index}
+use Rattle.std.specs.Prelude.{◌≡◌, ℕ, true, false, Option, List, [], ◌∷◌, Result, Ok, Err, if◌then◌else◌, slice_index}
 use Rattle.os9_outer.specs.Drive.{sector_at, with_sector}
 use Rattle.os9_base.specs.declared.registers.TimePacket.{TimePacket}
 use Rattle.rbf_model.specs.File.{DiskFile}
@@ -30,3 +30,7 @@ AnswersOwner file user (Err Exists) = ⊥
 AnswersOwner file user (Err (File (Device n))) = Unit
 AnswersOwner file user (Err (File NoCluster)) = ⊥
 AnswersOwner file user (Err (File TooManyRuns)) = ⊥
+
+-- how many calls of the drive change them for a user at most: a read of the descriptor, and a write of it for its owner
+abbrev pub attribute_calls : DiskFile → ℕ → ℕ
+attribute_calls file user = if owns_file file user then 2 else 1

@@ -7,14 +7,14 @@ ghost use Rattle.rbf_access.specs.Faults.{file_fault};
 ghost use Rattle.rbf_access.specs.Mounted.{kept, HasFile, IsMounted};
 ghost use Rattle.rbf_access.specs.Reading.{IsFdOf, OnFile};
 ghost use Rattle.rbf_walk.specs.Walk.{directory_fault};
-ghost use Rattle.rbf_update.specs.Attributes.{with_new_attributes, AnswersOwner};
+ghost use Rattle.rbf_update.specs.Attributes.{attributed, attribute_calls, with_new_attributes, AnswersOwner};
 ghost use Rattle.rbf_update.specs.Becomes.{Becomes};
 
 use crate::sector::put_bytes;
 use os9_base::registers::TimePacket;
 use os9_outer::drive::BlockDriver;
 use rbf_access::{FileFault, Volume};
-use rbf_sector::Fd;
+use rbf_sector::{Fd, read_fd};
 use rbf_walk::DirError;
 
 /// Gives a file or directory other attributes (SS.Attr, this project's own argument): bit 7, which
@@ -43,18 +43,13 @@ pub fn set_fd_attr(
     ensures counts { Counts ⟦<dyn BlockDriver as BlockDriver>⟧ (file_fault result) 2 d.old d.new }
 {
     let mut bytes = v.load(d, fd)?;
-    let kind = 128 * (bytes[0] / 128);
-    put_bytes(&mut bytes, 0, &[kind + attr % 128]);
-    put_bytes(
-        &mut bytes,
-        3,
-        &[now.year, now.month, now.day, now.hour, now.minute],
-    );
+    put_attributes(&mut bytes, attr, now);
     v.store(d, fd, &bytes)?;
     Ok(())
 }
 
-/// The same for a user: only the owner of the file and user 0 may change its attributes.
+/// The same for a user: only the owner of the file and user 0 may change its attributes. The
+/// descriptor is read once.
 ///
 /// # Errors
 ///
@@ -78,15 +73,29 @@ pub fn set_attr(
     ensures media_kept { OnErr result (media d.new ≡ media d.old) }
     ensures mounted { IsMounted v.new (media d.new) }
     ensures volume_kept { kept v.new ≡ kept v.old }
-    ensures counts { Counts ⟦<dyn BlockDriver as BlockDriver>⟧
-        (directory_fault result) 3 d.old d.new }
+    ensures counts { OnFile (media d.old) fd (λ file. Counts ⟦<dyn BlockDriver as BlockDriver>⟧
+        (directory_fault result) (attribute_calls file user) d.old d.new) }
 {
-    let file = v.fd(d, fd)?;
-    if !owns(&file, user) {
+    let mut bytes = v.load(d, fd)?;
+    if !owns(&read_fd(&bytes), user) {
         return Err(DirError::NotAllowed);
     }
-    set_fd_attr(v, d, fd, attr, now)?;
+    put_attributes(&mut bytes, attr, now);
+    v.store(d, fd, &bytes)?;
     Ok(())
+}
+
+// Gives a descriptor other attributes: its kind stays.
+fn put_attributes(descriptor: &mut [u8; 256], attr: u8, now: TimePacket)
+    ensures { descriptor.new ≡ attributed descriptor.old attr now }
+{
+    let kind = 128 * (descriptor[0] / 128);
+    put_bytes(descriptor, 0, &[kind + attr % 128]);
+    put_bytes(
+        descriptor,
+        3,
+        &[now.year, now.month, now.day, now.hour, now.minute],
+    );
 }
 
 // May a user change the attributes of this file?

@@ -1,4 +1,4 @@
-use Rattle.std.proofs.Common.{refl, ap, ◌∙◌, arith}
+use Rattle.std.proofs.Common.{ap, ◌∙◌, arith}
 use Rattle.os9_outer.specs.Drive.{sector_count}
 use Rattle.rbf_access.proofs.Reading.{mounted_still, number_on}
 use Rattle.rbf_update.proofs.Attributed.{attributes_written, attributes_stored, attributes_set}
@@ -25,12 +25,12 @@ pub returns-clause-ok : goal.returns-clause-ok
 returns-clause-ok g c =
     let has = c.requires.file in
     let read = c.in_ok-bytes.ensures in
-    let is = attributes_written _ _ _ c.args.fd c.args.attr c.args.now c.in_ok-bytes.bytes _ _ _ read.bytes read.media_kept refl c.put_bytes.ensures c.put_bytes-2.ensures c.in_ok-store.ensures.written in
+    let is = attributes_written _ _ _ c.args.fd c.args.attr c.args.now c.in_ok-bytes.bytes _ read.bytes read.media_kept c.put_attributes.ensures c.in_ok-store.ensures.written in
     becomes_now _ _ has.content _ (attributes_stored _ c.args.fd c.args.attr c.args.now has _ is) _ (attributes_set _ c.args.fd c.args.attr c.args.now has)
 
 pub returns-clause-mounted : goal.returns-clause-mounted
 returns-clause-mounted g c =
     let has = c.requires.file in
     let read = c.in_ok-bytes.ensures in
-    let is = attributes_written _ _ _ c.args.fd c.args.attr c.args.now c.in_ok-bytes.bytes _ _ _ read.bytes read.media_kept refl c.put_bytes.ensures c.put_bytes-2.ensures c.in_ok-store.ensures.written in
+    let is = attributes_written _ _ _ c.args.fd c.args.attr c.args.now c.in_ok-bytes.bytes _ read.bytes read.media_kept c.put_attributes.ensures c.in_ok-store.ensures.written in
     mounted_now _ _ has.content _ (attributes_stored _ c.args.fd c.args.attr c.args.now has _ is) _ _ (c.in_ok-store.ensures.volume_kept ∙ read.volume_kept) c.requires.mounted
