@@ -5,3 +5,5 @@
 pub mod state;
 mod streams;
 mod terminals;
+#[cfg(test)]
+mod tests;
