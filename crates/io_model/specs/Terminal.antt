@@ -220,6 +220,7 @@ is_fault NoMemory = false
 -- what a call leaves of its terminal's driver: its keys, and its count of faults where it did not fail
 pub record LeavesDriver (answer : Progress) (before now : TerminalState) : Type 0 where
   pub keys : now.keys ≡ before.keys
+  pub never_falls : before.faults ≤ now.faults
   pub faults : MatchBool (is_fault answer) (Rose before.faults now.faults) (now.faults ≡ before.faults)
 
 -- the buffer with these bytes at its start

@@ -38,6 +38,7 @@ pub(crate) fn put_bytes(d: &mut dyn CharDriver, bytes: &[u8]) -> Result<(), PutF
     ensures part { OnErr result (GainsPart (bytes_put d.old) bytes.now (bytes_put d.new)) }
     ensures fault_counted { OnFault result (Rose (term_faults d.old) (term_faults d.new)) }
     ensures faults_kept { UnlessFault result (term_faults d.new ≡ term_faults d.old) }
+    ensures never_falls { term_faults d.old ≤ term_faults d.new }
     ensures keys_kept { keys_left d.new ≡ keys_left d.old }
 {
     for byte in bytes {
@@ -76,6 +77,7 @@ pub(crate) fn put_line(d: &mut dyn CharDriver, bytes: &[u8]) -> Result<(), PutFa
         (bytes_put d.new)) }
     ensures fault_counted { OnFault result (Rose (term_faults d.old) (term_faults d.new)) }
     ensures faults_kept { UnlessFault result (term_faults d.new ≡ term_faults d.old) }
+    ensures never_falls { term_faults d.old ≤ term_faults d.new }
     ensures keys_kept { keys_left d.new ≡ keys_left d.old }
 {
     match place_of_return(bytes) {

@@ -48,6 +48,7 @@ pub(crate) fn type_keys(
     ensures within { length ahead.new ≤ 256 }
     ensures fault_counted { OnFault result (Rose (term_faults d.old) (term_faults d.new)) }
     ensures faults_kept { UnlessFault result (term_faults d.new ≡ term_faults d.old) }
+    ensures never_falls { term_faults d.old ≤ term_faults d.new }
     ensures keys_kept { keys_left d.new ≡ keys_left d.old }
 {
     while let Some(key) = ahead.next() {

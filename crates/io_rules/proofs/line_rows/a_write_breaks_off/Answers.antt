@@ -17,7 +17,7 @@ returns-clause-refusal c = record {
     refl,
     record {
       outcome = record { terminal = refl; part = (1, omega arith, refl) };
-      driver = record { keys = refl; faults = omega arith };
+      driver = record { keys = refl; never_falls = omega arith; faults = omega arith };
     },
   );
   ends = refl;
