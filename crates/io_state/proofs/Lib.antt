@@ -1,2 +1,4 @@
+pub mod HeldLemmas
 pub mod SoundLemmas
 pub mod StreamLemmas
+pub mod WaitLemmas

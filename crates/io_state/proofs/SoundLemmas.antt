@@ -10,10 +10,11 @@ use Rattle.io_model.specs.Terminal.{Terminal, new_terminal}
 use Rattle.io_model.specs.declared.kept.Kept.{Kept}
 use Rattle.io_model.specs.declared.path.Target.{Target}
 use Rattle.io_model.specs.declared.path.Target.TheVariants.{File, Folder, Term, Pipe}
-use Rattle.io_model.specs.Path.{PathTable, desc_of, with_desc, with_slot, path_at, is_held, paths_after_close, paths_after_begin, with_path, free_number, free_path, closed_desc}
+use Rattle.io_model.specs.Path.{PathTable, ArePaths, desc_of, with_desc, with_slot, path_at, is_held, slot_of, paths_after_close, paths_after_begin, paths_after_dup, with_path, free_number, free_path, closed_desc}
 use Rattle.io_model.specs.Pipe.{IsPipe, pipe_of, with_pipe, without_pipe, free_pipe, pipes_after_begin}
+use Rattle.io_rules.specs.Close.{without_path, without_target, after_close}
 use Rattle.io_rules.specs.Io.{Io, first_paths, new_desc, with_paths, with_pipes}
-use Rattle.io_state.specs.Sound.{target_at, AreTargets, IsIo, IsThere, opened_on}
+use Rattle.io_state.specs.Sound.{target_at, AreTargets, AreWaits, IsIo, IsThere, opened_on}
 
 abbrev nothing : {X : Type 0} → Option X
 nothing = None
@@ -81,6 +82,17 @@ are-closed_pipe io p n pipe desc e on are =
     let gone = gone-path io.paths p n desc e in
     subst (λ (paths : PathTable). AreTargets (with_pipes (with_paths io paths) (without_pipe io.pipes pipe))) (sym (gone.0)) (are-without_pipe (with_paths io (with_slot io.paths p n None)) (path_at io.paths p n) pipe (gone.1 ∙ ap (λ (x : Target). Some x) on) (record { pipes = are.pipes; one_path = are.one_path; terminals = are.terminals }))
 
+-- a path that is on no pipe goes alone
+pub closed-plain : (io : Io) (p n : ℕ) (desc : Desc) → closed_desc io.paths p n ≡ Some desc → ((pipe : ℕ) → desc.target ≡ Pipe pipe → ⊥) → with_paths io (paths_after_close io.paths p n) ≡ after_close io p n
+closed-plain io p n desc e plain =
+    sym (ap (λ (gone : Option Desc). without_path (with_paths io (paths_after_close io.paths p n)) gone) e ∙ by desc.target plain)
+  where
+    by : (x : Target) → ((pipe : ℕ) → x ≡ Pipe pipe → ⊥) → without_target (with_paths io (paths_after_close io.paths p n)) x ≡ with_paths io (paths_after_close io.paths p n)
+    by (File drive sector) plain = refl
+    by (Folder drive sector) plain = refl
+    by (Term terminal) plain = refl
+    by (Pipe pipe) plain = absurd (plain pipe refl)
+
 -- the pipe that goes was there
 pub closed-pipe : (io : Io) (p n pipe : ℕ) (desc : Desc) → closed_desc io.paths p n ≡ Some desc → desc.target ≡ Pipe pipe → AreTargets io → IsPipe io.pipes pipe
 closed-pipe io p n pipe desc e on are =
@@ -100,19 +112,36 @@ first-target t x e = elim (cases_eq t 1) [
     ]
 
 -- the state at the start
-pub is-first : (paths : PathTable) (terminals : List Terminal) (pipes : List (Option (List ℕ))) (calls : List (Option Kept)) → paths ≡ first_paths → terminals ≡ replicate 4 new_terminal → length calls ≡ 33 → IsIo (record { paths = paths; terminals = terminals; pipes = pipes; calls = calls })
-is-first paths terminals pipes calls first new places = record {
+pub is-first : (paths : PathTable) (terminals : List Terminal) (pipes : List (Option (List ℕ))) (calls : List (Option Kept)) → paths ≡ first_paths → ArePaths paths → terminals ≡ replicate 4 new_terminal → calls ≡ replicate 33 None → IsIo (record { paths = paths; terminals = terminals; pipes = pipes; calls = calls })
+is-first paths terminals pipes calls first are new none = record {
+  paths = are;
   terminals = ap (length {A = Terminal}) new ∙ length-replicate 4 new_terminal;
-  calls = places;
+  calls = ap (length {A = Option Kept}) none ∙ length-replicate 33 (nothing {X = Kept});
   targets = record {
     pipes = λ s n e. absurd (let x : Pipe n ≡ Term 0 = at-first s (Pipe n) e in cc);
     one_path = λ s t n e f. absurd (let x : Pipe n ≡ Term 0 = at-first s (Pipe n) e in cc);
     terminals = λ s n e. (let x : Term n ≡ Term 0 = at-first s (Term n) e in let y : n ≡ 0 = cc in omega (arith, y));
   };
+  waits = record {
+    calls = λ p call kept. absurd (none-some call (sym (ap (λ (calls : List (Option Kept)). get_or calls p None) none ∙ free-call p) ∙ kept));
+    reads = λ n reading is. absurd (none-some reading (sym (ap (λ (terminals : List Terminal). (get_or terminals n new_terminal).reading) new ∙ ap (λ (t : Terminal). t.reading) (quiet n)) ∙ is));
+  };
 }
   where
     at-first : (t : ℕ) (x : Target) → target_at paths t ≡ Some x → x ≡ Term 0
     at-first t x e = first-target t x (sym (ap (λ (paths : PathTable). target_at paths t) first) ∙ e)
+
+    free-call : (p : ℕ) → get_or (replicate 33 (nothing {X = Kept})) p None ≡ None
+    free-call p = elim (cases_lt p 33) [
+      | inl within ↦ get_or-replicate 33 p None None within
+      | inr past ↦ get_or_past (replicate 33 (nothing {X = Kept})) p None (omega (arith, length-replicate 33 (nothing {X = Kept})))
+    ]
+
+    quiet : (n : ℕ) → get_or (replicate 4 new_terminal) n new_terminal ≡ new_terminal
+    quiet n = elim (cases_lt n 4) [
+      | inl within ↦ get_or-replicate 4 n new_terminal new_terminal within
+      | inr past ↦ get_or_past (replicate 4 new_terminal) n new_terminal (omega (arith, length-replicate 4 new_terminal))
+    ]
 
 -- a path that is opened is one that was there, or the new one
 opened-target : (paths : PathTable) (s t : ℕ) (desc : Desc) (x : Target) → target_at (with_desc paths s (Some desc)) t ≡ Some x → ((t ≡ s) × (desc.target ≡ x)) ⊎ (target_at paths t ≡ Some x)
@@ -169,6 +198,24 @@ may-open_terminal io desc terminal on within = record {
   pipe = λ n e. absurd (let x : Term terminal ≡ Pipe n = sym on ∙ e in cc);
   fresh = λ s n e. absurd (let x : Term terminal ≡ Pipe n = sym on ∙ e in cc);
   terminal = λ n e. (let x : Term terminal ≡ Term n = sym on ∙ e in let y : terminal ≡ n = cc in omega (arith, y, within));
+}
+
+-- after a number was doubled
+pub are-doubled : (io : Io) (p n : ℕ) → AreTargets io → AreTargets (with_paths io (paths_after_dup io.paths p n))
+are-doubled io p n are = by (free_number io.paths p)
+  where
+    by : (number : Option ℕ) → AreTargets (with_paths io (option_map_or (λ free. with_slot io.paths p free (slot_of io.paths p n)) number io.paths))
+    by None = record { pipes = are.pipes; one_path = are.one_path; terminals = are.terminals }
+    by (Some free) = record { pipes = are.pipes; one_path = are.one_path; terminals = are.terminals }
+
+-- the state with other paths
+pub is-io_with_paths : (io : Io) (paths new : PathTable) → paths ≡ new → ArePaths paths → AreTargets (with_paths io new) → AreWaits (with_paths io new) → IsIo io → IsIo (with_paths io paths)
+is-io_with_paths io paths new same shape targets waits is = record {
+  paths = shape;
+  terminals = is.terminals;
+  calls = is.calls;
+  targets = subst (λ (p : PathTable). AreTargets (with_paths io p)) (sym same) targets;
+  waits = subst (λ (p : PathTable). AreWaits (with_paths io p)) (sym same) waits;
 }
 
 -- what a path is opened on is there

@@ -1,17 +1,16 @@
 -- Whether a process would be alone, and what a transfer makes of the pipes.
-use Rattle.std.proofs.Common.{◌≡◌, ℕ, zero, suc, ◌+◌, ◌<◌, ◌≤◌, ◌==◌, min, max, append_assoc, Bool, true, false, Option, Some, None, IsSome, List, [], ◌∷◌, ◌++◌, length, take, drop, get_or, set, inl, inr, sym, ap, refl, ◌∙◌, subst, arith}
+use Rattle.std.proofs.Common.{◌≡◌, ℕ, zero, suc, ◌+◌, ◌<◌, ◌≤◌, ◌==◌, min, max, append_assoc, Bool, true, false, Option, Some, None, IsSome, List, ◌++◌, length, take, drop, get_or, set, inl, inr, sym, ap, refl, ◌∙◌, subst, arith}
 use Rattle.std.specs.Prelude.{◌||◌, if◌then◌else◌}
 use Rattle.std.specs.List.{list_any, range_with_len}
 use Rattle.std.specs.Option.{option_map_or}
 use Rattle.std.proofs.lemmas.Bool.{cases_eq, cases_lt, eqb-false, false≢true}
 use Rattle.std.proofs.lemmas.List.{get_or-set_same, get_or-set_other, get_or_past, length-take-le, take_at}
 use Rattle.std.proofs.lemmas.List.Quantifiers.{position-Some}
-use Rattle.io_model.specs.declared.path.Target.TheVariants.{Pipe}
 use Rattle.io_model.specs.declared.keys.TheConstants.{RETURN}
 use Rattle.io_model.specs.declared.pipe.PipeAns.{PipeAns}
 use Rattle.io_model.specs.declared.pipe.PipeAns.TheVariants.{Done, End, NoReader}
 use Rattle.io_model.specs.Line.{line_length, return_place}
-use Rattle.io_model.specs.Pipe.{IsPipe, pipe_of, pipe_room, with_pipe, answer_unmoved, read_answer, read_line_answer, write_answer, moved_count, bytes_moved, buffer_after_read}
+use Rattle.io_model.specs.Pipe.{IsPipe, pipe_room, with_pipe, answer_unmoved, read_answer, read_line_answer, write_answer, moved_count, bytes_moved, buffer_after_read}
 use Rattle.io_rules.specs.Io.{Io, with_pipe_bytes}
 use Rattle.io_state.specs.Sound.{AreTargets}
 

@@ -1,3 +1,4 @@
 pub mod Again
 pub mod Attempt
 pub mod Sound
+pub mod Terminals

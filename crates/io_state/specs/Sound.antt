@@ -1,11 +1,21 @@
 -- What holds of the state of input and output at all times.
-use Rattle.std.specs.Prelude.{◌≡◌, ℕ, ◌<◌, ⊤, Option, Some, option_map, option_and_then, length}
+use Rattle.std.specs.Prelude.{◌≡◌, ℕ, ◌<◌, min, true, ⊤, Option, Some, None, IsSome, List, option_map, option_and_then, length}
 use Rattle.std.specs.Option.{option_map_or}
-use Rattle.io_model.specs.Path.{PathTable, desc_of, new_number, paths_after_begin}
+use Rattle.io_model.specs.Kept.{kept_of}
+use Rattle.io_model.specs.Path.{PathTable, ArePaths, desc_of, holds_path, new_number, paths_after_begin}
 use Rattle.io_model.specs.Pipe.{IsPipe, free_pipe, pipes_after_begin}
+use Rattle.io_model.specs.declared.kept.Kept.{Kept}
 use Rattle.io_model.specs.declared.path.Target.{Target}
 use Rattle.io_model.specs.declared.path.Target.TheVariants.{File, Folder, Term, Pipe}
-use Rattle.io_rules.specs.Io.{Io, new_desc, with_paths, with_pipes}
+use Rattle.io_model.specs.declared.terminal.ReadKind.{ReadKind}
+use Rattle.io_model.specs.declared.terminal.ReadKind.TheVariants.{Bytes, WholeLine}
+use Rattle.io_model.specs.declared.terminal.Reading.{Reading}
+use Rattle.io_model.specs.declared.terminal.TheConstants.{TYPE_AHEAD}
+use Rattle.io_rules.specs.Codes.{io_call_of, direction_of}
+use Rattle.io_rules.specs.Io.{Io, kept_at, terminal_at, new_desc, with_paths, with_pipes}
+use Rattle.io_rules.specs.declared.io_call.Direction.TheVariants as Way
+use Rattle.io_rules.specs.declared.io_call.IoCall.{IoCall}
+use Rattle.io_rules.specs.declared.io_call.IoCall.TheVariants as Call
 
 -- what a system path was opened on, if it is there
 abbrev pub target_at : PathTable → ℕ → Option Target
@@ -17,11 +27,70 @@ pub record AreTargets (io : Io) : Type 0 where
   pub one_path : (s t n : ℕ) → target_at io.paths s ≡ Some (Pipe n) → target_at io.paths t ≡ Some (Pipe n) → s ≡ t
   pub terminals : (s n : ℕ) → target_at io.paths s ≡ Some (Term n) → n < 4
 
+-- ---- calls that wait, and unfinished reads
+
+-- how a call reads a terminal, if it reads
+abbrev pub read_kind_of : IoCall → Option ReadKind
+read_kind_of Call.Dup = None
+read_kind_of Call.Create = None
+read_kind_of Call.Open = None
+read_kind_of Call.Close = None
+read_kind_of Call.Read = Some Bytes
+read_kind_of Call.ReadLn = Some WholeLine
+read_kind_of Call.Write = None
+read_kind_of Call.WritLn = None
+read_kind_of Call.GetStt = None
+read_kind_of Call.SetStt = None
+read_kind_of Call.PErr = None
+
+-- how the call of a code reads a terminal, if it reads
+abbrev pub read_kind : ℕ → Option ReadKind
+read_kind code = option_and_then read_kind_of (io_call_of code)
+
+-- how many bytes a call asks a terminal for
+abbrev pub most_of : Kept → ℕ
+most_of call = min call.count TYPE_AHEAD
+
+-- a process may wait in this call: it moves bytes, not all of them were moved, the process holds its path, and on a
+-- terminal it reads
+pub record MayWait (paths : PathTable) (p : ℕ) (call : Kept) : Type 0 where
+  pub moves : IsSome (direction_of call.code)
+  pub left : call.moved < call.count
+  pub held : holds_path paths p call.path.0 ≡ true
+  pub reads : (n : ℕ) → target_at paths call.path.0 ≡ Some (Term n) → direction_of call.code ≡ Some Way.Reading
+
+-- a call reads a terminal so
+pub record IsReadOf (paths : PathTable) (n : ℕ) (reading : Reading) (call : Kept) : Type 0 where
+  pub on : target_at paths call.path.0 ≡ Some (Term n)
+  pub kind : read_kind call.code ≡ Some reading.kind
+  pub most : most_of call ≡ reading.most
+
+-- the process of an unfinished read of a terminal waits in the call that reads so
+pub record IsWaitedFor (paths : PathTable) (calls : List (Option Kept)) (n : ℕ) (reading : Reading) : Type 0 where
+  pub call : Kept
+  pub kept : kept_of calls reading.process.0 ≡ Some call
+  pub read : IsReadOf paths n reading call
+
+-- what holds of the calls that wait and of the unfinished reads
+pub record AreWaits (io : Io) : Type 0 where
+  pub calls : (p : ℕ) (call : Kept) → kept_at io p ≡ Some call → MayWait io.paths p call
+  pub reads : (n : ℕ) (reading : Reading) → (terminal_at io n).reading ≡ Some reading
+      → IsWaitedFor io.paths io.calls n reading
+
+-- a call is no unfinished read: it writes, or its path is on no terminal
+abbrev pub IsNoRead : Io → Kept → Type 0
+IsNoRead io call =
+    (n : ℕ) → target_at io.paths call.path.0 ≡ Some (Term n) → direction_of call.code ≡ Some Way.Reading → ⊥
+
+-- ---- the state
+
 -- what holds of the state at all times
 pub record IsIo (io : Io) : Type 0 where
+  pub paths : ArePaths io.paths
   pub terminals : length io.terminals ≡ 4
   pub calls : length io.calls ≡ 33
   pub targets : AreTargets io
+  pub waits : AreWaits io
 
 -- what a path is opened on is there: a pipe that lives, or one of the four terminals
 abbrev pub IsThere : Io → Target → Type 0

@@ -2,11 +2,11 @@
 
 ghost use Rattle.std.specs.Prelude.{◌≡◌, ◌<◌, Some, None, IfOk, IfSome, IsOk, IsErr, option_map, length, replicate};
 ghost use Rattle.std.specs.Result.{result_ok};
-ghost use Rattle.io_model.specs.Path.{IsOpen, slot_of, new_number, free_number, paths_after_begin, paths_after_dup};
+ghost use Rattle.io_model.specs.Path.{ArePaths, IsOpen, slot_of, new_number, free_number, paths_after_begin, paths_after_dup};
 ghost use Rattle.io_model.specs.Pipe.{pipes_after_begin};
 ghost use Rattle.io_model.specs.declared.path.Target.TheVariants.{Term};
 ghost use Rattle.io_rules.specs.Status.{ready_count as ready_count_lem};
-ghost use Rattle.io_state.specs.Sound.{IsThere, pipe_number, pipe_opened};
+ghost use Rattle.io_state.specs.Sound.{IsThere, MayWait, IsNoRead, pipe_number, pipe_opened};
 ghost use Rattle.io_rules.specs.Close.{after_close};
 ghost use Rattle.io_rules.specs.Io.{first_io, first_paths as first_paths_lem, new_desc as new_desc_lem, open_path as open_path_lem, with_paths, with_pipes, with_call, kept_at};
 
@@ -141,9 +141,11 @@ impl IoState {
         self.paths.dup(p, n)
     }
 
-    /// Closes a number of a process. The path goes with its last number, and a pipe with its path.
+    /// Closes a number of a process that waits in no call. The path goes with its last number, and a
+    /// pipe with its path.
     pub fn close(&mut self, p: Pid, n: u8)
-        requires { IsOpen self.old.paths p.0 n }
+        requires open { IsOpen self.old.paths p.0 n }
+        requires quiet { kept_at self.old p.0 ≡ None }
         ensures { self.new ≡ after_close self.old p.0 n }
     {
         let Some(desc) = self.paths.close(p, n) else {
@@ -154,9 +156,12 @@ impl IoState {
         }
     }
 
-    /// Keeps a call of a process that waits, or none.
+    /// Keeps a call of a process that waits, or none, in place of what was kept, which must be no read
+    /// of a terminal.
     pub fn keep(&mut self, p: Pid, kept: Option<Kept>)
-        requires { p.0 < 33 }
+        requires process { p.0 < 33 }
+        requires may { IfSome kept (MayWait self.old.paths p.0) }
+        requires no_read { IfSome (kept_at self.old p.0) (IsNoRead self.old) }
         ensures { self.new ≡ with_call self.old p.0 kept }
     {
         self.calls[p.0 as usize] = kept;
@@ -165,7 +170,8 @@ impl IoState {
 
 /// The paths of process 2: its numbers 0, 1 and 2 are images of one path on TERM.
 fn first_paths(alloc: Global) -> Result<Paths, OutOfMemory>
-    ensures { IfOk result (λ paths. paths ≡ first_paths_lem) }
+    ensures paths { IfOk result (λ paths. paths ≡ first_paths_lem) }
+    ensures shape { IfOk result ArePaths }
 {
     let mut paths = Paths::new(alloc)?;
     let first = Pid(2);

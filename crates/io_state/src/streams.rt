@@ -6,6 +6,7 @@ ghost use Rattle.io_rules.specs.Alone.{is_alone as is_alone_lem, is_direction as
 ghost use Rattle.io_rules.specs.Codes.{direction_of as direction_of_lem};
 ghost use Rattle.io_rules.specs.Io.{kept_at, pipe_bytes};
 ghost use Rattle.io_rules.specs.Pipes.{after_taking, after_adding};
+ghost use Rattle.io_state.specs.Sound.{IsIo};
 
 use crate::state::IoState;
 use io_model::kept::Kept;
@@ -19,7 +20,8 @@ impl IoState {
     /// The call of a process that waits on a terminal or a pipe; None if none does.
     pub fn kept(&self, p: Pid) -> Option<Kept>
         requires { p.0 < 33 }
-        ensures { result ≡ kept_at self.now p.0 }
+        ensures kept { result ≡ kept_at self.now p.0 }
+        ensures sound { IsIo self.now }
     {
         self.calls[p.0 as usize]
     }

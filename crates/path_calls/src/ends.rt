@@ -1,7 +1,7 @@
 //! How calls end.
 
 ghost use Rattle.std.specs.Prelude.{◌≡◌, ◌<◌, None};
-ghost use Rattle.io_rules.specs.Io.{with_call};
+ghost use Rattle.io_rules.specs.Io.{kept_at, with_call};
 ghost use Rattle.proc_rules.specs.Records.{IsLiving};
 ghost use Rattle.call_rules.specs.Inner.{Inner, with_regs_of};
 ghost use Rattle.proc_state.specs.Tie.{Represents};
@@ -13,7 +13,8 @@ use proc_state::state::ProcState;
 
 /// The call is refused with this number. Nothing is kept of it.
 pub(crate) fn refuse(io: &mut IoState, p: Pid, number: u8) -> CallEnd
-    requires { p.0 < 33 }
+    requires process { p.0 < 33 }
+    requires first { kept_at io.old p.0 ≡ None }
     ensures end { result ≡ CallEnd.Error number }
     ensures io { io.new ≡ with_call io.old p.0 None }
 {
@@ -23,7 +24,8 @@ pub(crate) fn refuse(io: &mut IoState, p: Pid, number: u8) -> CallEnd
 
 /// The call is done, and its process has these registers. Nothing is kept of it.
 pub(crate) fn answer(s: &mut ProcState, io: &mut IoState, p: Pid, regs: Regs) -> CallEnd
-    requires { IsLiving s.old.table p.0 }
+    requires lives { IsLiving s.old.table p.0 }
+    requires first { kept_at io.old p.0 ≡ None }
     ensures end { result ≡ CallEnd.Done }
     ensures tied { (m : Inner) → Represents s.old m → Represents s.new (with_regs_of m p.0 regs) }
     ensures io { io.new ≡ with_call io.old p.0 None }

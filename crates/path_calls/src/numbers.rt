@@ -1,12 +1,13 @@
 //! Calls on path numbers.
 
-ghost use Rattle.std.specs.Prelude.{◌≡◌, ℕ, List};
+ghost use Rattle.std.specs.Prelude.{◌≡◌, ℕ, None, List};
 ghost use Rattle.os9_outer.specs.TerminalState.{TerminalState};
 ghost use Rattle.proc_rules.specs.Records.{IsLiving};
 ghost use Rattle.call_rules.specs.Inner.{Inner};
 ghost use Rattle.io_rules.specs.Attempts.{caller_of};
 ghost use Rattle.io_rules.specs.Close.{i_close as i_close_lem};
 ghost use Rattle.io_rules.specs.Dup.{i_dup as i_dup_lem};
+ghost use Rattle.io_rules.specs.Io.{kept_at};
 ghost use Rattle.io_rules.specs.declared.io_call.IoCall.TheVariants as Call;
 ghost use Rattle.io_state.specs.Attempt.{Attempts};
 ghost use Rattle.path_calls.specs.Quiet.{Ends};
@@ -29,6 +30,7 @@ use proc_state::state::ProcState;
 /// numbers are in use. Nothing has changed then.
 pub fn i_dup(s: &mut ProcState, io: &mut IoState, p: Pid) -> CallEnd
     requires lives { IsLiving s.old.table p.0 }
+    requires first { kept_at io.old p.0 ≡ None }
     ensures call { (m : Inner) (drives : ℕ) (terms : List TerminalState) → Represents s.old m
         → Attempts Call.Dup m io.old drives p.0 result s.new io.new terms terms }
     ensures lives { IsLiving s.new.table p.0 }
@@ -39,6 +41,7 @@ pub fn i_dup(s: &mut ProcState, io: &mut IoState, p: Pid) -> CallEnd
 /// Gives the path in A another number.
 fn double(s: &mut ProcState, io: &mut IoState, p: Pid) -> CallEnd
     requires lives { IsLiving s.old.table p.0 }
+    requires first { kept_at io.old p.0 ≡ None }
     ensures call { (m : Inner) → Represents s.old m
         → Ends (i_dup_lem (caller_of m p.0) io.old) m io.old p.0 result s.new io.new }
     ensures lives { IsLiving s.new.table p.0 }
@@ -61,6 +64,7 @@ fn double(s: &mut ProcState, io: &mut IoState, p: Pid) -> CallEnd
 /// E$BPNum exactly if the number names no path. Nothing has changed then.
 pub fn i_close(s: &mut ProcState, io: &mut IoState, p: Pid) -> CallEnd
     requires lives { IsLiving s.old.table p.0 }
+    requires first { kept_at io.old p.0 ≡ None }
     ensures call { (m : Inner) (drives : ℕ) (terms : List TerminalState) → Represents s.old m
         → Attempts Call.Close m io.old drives p.0 result s.new io.new terms terms }
     ensures lives { IsLiving s.new.table p.0 }
@@ -71,6 +75,7 @@ pub fn i_close(s: &mut ProcState, io: &mut IoState, p: Pid) -> CallEnd
 /// Closes the path number in A.
 fn close(s: &mut ProcState, io: &mut IoState, p: Pid) -> CallEnd
     requires lives { IsLiving s.old.table p.0 }
+    requires first { kept_at io.old p.0 ≡ None }
     ensures call { (m : Inner) → Represents s.old m
         → Ends (i_close_lem (caller_of m p.0) io.old) m io.old p.0 result s.new io.new }
     ensures lives { IsLiving s.new.table p.0 }

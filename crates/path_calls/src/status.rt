@@ -1,11 +1,12 @@
 //! Calls on the status of a path.
 
-ghost use Rattle.std.specs.Prelude.{◌≡◌, ◌<◌, ℕ, List, length};
+ghost use Rattle.std.specs.Prelude.{◌≡◌, ◌<◌, ℕ, None, List, length};
 ghost use Rattle.os9_outer.specs.TerminalState.{TerminalState};
 ghost use Rattle.proc_rules.specs.Records.{IsLiving};
 ghost use Rattle.call_rules.specs.Inner.{Inner};
 ghost use Rattle.io_rules.specs.Attempts.{caller_of};
 ghost use Rattle.io_rules.specs.Status.{i_getstt as i_getstt_lem, i_setstt as i_setstt_lem, gets_status as gets_status_lem, gets_options as gets_options_lem, gets_ready as gets_ready_lem, options as options_lem};
+ghost use Rattle.io_rules.specs.Io.{kept_at};
 ghost use Rattle.io_rules.specs.declared.io_call.IoCall.TheVariants as Call;
 ghost use Rattle.io_state.specs.Attempt.{Attempts};
 ghost use Rattle.io_state.specs.Sound.{IsThere};
@@ -30,6 +31,7 @@ use proc_state::state::ProcState;
 /// be set. Nothing has changed then.
 pub fn i_setstt(s: &mut ProcState, io: &mut IoState, p: Pid) -> CallEnd
     requires lives { IsLiving s.old.table p.0 }
+    requires first { kept_at io.old p.0 ≡ None }
     ensures call { (m : Inner) (drives : ℕ) (terms : List TerminalState) → Represents s.old m
         → Attempts Call.SetStt m io.old drives p.0 result s.new io.new terms terms }
     ensures lives { IsLiving s.new.table p.0 }
@@ -40,6 +42,7 @@ pub fn i_setstt(s: &mut ProcState, io: &mut IoState, p: Pid) -> CallEnd
 /// Sets the status of the path in A.
 fn set_status(s: &mut ProcState, io: &mut IoState, p: Pid) -> CallEnd
     requires lives { IsLiving s.old.table p.0 }
+    requires first { kept_at io.old p.0 ≡ None }
     ensures call { (m : Inner) → Represents s.old m
         → Ends (i_setstt_lem (caller_of m p.0) io.old) m io.old p.0 result s.new io.new }
     ensures lives { IsLiving s.new.table p.0 }
@@ -62,6 +65,7 @@ fn set_status(s: &mut ProcState, io: &mut IoState, p: Pid) -> CallEnd
 /// SS.Ready E$NotRdy exactly if no byte is there. Nothing has changed then.
 pub fn i_getstt(s: &mut ProcState, io: &mut IoState, p: Pid) -> CallEnd
     requires lives { IsLiving s.old.table p.0 }
+    requires first { kept_at io.old p.0 ≡ None }
     ensures call { (m : Inner) (drives : ℕ) (terms : List TerminalState) → Represents s.old m
         → Attempts Call.GetStt m io.old drives p.0 result s.new io.new terms terms }
     ensures lives { IsLiving s.new.table p.0 }
@@ -72,6 +76,7 @@ pub fn i_getstt(s: &mut ProcState, io: &mut IoState, p: Pid) -> CallEnd
 /// Asks for the status of the path in A.
 fn get_status(s: &mut ProcState, io: &mut IoState, p: Pid) -> CallEnd
     requires lives { IsLiving s.old.table p.0 }
+    requires first { kept_at io.old p.0 ≡ None }
     ensures call { (m : Inner) → Represents s.old m
         → Ends (i_getstt_lem (caller_of m p.0) io.old) m io.old p.0 result s.new io.new }
     ensures lives { IsLiving s.new.table p.0 }
@@ -86,6 +91,7 @@ fn get_status(s: &mut ProcState, io: &mut IoState, p: Pid) -> CallEnd
 /// Asks for the status of a path on this, by the code in B.
 fn get_status_of(s: &mut ProcState, io: &mut IoState, p: Pid, target: Target) -> CallEnd
     requires lives { IsLiving s.old.table p.0 }
+    requires first { kept_at io.old p.0 ≡ None }
     requires there { IsThere io.old target }
     ensures call { (m : Inner) → Represents s.old m
         → (code : ℕ) → code ≡ (caller_of m p.0).regs.b
@@ -105,6 +111,7 @@ fn get_status_of(s: &mut ProcState, io: &mut IoState, p: Pid, target: Target) ->
 /// SS.Opt: stores the options of a path on this.
 fn get_options(s: &mut ProcState, io: &mut IoState, p: Pid, target: Target) -> CallEnd
     requires lives { IsLiving s.old.table p.0 }
+    requires first { kept_at io.old p.0 ≡ None }
     ensures call { (m : Inner) → Represents s.old m
         → Ends (gets_options_lem (caller_of m p.0) io.old target) m io.old p.0 result s.new io.new }
     ensures lives { IsLiving s.new.table p.0 }
@@ -133,6 +140,7 @@ fn options(target: Target) -> [u8; OPTION_BYTES]
 /// SS.Ready: how many bytes a path on this has for a read.
 fn get_ready(s: &mut ProcState, io: &mut IoState, p: Pid, target: Target) -> CallEnd
     requires lives { IsLiving s.old.table p.0 }
+    requires first { kept_at io.old p.0 ≡ None }
     requires there { IsThere io.old target }
     ensures call { (m : Inner) → Represents s.old m
         → Ends (gets_ready_lem (caller_of m p.0) io.old target) m io.old p.0 result s.new io.new }

@@ -4,8 +4,9 @@ use Rattle.io_model.specs.declared.path.Desc.{Desc}
 use Rattle.io_model.specs.declared.pipe.PipeId.{PipeId}
 use Rattle.io_model.specs.declared.path.Target.TheVariants.{Pipe}
 use Rattle.io_rules.specs.Io.{Io, new_desc, with_paths, with_pipes}
-use Rattle.io_state.specs.Sound.{AreTargets}
+use Rattle.io_state.specs.Sound.{AreTargets, AreWaits}
 use Rattle.io_state.proofs.SoundLemmas.{are-opened_on}
+use Rattle.io_state.proofs.WaitLemmas.{waits-begun, waits-with_pipes}
 use Rattle.io_state.proofs.state.IoState.begin_pipe.Goals as goal
 
 pub invariant_of-self-2 : goal.invariant_of-self-2
@@ -16,7 +17,10 @@ invariant_of-self-2 c =
       pipes = c.self.inside.pipes;
       calls = c.self.inside.calls;
     } in
+    let begun = waits-begun (with_pipes io c.begin.new.self) c.args.p.0 c.new_desc.result c.self.invariant.paths (waits-with_pipes io c.begin.new.self c.self.invariant.waits) in
     record {
+      paths = c.begin-2.ensures.shape;
+      waits = subst (λ (paths : PathTable). AreWaits (with_paths (with_pipes io c.begin.new.self) paths)) (sym c.begin-2.ensures.paths) begun;
       terminals = c.self.invariant.terminals;
       calls = c.self.invariant.calls;
       targets =

@@ -1,0 +1,286 @@
+-- Calls that wait and unfinished reads, where paths, terminals and calls change.
+use Rattle.std.proofs.Common.{◌≡◌, ◌≢◌, ◌<◌, ◌⊎◌, ℕ, Bool, true, false, MatchBool, if◌then◌else◌, Option, Some, None, IfSome, option_and_then, List, length, get_or, set, inl, inr, sym, ap, refl, ◌∙◌, subst, arith}
+use Rattle.std.proofs.lemmas.Bool.{cases_eq, cases_lt}
+use Rattle.std.proofs.lemmas.List.{length-set, get_or-set_same, get_or-set_other, get_or_past}
+use Rattle.os9_base.specs.declared.registers.Pid.{Pid}
+use Rattle.os9_outer.specs.TerminalState.{TerminalState}
+use Rattle.io_model.specs.Edit.{Typing}
+use Rattle.io_model.specs.Kept.{kept_of, with_kept}
+use Rattle.io_model.specs.Path.{PathTable, ArePaths, holds_path, paths_after_begin, paths_after_dup, paths_after_close, paths_after_inherit}
+use Rattle.io_model.specs.Terminal.{Terminal, new_terminal, Reads, BreaksOff, Attempted, IsSameCall, is_refused, is_taken, read_attempt, kept_waiting, typed_attempt, attempt_by, typed}
+use Rattle.io_model.specs.declared.edit.LineEnd.{LineEnd}
+use Rattle.io_model.specs.declared.edit.LineEnd.TheVariants.{Line, EndOfFile}
+use Rattle.io_model.specs.declared.kept.Kept.{Kept}
+use Rattle.io_model.specs.declared.path.Desc.{Desc}
+use Rattle.io_model.specs.declared.path.Target.TheVariants.{Term}
+use Rattle.io_model.specs.declared.terminal.Progress.{Progress}
+use Rattle.io_model.specs.declared.terminal.Progress.TheVariants as progress
+use Rattle.io_model.specs.declared.terminal.ReadKind.{ReadKind}
+use Rattle.io_model.specs.declared.terminal.Reading.{Reading}
+use Rattle.io_rules.specs.Codes.{io_call_of, direction_of, direction_of_call}
+use Rattle.io_rules.specs.Io.{Io, kept_at, terminal_at, with_paths, with_pipes, with_terminal, with_call}
+use Rattle.io_rules.specs.Waiting.{pid}
+use Rattle.io_rules.specs.declared.io_call.Direction.TheVariants as Way
+use Rattle.io_rules.specs.declared.io_call.IoCall.{IoCall}
+use Rattle.io_rules.specs.declared.io_call.IoCall.TheVariants as Call
+use Rattle.terminal_mgr.specs.Term.{read_of}
+use Rattle.io_state.proofs.HeldLemmas.{IsHeldStill, begun-still, doubled-still, closed-still, inherited-still}
+use Rattle.io_state.specs.Sound.{AreWaits, MayWait, IsReadOf, IsWaitedFor, IsNoRead, read_kind, read_kind_of, most_of}
+use Rattle.io_state.specs.Terminals.{MayRead, kept_after}
+
+abbrev nothing : {X : Type 0} → Option X
+nothing = None
+
+pub none-some : {X : Type 0} (x : X) → nothing {X = X} ≡ Some x → ⊥
+none-some x e = cc
+
+pub some-same : {X : Type 0} (x y : X) → Some x ≡ Some y → x ≡ y
+some-same x y e = cc
+
+-- ---- paths and pipes
+
+-- each call that waits has its path still
+pub waits-with_paths : (io : Io) (paths : PathTable) → ((p : ℕ) (call : Kept) → kept_at io p ≡ Some call → holds_path io.paths p call.path.0 ≡ true → IsHeldStill io.paths paths p call.path.0) → AreWaits io → AreWaits (with_paths io paths)
+waits-with_paths io paths still are = record {
+  calls = λ p call kept.
+      let was = are.calls p call kept in
+      let now = still p call kept was.held in
+      record { moves = was.moves; left = was.left; held = now.0; reads = λ n on. was.reads n (sym now.1 ∙ on) };
+  reads = λ n reading is.
+      let was = are.reads n reading is in
+      let now = still reading.process.0 was.call was.kept (are.calls reading.process.0 was.call was.kept).held in
+      record {
+        call = was.call;
+        kept = was.kept;
+        read = record { on = now.1 ∙ was.read.on; kind = was.read.kind; most = was.read.most };
+      };
+}
+
+pub waits-with_pipes : (io : Io) (pipes : List (Option (List ℕ))) → AreWaits io → AreWaits (with_pipes io pipes)
+waits-with_pipes io pipes are = record { calls = are.calls; reads = are.reads }
+
+pub waits-begun : (io : Io) (p : ℕ) (desc : Desc) → ArePaths io.paths → AreWaits io → AreWaits (with_paths io (paths_after_begin io.paths p desc))
+waits-begun io p desc paths are =
+    waits-with_paths io (paths_after_begin io.paths p desc) (λ q call kept held. begun-still io.paths p desc q call.path.0 paths held) are
+
+pub waits-doubled : (io : Io) (p n : ℕ) → AreWaits io → AreWaits (with_paths io (paths_after_dup io.paths p n))
+waits-doubled io p n are =
+    waits-with_paths io (paths_after_dup io.paths p n) (λ q call kept held. doubled-still io.paths p n q call.path.0 held) are
+
+-- a process of which no call is kept is not one of which a call is kept
+pub apart-from : (io : Io) (p q : ℕ) (call : Kept) → kept_at io p ≡ None → kept_at io q ≡ Some call → q ≢ p
+apart-from io p q call none kept same =
+    none-some call (sym none ∙ ap (λ (k : ℕ). kept_at io k) (sym same) ∙ kept)
+
+pub waits-closed : (io : Io) (p n : ℕ) → kept_at io p ≡ None → AreWaits io → AreWaits (with_paths io (paths_after_close io.paths p n))
+waits-closed io p n none are =
+    waits-with_paths io (paths_after_close io.paths p n) (λ q call kept held. closed-still io.paths p n q call.path.0 (apart-from io p q call none kept) held) are
+
+pub waits-inherited : (io : Io) (parent child : ℕ) → kept_at io child ≡ None → AreWaits io → AreWaits (with_paths io (paths_after_inherit io.paths parent child))
+waits-inherited io parent child none are =
+    waits-with_paths io (paths_after_inherit io.paths parent child) (λ q call kept held. inherited-still io.paths parent child q call.path.0 (apart-from io child q call none kept) held) are
+
+-- ---- a terminal changes
+
+reading-of : Terminal → Option Reading
+reading-of t = t.reading
+
+pub waits-with_terminal : (io : Io) (n : ℕ) (t : Terminal) → ((reading : Reading) → t.reading ≡ Some reading → IsWaitedFor io.paths io.calls n reading) → AreWaits io → AreWaits (with_terminal io n t)
+waits-with_terminal io n t there are = record {
+  calls = are.calls;
+  reads = λ m reading is. elim (cases_eq m n) [
+    | inl same ↦ elim (cases_lt n (length io.terminals)) [
+      | inl within ↦
+          let at : get_or (set io.terminals n t) m new_terminal ≡ t =
+          ap (λ (k : ℕ). get_or (set io.terminals n t) k new_terminal) same ∙ get_or-set_same io.terminals n t new_terminal within in
+          subst (λ (k : ℕ). IsWaitedFor io.paths io.calls k reading) (sym same) (there reading (sym (ap (λ (x : Terminal). x.reading) at) ∙ is))
+      | inr past ↦
+          let at : get_or (set io.terminals n t) m new_terminal ≡ new_terminal =
+          get_or_past (set io.terminals n t) m new_terminal (omega (arith, same, past, length-set io.terminals n t)) in
+          absurd (none-some reading (sym (ap (λ (x : Terminal). x.reading) at) ∙ is))
+    ]
+    | inr differ ↦
+        are.reads m reading (sym (ap (λ (x : Terminal). x.reading) (get_or-set_other io.terminals n m t new_terminal differ)) ∙ is)
+  ];
+}
+
+-- the terminal after it changed
+terminal-same : (io : Io) (n m : ℕ) (t : Terminal) → m ≡ n → n < length io.terminals → terminal_at (with_terminal io n t) m ≡ t
+terminal-same io n m t same within =
+    ap (λ (k : ℕ). get_or (set io.terminals n t) k new_terminal) same ∙ get_or-set_same io.terminals n t new_terminal within
+
+-- its unfinished read stays, or goes
+pub waits-read_kept : (io : Io) (n : ℕ) (t : Terminal) → t.reading ≡ (terminal_at io n).reading → AreWaits io → AreWaits (with_terminal io n t)
+waits-read_kept io n t same are =
+    waits-with_terminal io n t (λ reading is. are.reads n reading (sym same ∙ is)) are
+
+pub waits-read_gone : (io : Io) (n : ℕ) (t : Terminal) → t.reading ≡ None → AreWaits io → AreWaits (with_terminal io n t)
+waits-read_gone io n t none are =
+    waits-with_terminal io n t (λ reading is. absurd (none-some reading (sym none ∙ is))) are
+
+-- ---- another call of a process is kept
+
+pub waits-with_call : (io : Io) (p : ℕ) (call : Option Kept) → p < length io.calls → ((now : Kept) → call ≡ Some now → MayWait io.paths p now) → ((n : ℕ) (reading : Reading) → (terminal_at io n).reading ≡ Some reading → reading.process.0 ≡ p → IsWaitedFor io.paths (with_kept io.calls p call) n reading) → AreWaits io → AreWaits (with_call io p call)
+waits-with_call io p call within may reads are = record {
+  calls = λ q now kept. elim (cases_eq q p) [
+    | inl same ↦
+        let at : get_or (set io.calls p call) q None ≡ call =
+        ap (λ (k : ℕ). get_or (set io.calls p call) k None) same ∙ get_or-set_same io.calls p call None within in
+        subst (λ (k : ℕ). MayWait io.paths k now) (sym same) (may now (sym at ∙ kept))
+    | inr differ ↦ are.calls q now (sym (get_or-set_other io.calls p q call None differ) ∙ kept)
+  ];
+  reads = λ n reading is. elim (cases_eq reading.process.0 p) [
+    | inl same ↦ reads n reading is same
+    | inr differ ↦
+        let was = are.reads n reading is in
+        record {
+          call = was.call;
+          kept = get_or-set_other io.calls p reading.process.0 call None differ ∙ was.kept;
+          read = was.read;
+        }
+  ];
+}
+
+-- no read of the process is unfinished
+abbrev pub IsNoReader : Io → ℕ → Type 0
+IsNoReader io p = (n : ℕ) (reading : Reading) → (terminal_at io n).reading ≡ Some reading → reading.process.0 ≡ p → ⊥
+
+-- of a process without an unfinished read any call may be kept in which it may wait
+pub waits-kept : (io : Io) (p : ℕ) (call : Option Kept) → p < length io.calls → ((now : Kept) → call ≡ Some now → MayWait io.paths p now) → IsNoReader io p → AreWaits io → AreWaits (with_call io p call)
+waits-kept io p call within may none are =
+    waits-with_call io p call within may (λ n reading is same. absurd (none n reading is same)) are
+
+reading-direction : (call : Option IoCall) (kind : ReadKind) → option_and_then read_kind_of call ≡ Some kind → option_and_then direction_of_call call ≡ Some Way.Reading
+reading-direction None kind e = absurd (none-some kind e)
+reading-direction (Some Call.Dup) kind e = absurd (none-some kind e)
+reading-direction (Some Call.Create) kind e = absurd (none-some kind e)
+reading-direction (Some Call.Open) kind e = absurd (none-some kind e)
+reading-direction (Some Call.Close) kind e = absurd (none-some kind e)
+reading-direction (Some Call.Read) kind e = refl
+reading-direction (Some Call.ReadLn) kind e = refl
+reading-direction (Some Call.Write) kind e = absurd (none-some kind e)
+reading-direction (Some Call.WritLn) kind e = absurd (none-some kind e)
+reading-direction (Some Call.GetStt) kind e = absurd (none-some kind e)
+reading-direction (Some Call.SetStt) kind e = absurd (none-some kind e)
+reading-direction (Some Call.PErr) kind e = absurd (none-some kind e)
+
+-- the call of a code that reads moves bytes so
+pub reading-moves : (code : ℕ) (kind : ReadKind) → read_kind code ≡ Some kind → direction_of code ≡ Some Way.Reading
+reading-moves code kind e = reading-direction (io_call_of code) kind e
+
+pub if-some : {X : Type 0} (o : Option X) (x : X) (P : X → Type 0) → IfSome o P → o ≡ Some x → P x
+if-some {X} None x P holds e = absurd (none-some x e)
+if-some {X} (Some y) x P holds e = subst (λ (z : X). P z) (some-same y x e) holds
+
+-- the call that is kept of the process of an unfinished read
+kept-of : (io : Io) (p n : ℕ) (reading : Reading) → AreWaits io → (terminal_at io n).reading ≡ Some reading → reading.process.0 ≡ p → (call : Kept) × (kept_at io p ≡ Some call) × IsReadOf io.paths n reading call
+kept-of io p n reading are is same =
+    let was = are.reads n reading is in
+    (was.call, ap (λ (k : ℕ). kept_at io k) (sym same) ∙ was.kept, was.read)
+
+-- a process whose kept call is no unfinished read has none
+pub no-reader : (io : Io) (p : ℕ) → IfSome (kept_at io p) (IsNoRead io) → AreWaits io → IsNoReader io p
+no-reader io p free are n reading is same =
+    let was = kept-of io p n reading are is same in
+    if-some (kept_at io p) was.0 (IsNoRead io) free was.1 n was.2.on (reading-moves was.0.code reading.kind was.2.kind)
+
+-- ---- an attempt of a read
+
+-- what an attempt of a read leaves of the unfinished read
+pub data Leaves (request : Reading) (answer : Progress) (old new : Terminal) : Type 0 where
+  over : new.reading ≡ None → Leaves request answer old new
+  begun : answer ≡ progress.Wait → new.reading ≡ Some request → Leaves request answer old new
+  waits : answer ≡ progress.Wait → new.reading ≡ old.reading → Leaves request answer old new
+
+typed-leaves : (end : Option LineEnd) (it : Typing) (request : Reading) (answer : Progress) (old new : Terminal) → answer ≡ (attempt_by end it request).answer → new ≡ (attempt_by end it request).terminal → Leaves request answer old new
+typed-leaves None it request answer old new a b = begun a (ap (λ (x : Terminal). x.reading) b)
+typed-leaves (Some EndOfFile) it request answer old new a b = over (ap (λ (x : Terminal). x.reading) b)
+typed-leaves (Some Line) it request answer old new a b = over (ap (λ (x : Terminal). x.reading) b)
+
+attempt-leaves : (taken : Bool) (request : Reading) (answer : Progress) (old new : Terminal) → answer ≡ (if taken then kept_waiting request old else typed_attempt request old).answer → new ≡ (if taken then kept_waiting request old else typed_attempt request old).terminal → Leaves request answer old new
+attempt-leaves true request answer old new a b = waits a (ap (λ (x : Terminal). x.reading) b)
+attempt-leaves false request answer old new a b =
+    typed-leaves (typed request old.line old.ahead).end (typed request old.line old.ahead) request answer old new a b
+
+outcome-leaves : (refused : Bool) (request : Reading) (answer : Progress) (old new : Terminal) (before now : TerminalState) → MatchBool refused (BreaksOff request old new before now) (Attempted (read_attempt request old) answer new before now) → Leaves request answer old new
+outcome-leaves true request answer old new before now outcome = over (ap (λ (x : Terminal). x.reading) outcome.terminal)
+outcome-leaves false request answer old new before now outcome =
+    attempt-leaves (is_taken request.process old) request answer old new outcome.answer_is outcome.terminal
+
+pub read-leaves : (request : Reading) (answer : Progress) (old new : Terminal) (before now : TerminalState) → Reads request answer old new before now → Leaves request answer old new
+read-leaves request answer old new before now reads =
+    outcome-leaves (is_refused answer) request answer old new before now reads.outcome
+
+-- the unfinished read of such a process is that of the call, and on that terminal
+reader-is : (io : Io) (p n m : ℕ) (kind : ReadKind) (call : Kept) (reading : Reading) → MayRead io p n kind call → AreWaits io → (terminal_at io m).reading ≡ Some reading → reading.process.0 ≡ p → (m ≡ n) × IsReadOf io.paths m reading call
+reader-is io p n m kind call reading may are is same =
+    let was = kept-of io p m reading are is same in
+    let here : was.0 ≡ call = if-some (kept_at io p) was.0 (λ (kept : Kept). kept ≡ call) may.same was.1 in
+    let read : IsReadOf io.paths m reading call = subst (λ (k : Kept). IsReadOf io.paths m reading k) here was.2 in
+    ((let on : Some (Term m) ≡ Some (Term n) = sym read.on ∙ may.on in cc), read)
+
+reading-same : (reading : Reading) (process : Pid) (kind : ReadKind) (most : ℕ) → reading.process ≡ process → reading.kind ≡ kind → reading.most ≡ most → reading ≡ read_of process kind most
+reading-same reading process kind most a b c = λ i. record { process = a i; kind = b i; most = c i }
+
+-- it is the same read
+pub same-read : (io : Io) (p n : ℕ) (kind : ReadKind) (call : Kept) → MayRead io p n kind call → AreWaits io → IsSameCall (read_of (pid p) kind (most_of call)) (terminal_at io n)
+same-read io p n kind call may are = by (terminal_at io n).reading refl
+  where
+    by : (reading : Option Reading) → (terminal_at io n).reading ≡ reading → IfSome reading (λ reading. reading.process ≡ pid p → reading ≡ read_of (pid p) kind (most_of call))
+    by None is = tt
+    by (Some reading) is = λ same.
+        let read = (reader-is io p n n kind call reading may are is (ap (λ (q : Pid). q.0) same)).1 in
+        reading-same reading (pid p) kind (most_of call) same (some-same reading.kind kind (sym read.kind ∙ may.kind_is)) (sym read.most)
+
+call-same : (io : Io) (p q : ℕ) (call : Option Kept) → q ≡ p → p < length io.calls → kept_of (with_kept io.calls p call) q ≡ call
+call-same io p q call same within =
+    ap (λ (k : ℕ). get_or (set io.calls p call) k None) same ∙ get_or-set_same io.calls p call None within
+
+kept-may : (io : Io) (p n : ℕ) (kind : ReadKind) (call : Kept) (answer : Progress) → MayRead io p n kind call → (now : Kept) → kept_after answer call ≡ Some now → MayWait io.paths p now
+kept-may io p n kind call (progress.Done count) may now e = absurd (none-some now e)
+kept-may io p n kind call progress.Wait may now e =
+    subst (λ (k : Kept). MayWait io.paths p k) (some-same call now e) may.may
+kept-may io p n kind call progress.End may now e = absurd (none-some now e)
+kept-may io p n kind call progress.Fault may now e = absurd (none-some now e)
+kept-may io p n kind call progress.NoMemory may now e = absurd (none-some now e)
+
+-- the read is over
+over-waits : (io : Io) (p n : ℕ) (kind : ReadKind) (call : Kept) (kept : Option Kept) (t : Terminal) → p < length io.calls → n < length io.terminals → MayRead io p n kind call → ((now : Kept) → kept ≡ Some now → MayWait io.paths p now) → t.reading ≡ None → AreWaits io → AreWaits (with_call (with_terminal io n t) p kept)
+over-waits io p n kind call kept t process terminal may allowed none are =
+    let gone = waits-read_gone io n t none are in
+    let may' : MayRead (with_terminal io n t) p n kind call =
+    record { may = may.may; on = may.on; kind_is = may.kind_is; same = may.same } in
+    waits-kept (with_terminal io n t) p kept process allowed (λ m reading is same.
+    let here = (reader-is (with_terminal io n t) p n m kind call reading may' gone is same).0 in
+    none-some reading (sym none ∙ sym (ap (λ (x : Terminal). x.reading) (terminal-same io n m t here terminal)) ∙ is)) gone
+
+-- the read waits
+waiting-waits : (io : Io) (p n : ℕ) (kind : ReadKind) (call : Kept) (t : Terminal) → p < length io.calls → MayRead io p n kind call → (t.reading ≡ Some (read_of (pid p) kind (most_of call))) ⊎ (t.reading ≡ (terminal_at io n).reading) → AreWaits io → AreWaits (with_call (with_terminal io n t) p (Some call))
+waiting-waits io p n kind call t process may leaves are =
+    waits-with_terminal (with_call io p (Some call)) n t (λ reading is. elim leaves [
+      | inl new ↦
+          let here : reading ≡ read_of (pid p) kind (most_of call) = some-same reading (read_of (pid p) kind (most_of call)) (sym is ∙ new) in
+          subst (λ (r : Reading). IsWaitedFor io.paths (with_kept io.calls p (Some call)) n r) (sym here) (record {
+            call = call;
+            kept = call-same io p p (Some call) refl process;
+            read = record { on = may.on; kind = may.kind_is; most = refl };
+          })
+      | inr same ↦ kept.reads n reading (sym same ∙ is)
+    ]) kept
+  where
+    kept : AreWaits (with_call io p (Some call))
+    kept =
+        waits-with_call io p (Some call) process (λ now e. subst (λ (k : Kept). MayWait io.paths p k) (some-same call now e) may.may) (λ m reading is same. record {
+          call = call;
+          kept = call-same io p reading.process.0 (Some call) same process;
+          read = (reader-is io p n m kind call reading may are is same).1;
+        }) are
+
+-- after an attempt of a read
+pub waits-after_read : (io : Io) (p n : ℕ) (kind : ReadKind) (call : Kept) (t : Terminal) (answer : Progress) → p < length io.calls → n < length io.terminals → MayRead io p n kind call → Leaves (read_of (pid p) kind (most_of call)) answer (terminal_at io n) t → AreWaits io → AreWaits (with_call (with_terminal io n t) p (kept_after answer call))
+waits-after_read io p n kind call t answer process terminal may (over none) are =
+    over-waits io p n kind call (kept_after answer call) t process terminal may (kept-may io p n kind call answer may) none are
+waits-after_read io p n kind call t answer process terminal may (begun wait is) are =
+    subst (λ (a : Progress). AreWaits (with_call (with_terminal io n t) p (kept_after a call))) (sym wait) (waiting-waits io p n kind call t process may (inl is) are)
+waits-after_read io p n kind call t answer process terminal may (waits wait is) are =
+    subst (λ (a : Progress). AreWaits (with_call (with_terminal io n t) p (kept_after a call))) (sym wait) (waiting-waits io p n kind call t process may (inr is) are)
