@@ -1,8 +1,8 @@
 -- Paths that processes hold, after numbers were set, doubled, closed and inherited.
-use Rattle.std.proofs.Common.{◌≡◌, ◌≢◌, ◌+◌, ℕ, zero, suc, Bool, true, false, if◌then◌else◌, Option, Some, None, IsSome, is_none, option_map, List, [], ◌∷◌, length, get_or, set, drop, position, inl, inr, sym, ap, refl, ◌∙◌, subst, arith}
+use Rattle.std.proofs.Common.{◌≡◌, ◌≢◌, ◌<◌, ◌+◌, ℕ, zero, suc, Bool, true, false, if◌then◌else◌, Option, Some, None, IsSome, is_none, option_map, List, [], ◌∷◌, length, get_or, set, drop, position, inl, inr, sym, ap, refl, ◌∙◌, subst, arith}
 use Rattle.std.specs.List.{list_any}
 use Rattle.std.specs.Option.{option_map_or}
-use Rattle.std.proofs.lemmas.Bool.{cases_eq, cases_lt, eqb-true, false≢true, or_cases, or_left, or_right}
+use Rattle.std.proofs.lemmas.Bool.{cases_eq, cases_lt, eqb-true, eq-eqb, false≢true, or_cases, or_left, or_right}
 use Rattle.std.proofs.lemmas.List.{get_or-set_same, get_or-set_other, get_or-drop, get_or_past}
 use Rattle.std.proofs.lemmas.List.Quantifiers.{position-Some}
 use Rattle.io_model.specs.declared.path.Desc.{Desc}
@@ -62,6 +62,11 @@ holds-more paths p n q s path free holds = elim (cases_eq q p) [
   | inr differ ↦ ap (list_any (is_image s)) (numbers-other paths p q (set (numbers_of paths p) n path) differ) ∙ holds
 ]
 
+-- what a number names is held
+pub slot-held : (paths : PathTable) (p n : ℕ) (path : SysPath) → slot_of paths p n ≡ Some path → holds_path paths p path.0 ≡ true
+slot-held paths p n path named =
+    any-at (is_image path.0) (numbers_of paths p) None n refl (ap (is_image path.0) named ∙ eq-eqb path.0 path.0 refl)
+
 image-of : (s : ℕ) (place : Option SysPath) → is_image s place ≡ true → (path : SysPath) × (place ≡ Some path) × (path.0 ≡ s)
 image-of s None e = absurd (false≢true e)
 image-of s (Some path) e = (path, refl, eqb-true path.0 s e)
@@ -72,6 +77,14 @@ held-there paths p s are holds =
     let found = any-found (is_image s) (numbers_of paths p) None holds in
     let image = image-of s (get_or (numbers_of paths p) found.0 None) found.1 in
     subst (λ (k : ℕ). IsSome (desc_of paths k)) image.2 (are.there p found.0 image.0 image.1)
+
+-- a process that holds a path is one of 33
+pub holder-within : (paths : PathTable) (p s : ℕ) → ArePaths paths → holds_path paths p s ≡ true → p < 33
+holder-within paths p s are holds = elim (cases_lt p 33) [
+  | inl within ↦ within
+  | inr past ↦
+      absurd (false≢true (sym (ap (list_any (is_image s)) (get_or_past paths.own p [] (omega (arith, past, are.processes)))) ∙ holds))
+]
 
 -- a path that a process holds is held
 held-by : (paths : PathTable) (p s : ℕ) → holds_path paths p s ≡ true → is_held paths s ≡ true

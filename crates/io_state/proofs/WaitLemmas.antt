@@ -1,13 +1,13 @@
 -- Calls that wait and unfinished reads, where paths, terminals and calls change.
-use Rattle.std.proofs.Common.{◌≡◌, ◌≢◌, ◌<◌, ◌⊎◌, ℕ, Bool, true, false, MatchBool, if◌then◌else◌, Option, Some, None, IfSome, option_and_then, List, length, get_or, set, inl, inr, sym, ap, refl, ◌∙◌, subst, arith}
-use Rattle.std.proofs.lemmas.Bool.{cases_eq, cases_lt}
-use Rattle.std.proofs.lemmas.List.{length-set, get_or-set_same, get_or-set_other, get_or_past}
+use Rattle.std.proofs.Common.{◌≡◌, ◌≢◌, ◌<◌, ◌⊎◌, ℕ, Bool, true, false, MatchBool, if◌then◌else◌, Option, Some, None, IfSome, option_and_then, List, [], ◌++◌, length, get_or, set, take, drop, append_assoc, inl, inr, sym, ap, refl, ◌∙◌, subst, arith}
+use Rattle.std.proofs.lemmas.Bool.{cases_eq, cases_lt, false≢true}
+use Rattle.std.proofs.lemmas.List.{length-set, get_or-set_same, get_or-set_other, get_or_past, take_at}
 use Rattle.os9_base.specs.declared.registers.Pid.{Pid}
 use Rattle.os9_outer.specs.TerminalState.{TerminalState}
 use Rattle.io_model.specs.Edit.{Typing}
 use Rattle.io_model.specs.Kept.{kept_of, with_kept}
 use Rattle.io_model.specs.Path.{PathTable, ArePaths, holds_path, paths_after_begin, paths_after_dup, paths_after_close, paths_after_inherit}
-use Rattle.io_model.specs.Terminal.{Terminal, new_terminal, Reads, BreaksOff, Attempted, IsSameCall, is_refused, is_taken, read_attempt, kept_waiting, typed_attempt, attempt_by, typed}
+use Rattle.io_model.specs.Terminal.{Terminal, new_terminal, Reads, Writes, IsCutShort, IsWritten, BreaksOff, Attempted, IsSameCall, is_refused, is_taken, read_attempt, kept_waiting, typed_attempt, attempt_by, typed, stored_bytes, stored_over}
 use Rattle.io_model.specs.declared.edit.LineEnd.{LineEnd}
 use Rattle.io_model.specs.declared.edit.LineEnd.TheVariants.{Line, EndOfFile}
 use Rattle.io_model.specs.declared.kept.Kept.{Kept}
@@ -26,7 +26,7 @@ use Rattle.io_rules.specs.declared.io_call.IoCall.TheVariants as Call
 use Rattle.terminal_mgr.specs.Term.{read_of}
 use Rattle.io_state.proofs.HeldLemmas.{IsHeldStill, begun-still, doubled-still, closed-still, inherited-still}
 use Rattle.io_state.specs.Sound.{AreWaits, MayWait, IsReadOf, IsWaitedFor, IsNoRead, read_kind, read_kind_of, most_of}
-use Rattle.io_state.specs.Terminals.{MayRead, kept_after}
+use Rattle.io_state.specs.Terminals.{MayRead, count_of, kept_after}
 
 abbrev nothing : {X : Type 0} → Option X
 nothing = None
@@ -284,3 +284,60 @@ waits-after_read io p n kind call t answer process terminal may (begun wait is) 
     subst (λ (a : Progress). AreWaits (with_call (with_terminal io n t) p (kept_after a call))) (sym wait) (waiting-waits io p n kind call t process may (inl is) are)
 waits-after_read io p n kind call t answer process terminal may (waits wait is) are =
     subst (λ (a : Progress). AreWaits (with_call (with_terminal io n t) p (kept_after a call))) (sym wait) (waiting-waits io p n kind call t process may (inr is) are)
+
+-- ---- an attempt of a write
+
+-- what a write leaves of the unfinished read
+pub write-leaves : (process : Pid) (bytes : List ℕ) (count : ℕ) (answer : Progress) (old new : Terminal) (before now : TerminalState) → Writes process bytes count answer old new before now → (new.reading ≡ None) ⊎ (new.reading ≡ old.reading)
+write-leaves process bytes count answer old new before now writes = by (is_refused answer) writes.outcome
+  where
+    by : (refused : Bool) → MatchBool refused (IsCutShort process bytes old new before now) (IsWritten process bytes count answer old new before now) → (new.reading ≡ None) ⊎ (new.reading ≡ old.reading)
+    by true outcome = inl (ap (λ (x : Terminal). x.reading) outcome.terminal)
+    by false outcome = inr (ap (λ (x : Terminal). x.reading) outcome.terminal)
+
+-- after a change of a terminal that leaves its unfinished read, or drops it
+pub waits-left : (io : Io) (n : ℕ) (t : Terminal) → (t.reading ≡ None) ⊎ (t.reading ≡ (terminal_at io n).reading) → AreWaits io → AreWaits (with_terminal io n t)
+waits-left io n t leaves are = elim leaves [
+  | inl none ↦ waits-read_gone io n t none are
+  | inr same ↦ waits-read_kept io n t same are
+]
+
+-- where no call of the process is kept then
+pub waits-after_write : (io : Io) (p n : ℕ) (t : Terminal) → p < length io.calls → IfSome (kept_at io p) (IsNoRead io) → (t.reading ≡ None) ⊎ (t.reading ≡ (terminal_at io n).reading) → AreWaits io → AreWaits (with_call (with_terminal io n t) p None)
+waits-after_write io p n t process free leaves are =
+    let left = waits-left io n t leaves are in
+    waits-kept (with_terminal io n t) p None process (λ now e. absurd (none-some now e)) (no-reader (with_terminal io n t) p free left) left
+
+-- ---- what stands in a buffer
+
+refused-count : (answer : Progress) → is_refused answer ≡ true → 0 ≡ count_of answer
+refused-count (progress.Done count) e = absurd (false≢true e)
+refused-count progress.Wait e = refl
+refused-count progress.End e = refl
+refused-count progress.Fault e = refl
+refused-count progress.NoMemory e = refl
+
+typed-count : (end : Option LineEnd) (it : Typing) (request : Reading) → length (attempt_by end it request).stored ≡ count_of (attempt_by end it request).answer
+typed-count None it request = refl
+typed-count (Some EndOfFile) it request = refl
+typed-count (Some Line) it request = refl
+
+attempt-count : (taken : Bool) (request : Reading) (old : Terminal) → length (if taken then kept_waiting request old else typed_attempt request old).stored ≡ count_of (if taken then kept_waiting request old else typed_attempt request old).answer
+attempt-count true request old = refl
+attempt-count false request old =
+    typed-count (typed request old.line old.ahead).end (typed request old.line old.ahead) request
+
+-- an attempt of a read answers how many bytes it stores
+pub stored-count : (request : Reading) (answer : Progress) (old new : Terminal) (before now : TerminalState) → Reads request answer old new before now → length (stored_bytes answer request old) ≡ count_of answer
+stored-count request answer old new before now reads = by (is_refused answer) refl reads.outcome
+  where
+    by : (refused : Bool) → is_refused answer ≡ refused → MatchBool refused (BreaksOff request old new before now) (Attempted (read_attempt request old) answer new before now) → length (if refused then [] else (read_attempt request old).stored) ≡ count_of answer
+    by true e outcome = refused-count answer e
+    by false e outcome = attempt-count (is_taken request.process old) request old ∙ ap count_of (sym outcome.answer_is)
+
+-- they stand at the front of a buffer, a part of which was read into
+pub stored-front : (stored room into rest : List ℕ) (count : ℕ) → length stored ≡ count → into ≡ stored_over stored room → take count (into ++ rest) ≡ stored
+stored-front stored room into rest count counted is =
+    ap (λ (bytes : List ℕ). take count (bytes ++ rest)) is
+    ∙ ap (take count) (append_assoc stored (drop (length stored) room) rest)
+    ∙ take_at stored (drop (length stored) room ++ rest) count counted

@@ -4,6 +4,7 @@
 
 pub mod state;
 mod streams;
+mod terminal_calls;
 mod terminals;
 #[cfg(test)]
 mod tests;

@@ -1,9 +1,16 @@
 //! The terminals of a machine.
 
-ghost use Rattle.std.specs.Prelude.{◌≡◌, ◌<◌, IfOk, length, replicate, slice_index_or};
-ghost use Rattle.io_model.specs.Terminal.{new_terminal};
+ghost use Rattle.std.specs.Prelude.{◌≡◌, ◌<◌, ◌≤◌, IfOk, length, replicate, slice_index_or, slice_set, take, vec_len};
+ghost use Rattle.os9_outer.specs.TerminalState.{terminal_states, boxed_terminal_state, ChangesOneTerminal};
+ghost use Rattle.io_model.specs.Line.{line_length, line_put};
+ghost use Rattle.io_model.specs.Terminal.{new_terminal, Arrives, Reads, Writes, IsSameCall, stored_bytes, stored_over};
+ghost use Rattle.io_state.specs.Terminals.{count_of};
 
+use device_table::devices::Devices;
+use io_model::terminal::{Arrival, Progress, ReadKind, Reading, TYPE_AHEAD};
 use os9_base::call::OutOfMemory;
+use os9_base::registers::Pid;
+use os9_outer::terminal::CharDriver;
 use std::alloc::Global;
 use std::marker::Model;
 use terminal_mgr::term::Term;
@@ -45,6 +52,171 @@ impl Terminals {
     {
         self.terms[n as usize].waiting()
     }
+
+    /// The process that last attempted a read or a write of a terminal, if there is one.
+    pub fn last_user(&self, n: u8) -> Option<Pid>
+        requires { n < 4 }
+        ensures { result ≡ (slice_index_or self.now n new_terminal).user }
+    {
+        self.terms[n as usize].last_user()
+    }
+
+    /// An attempt of a read of a terminal. What it moves stands at the front of `into` then.
+    pub fn read(
+        &mut self,
+        n: u8,
+        request: Reading,
+        into: &mut [u8; TYPE_AHEAD],
+        devices: &mut Devices,
+    ) -> Progress
+        requires terminal { n < 4 }
+        requires there { n < vec_len devices.old.terms }
+        requires some { 0 < request.most }
+        requires most { request.most ≤ 256 }
+        requires same { IsSameCall request (slice_index_or self.old n new_terminal) }
+        ensures device { ChangesOneTerminal
+            (Reads request result (slice_index_or self.old n new_terminal)
+            (slice_index_or self.new n new_terminal)) n
+            (terminal_states ⟦<dyn CharDriver as CharDriver>⟧ devices.old.terms.items)
+            (terminal_states ⟦<dyn CharDriver as CharDriver>⟧ devices.new.terms.items) }
+        ensures stored { take (count_of result) into.new
+            ≡ stored_bytes result request (slice_index_or self.old n new_terminal) }
+        ensures few { count_of result ≤ request.most }
+        ensures terminals { self.new
+            ≡ slice_set self.old n (slice_index_or self.new n new_terminal) }
+        ensures drives { devices.new.drives ≡ devices.old.drives }
+        ensures count { vec_len devices.new.terms ≡ vec_len devices.old.terms }
+    {
+        read_in_box(
+            &mut self.terms[n as usize],
+            request,
+            &mut into[..request.most as usize],
+            &mut devices.terms[n as usize],
+        )
+    }
+
+    /// An attempt of a write of these bytes to a terminal.
+    pub fn write(&mut self, n: u8, p: Pid, bytes: &[u8], devices: &mut Devices) -> Progress
+        requires terminal { n < 4 }
+        requires there { n < vec_len devices.old.terms }
+        requires most { length bytes.now ≤ 65535 }
+        ensures device { ChangesOneTerminal
+            (Writes p bytes.now (length bytes.now) result (slice_index_or self.old n new_terminal)
+            (slice_index_or self.new n new_terminal)) n
+            (terminal_states ⟦<dyn CharDriver as CharDriver>⟧ devices.old.terms.items)
+            (terminal_states ⟦<dyn CharDriver as CharDriver>⟧ devices.new.terms.items) }
+        ensures terminals { self.new
+            ≡ slice_set self.old n (slice_index_or self.new n new_terminal) }
+        ensures drives { devices.new.drives ≡ devices.old.drives }
+        ensures count { vec_len devices.new.terms ≡ vec_len devices.old.terms }
+    {
+        write_in_box(
+            &mut self.terms[n as usize],
+            p,
+            bytes,
+            &mut devices.terms[n as usize],
+        )
+    }
+
+    /// An attempt of a write of a line to a terminal, with a line feed behind its carriage return.
+    pub fn write_line(&mut self, n: u8, p: Pid, bytes: &[u8], devices: &mut Devices) -> Progress
+        requires terminal { n < 4 }
+        requires there { n < vec_len devices.old.terms }
+        requires most { length bytes.now ≤ 65535 }
+        ensures device { ChangesOneTerminal
+            (Writes p (line_put bytes.now) (line_length bytes.now) result (slice_index_or self.old n new_terminal)
+            (slice_index_or self.new n new_terminal)) n
+            (terminal_states ⟦<dyn CharDriver as CharDriver>⟧ devices.old.terms.items)
+            (terminal_states ⟦<dyn CharDriver as CharDriver>⟧ devices.new.terms.items) }
+        ensures terminals { self.new
+            ≡ slice_set self.old n (slice_index_or self.new n new_terminal) }
+        ensures drives { devices.new.drives ≡ devices.old.drives }
+        ensures count { vec_len devices.new.terms ≡ vec_len devices.old.terms }
+    {
+        write_line_in_box(
+            &mut self.terms[n as usize],
+            p,
+            bytes,
+            &mut devices.terms[n as usize],
+        )
+    }
+
+    /// The keys of a terminal that are due at a tick arrive.
+    pub fn arrive(&mut self, n: u8, tick: u32, devices: &mut Devices) -> Arrival
+        requires terminal { n < 4 }
+        requires there { n < vec_len devices.old.terms }
+        ensures device { ChangesOneTerminal
+            (λ before after. Arrives tick (slice_index_or self.old n new_terminal)
+            (slice_index_or self.new n new_terminal) before after result) n
+            (terminal_states ⟦<dyn CharDriver as CharDriver>⟧ devices.old.terms.items)
+            (terminal_states ⟦<dyn CharDriver as CharDriver>⟧ devices.new.terms.items) }
+        ensures terminals { self.new
+            ≡ slice_set self.old n (slice_index_or self.new n new_terminal) }
+        ensures drives { devices.new.drives ≡ devices.old.drives }
+        ensures count { vec_len devices.new.terms ≡ vec_len devices.old.terms }
+    {
+        arrive_in_box(
+            &mut self.terms[n as usize],
+            tick,
+            &mut devices.terms[n as usize],
+        )
+    }
+}
+
+/// An attempt of a read of the terminal with the driver in a box.
+fn read_in_box(
+    term: &mut Term,
+    request: Reading,
+    into: &mut [u8],
+    driver: &mut Box<dyn CharDriver>,
+) -> Progress
+    requires some { 0 < request.most }
+    requires most { request.most ≤ 256 }
+    requires buffer { request.most ≡ length into.old }
+    requires same { IsSameCall request term.old }
+    ensures read { Reads request result term.old term.new
+        (boxed_terminal_state ⟦<dyn CharDriver as CharDriver>⟧ driver.old)
+        (boxed_terminal_state ⟦<dyn CharDriver as CharDriver>⟧ driver.new) }
+    ensures stored { into.new ≡ stored_over (stored_bytes result request term.old) into.old }
+{
+    match request.kind {
+        ReadKind::Bytes => term.read(request.process, request.most, into, &mut **driver),
+        ReadKind::WholeLine => term.read_line(request.process, request.most, into, &mut **driver),
+    }
+}
+
+/// An attempt of a write of bytes to it.
+fn write_in_box(term: &mut Term, p: Pid, bytes: &[u8], driver: &mut Box<dyn CharDriver>) -> Progress
+    requires { length bytes.now ≤ 65535 }
+    ensures { Writes p bytes.now (length bytes.now) result term.old term.new
+        (boxed_terminal_state ⟦<dyn CharDriver as CharDriver>⟧ driver.old)
+        (boxed_terminal_state ⟦<dyn CharDriver as CharDriver>⟧ driver.new) }
+{
+    term.write(p, bytes, &mut **driver)
+}
+
+/// An attempt of a write of a line to it.
+fn write_line_in_box(
+    term: &mut Term,
+    p: Pid,
+    bytes: &[u8],
+    driver: &mut Box<dyn CharDriver>,
+) -> Progress
+    requires { length bytes.now ≤ 65535 }
+    ensures { Writes p (line_put bytes.now) (line_length bytes.now) result term.old term.new
+        (boxed_terminal_state ⟦<dyn CharDriver as CharDriver>⟧ driver.old)
+        (boxed_terminal_state ⟦<dyn CharDriver as CharDriver>⟧ driver.new) }
+{
+    term.write_line(p, bytes, &mut **driver)
+}
+
+/// Its keys that are due at a tick arrive.
+fn arrive_in_box(term: &mut Term, tick: u32, driver: &mut Box<dyn CharDriver>) -> Arrival
+    ensures { Arrives tick term.old term.new
+        (boxed_terminal_state ⟦<dyn CharDriver as CharDriver>⟧ driver.old)
+        (boxed_terminal_state ⟦<dyn CharDriver as CharDriver>⟧ driver.new) result }
+{
+    term.arrive(tick, &mut **driver)
 }
 
 /// Four terminals.

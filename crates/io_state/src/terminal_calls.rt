@@ -1,0 +1,153 @@
+//! Reads and writes of terminals.
+
+ghost use Rattle.std.specs.Prelude.{◌≡◌, ◌<◌, ◌≤◌, None, IfSome, length, take, vec_len};
+ghost use Rattle.os9_outer.specs.TerminalState.{terminal_states, ChangesOneTerminal};
+ghost use Rattle.io_model.specs.Line.{line_length, line_put};
+ghost use Rattle.io_model.specs.Terminal.{Arrives, Reads, Writes, stored_bytes};
+ghost use Rattle.io_rules.specs.Io.{kept_at, terminal_at, with_call, with_terminal};
+ghost use Rattle.io_state.specs.Sound.{IsNoRead, most_of};
+ghost use Rattle.io_state.specs.Terminals.{MayRead, count_of, kept_after as kept_after_lem};
+ghost use Rattle.terminal_mgr.specs.Term.{read_of};
+
+use crate::state::IoState;
+use device_table::devices::Devices;
+use io_model::kept::Kept;
+use io_model::terminal::{Arrival, Progress, ReadKind, Reading, TYPE_AHEAD};
+use os9_base::registers::Pid;
+use os9_outer::terminal::CharDriver;
+
+impl IoState {
+    /// An attempt of a read of a terminal in this call (Level Two manual, SCF). It asks for as many
+    /// bytes as the call, but for 256 at most. What it moves stands at the front of `into` then. The
+    /// call is kept where it waits, and no call of the process is kept where the read is over.
+    pub fn read_terminal(
+        &mut self,
+        p: Pid,
+        terminal: u8,
+        kind: ReadKind,
+        call: Kept,
+        into: &mut [u8; TYPE_AHEAD],
+        devices: &mut Devices,
+    ) -> Progress
+        requires may { MayRead self.old p.0 terminal kind call }
+        requires there { terminal < vec_len devices.old.terms }
+        ensures device { ChangesOneTerminal
+            (Reads (read_of p kind (most_of call)) result (terminal_at self.old terminal)
+            (terminal_at self.new terminal)) terminal
+            (terminal_states ⟦<dyn CharDriver as CharDriver>⟧ devices.old.terms.items)
+            (terminal_states ⟦<dyn CharDriver as CharDriver>⟧ devices.new.terms.items) }
+        ensures stored { take (count_of result) into.new
+            ≡ stored_bytes result (read_of p kind (most_of call)) (terminal_at self.old terminal) }
+        ensures few { count_of result ≤ most_of call }
+        ensures io { self.new
+            ≡ with_call (with_terminal self.old terminal (terminal_at self.new terminal)) p.0
+            (kept_after_lem result call) }
+        ensures drives { devices.new.drives ≡ devices.old.drives }
+        ensures count { vec_len devices.new.terms ≡ vec_len devices.old.terms }
+    {
+        let most = call.count.min(TYPE_AHEAD as u16);
+        let request = Reading {
+            process: p,
+            kind,
+            most,
+        };
+        let answer = self.terminals.read(terminal, request, into, devices);
+        self.calls[p.0 as usize] = kept_after(answer, call);
+        answer
+    }
+
+    /// An attempt of a write of these bytes to a terminal (Level Two manual, SCF). It never waits, and
+    /// no call of the process is kept then.
+    pub fn write_terminal(
+        &mut self,
+        p: Pid,
+        terminal: u8,
+        bytes: &[u8],
+        devices: &mut Devices,
+    ) -> Progress
+        requires process { p.0 < 33 }
+        requires no_read { IfSome (kept_at self.old p.0) (IsNoRead self.old) }
+        requires terminal { terminal < 4 }
+        requires there { terminal < vec_len devices.old.terms }
+        requires most { length bytes.now ≤ 65535 }
+        ensures device { ChangesOneTerminal
+            (Writes p bytes.now (length bytes.now) result (terminal_at self.old terminal)
+            (terminal_at self.new terminal)) terminal
+            (terminal_states ⟦<dyn CharDriver as CharDriver>⟧ devices.old.terms.items)
+            (terminal_states ⟦<dyn CharDriver as CharDriver>⟧ devices.new.terms.items) }
+        ensures io { self.new
+            ≡ with_call (with_terminal self.old terminal (terminal_at self.new terminal)) p.0 None }
+        ensures drives { devices.new.drives ≡ devices.old.drives }
+        ensures count { vec_len devices.new.terms ≡ vec_len devices.old.terms }
+    {
+        let answer = self.terminals.write(terminal, p, bytes, devices);
+        self.calls[p.0 as usize] = None;
+        answer
+    }
+
+    /// An attempt of a write of a line to a terminal, up to and with the first carriage return, and a
+    /// line feed behind it (Level Two manual, SCF). It never waits, and no call of the process is kept
+    /// then.
+    pub fn write_terminal_line(
+        &mut self,
+        p: Pid,
+        terminal: u8,
+        bytes: &[u8],
+        devices: &mut Devices,
+    ) -> Progress
+        requires process { p.0 < 33 }
+        requires no_read { IfSome (kept_at self.old p.0) (IsNoRead self.old) }
+        requires terminal { terminal < 4 }
+        requires there { terminal < vec_len devices.old.terms }
+        requires most { length bytes.now ≤ 65535 }
+        ensures device { ChangesOneTerminal
+            (Writes p (line_put bytes.now) (line_length bytes.now) result
+            (terminal_at self.old terminal) (terminal_at self.new terminal)) terminal
+            (terminal_states ⟦<dyn CharDriver as CharDriver>⟧ devices.old.terms.items)
+            (terminal_states ⟦<dyn CharDriver as CharDriver>⟧ devices.new.terms.items) }
+        ensures io { self.new
+            ≡ with_call (with_terminal self.old terminal (terminal_at self.new terminal)) p.0 None }
+        ensures drives { devices.new.drives ≡ devices.old.drives }
+        ensures count { vec_len devices.new.terms ≡ vec_len devices.old.terms }
+    {
+        let answer = self.terminals.write_line(terminal, p, bytes, devices);
+        self.calls[p.0 as usize] = None;
+        answer
+    }
+
+    /// The keys of a terminal that are due at a tick arrive (Level Two manual, SCF). The answer has the
+    /// signal that is to be sent to its last user.
+    pub fn arrive(&mut self, terminal: u8, tick: u32, devices: &mut Devices) -> Arrival
+        requires terminal { terminal < 4 }
+        requires there { terminal < vec_len devices.old.terms }
+        ensures device { ChangesOneTerminal
+            (λ before after. Arrives tick (terminal_at self.old terminal)
+            (terminal_at self.new terminal) before after result) terminal
+            (terminal_states ⟦<dyn CharDriver as CharDriver>⟧ devices.old.terms.items)
+            (terminal_states ⟦<dyn CharDriver as CharDriver>⟧ devices.new.terms.items) }
+        ensures io { self.new ≡ with_terminal self.old terminal (terminal_at self.new terminal) }
+        ensures drives { devices.new.drives ≡ devices.old.drives }
+        ensures count { vec_len devices.new.terms ≡ vec_len devices.old.terms }
+    {
+        self.terminals.arrive(terminal, tick, devices)
+    }
+
+    /// The process that last attempted a read or a write of a terminal; None if there is none, or if
+    /// it has ended.
+    pub fn last_user(&self, terminal: u8) -> Option<Pid>
+        requires { terminal < 4 }
+        ensures { result ≡ (terminal_at self.now terminal).user }
+    {
+        self.terminals.last_user(terminal)
+    }
+}
+
+/// What is kept of a call after an attempt that came to this answer.
+fn kept_after(answer: Progress, call: Kept) -> Option<Kept>
+    ensures { result ≡ kept_after_lem answer call }
+{
+    match answer {
+        Progress::Wait => Some(call),
+        Progress::Done(_) | Progress::End | Progress::Fault | Progress::NoMemory => None,
+    }
+}
