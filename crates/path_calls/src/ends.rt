@@ -12,7 +12,7 @@ use os9_base::registers::{Pid, Regs};
 use proc_state::state::ProcState;
 
 /// The call is refused with this number. Nothing is kept of it.
-pub(crate) fn refuse(io: &mut IoState, p: Pid, number: u8) -> CallEnd
+pub fn refuse(io: &mut IoState, p: Pid, number: u8) -> CallEnd
     requires process { p.0 < 33 }
     requires first { kept_at io.old p.0 ≡ None }
     ensures end { result ≡ CallEnd.Error number }
@@ -23,7 +23,7 @@ pub(crate) fn refuse(io: &mut IoState, p: Pid, number: u8) -> CallEnd
 }
 
 /// The call is done, and its process has these registers. Nothing is kept of it.
-pub(crate) fn answer(s: &mut ProcState, io: &mut IoState, p: Pid, regs: Regs) -> CallEnd
+pub fn answer(s: &mut ProcState, io: &mut IoState, p: Pid, regs: Regs) -> CallEnd
     requires lives { IsLiving s.old.table p.0 }
     requires first { kept_at io.old p.0 ≡ None }
     ensures end { result ≡ CallEnd.Done }

@@ -2,6 +2,6 @@
 //! status.
 #![tactic(auto)]
 
-mod ends;
+pub mod ends;
 pub mod numbers;
 pub mod status;
