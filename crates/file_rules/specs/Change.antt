@@ -1,0 +1,65 @@
+-- The changes of a volume that calls are made of: what each makes of it, when it finds no place for what it gains, and
+-- what a fault of the drive may leave of it (OS-9 Technical Reference, Random Block File Manager).
+use Rattle.std.specs.Prelude.{◌≡◌, ℕ, List, length, Some}
+use Rattle.os9_base.specs.declared.registers.TimePacket.{TimePacket}
+use Rattle.rbf_model.specs.File.{DiskFile}
+use Rattle.rbf_model.specs.Volume.{DiskVolume, Vol}
+use Rattle.rbf_change.specs.Contents.{written}
+use Rattle.rbf_change.specs.Growth.{IsOneTooMany}
+use Rattle.rbf_change.specs.Calls.{cluster_size, is_free_in, Writes, SetsSize, SetsAttributes}
+use Rattle.rbf_change.specs.NewFiles.{file_plan, directory_plan, Creates, MakesDirectory, Deletes}
+use Rattle.rbf_change.specs.Faults.{WriteEnds, SizeEnds, NewFileEnds, DeletionEnds}
+
+pub data Change : Type 0 where
+  -- bytes are written to file n, from a place on
+  writes : ℕ → ℕ → List ℕ → Change
+  -- the size of file n is set
+  sizes : ℕ → ℕ → Change
+  -- the attributes of file n are set
+  sets_attributes : ℕ → ℕ → Change
+  -- a file is made in directory d, by a name and with attributes
+  creates : ℕ → List ℕ → ℕ → Change
+  -- and a directory
+  makes_directory : ℕ → List ℕ → ℕ → Change
+  -- file n is deleted from directory d, where it has a name
+  deletes : ℕ → ℕ → List ℕ → Change
+
+-- what the change makes of a volume, for a user and at a time; `new` is the number of the file that it makes, if it
+-- makes one
+abbrev pub Makes : Change → ℕ → TimePacket → DiskVolume → DiskVolume → ℕ → Type 0
+Makes (writes n at bytes) user now v w new = Writes v w n at bytes now
+Makes (sizes n size) user now v w new = SetsSize v w n size now
+Makes (sets_attributes n attributes) user now v w new = SetsAttributes v w n attributes now
+Makes (creates d name attributes) user now v w new = Creates v w d new name attributes user now
+Makes (makes_directory d name attributes) user now v w new = MakesDirectory v w d new name attributes user now
+Makes (deletes d n name) user now v w new = Deletes v w d n name
+
+-- a cluster that file n may gain for a size finds no place in its list of segments
+pub record FindsNoPlace (v : DiskVolume) (n : ℕ) (size : DiskFile → ℕ) : Type 0 where
+  pub file : DiskFile
+  pub is : v.files n ≡ Some file
+  pub gained : List ℕ
+  pub full : IsOneTooMany (cluster_size v) (is_free_in v) file.segments (size file) gained
+
+-- the change may end with E$SLF: it depends on the clusters that are chosen
+abbrev pub MayBeTooLong : Change → DiskVolume → Type 0
+MayBeTooLong (writes n at bytes) v = FindsNoPlace v n (λ file. length (written file.contents at bytes))
+MayBeTooLong (sizes n size) v = FindsNoPlace v n (λ file. size)
+MayBeTooLong (sets_attributes n attributes) v = ⊥
+MayBeTooLong (creates d name attributes) v = ⊥
+MayBeTooLong (makes_directory d name attributes) v = ⊥
+MayBeTooLong (deletes d n name) v = ⊥
+
+-- a volume that is left, as some image has it
+abbrev pub OnImage : DiskVolume → (List ℕ → Type 0) → Type 0
+OnImage left fact = (image : List ℕ) × Vol image left × fact image
+
+-- what a fault of the drive may leave of the volume
+abbrev pub MayLeave : Change → ℕ → TimePacket → DiskVolume → DiskVolume → Type 0
+MayLeave (writes n at bytes) user now v left = WriteEnds v left n at bytes
+MayLeave (sizes n size) user now v left = OnImage left (λ image. SizeEnds image v left n size now)
+MayLeave (sets_attributes n attributes) user now v left = left ≡ v
+MayLeave (creates d name attributes) user now v left = NewFileEnds v left d name (λ n. file_plan attributes user now)
+MayLeave (makes_directory d name attributes) user now v left =
+    NewFileEnds v left d name (directory_plan attributes user now d)
+MayLeave (deletes d n name) user now v left = OnImage left (λ image. DeletionEnds image v left d n name)

@@ -1,0 +1,146 @@
+-- The state that the calls on files read and change (Level Two manual, "I/O system"; OS-9 Technical Reference, Random
+-- Block File Manager): that of paths, terminals and pipes, the directories of each process, and the drives.
+use Rattle.std.specs.Prelude.{◌≡◌, ◌≢◌, ℕ, ◌≤◌, Bool, Option, Some, None, option_map, option_and_then, List, map, length, slice_index_or, slice_set, if◌then◌else◌}
+use Rattle.os9_base.specs.Count.{Rose}
+use Rattle.os9_base.specs.declared.registers.TimePacket.{TimePacket}
+use Rattle.os9_outer.specs.Drive.{drive_error}
+use Rattle.os9_outer.specs.declared.drive.DriveFault.{DriveFault}
+use Rattle.io_model.specs.Path.{PathTable, with_desc}
+use Rattle.io_model.specs.declared.path.Target.{Target}
+use Rattle.io_model.specs.declared.path.Target.TheVariants.{File, Folder, Term, Pipe}
+use Rattle.rbf_model.specs.File.{DiskFile, is_directory}
+use Rattle.rbf_model.specs.Volume.{DiskVolume}
+use Rattle.io_rules.specs.Io.{Io, OpenPath, open_path, with_paths}
+use Rattle.io_rules.specs.Step.{Caller}
+
+-- where a file or a directory is: its drive, and the number of its descriptor
+pub record FilePlace : Type 0 where
+  pub drive : ℕ
+  pub number : ℕ
+
+-- the directories of a process, at which path lists without a device start
+pub record Directories : Type 0 where
+  pub data_directory : Option FilePlace
+  pub execution_directory : Option FilePlace
+
+-- a drive: how often it failed, and its last fault
+pub record DriveState : Type 0 where
+  pub faults : ℕ
+  pub last : Option DriveFault
+
+pub record Files : Type 0 where
+  pub io : Io
+  pub directories : List Directories  -- by process, from 0 to 32
+  pub volumes : List (Option DiskVolume)  -- of D0, D1, D2, D3: the volume that is mounted there
+  pub drives : List DriveState  -- D0, D1, D2, D3
+
+-- the process that calls, its user, and the time
+pub record Asker : Type 0 where
+  pub caller : Caller
+  pub user : ℕ
+  pub now : TimePacket
+
+-- ---- directories of processes
+
+abbrev pub no_directories : Directories
+no_directories = record { data_directory = None; execution_directory = None }
+
+abbrev pub directories_at : Files → ℕ → Directories
+directories_at files p = slice_index_or files.directories p no_directories
+
+-- the directory of a process at which a path list starts that is for execution, or is not
+abbrev pub directory_of : Files → ℕ → Bool → Option FilePlace
+directory_of files p execute =
+    if execute then (directories_at files p).execution_directory else (directories_at files p).data_directory
+
+-- the directories with another one for execution, or for data
+abbrev pub with_directory : Directories → Bool → FilePlace → Directories
+with_directory directories execute place =
+    if execute then record directories { execution_directory = Some place }
+    else record directories { data_directory = Some place }
+
+-- ---- volumes and their files
+
+abbrev pub volume_at : Files → ℕ → Option DiskVolume
+volume_at files drive = slice_index_or files.volumes drive None
+
+-- the files of a drive by their numbers; none without a volume
+abbrev pub files_on : Files → ℕ → ℕ → Option DiskFile
+files_on files drive n = option_and_then (λ v. v.files n) (volume_at files drive)
+
+abbrev pub file_in : Files → FilePlace → Option DiskFile
+file_in files place = files_on files place.drive place.number
+
+-- what a path is opened on where this file is
+abbrev pub target_on : DiskFile → FilePlace → Target
+target_on file place = if is_directory file then Folder place.drive place.number else File place.drive place.number
+
+-- where the file is that a path was opened on, if it is a file's or a directory's
+abbrev pub place_of_target : Target → Option FilePlace
+place_of_target (File drive number) = Some (record { drive = drive; number = number })
+place_of_target (Folder drive number) = Some (record { drive = drive; number = number })
+place_of_target (Term terminal) = None
+place_of_target (Pipe pipe) = None
+
+-- a path on a file or a directory: the path, where the file is, its volume and the file
+pub record OpenFile : Type 0 where
+  pub opened : OpenPath
+  pub place : FilePlace
+  pub volume : DiskVolume
+  pub file : DiskFile
+
+-- the file of a path at a place
+abbrev pub open_file_at : Files → OpenPath → FilePlace → Option OpenFile
+open_file_at files opened place =
+    option_and_then (λ v. option_map (λ file. record { opened = opened; place = place; volume = v; file = file })
+    (v.files place.number)) (volume_at files place.drive)
+
+-- the file or directory that a number of a process names, if it names one
+abbrev pub open_file : Files → ℕ → ℕ → Option OpenFile
+open_file files p n =
+    option_and_then (λ opened. option_and_then (open_file_at files opened) (place_of_target opened.desc.target))
+    (open_path files.io p n)
+
+-- ---- the state with something else in it
+
+abbrev pub with_io : Files → Io → Files
+with_io files io = record files { io = io }
+
+abbrev pub with_path_table : Files → PathTable → Files
+with_path_table files paths = with_io files (with_paths files.io paths)
+
+-- with another position of a path
+abbrev pub with_position : Files → OpenPath → ℕ → Files
+with_position files opened at =
+    with_path_table files (with_desc files.io.paths opened.path.0 (Some (record opened.desc { at = at })))
+
+abbrev pub with_directories_of : Files → ℕ → Directories → Files
+with_directories_of files p directories =
+    record files { directories = slice_set files.directories p directories }
+
+-- with another volume in a drive that has one
+abbrev pub with_volume : Files → ℕ → DiskVolume → Files
+with_volume files drive volume = record files { volumes = slice_set files.volumes drive (Some volume) }
+
+abbrev pub with_drives : Files → List DriveState → Files
+with_drives files drives = record files { drives = drives }
+
+-- ---- how often drives failed
+
+abbrev pub new_drive : DriveState
+new_drive = record { faults = 0; last = None }
+
+abbrev pub drive_at : List DriveState → ℕ → DriveState
+drive_at drives n = slice_index_or drives n new_drive
+
+-- no drive failed: each count stands as it stood
+abbrev pub NoneFailed : List DriveState → List DriveState → Type 0
+NoneFailed before now = map (λ drive. drive.faults) now ≡ map (λ drive. drive.faults) before
+
+-- a drive failed, and no other one: its count rose, and the error of its last fault is this number
+pub record OneFailed (drive number : ℕ) (before now : List DriveState) : Type 0 where
+  pub rose : Rose (drive_at before drive).faults (drive_at now drive).faults
+  pub never_falls : (drive_at before drive).faults ≤ (drive_at now drive).faults
+  pub last : option_map drive_error (drive_at now drive).last ≡ Some number
+  pub others : (other : ℕ) → other ≢ drive → (drive_at now other).faults ≡ (drive_at before other).faults
+  pub as_many : length now ≡ length before

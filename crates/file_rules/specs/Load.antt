@@ -1,0 +1,70 @@
+-- F$Load: loads a file of modules (System Programmer's Manual, F$Load).
+-- Takes the path list at X; answers as F$Link does of the file's first module, with X past the list. All modules of the
+-- file are entered as one group, each tried by all rules before the next, and none where one is refused.
+-- Errors: those of its file; E$BMID of a file without a module; E$BMID, E$BMHP, E$BMCRC, E$KwnMod and E$DirFul of the
+-- first module that is refused; E$NoRAM; E$MemFul (no slots are left in the map).
+use Rattle.std.specs.Prelude.{◌≡◌, ℕ, ◌-◌, false, Option, option_and_then, Result, Ok, Err, List, ◌++◌, if◌then◌else◌}
+use Rattle.std.specs.Option.{option_map_or}
+use Rattle.os9_base.specs.declared.errors.TheConstants.{E_BMID, E_MEMFUL, E_NORAM}
+use Rattle.proc_model.specs.Loading.{EntersModules}
+use Rattle.proc_model.specs.Memory.{MemoryState, wants_blocks}
+use Rattle.proc_model.specs.MemoryChanges.{new_numbers}
+use Rattle.proc_model.specs.ModuleList.{ModuleEntry, free_number}
+use Rattle.proc_model.specs.Objects.{file_blocks, file_objects}
+use Rattle.call_rules.specs.CallResult.{CallResult, done, refused, needs}
+use Rattle.call_rules.specs.Inner.{Inner, regs_at}
+use Rattle.call_rules.specs.Link.{mapped_group, after_link}
+use Rattle.call_rules.specs.ModuleLinks.{Entered, entered_at}
+use Rattle.file_rules.specs.Files.{Files, Asker}
+use Rattle.file_rules.specs.ProgramFile.{ProgramFile, program_file, ReadsProgram}
+
+-- a file that is in memory: the first module of it, and the memory
+pub record Loaded : Type 0 where
+  pub first : Entered
+  pub memory : MemoryState
+
+-- the first module of a file that these entries have besides those of the memory: it has the least number that was free
+abbrev pub first_entered : MemoryState → List (Option ModuleEntry) → Option Entered
+first_entered m entries = option_and_then (entered_at entries) (free_number m.modules)
+
+-- the memory with a file as a group of new objects, and with these entries
+abbrev pub with_file_entered : MemoryState → List ℕ → List (Option ModuleEntry) → MemoryState
+with_file_entered m file entries = record m { objects = m.objects ++ file_objects file; modules = entries }
+
+-- a file in memory, by what came of its modules; or the number with which it is refused
+abbrev pub loaded_by : MemoryState → List ℕ → Result (List (Option ModuleEntry)) (ℕ × ℕ) → Result Loaded ℕ
+loaded_by m file (Err refusal) = Err refusal.1
+loaded_by m file (Ok entries) =
+    option_map_or (λ first.
+    if wants_blocks m (file_blocks file) then Err E_NORAM
+    else Ok (record { first = first; memory = with_file_entered m file entries }))
+    (first_entered m entries) (Err E_BMID)
+
+-- a file is loaded into the memory: what comes of its modules, and of it
+pub record Loads (m : MemoryState) (file : List ℕ) (outcome : Result Loaded ℕ) : Type 0 where
+  pub entries : Result (List (Option ModuleEntry)) (ℕ × ℕ)
+  pub modules : EntersModules file (new_numbers m (file_blocks file)) false 0 m.modules entries
+  pub is : outcome ≡ loaded_by m file entries
+
+-- what becomes of a call by what is read of its file: it is refused, or goes on with the file in memory
+abbrev pub GoesOnLoaded : Inner → Result ProgramFile ℕ → (ProgramFile → Loaded → CallResult) → CallResult → Type 0
+GoesOnLoaded s (Err number) next result = result ≡ refused number
+GoesOnLoaded s (Ok file) next result =
+    (outcome : Result Loaded ℕ) × Loads s.memory file.bytes outcome × (result ≡ by_outcome outcome)
+  where
+    by_outcome : Result Loaded ℕ → CallResult
+    by_outcome (Err number) = refused number
+    by_outcome (Ok loaded) = next file loaded
+
+-- the first module is linked by the process
+abbrev pub links_first : Inner → ℕ → ProgramFile → Loaded → CallResult
+links_first s p file loaded =
+    needs (mapped_group loaded.memory p loaded.first.entry.group) E_MEMFUL
+    (λ mapped. done (after_link s p loaded.first mapped (file.next - (regs_at s p).x)))
+
+-- an attempt of F$Load, which tests nothing of its own
+pub record LoadAttempts (s : Inner) (asker : Asker) (old : Files) (terms p : ℕ) (result : CallResult) (new : Files)
+    : Type 0 where
+  pub reading : Result ProgramFile ℕ
+  pub reads : ReadsProgram (program_file asker old terms (λ step. step)) reading old new
+  pub comes : GoesOnLoaded s reading (links_first s p) result

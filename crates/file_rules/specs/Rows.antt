@@ -1,0 +1,142 @@
+-- Calls on small volumes that are worked through by hand.
+use Rattle.std.specs.Prelude.{ℕ, ◌*◌, ◌==◌, ◌<◌, nat_lt, Bool, true, false, Option, Some, None, List, [], ◌∷◌, ◌++◌, codes, replicate, if◌then◌else◌}
+use Rattle.os9_base.specs.declared.registers.Regs.{Regs}
+use Rattle.os9_base.specs.declared.registers.TimePacket.{TimePacket}
+use Rattle.proc_rules.specs.Records.{zero_regs}
+use Rattle.rbf_model.specs.File.{DiskFile}
+use Rattle.rbf_model.specs.Volume.{DiskVolume}
+use Rattle.rbf_change.specs.Names.{new_entry, new_listing}
+use Rattle.io_rules.specs.Rows.{calling}
+use Rattle.io_rules.specs.Step.{IoEnd, fails}
+use Rattle.file_rules.specs.Attempts.{file_step, files_after}
+use Rattle.file_rules.specs.Change.{Change, sets_attributes}
+use Rattle.file_rules.specs.Files.{Files, Asker, DriveState, new_drive, with_volume}
+use Rattle.file_rules.specs.Processes.{first_files}
+use Rattle.file_rules.specs.Step.{Deed, leaves_so, as_io, changes, FileEffect, FileStep, deed_of, refuses_so, VolumeChange}
+use Rattle.file_rules.specs.declared.path_call.PathCall.{PathCall}
+use Rattle.file_rules.specs.declared.path_call.PathCall.TheVariants as Call
+
+-- ---- the volume E: sixteen sectors, one a cluster; the map in sector 1, the root in 2, its entries in 3
+
+-- the identification sector of a volume of so many sectors, so many a cluster, with two bytes of map and root 2
+abbrev pub ident_of : ℕ → ℕ → List ℕ
+ident_of total k = 0 ∷ 0 ∷ total ∷ 0 ∷ 0 ∷ 2 ∷ 0 ∷ k ∷ 0 ∷ 0 ∷ 2 ∷ replicate 245 0
+
+-- noon of 1 January 1990
+abbrev pub noon : TimePacket
+noon = record { year = 90; month = 1; day = 1; hour = 12; minute = 0; second = 0 }
+
+abbrev pub old_minute : List ℕ
+old_minute = 80 ∷ 1 ∷ 1 ∷ 0 ∷ 0 ∷ []
+
+-- a file of user 0 with these attributes, segments and bytes
+abbrev pub file_with : ℕ → List (ℕ × ℕ) → List ℕ → DiskFile
+file_with attributes segments contents = record {
+  attributes = attributes;
+  owner = 0;
+  modified = old_minute;
+  links = 1;
+  created = 80 ∷ 1 ∷ 1 ∷ [];
+  segments = segments;
+  contents = contents;
+}
+
+-- the root in sector 2 with these entries behind its first two
+abbrev pub root_with : List ℕ → DiskFile
+root_with entries = file_with 0xBF ((3, 1) ∷ []) (new_listing 2 2 ++ entries)
+
+-- a volume of sixteen sectors with this root, and another file of descriptor 4, if there is one
+abbrev pub volume_with : DiskFile → Option DiskFile → DiskVolume
+volume_with root other = record {
+  ident = ident_of 16 1;
+  files = λ n. if n == 2 then Some root else (if n == 4 then other else None);
+  lost = λ c. false;
+  rest = [];
+}
+
+abbrev pub volume_e : DiskVolume
+volume_e = volume_with (root_with []) None
+
+-- the same where every cluster is marked: those that are in nothing are lost
+abbrev pub volume_full : DiskVolume
+volume_full = record volume_e { lost = λ c. nat_lt 3 c }
+
+-- the same with a file `A` of twelve bytes in sector 5, which has these attributes
+abbrev pub a_bytes : List ℕ
+a_bytes = codes "one" ++ 13 ∷ (codes "two" ++ 13 ∷ codes "last")
+
+abbrev pub file_a : ℕ → DiskFile
+file_a attributes = file_with attributes ((5, 1) ∷ []) a_bytes
+
+abbrev pub volume_a : ℕ → DiskVolume
+volume_a attributes = volume_with (root_with (new_entry (codes "A") 4)) (Some (file_a attributes))
+
+-- the same with a directory `CMDS` in place of the file
+abbrev pub volume_cmds : DiskVolume
+volume_cmds =
+    volume_with (root_with (new_entry (codes "CMDS") 4)) (Some (file_with 0xBF ((5, 1) ∷ []) (new_listing 4 2)))
+
+-- ---- attempts of process 2
+
+-- the state at the start with this volume in D0, and no other
+abbrev pub four_drives : List DriveState
+four_drives = replicate 4 new_drive
+
+abbrev pub on : DiskVolume → Files
+on v = first_files (v ∷ []) four_drives
+
+-- process 2 of a user, with these registers, and these bytes from address 0 on
+abbrev pub asking_as : ℕ → Regs → List ℕ → Asker
+asking_as user regs bytes = record { caller = calling 2 regs bytes; user = user; now = noon }
+
+abbrev pub asking : Regs → List ℕ → Asker
+asking regs bytes = asking_as 0 regs bytes
+
+-- what an attempt does on a machine with four terminals
+abbrev pub step_on : PathCall → Regs → List ℕ → Files → FileStep
+step_on call regs bytes files = file_step call (asking regs bytes) files 4
+
+-- what it leaves where no drive fails and no volume is changed
+abbrev pub effect_by : Deed → Files → FileEffect
+effect_by (leaves_so it) files = it
+effect_by (as_io step) files = refuses_so 0 files
+effect_by (changes it) files = refuses_so 0 files
+
+abbrev pub effect_on : PathCall → Regs → List ℕ → Files → FileEffect
+effect_on call regs bytes files = effect_by (deed_of (step_on call regs bytes files) files) files
+
+-- how it ends, and the state then
+abbrev pub end_on : PathCall → Regs → List ℕ → Files → IoEnd
+end_on call regs bytes files = (effect_on call regs bytes files).end
+
+abbrev pub files_on : PathCall → Regs → List ℕ → Files → Files
+files_on call regs bytes files = files_after 2 (effect_on call regs bytes files)
+
+-- a change that it makes; attempts that make none have this one
+abbrev pub change_by : Deed → Change
+change_by (leaves_so it) = sets_attributes 0 0
+change_by (as_io step) = sets_attributes 0 0
+change_by (changes it) = it.change
+
+abbrev pub change_on : PathCall → Regs → List ℕ → Files → Change
+change_on call regs bytes files = change_by (deed_of (step_on call regs bytes files) files)
+
+-- registers with a mode or a path in A
+abbrev pub with_a : ℕ → Regs
+with_a a = record zero_regs { a = a }
+
+-- of a call that opens a path list in a mode
+abbrev pub opening_ends : ℕ → List ℕ → Files → IoEnd
+opening_ends mode list files = end_on Call.Open (with_a mode) list files
+
+-- the state where process 2 has opened the file A as its path 3
+abbrev pub opened_a : ℕ → ℕ → Files
+opened_a attributes mode = files_on Call.Open (with_a mode) (codes "A ") (on (volume_a attributes))
+
+-- the registers of a call on path 3 that moves at most so many bytes at address 0
+abbrev pub moving : ℕ → Regs
+moving count = record zero_regs { a = 3; y = count }
+
+-- so many bytes
+abbrev pub blanks : ℕ → List ℕ
+blanks count = replicate count 32

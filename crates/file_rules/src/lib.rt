@@ -1,0 +1,7 @@
+//! What each call on files and directories answers and leaves: the definitions that the bodies of
+//! the calls cite, and the codes of these calls.
+#![tactic(auto)]
+
+pub mod path_call;
+pub mod path_rows;
+pub mod status;

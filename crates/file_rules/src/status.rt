@@ -1,0 +1,23 @@
+//! The status codes of files (System Programmer's Manual, "I$GetStt" and "I$SetStt"; the argument of
+//! SS.Attr is this project's own), and the bits of modes and attributes that only files have.
+
+/// SS.Size: the size of a file.
+pub const SS_SIZE: u8 = 0x02;
+
+/// SS.Pos: the position of a path.
+pub const SS_POS: u8 = 0x05;
+
+/// SS.FD: the first bytes of a descriptor.
+pub const SS_FD: u8 = 0x0F;
+
+/// SS.Attr: the attributes of a file.
+pub const SS_ATTR: u8 = 0x1C;
+
+/// How many bytes of a descriptor SS.FD stores at most.
+pub const DESCRIPTOR_BYTES: u8 = 16;
+
+/// The bit of a mode and of attributes that says a directory.
+pub const DIRECTORY: u8 = 0x80;
+
+/// The bit of a mode and of attributes that says a single user.
+pub const SINGLE_USER: u8 = 0x40;
