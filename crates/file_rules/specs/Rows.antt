@@ -1,16 +1,18 @@
 -- Calls on small volumes that are worked through by hand.
-use Rattle.std.specs.Prelude.{ℕ, ◌*◌, ◌==◌, ◌<◌, nat_lt, Bool, true, false, Option, Some, None, List, [], ◌∷◌, ◌++◌, codes, replicate, if◌then◌else◌}
+use Rattle.std.specs.Prelude.{ℕ, ◌/◌, ◌%◌, ◌==◌, nat_lt, Bool, true, false, Option, Some, None, List, [], ◌∷◌, ◌++◌, codes, replicate, if◌then◌else◌}
 use Rattle.os9_base.specs.declared.registers.Regs.{Regs}
 use Rattle.os9_base.specs.declared.registers.TimePacket.{TimePacket}
 use Rattle.proc_rules.specs.Records.{zero_regs}
 use Rattle.rbf_model.specs.File.{DiskFile}
 use Rattle.rbf_model.specs.Volume.{DiskVolume}
 use Rattle.rbf_change.specs.Names.{new_entry, new_listing}
-use Rattle.io_rules.specs.Rows.{calling}
+use Rattle.io_model.specs.Path.{slot_of, with_slot}
+use Rattle.io_rules.specs.Io.{first_io, with_paths}
+use Rattle.io_rules.specs.Rows.{calling, opened_times}
 use Rattle.io_rules.specs.Step.{IoEnd, fails}
 use Rattle.file_rules.specs.Attempts.{file_step, files_after}
 use Rattle.file_rules.specs.Change.{Change, sets_attributes}
-use Rattle.file_rules.specs.Files.{Files, Asker, DriveState, new_drive, with_volume}
+use Rattle.file_rules.specs.Files.{Files, Asker, FilePlace, DriveState, new_drive, with_io}
 use Rattle.file_rules.specs.Processes.{first_files}
 use Rattle.file_rules.specs.Step.{Deed, leaves_so, as_io, changes, FileEffect, FileStep, deed_of, refuses_so, VolumeChange}
 use Rattle.file_rules.specs.declared.path_call.PathCall.{PathCall}
@@ -140,3 +142,48 @@ moving count = record zero_regs { a = 3; y = count }
 -- so many bytes
 abbrev pub blanks : ℕ → List ℕ
 blanks count = replicate count 32
+
+-- the state where it has opened the root as its path 3
+abbrev pub opened_root : Files
+opened_root = files_on Call.Open (with_a 0x81) (codes "/D0 ") (on volume_e)
+
+-- the state where its path 3 is at a position
+abbrev pub seeking : ℕ → Files → Files
+seeking at files = files_on Call.Seek (record zero_regs { a = 3; x = at / 65536; u = at % 65536 }) [] files
+
+-- the state where it has read six bytes
+abbrev pub read_behind : Files
+read_behind = files_on Call.Read (moving 6) (blanks 6) (opened_a 3 1)
+
+-- the bytes that an attempt stores
+abbrev pub bytes_on : PathCall → Regs → List ℕ → Files → List ℕ
+bytes_on call regs bytes files = (effect_on call regs bytes files).bytes
+
+-- the registers of a call on path 3 with a status code
+abbrev pub asking_size : ℕ → Regs
+asking_size code = record zero_regs { a = 3; b = code }
+
+-- how an attempt on path 3 by a user ends
+abbrev pub on_path : ℕ → PathCall → Regs → Files → IoEnd
+on_path user call regs files =
+    (effect_by (deed_of (file_step call (asking_as user regs []) files 4) files) files).end
+
+-- the state where standard error is the path of number 3
+abbrev pub as_error : Files → Files
+as_error files = with_io files (with_paths files.io (with_slot files.io.paths 2 2 (slot_of files.io.paths 2 3)))
+
+-- a directory or file on D0
+abbrev pub place_of : ℕ → FilePlace
+place_of n = record { drive = 0; number = n }
+
+-- the state at the start where nothing is mounted
+abbrev pub no_volume : Files
+no_volume = first_files [] four_drives
+
+-- the volume E where one cluster is free
+abbrev pub volume_of_one : DiskVolume
+volume_of_one = record volume_e { lost = λ c. nat_lt 4 c }
+
+-- the state where all sixteen numbers of process 2 are in use
+abbrev pub all_paths_used : Files
+all_paths_used = with_io (on (volume_a 3)) (opened_times 13 2 (codes "/T1 ") first_io)

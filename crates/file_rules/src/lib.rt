@@ -2,6 +2,7 @@
 //! the calls cite, and the codes of these calls.
 #![tactic(auto)]
 
+pub mod byte_rows;
 pub mod path_call;
 pub mod path_rows;
 pub mod status;

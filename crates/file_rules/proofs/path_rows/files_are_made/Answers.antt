@@ -1,0 +1,12 @@
+use Rattle.std.proofs.Common.{refl}
+use Rattle.rbf_model.specs.Space.{owned, has_cluster}
+use Rattle.rbf_model.specs.Volume.{is_free}
+use Rattle.file_rules.proofs.path_rows.files_are_made.Goals as goal
+
+pub returns-clause-file : goal.returns-clause-file
+unfolding is_free has_cluster owned
+returns-clause-file c = refl
+
+pub returns-clause-full : goal.returns-clause-full
+unfolding is_free has_cluster owned
+returns-clause-full c = refl
