@@ -6,6 +6,7 @@ pub mod Create
 pub mod Delete
 pub mod Files
 pub mod Load
+pub mod LoadRows
 pub mod MakDir
 pub mod OnFile
 pub mod Open

@@ -1,7 +1,8 @@
 -- Calls on small volumes that are worked through by hand.
-use Rattle.std.specs.Prelude.{ℕ, ◌/◌, ◌%◌, ◌==◌, nat_lt, Bool, true, false, Option, Some, None, List, [], ◌∷◌, ◌++◌, codes, replicate, if◌then◌else◌}
+use Rattle.std.specs.Prelude.{ℕ, ◌/◌, ◌%◌, ◌==◌, nat_lt, false, Option, Some, None, List, [], ◌∷◌, ◌++◌, codes, replicate, if◌then◌else◌}
 use Rattle.os9_base.specs.declared.registers.Regs.{Regs}
 use Rattle.os9_base.specs.declared.registers.TimePacket.{TimePacket}
+use Rattle.os9_outer.specs.declared.drive.DriveFault.TheVariants.{WriteFault}
 use Rattle.proc_rules.specs.Records.{zero_regs}
 use Rattle.rbf_model.specs.File.{DiskFile}
 use Rattle.rbf_model.specs.Volume.{DiskVolume}
@@ -9,12 +10,12 @@ use Rattle.rbf_change.specs.Names.{new_entry, new_listing}
 use Rattle.io_model.specs.Path.{slot_of, with_slot}
 use Rattle.io_rules.specs.Io.{first_io, with_paths}
 use Rattle.io_rules.specs.Rows.{calling, opened_times}
-use Rattle.io_rules.specs.Step.{IoEnd, fails}
+use Rattle.io_rules.specs.Step.{IoEnd}
 use Rattle.file_rules.specs.Attempts.{file_step, files_after}
 use Rattle.file_rules.specs.Change.{Change, sets_attributes}
 use Rattle.file_rules.specs.Files.{Files, Asker, FilePlace, DriveState, new_drive, with_io}
 use Rattle.file_rules.specs.Processes.{first_files}
-use Rattle.file_rules.specs.Step.{Deed, leaves_so, as_io, changes, FileEffect, FileStep, deed_of, refuses_so, VolumeChange}
+use Rattle.file_rules.specs.Step.{Deed, leaves_so, as_io, changes, FileEffect, FileStep, deed_of, refuses_so}
 use Rattle.file_rules.specs.declared.path_call.PathCall.{PathCall}
 use Rattle.file_rules.specs.declared.path_call.PathCall.TheVariants as Call
 
@@ -187,3 +188,21 @@ volume_of_one = record volume_e { lost = λ c. nat_lt 4 c }
 -- the state where all sixteen numbers of process 2 are in use
 abbrev pub all_paths_used : Files
 all_paths_used = with_io (on (volume_a 3)) (opened_times 13 2 (codes "/T1 ") first_io)
+
+-- ---- a drive that fails
+
+-- a call of process 2: who makes it, and what it does
+pub record Calling : Type 0 where
+  pub asker : Asker
+  pub step : FileStep
+
+-- I$Create of the file `New` on the volume E
+abbrev pub creating_new : Asker
+creating_new = asking (with_a 3) (codes "New ")
+
+abbrev pub creation : Calling
+creation = record { asker = creating_new; step = file_step Call.Create creating_new (on volume_e) 4 }
+
+-- the drives where D0 has failed once, with a write
+abbrev pub d0_failed : List DriveState
+d0_failed = record { faults = 1; last = Some WriteFault } ∷ replicate 3 new_drive

@@ -3,6 +3,8 @@
 #![tactic(auto)]
 
 pub mod byte_rows;
+pub mod fault_rows;
+pub mod load_rows;
 pub mod path_call;
 pub mod path_rows;
 pub mod status;

@@ -1,0 +1,39 @@
+ghost use Rattle.std.specs.Prelude.{◌≡◌, ◌⊎◌, ℕ, List, [], None};
+ghost use Rattle.os9_base.specs.declared.errors.TheConstants.{E_WRITE};
+ghost use Rattle.os9_base.specs.declared.registers.TimePacket.{TimePacket};
+ghost use Rattle.os9_outer.specs.TerminalState.{TerminalState};
+ghost use Rattle.rbf_model.specs.Volume.{DiskVolume};
+ghost use Rattle.file_rules.specs.Change.{MayLeave, creates, makes_directory, sets_attributes, deletes};
+ghost use Rattle.file_rules.specs.Files.{Files, Asker, with_drives};
+ghost use Rattle.file_rules.specs.Rows.{on, volume_e, creation, d0_failed};
+ghost use Rattle.file_rules.specs.Step.{FileEffect, FileStep, Deed, refused, comes, IsBroken, FileDoes, refuses_so};
+
+/// A creation may be ended by a fault of its drive, whose count rose: the call answers that fault's
+/// number, and but for the count nothing has changed.
+pub fn a_creation_may_be_broken()
+    ensures { (terms : List TerminalState) → FileDoes creation.step creation.asker (on volume_e)
+        (refuses_so E_WRITE (with_drives (on volume_e) d0_failed)) terms terms }
+{}
+
+/// An attempt that does not reach a drive is ended by no fault: one that is refused before it does,
+/// and one that does all that it does without it.
+pub fn faults_come_from_drives_that_are_reached()
+    ensures refused { (number : ℕ) (asker : Asker) (files : Files) (effect : FileEffect)
+        → IsBroken (refused number) asker files effect → ⊥ }
+    ensures comes { (deed : Deed) (asker : Asker) (files : Files) (effect : FileEffect)
+        → IsBroken (comes deed) asker files effect → ⊥ }
+{}
+
+/// A fault leaves the files as they were where one was to be made or given other attributes. A file
+/// that was to be deleted has gone, or nothing has changed.
+pub fn the_old_tree_stands()
+    ensures file { (d attributes user : ℕ) (name : List ℕ) (now : TimePacket) (v left : DiskVolume)
+        → MayLeave (creates d name attributes) user now v left → left.files ≡ v.files }
+    ensures directory { (d attributes user : ℕ) (name : List ℕ) (now : TimePacket)
+        (v left : DiskVolume)
+        → MayLeave (makes_directory d name attributes) user now v left → left.files ≡ v.files }
+    ensures attributes { (n attributes user : ℕ) (now : TimePacket) (v left : DiskVolume)
+        → MayLeave (sets_attributes n attributes) user now v left → left ≡ v }
+    ensures deleted { (d n user : ℕ) (name : List ℕ) (now : TimePacket) (v left : DiskVolume)
+        → MayLeave (deletes d n name) user now v left → (left ≡ v) ⊎ (left.files n ≡ None) }
+{}
