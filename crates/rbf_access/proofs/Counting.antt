@@ -36,5 +36,9 @@ counts_most f a b s t more one =
     let first = one.calls_made in
     record { calls_made = omega arith; never_falls = one.never_falls; rose = one.rose; number = one.number; kept = one.kept }
 
+-- the calls are fewer than a first bound says
+pub counts_within : (f : Option ℕ) (a b : ℕ) (s t : DriveCounts) → t.calls ≤ s.calls + b → MovesCounts f a s t → MovesCounts f b s t
+counts_within f a b s t few one = record { calls_made = few; never_falls = one.never_falls; rose = one.rose; number = one.number; kept = one.kept }
+
 pub made_then : (a b s t u : ℕ) → Made a s t → Made b t u → Made (a + b) s u
 made_then a b s t u one other = omega arith

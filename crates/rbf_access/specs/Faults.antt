@@ -1,5 +1,6 @@
--- The number of the drive's fault that a call answers, if it answers one.
+-- The number of the drive's fault that a call answers, if it answers one, and that of an error.
 use Rattle.std.specs.Prelude.{ℕ, Option, Some, None, Result, Ok, Err}
+use Rattle.os9_base.specs.declared.errors.TheConstants.{E_SLF, E_FULL}
 use Rattle.os9_outer.specs.Drive.{drive_error}
 use Rattle.os9_outer.specs.declared.drive.DriveFault.{DriveFault}
 use Rattle.rbf_access.specs.declared.faults.FileFault.{FileFault}
@@ -16,6 +17,13 @@ file_fault (Ok a) = None
 file_fault (Err (file.Device n)) = Some n
 file_fault (Err file.NoCluster) = None
 file_fault (Err file.TooManyRuns) = None
+
+-- the number of the error of a call on a file (System Programmer's Manual, error codes: E$Full, E$SLF), or that of the
+-- drive's fault
+abbrev pub file_error : FileFault → ℕ
+file_error (file.Device n) = n
+file_error file.NoCluster = E_FULL
+file_error file.TooManyRuns = E_SLF
 
 abbrev pub volume_fault : {A : Type 0} → Result A VolFault → Option ℕ
 volume_fault (Ok a) = None

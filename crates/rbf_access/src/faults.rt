@@ -1,5 +1,7 @@
 ghost use Rattle.std.specs.Prelude.{◌≡◌};
+ghost use Rattle.rbf_access.specs.Faults.{file_error};
 
+use os9_base::errors::{E_FULL, E_SLF};
 use std::alloc::AllocError;
 use thiserror::Error;
 
@@ -15,6 +17,20 @@ pub enum FileFault {
     NoCluster,
     #[error("segment list full")]
     TooManyRuns,
+}
+
+impl FileFault {
+    /// The number of the error that a call answers which ended so: E$Full, E$SLF, or that of the
+    /// drive's fault (System Programmer's Manual, error codes).
+    pub fn number(&self) -> u8
+        ensures { result ≡ file_error self.now }
+    {
+        match self {
+            FileFault::Device(number) => *number,
+            FileFault::NoCluster => E_FULL,
+            FileFault::TooManyRuns => E_SLF,
+        }
+    }
 }
 
 /// Why a volume was not mounted: a fault of the drive, by its number, or the media holds no RBF

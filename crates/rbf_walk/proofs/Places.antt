@@ -1,10 +1,11 @@
 -- The places of a directory's entries.
-use Rattle.std.proofs.Common.{◌≡◌, ℕ, ◌+◌, ◌/◌, ◌<◌, Bool, true, false, not, Option, Some, None, List, [], length, get_or, ap, sym, ◌∙◌, arith, ltb, lt-ltb, cond, below_more}
+use Rattle.std.proofs.Common.{◌≡◌, ℕ, ◌+◌, ◌/◌, ◌<◌, ◌≤◌, Bool, true, false, not, Option, Some, None, List, [], length, get_or, ap, sym, ◌∙◌, arith, ltb, lt-ltb, cond, below_more, ⊎_elim}
 use Rattle.std.specs.Prelude.{position, option_map, unwrap_or, MatchOption}
 use Rattle.std.specs.List.{position_or_len, slice_get, find}
-use Rattle.std.proofs.lemmas.Bool.{cond-true, cond-false}
+use Rattle.std.proofs.lemmas.Bool.{cond-true, cond-false, cases_lt, both_ways}
 use Rattle.std.proofs.lemmas.List.Sums.{position_or_len_is}
 use Rattle.std.proofs.lemmas.List.Folds.{find_at}
+use Rattle.std.proofs.lemmas.List.Quantifiers.{position-Some}
 use Rattle.std.proofs.lemmas.List.FromFn.{get_or-map-range_with_len, length-map-range_with_len}
 use Rattle.std.proofs.lemmas.Option.{slice_get-get_or, slice_get_past}
 use Rattle.rbf_model.specs.Fields.{directory_entry, descriptor_field, is_used}
@@ -56,6 +57,17 @@ module _ (contents : List ℕ) where
     position_none none =
         ap (λ j. cond (ltb j (length (directory_entries contents))) (Some j) None) (none_at none)
         ∙ cond-false (ltb (length (directory_entries contents)) (length (directory_entries contents))) (Some (length (directory_entries contents))) None (grind arith)
+
+    -- none of the first so many passes, so the first that passes is behind them
+    pub position_past : (count i : ℕ) → NonePasses test contents count → position test (directory_entries contents) ≡ Some i → count ≤ i
+    position_past count i none there =
+        let first = position-Some test (directory_entries contents) i [] there in
+        let low : i < length (directory_entries contents) = first.0 in
+        let below : i < length contents / 32 = omega (arith, entry_count) in
+        ⊎_elim
+        (λ early. absurd (both_ways (test (directory_entry contents i)) (none i early) (ap test (sym (entry_is i below)) ∙ first.1)))
+        (λ late. late)
+        (cases_lt i count)
 
     pub find_first : (i : ℕ) → IsFirst test contents (length contents / 32) i → find test (directory_entries contents) ≡ Some (directory_entry contents i)
     find_first i first =

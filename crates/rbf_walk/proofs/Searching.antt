@@ -19,8 +19,9 @@ use Rattle.rbf_access.specs.Mounted.{Represents}
 use Rattle.rbf_access.specs.Reading.{IsFdOf}
 use Rattle.rbf_access.proofs.Counting.{no_calls, counts_then, counts_most}
 use Rattle.rbf_access.proofs.ReadFile.{contents_are, room_for}
-use Rattle.rbf_walk.specs.Search.{NonePasses, IsFirst, IsFoundAt, IsAbsent}
-use Rattle.rbf_walk.proofs.Places.{found_at, absent_in}
+use Rattle.rbf_change.specs.Names.{place_of}
+use Rattle.rbf_walk.specs.Search.{NonePasses, IsFirst, IsFoundAt, IsAbsent, sectors_to, sectors_searched}
+use Rattle.rbf_walk.proofs.Places.{found_at, absent_in, position_past}
 
 -- an entry of a sector is one of the whole
 in_sector : (whole sector : List ℕ) (place r : ℕ) → sector ≡ take 256 (drop (256 * place) whole) → r < 8 → directory_entry sector r ≡ directory_entry whole (8 * place + r)
@@ -146,6 +147,25 @@ module _ (media : Option (List ℕ)) (fd : Fd) (v : DiskVolume) (n : ℕ) (file 
       (none_in (entry_has_name name) (length file.contents / 32) (omega arith) (subst (NonePasses (entry_has_name name) (segment_bytes (sector_at media) fd.segs)) total none))
       (free_in free (subst (λ n. IsFirstFree (segment_bytes (sector_at media) fd.segs) n free) all place)))
 
+  -- the next sector is none behind the one that has the name
+  pub next_is_read : (name : List ℕ) (place : ℕ) → 8 * place < fd.size / 32 → NonePasses (entry_has_name name) (segment_bytes (sector_at media) fd.segs) (min (8 * place) (fd.size / 32))
+      → place + 1 ≤ sectors_searched file.contents name
+  next_is_read name place more none = by_place (place_of file.contents name) refl
+    where
+      by_place : (o : Option ℕ) → place_of file.contents name ≡ o → place + 1 ≤ sectors_to o (sector_count (length file.contents))
+      by_place None is = omega (arith, known.size_is)
+      by_place (Some p) there =
+          let low : min (8 * place) (fd.size / 32) ≤ length file.contents / 32 = omega (arith, entry_total) in
+          let late = position_past file.contents (entry_has_name name) (min (8 * place) (fd.size / 32)) p (none_in (entry_has_name name) (min (8 * place) (fd.size / 32)) low none) there in
+          omega arith
+
+  -- and where none has it all are read
+  pub all_are_read : (name : List ℕ) (place free : ℕ) → place ≤ sector_count fd.size → IsAbsent file.contents name free → place ≤ sectors_searched file.contents name
+  all_are_read name place free few none =
+      let all : sectors_searched file.contents name ≡ sector_count (length file.contents) = ap (λ o. sectors_to o (sector_count (length file.contents))) none.nowhere in
+      let same : sector_count fd.size ≡ sector_count (length file.contents) = ap sector_count known.size_is in
+      omega (arith, all, same)
+
   -- the sectors have room for the entries
   pub entries_fit : 32 * (fd.size / 32) ≤ 256 * length (sectors_of fd.segs)
   entries_fit =
@@ -176,6 +196,17 @@ all_places entries place end is high =
 -- one sector more is read, of those that the size has
 pub one_more_call : (f : Option ℕ) (size place : ℕ) (s t u : DriveCounts) → 8 * place < size / 32 → MovesCounts None place s t → MovesCounts f 1 t u → MovesCounts f (sector_count size) s u
 one_more_call f size place s t u low one other = counts_most f (place + 1) (sector_count size) s u (omega arith) (counts_then f place 1 s t u one other)
+
+pub read_within : (f : Option ℕ) (place most : ℕ) (s t u : DriveCounts) → MovesCounts None place s t → MovesCounts f 1 t u → place + 1 ≤ most → u.calls ≤ s.calls + most
+read_within f place most s t u one other few =
+    let first = one.calls_made in
+    let second = other.calls_made in
+    omega arith
+
+pub all_within : (place most : ℕ) (s t : DriveCounts) → MovesCounts None place s t → place ≤ most → t.calls ≤ s.calls + most
+all_within place most s t one few =
+    let first = one.calls_made in
+    omega arith
 
 pub all_calls : (size place : ℕ) (s t : DriveCounts) → place ≤ sector_count size → MovesCounts None place s t → MovesCounts None (sector_count size) s t
 all_calls size place s t few one = counts_most None place (sector_count size) s t few one

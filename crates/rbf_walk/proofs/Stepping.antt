@@ -20,8 +20,8 @@ use Rattle.rbf_access.specs.Mounted.{Represents, HasFile}
 use Rattle.rbf_access.specs.Reading.{IsFdOf, OnFile}
 use Rattle.rbf_access.specs.declared.faults.FileFault.{FileFault}
 use Rattle.rbf_access.specs.declared.faults.FileFault.TheVariants.{Device, NoCluster, TooManyRuns}
-use Rattle.rbf_access.proofs.Counting.{no_calls, counts_then, counts_most}
-use Rattle.rbf_walk.specs.Search.{IsFdOn, OnFd, IsFoundAt, IsAbsent, IsSearched}
+use Rattle.rbf_access.proofs.Counting.{no_calls, counts_then, counts_most, counts_within}
+use Rattle.rbf_walk.specs.Search.{IsFdOn, OnFd, IsFoundAt, IsAbsent, IsSearched, sectors_searched}
 use Rattle.rbf_walk.specs.Walk.{AnswersWalk, directory_fault, step_calls, calls_on, walk_calls}
 use Rattle.rbf_walk.specs.declared.directory.Searched.{Searched}
 use Rattle.rbf_walk.specs.declared.directory.Searched.TheVariants.{Found, Absent}
@@ -61,10 +61,10 @@ fault_calls A fault r n s t is moved = subst (λ f. MovesCounts f n s t) (sym (a
     same_fault TooManyRuns = refl
 
 -- the descriptor's call is one of those that a step makes at most
-pub first_calls : (media : Option (List ℕ)) (dir : ℕ) (has : HasFile media dir) (user : ℕ) (execute : Bool) (v : DiskVolume) → Represents media v → (f : Option ℕ) (s t : DriveCounts)
-    → MovesCounts f 1 s t → MovesCounts f (step_calls (v.files dir) user execute) s t
-first_calls media dir has user execute v on f s t one =
-    subst (λ o. MovesCounts f (step_calls o user execute) s t) (sym (file_in media dir has v on)) (counts_most f 1 (step_calls (Some has.file) user execute) s t (omega arith) one)
+pub first_calls : (media : Option (List ℕ)) (dir : ℕ) (has : HasFile media dir) (user : ℕ) (execute : Bool) (name : List ℕ) (v : DiskVolume) → Represents media v → (f : Option ℕ) (s t : DriveCounts)
+    → MovesCounts f 1 s t → MovesCounts f (step_calls (v.files dir) user execute name) s t
+first_calls media dir has user execute name v on f s t one =
+    subst (λ o. MovesCounts f (step_calls o user execute name) s t) (sym (file_in media dir has v on)) (counts_most f 1 (step_calls (Some has.file) user execute name) s t (omega arith) one)
 
 module _ (media : Option (List ℕ)) (dir : ℕ) (has : HasFile media dir) (fd : Fd) (known : OnFile media dir (λ file. IsFdOf file fd)) where
   -- the descriptor that has been read is on the media
@@ -98,12 +98,15 @@ module _ (media : Option (List ℕ)) (dir : ℕ) (has : HasFile media dir) (fd :
         ap (λ o. step o user execute name) is
         ∙ cond-true (may_search has.file user execute) (end_at (look_up has.file.contents name)) not_allowed (sym (tested has.file fields) ∙ passes)
 
-    pub open_calls : (f : Option ℕ) (s t u : DriveCounts) → test ≡ true → MovesCounts None 1 s t → MovesCounts f (sector_count fd.size) t u → MovesCounts f (step_calls (v.files dir) user execute) s u
-    open_calls f s t u passes one other =
-        let all : step_calls (v.files dir) user execute ≡ 1 + sector_count fd.size =
-        ap (λ o. step_calls o user execute) is
-        ∙ ap (λ n. 1 + n) (cond-true (may_search has.file user execute) (sector_count (length has.file.contents)) 0 (sym (tested has.file fields) ∙ passes) ∙ ap sector_count (sym size_is)) in
-        subst (λ n. MovesCounts f n s u) (sym all) (counts_then f 1 (sector_count fd.size) s t u one other)
+    pub open_calls : (now : Option (List ℕ)) → now ≡ media → (f : Option ℕ) (s t u : DriveCounts) → test ≡ true → MovesCounts None 1 s t → MovesCounts f (sector_count fd.size) t u
+        → OnFd now fd (λ file. u.calls ≤ t.calls + sectors_searched file.contents name) → MovesCounts f (step_calls (v.files dir) user execute name) s u
+    open_calls now same f s t u passes one other read =
+        let few = read v dir has.file (represents_still media now v same on) is fields in
+        let all : step_calls (v.files dir) user execute name ≡ 1 + sectors_searched has.file.contents name =
+        ap (λ o. step_calls o user execute name) is
+        ∙ ap (λ n. 1 + n) (cond-true (may_search has.file user execute) (sectors_searched has.file.contents name) 0 (sym (tested has.file fields) ∙ passes)) in
+        subst (λ n. MovesCounts f n s u) (sym all)
+        (counts_then f 1 (sectors_searched has.file.contents name) s t u one (counts_within f (sector_count fd.size) (sectors_searched has.file.contents name) t u few other))
 
     module _ (now : Option (List ℕ)) (same : now ≡ media) (answer : Searched) (searched : OnFd now fd (λ file. IsSearched file.contents name answer)) (passes : test ≡ true) where
       here : IsSearched has.file.contents name answer
@@ -167,7 +170,7 @@ module _ (media : Option (List ℕ)) (user : ℕ) (execute : Bool) (from : ℕ) 
     walk_is : walk v.files user execute from names ≡ go_on (step (v.files at) user execute name) (λ n. walk v.files user execute n (drop (i + 1) names))
     walk_is = so_far.rest v on ∙ ap (walk v.files user execute at) more
 
-    calls_are : walk_calls v.files user execute at (drop i names) ≡ step_calls (v.files at) user execute + calls_on (step (v.files at) user execute name) (λ n. walk_calls v.files user execute n (drop (i + 1) names))
+    calls_are : walk_calls v.files user execute at (drop i names) ≡ step_calls (v.files at) user execute name + calls_on (step (v.files at) user execute name) (λ n. walk_calls v.files user execute n (drop (i + 1) names))
     calls_are = ap (walk_calls v.files user execute at) more
 
   pub stopped_walked : (e : DirError) (r : Result ℕ DirError) → r ≡ Err e → ((v : DiskVolume) → Represents mid v → AnswersWalk (step (v.files at) user execute name) (Err e))
@@ -178,19 +181,19 @@ module _ (media : Option (List ℕ)) (user : ℕ) (execute : Bool) (from : ℕ) 
       subst (AnswersWalk (walk v.files user execute from names)) (sym is) whole
 
   pub stopped_calls : (e : DirError) (r : Result ℕ DirError) (now : DriveCounts) → r ≡ Err e
-      → ((v : DiskVolume) → Represents mid v → MovesCounts (directory_fault {A = ℕ} (Err e)) (step_calls (v.files at) user execute) then_counts now)
+      → ((v : DiskVolume) → Represents mid v → MovesCounts (directory_fault {A = ℕ} (Err e)) (step_calls (v.files at) user execute name) then_counts now)
       → (v : DiskVolume) → Represents media v → MovesCounts (directory_fault r) (walk_calls v.files user execute from names) before now
   stopped_calls e r now is moved v on =
       let w = so_far.called v on in
       let enough = w.2 in
       let all = calls_are v on in
-      let here = counts_then (directory_fault {A = ℕ} (Err e)) w.0 (step_calls (v.files at) user execute) before then_counts now w.1 (moved v (represents_still media mid v so_far.same_media on)) in
+      let here = counts_then (directory_fault {A = ℕ} (Err e)) w.0 (step_calls (v.files at) user execute name) before then_counts now w.1 (moved v (represents_still media mid v so_far.same_media on)) in
       subst (λ f. MovesCounts f (walk_calls v.files user execute from names) before now) (sym (ap directory_fault is))
-      (counts_most (directory_fault {A = ℕ} (Err e)) (w.0 + step_calls (v.files at) user execute) (walk_calls v.files user execute from names) before now (omega arith) here)
+      (counts_most (directory_fault {A = ℕ} (Err e)) (w.0 + step_calls (v.files at) user execute name) (walk_calls v.files user execute from names) before now (omega arith) here)
 
   pub one_more : (n : ℕ) (now : Option (List ℕ)) (after : KeptVolume) (counts : DriveCounts) → HasFile mid n → now ≡ mid → after ≡ half
       → ((v : DiskVolume) → Represents mid v → step (v.files at) user execute name ≡ arrives n)
-      → ((v : DiskVolume) → Represents mid v → MovesCounts None (step_calls (v.files at) user execute) then_counts counts)
+      → ((v : DiskVolume) → Represents mid v → MovesCounts None (step_calls (v.files at) user execute name) then_counts counts)
       → IsWalkedTo media user execute from names n (i + 1) now volume after before counts
   one_more n now after counts has same kept leads moved = record {
     file = subst (λ m. HasFile m n) so_far.same_media has;
@@ -201,8 +204,8 @@ module _ (media : Option (List ℕ)) (user : ℕ) (execute : Bool) (from : ℕ) 
         let w = so_far.called v on in
         let enough = w.2 in
         let mid_on = represents_still media mid v so_far.same_media on in
-        let all = calls_are v on ∙ ap (λ end. step_calls (v.files at) user execute + calls_on end (λ m. walk_calls v.files user execute m (drop (i + 1) names))) (leads v mid_on) in
-        (w.0 + step_calls (v.files at) user execute, counts_then None w.0 (step_calls (v.files at) user execute) before then_counts counts w.1 (moved v mid_on), omega arith);
+        let all = calls_are v on ∙ ap (λ end. step_calls (v.files at) user execute name + calls_on end (λ m. walk_calls v.files user execute m (drop (i + 1) names))) (leads v mid_on) in
+        (w.0 + step_calls (v.files at) user execute name, counts_then None w.0 (step_calls (v.files at) user execute name) before then_counts counts w.1 (moved v mid_on), omega arith);
   }
 
 -- all names have been gone along

@@ -1,9 +1,10 @@
 -- A directory that is searched for a name.
-use Rattle.std.specs.Prelude.{◌≡◌, ℕ, ◌+◌, ◌*◌, ◌<◌, ◌≤◌, Bool, true, false, Option, Some, None, List, length}
+use Rattle.std.specs.Prelude.{◌≡◌, ℕ, ◌+◌, ◌*◌, ◌/◌, ◌<◌, ◌≤◌, Bool, true, false, Option, Some, None, List, length}
 use Rattle.rbf_model.specs.Fields.{directory_entry, descriptor_field}
 use Rattle.rbf_model.specs.File.{DiskFile}
 use Rattle.rbf_model.specs.Walk.{entry_has_name, look_up}
 use Rattle.rbf_model.specs.Volume.{DiskVolume}
+use Rattle.rbf_change.specs.Contents.{sector_count}
 use Rattle.rbf_change.specs.Names.{entry_place, place_of}
 use Rattle.rbf_sector.specs.declared.fd.Fd.{Fd}
 use Rattle.rbf_access.specs.Mounted.{Represents}
@@ -54,3 +55,12 @@ pub record IsAbsent (contents name : List ℕ) (free : ℕ) : Type 0 where
 abbrev pub IsSearched : List ℕ → List ℕ → Searched → Type 0
 IsSearched contents name (Found place descriptor) = IsFoundAt contents name place descriptor
 IsSearched contents name (Absent free) = IsAbsent contents name free
+
+-- the sectors up to the one with the entry in this place, or all of so many: there are 8 entries in each
+abbrev pub sectors_to : Option ℕ → ℕ → ℕ
+sectors_to None all = all
+sectors_to (Some place) all = place / 8 + 1
+
+-- how many sectors of a directory a search for a name reads at most: none behind the one that has the name
+abbrev pub sectors_searched : List ℕ → List ℕ → ℕ
+sectors_searched contents name = sectors_to (place_of contents name) (sector_count (length contents))

@@ -1,11 +1,13 @@
 -- What a walk answers, and how many calls of the drive it makes.
-use Rattle.std.specs.Prelude.{◌≡◌, ℕ, ◌+◌, Bool, Option, Some, None, List, [], ◌∷◌, length, Result, Ok, Err, if◌then◌else◌}
+use Rattle.std.specs.Prelude.{◌≡◌, ℕ, ◌+◌, Bool, Option, Some, None, List, [], ◌∷◌, Result, Ok, Err, if◌then◌else◌}
 use Rattle.rbf_model.specs.File.{DiskFile}
 use Rattle.rbf_model.specs.Volume.{DiskVolume}
 use Rattle.rbf_model.specs.Walk.{WalkEnd, arrives, not_allowed, not_found, may_search, step}
-use Rattle.rbf_change.specs.Contents.{sector_count}
+use Rattle.os9_base.specs.declared.errors.TheConstants.{E_FNA, E_BPNAM, E_PNNF, E_CEF}
+use Rattle.rbf_access.specs.Faults.{file_error}
 use Rattle.rbf_access.specs.declared.faults.FileFault.TheVariants.{Device, NoCluster, TooManyRuns}
 use Rattle.rbf_access.specs.Mounted.{Represents}
+use Rattle.rbf_walk.specs.Search.{sectors_searched}
 use Rattle.rbf_walk.specs.declared.error.DirError.{DirError}
 use Rattle.rbf_walk.specs.declared.error.DirError.TheVariants.{NotAllowed, BadPath, NotFound, Exists, File}
 
@@ -24,6 +26,15 @@ directory_fault (Err (File (Device n))) = Some n
 directory_fault (Err (File NoCluster)) = None
 directory_fault (Err (File TooManyRuns)) = None
 
+-- the number of the error of a call on a directory (System Programmer's Manual, error codes: E$FNA, E$BPNam, E$PNNF,
+-- E$CEF), or that of the call on a file that ended it
+abbrev pub directory_error : DirError → ℕ
+directory_error NotAllowed = E_FNA
+directory_error BadPath = E_BPNAM
+directory_error NotFound = E_PNNF
+directory_error Exists = E_CEF
+directory_error (File fault) = file_error fault
+
 -- the answer of a walk that ends so, where no fault of the drive ended it before
 abbrev pub AnswersWalk : WalkEnd → Result ℕ DirError → Type 0
 AnswersWalk end (Ok n) = end ≡ arrives n
@@ -35,11 +46,12 @@ AnswersWalk end (Err (File (Device n))) = Unit
 AnswersWalk end (Err (File NoCluster)) = ⊥
 AnswersWalk end (Err (File TooManyRuns)) = ⊥
 
--- how many calls the search of a file for a name makes at most: its descriptor's, and its sectors' if it is searched
-abbrev pub step_calls : Option DiskFile → ℕ → Bool → ℕ
-step_calls None user execute = 1
-step_calls (Some dir) user execute =
-    1 + (if may_search dir user execute then sector_count (length dir.contents) else 0)
+-- how many calls the search of a file for a name makes at most: its descriptor's, and if it is searched those of its
+-- sectors up to the one that has the name
+abbrev pub step_calls : Option DiskFile → ℕ → Bool → List ℕ → ℕ
+step_calls None user execute name = 1
+step_calls (Some dir) user execute name =
+    1 + (if may_search dir user execute then sectors_searched dir.contents name else 0)
 
 -- the calls from where one name leads
 abbrev pub calls_on : WalkEnd → (ℕ → ℕ) → ℕ
@@ -51,5 +63,5 @@ calls_on not_found next = 0
 abbrev pub walk_calls : (ℕ → Option DiskFile) → ℕ → Bool → ℕ → List (List ℕ) → ℕ
 walk_calls files user execute d [] = 0
 walk_calls files user execute d (name ∷ names) =
-    step_calls (files d) user execute
+    step_calls (files d) user execute name
     + calls_on (step (files d) user execute name) (λ n. walk_calls files user execute n names)

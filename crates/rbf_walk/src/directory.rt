@@ -4,7 +4,7 @@ ghost use Rattle.rbf_change.specs.Contents.{sector_count};
 ghost use Rattle.rbf_access.specs.Drive.{Counts};
 ghost use Rattle.rbf_access.specs.Faults.{file_fault};
 ghost use Rattle.rbf_access.specs.Mounted.{kept, IsMounted};
-ghost use Rattle.rbf_walk.specs.Search.{NonePasses, IsFirst, IsFdOn, OnFd, IsSearched};
+ghost use Rattle.rbf_walk.specs.Search.{NonePasses, IsFirst, IsFdOn, OnFd, IsSearched, sectors_searched};
 
 use crate::sector::{descriptor_in, entries_in, free_in, named_in};
 use os9_base::name::Name;
@@ -43,6 +43,8 @@ pub fn search(
     ensures volume_kept { kept v.new ≡ kept v.old }
     ensures counts { Counts ⟦<dyn BlockDriver as BlockDriver>⟧
         (file_fault result) (sector_count dir.now.size) d.old d.new }
+    ensures read { OnFd (media d.old) dir.now (λ file.
+        drive_calls d.new ≤ drive_calls d.old + sectors_searched file.contents name.now) }
 {
     let entries = dir.size / 32;
     let mut free = None;

@@ -1,5 +1,7 @@
 ghost use Rattle.std.specs.Prelude.{◌≡◌};
+ghost use Rattle.rbf_walk.specs.Walk.{directory_error};
 
+use os9_base::errors::{E_BPNAM, E_CEF, E_FNA, E_PNNF};
 use rbf_access::FileFault;
 use thiserror::Error;
 
@@ -17,6 +19,22 @@ pub enum DirError {
     Exists,
     #[error("{0}")]
     File(FileFault),
+}
+
+impl DirError {
+    /// The number of the error that a call answers which ended so: E$FNA, E$BPNam, E$PNNF, E$CEF,
+    /// or that of the file call (System Programmer's Manual, error codes).
+    pub fn number(&self) -> u8
+        ensures { result ≡ directory_error self.now }
+    {
+        match self {
+            DirError::NotAllowed => E_FNA,
+            DirError::BadPath => E_BPNAM,
+            DirError::NotFound => E_PNNF,
+            DirError::Exists => E_CEF,
+            DirError::File(fault) => fault.number(),
+        }
+    }
 }
 
 impl From<FileFault> for DirError {

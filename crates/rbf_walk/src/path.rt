@@ -63,7 +63,7 @@ fn step(
     ensures media_kept { media d.new ≡ media d.old }
     ensures volume_kept { kept v.new ≡ kept v.old }
     ensures counts { OnVolume (media d.old) (λ on. Counts ⟦<dyn BlockDriver as BlockDriver>⟧
-        (directory_fault result) (step_calls (on.files dir) user execute) d.old d.new) }
+        (directory_fault result) (step_calls (on.files dir) user execute name.now) d.old d.new) }
 {
     let fd = v.fd(d, dir)?;
     if !is_open(&fd, user, execute) {

@@ -1,4 +1,5 @@
-use crate::may;
+use crate::{DirError, may};
+use rbf_access::FileFault;
 use rbf_sector::{Fd, read_fd};
 
 // A file of user 258 with these attributes.
@@ -24,5 +25,21 @@ fn permissions(rt: HostRuntime) {
         (7, 0x40, true),
     ] {
         assert_eq!(rt; may(&fd, user, mode), answer);
+    }
+}
+
+// The numbers of the manual.
+#[test]
+fn error_numbers(rt: HostRuntime) {
+    for (error, number) in [
+        (DirError::NotAllowed, 214),
+        (DirError::BadPath, 215),
+        (DirError::NotFound, 216),
+        (DirError::Exists, 218),
+        (DirError::File(FileFault::TooManyRuns), 217),
+        (DirError::File(FileFault::NoCluster), 248),
+        (DirError::File(FileFault::Device(242)), 242),
+    ] {
+        assert_eq!(rt; error.number(), number);
     }
 }

@@ -8,7 +8,7 @@ use Rattle.rbf_access.proofs.Counting.{counts_then}
 use Rattle.rbf_access.proofs.Reading.{mounted_still}
 use Rattle.rbf_access.proofs.ReadPieces.{place_on, sector_at_place}
 use Rattle.rbf_access.proofs.ReadFile.{listed_on}
-use Rattle.rbf_walk.proofs.Searching.{none_searched, none_more, first_more, free_more, found_on, absent_on, place_low, next_place, all_places, few_places, one_more_call, all_calls}
+use Rattle.rbf_walk.proofs.Searching.{none_searched, none_more, first_more, free_more, found_on, absent_on, place_low, next_place, all_places, few_places, one_more_call, all_calls, next_is_read, all_are_read, read_within, all_within}
 use Rattle.rbf_walk.proofs.directory.search.Goals as goal
 
 pub loop-place-init : goal.loop-place-init
@@ -109,3 +109,23 @@ returns-clause-volume_kept g c = c.loop-place.invariant.same_volume
 pub returns-clause-counts : goal.returns-clause-counts
 returns-clause-counts g c =
     all_calls c.args.dir.now.size c.loop-place.place _ _ (few_places c.args.dir.now.size c.loop-place.place _ c.div_ceil-place-end.ensures c.loop-place.auto.place-end) c.loop-place.invariant.moved
+
+pub returns-in_err-bytes-clause-read : goal.returns-in_err-bytes-clause-read
+returns-in_err-bytes-clause-read g c v n file on is known =
+    let more = next_place (c.args.dir.now.size / 32) c.loop-place.place _ c.div_ceil-place-end.ensures c.loop-place-test.true in
+    read_within _ c.loop-place.place _ _ _ _ c.loop-place.invariant.moved c.in_err-bytes.ensures.counts
+    (next_is_read _ c.args.dir.now v n file on is known c.args.name.now c.loop-place.place more c.loop-place.invariant.absent)
+
+pub returns-in-Some-clause-read : goal.returns-in-Some-clause-read
+returns-in-Some-clause-read g c v n file on is known =
+    let more = next_place (c.args.dir.now.size / 32) c.loop-place.place _ c.div_ceil-place-end.ensures c.loop-place-test.true in
+    read_within _ c.loop-place.place _ _ _ _ c.loop-place.invariant.moved c.in_ok-bytes.ensures.counts
+    (next_is_read _ c.args.dir.now v n file on is known c.args.name.now c.loop-place.place more c.loop-place.invariant.absent)
+
+pub returns-clause-read : goal.returns-clause-read
+returns-clause-read g c v n file on is known =
+    let before = c.loop-place.invariant in
+    let all = all_places (c.args.dir.now.size / 32) c.loop-place.place _ c.div_ceil-place-end.ensures c.loop-place-test.false in
+    all_within c.loop-place.place _ _ _ before.moved
+    (all_are_read _ c.args.dir.now v n file on is known c.args.name.now c.loop-place.place c.unwrap_or.result (few_places c.args.dir.now.size c.loop-place.place _ c.div_ceil-place-end.ensures c.loop-place.auto.place-end)
+    (absent_on _ c.args.dir.now v n file on is known c.args.name.now _ c.unwrap_or.result c.loop-place.free all before.absent before.free_is c.unwrap_or.ensures))

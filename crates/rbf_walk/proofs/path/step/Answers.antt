@@ -14,7 +14,7 @@ pub returns-in_err-fd-clause-counts : goal.returns-in_err-fd-clause-counts
 returns-in_err-fd-clause-counts g c v on =
     let p = err_from_is_err_and c.from_residual.result c.from_residual.ensures.1 in
     let has = c.requires.file in
-    first_calls _ c.args.dir has c.args.user c.args.execute v on _ _ _ (fault_calls Fd c.in_err-fd.field-0.0 _ 1 _ _ (p.1 ∙ ap Err p.2) c.in_err-fd.ensures.counts)
+    first_calls _ c.args.dir has c.args.user c.args.execute c.args.name.now v on _ _ _ (fault_calls Fd c.in_err-fd.field-0.0 _ 1 _ _ (p.1 ∙ ap Err p.2) c.in_err-fd.ensures.counts)
 
 pub returns-in_err-descriptor-clause-walked : goal.returns-in_err-descriptor-clause-walked
 returns-in_err-descriptor-clause-walked g c v on =
@@ -25,7 +25,7 @@ pub returns-in_err-descriptor-clause-counts : goal.returns-in_err-descriptor-cla
 returns-in_err-descriptor-clause-counts g c v on =
     let p = err_from_is_err_and c.from_residual-in_err-descriptor.result c.from_residual-in_err-descriptor.ensures.1 in
     open_calls _ c.args.dir c.requires.file c.in_ok-fd.fd c.in_ok-fd.ensures.ok c.args.user c.args.execute c.args.name.now c.is_open.result c.is_open.ensures v on
-    _ _ _ _ c.if-not-is_open.false c.in_ok-fd.ensures.counts (fault_calls Searched c.in_err-descriptor.field-0.0 _ _ _ _ (p.1 ∙ ap Err p.2) c.in_err-descriptor.ensures.counts)
+    _ c.in_ok-fd.ensures.media_kept _ _ _ _ c.if-not-is_open.false c.in_ok-fd.ensures.counts (fault_calls Searched c.in_err-descriptor.field-0.0 _ _ _ _ (p.1 ∙ ap Err p.2) c.in_err-descriptor.ensures.counts) c.in_err-descriptor.ensures.read
 
 pub search-requires-clause-directory : goal.search-requires-clause-directory
 search-requires-clause-directory g c = fd_on _ c.args.dir c.requires.file c.in_ok-fd.fd c.in_ok-fd.ensures.ok _ c.in_ok-fd.ensures.media_kept
@@ -36,7 +36,7 @@ returns-then-not-is_open-clause-walked g c v on =
 
 pub returns-then-not-is_open-clause-counts : goal.returns-then-not-is_open-clause-counts
 returns-then-not-is_open-clause-counts g c v on =
-    first_calls _ c.args.dir c.requires.file c.args.user c.args.execute v on _ _ _ c.in_ok-fd.ensures.counts
+    first_calls _ c.args.dir c.requires.file c.args.user c.args.execute c.args.name.now v on _ _ _ c.in_ok-fd.ensures.counts
 
 pub returns-in-Found-clause-walked : goal.returns-in-Found-clause-walked
 returns-in-Found-clause-walked g c v on =
@@ -53,7 +53,7 @@ returns-in-Found-clause-file g c =
 pub returns-in-Found-clause-counts : goal.returns-in-Found-clause-counts
 returns-in-Found-clause-counts g c v on =
     open_calls _ c.args.dir c.requires.file c.in_ok-fd.fd c.in_ok-fd.ensures.ok c.args.user c.args.execute c.args.name.now c.is_open.result c.is_open.ensures v on
-    _ _ _ _ c.if-not-is_open.false c.in_ok-fd.ensures.counts c.in_ok-descriptor.ensures.counts
+    _ c.in_ok-fd.ensures.media_kept _ _ _ _ c.if-not-is_open.false c.in_ok-fd.ensures.counts c.in_ok-descriptor.ensures.counts c.in_ok-descriptor.ensures.read
 
 pub returns-in-Absent-clause-walked : goal.returns-in-Absent-clause-walked
 returns-in-Absent-clause-walked g c v on =
@@ -63,4 +63,4 @@ returns-in-Absent-clause-walked g c v on =
 pub returns-in-Absent-clause-counts : goal.returns-in-Absent-clause-counts
 returns-in-Absent-clause-counts g c v on =
     open_calls _ c.args.dir c.requires.file c.in_ok-fd.fd c.in_ok-fd.ensures.ok c.args.user c.args.execute c.args.name.now c.is_open.result c.is_open.ensures v on
-    _ _ _ _ c.if-not-is_open.false c.in_ok-fd.ensures.counts c.in_ok-descriptor.ensures.counts
+    _ c.in_ok-fd.ensures.media_kept _ _ _ _ c.if-not-is_open.false c.in_ok-fd.ensures.counts c.in_ok-descriptor.ensures.counts c.in_ok-descriptor.ensures.read
