@@ -60,13 +60,13 @@ fn new_file(
 fn whole_deletion_driver_calls(rt: HostRuntime) -> Result<(), Fail> {
     let fault = Err(DirError::File(FileFault::Device(E_SEEK)));
     let rows: [(u64, &[u8], u16, Result<(), DirError>, u32, u64); 7] = [
-        (99, b"a", 0, Ok(()), 12, 10),
+        (99, b"a", 0, Ok(()), 12, 8),
         (99, b"a", 7, Err(DirError::NotAllowed), 11, 5),
         (99, b"..", 0, Err(DirError::NotAllowed), 11, 5),
         (99, b"b", 0, Err(DirError::NotFound), 11, 4),
+        (6, b"a", 0, fault, 11, 6),
+        (7, b"a", 0, fault, 11, 7),
         (8, b"a", 0, fault, 11, 8),
-        (9, b"a", 0, fault, 11, 9),
-        (10, b"a", 0, fault, 11, 10),
     ];
     for (failing, text, user, answer, free, calls) in rows {
         let image = image_with_a(rt.alloc())?;

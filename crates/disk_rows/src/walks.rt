@@ -35,9 +35,43 @@ const WITH_A: [(usize, u8); 19] = [
     (1032, 1),
 ];
 
+// The same with a root of two sectors: `A` is in the first and has descriptor 5, `B` is in the second
+// and has descriptor 6.
+const IN_TWO: [(usize, u8); 24] = [
+    (2, 16),
+    (5, 2),
+    (7, 1),
+    (10, 2),
+    (256, 0xFE),
+    (512, 0xBF),
+    (523, 1),
+    (524, 32),
+    (530, 3),
+    (532, 2),
+    (768, 0x2E),
+    (769, 0xAE),
+    (799, 2),
+    (800, 0xAE),
+    (831, 2),
+    (832, 0xC1),
+    (863, 5),
+    (1024, 0xC2),
+    (1055, 6),
+    (1280, 0x0B),
+    (1288, 1),
+    (1536, 0x0B),
+    (1538, 0),
+    (1544, 1),
+];
+
 pub fn image_with_a(alloc: Global) -> Result<Vec<u8>, AllocError> {
+    image_with(alloc, &WITH_A)
+}
+
+// Sixteen sectors of zeros but for these bytes.
+fn image_with(alloc: Global, bytes: &[(usize, u8)]) -> Result<Vec<u8>, AllocError> {
     let mut image = vec![in alloc; 0u8; 4096]?;
-    for (at, byte) in WITH_A {
+    for &(at, byte) in bytes {
         if let Some(place) = image.get_mut(at) {
             *place = byte;
         }
@@ -138,18 +172,36 @@ fn walk_through_a_file(rt: HostRuntime) -> Result<(), Fail> {
     Ok(())
 }
 
+// No sector is read behind the one that has the name.
+#[test]
+fn walk_reads_up_to_the_name(rt: HostRuntime) -> Result<(), Fail> {
+    let rows: [(&[u8], Result<u32, DirError>, u64); 3] = [
+        (b"a", Ok(5), 4),
+        (b"b", Ok(6), 5),
+        (b"c", Err(DirError::NotFound), 5),
+    ];
+    for (text, answer, calls) in rows {
+        let image = image_with(rt.alloc(), &IN_TWO)?;
+        let mut drive = drive_with(rt.alloc(), &image, 99)?;
+        let name = parse_name(text)?;
+        let walked = walk_root(rt.alloc(), &image, &mut drive, &[name], 7)?;
+        assert_eq!(rt; (walked, drive.calls()), (answer, calls));
+    }
+    Ok(())
+}
+
 // The root may be written by anyone, `A` by its owner.
 #[test]
 fn deletion_driver_calls(rt: HostRuntime) -> Result<(), Fail> {
     let rows: [(u64, &[u8], u16, Result<u32, DirError>, u64); 8] = [
-        (99, b"a", 0, Ok(4), 8),
+        (99, b"a", 0, Ok(4), 7),
         (99, b"a", 7, Err(DirError::NotAllowed), 5),
         (99, b".", 0, Err(DirError::NotAllowed), 5),
         (99, b"..", 0, Err(DirError::NotAllowed), 5),
         (99, b"b", 0, Err(DirError::NotFound), 4),
         (5, b"a", 0, fault(), 5),
+        (6, b"a", 0, fault(), 6),
         (7, b"a", 0, fault(), 7),
-        (8, b"a", 0, fault(), 8),
     ];
     for (failing, text, user, answer, calls) in rows {
         let image = image_with_a(rt.alloc())?;

@@ -16,6 +16,7 @@ use Rattle.rbf_access.specs.declared.volume.Volume.{Volume}
 use Rattle.rbf_access.proofs.Counting.{counts_then, counts_most}
 use Rattle.rbf_drop.proofs.Dropping.{agrees_on}
 use Rattle.rbf_walk.specs.Walk.{AnswersWalk, calls_on, directory_fault}
+use Rattle.rbf_update.specs.declared.deletion.Deletable.{Deletable}
 use Rattle.rbf_walk.specs.declared.error.DirError.{DirError}
 use Rattle.rbf_walk.specs.declared.error.DirError.TheVariants.{NotAllowed, BadPath, NotFound, Exists, File}
 use Rattle.rbf_dirs.specs.Deleted.{AnswersDeletion}
@@ -56,19 +57,19 @@ pub map_is : (volume : Volume) (media : Option (List ℕ)) (u : DiskVolume) → 
 map_is volume media u mounted on = ap map_sectors ((agrees_on volume media u mounted on).sizes_are ∙ sym (shape-image on.image u on.vol))
 
 -- the calls behind those that look for the entry
-least : (end : WalkEnd) (m : ℕ) → calls_on end (λ i. 3) ≤ calls_on end (λ i. 4 + m)
+least : (end : WalkEnd) (m : ℕ) → calls_on end (λ i. 2) ≤ calls_on end (λ i. 2 + m)
 least (arrives n) m = omega arith
 least not_allowed m = omega arith
 least not_found m = omega arith
 
-pub kept_calls : (n m : ℕ) (end : WalkEnd) (e : DirError) (r : Result (Unit {0}) DirError) (s t : DriveCounts) → r ≡ Err e → MovesCounts (directory_fault {A = ℕ} (Err e)) (n + calls_on end (λ i. 3)) s t
-    → MovesCounts (directory_fault r) (n + calls_on end (λ i. 4 + m)) s t
+pub kept_calls : (n m : ℕ) (end : WalkEnd) (e : DirError) (r : Result (Unit {0}) DirError) (s t : DriveCounts) → r ≡ Err e → MovesCounts (directory_fault {A = Deletable} (Err e)) (n + calls_on end (λ i. 2)) s t
+    → MovesCounts (directory_fault r) (n + calls_on end (λ i. 2 + m)) s t
 kept_calls n m end e r s t is moved =
     let few = least end m in
-    subst (λ f. MovesCounts f (n + calls_on end (λ i. 4 + m)) s t) (sym (ap directory_fault is ∙ same e))
-    (counts_most (directory_fault {A = ℕ} (Err e)) (n + calls_on end (λ i. 3)) (n + calls_on end (λ i. 4 + m)) s t (omega arith) moved)
+    subst (λ f. MovesCounts f (n + calls_on end (λ i. 2 + m)) s t) (sym (ap directory_fault is ∙ same e))
+    (counts_most (directory_fault {A = Deletable} (Err e)) (n + calls_on end (λ i. 2)) (n + calls_on end (λ i. 2 + m)) s t (omega arith) moved)
   where
-    same : (x : DirError) → directory_fault {A = Unit {0}} (Err x) ≡ directory_fault {A = ℕ} (Err x)
+    same : (x : DirError) → directory_fault {A = Unit {0}} (Err x) ≡ directory_fault {A = Deletable} (Err x)
     same NotAllowed = refl
     same BadPath = refl
     same NotFound = refl
@@ -77,17 +78,17 @@ kept_calls n m end e r s t is moved =
     same (File NoCluster) = refl
     same (File TooManyRuns) = refl
 
-pub all_calls : (n m : ℕ) (end : WalkEnd) (k : ℕ) → end ≡ arrives k → (most : ℕ) (f : Option ℕ) (s t w : DriveCounts) → most ≡ m → MovesCounts None (n + calls_on end (λ i. 3)) s t → MovesCounts f (1 + most) t w
-    → MovesCounts f (n + calls_on end (λ i. 4 + m)) s w
+pub all_calls : (n m : ℕ) (end : WalkEnd) (k : ℕ) → end ≡ arrives k → (most : ℕ) (f : Option ℕ) (s t w : DriveCounts) → most ≡ m → MovesCounts None (n + calls_on end (λ i. 2)) s t → MovesCounts f most t w
+    → MovesCounts f (n + calls_on end (λ i. 2 + m)) s w
 all_calls n m end k goes most f s t w same one other =
-    subst (λ x. MovesCounts f (n + calls_on x (λ i. 4 + m)) s w) (sym goes)
-    (counts_most f (n + 3 + (1 + most)) (n + (4 + m)) s w (omega arith)
-    (counts_then f (n + 3) (1 + most) s t w (subst (λ x. MovesCounts None (n + calls_on x (λ i. 3)) s t) goes one) other))
+    subst (λ x. MovesCounts f (n + calls_on x (λ i. 2 + m)) s w) (sym goes)
+    (counts_most f (n + 2 + most) (n + (2 + m)) s w (omega arith)
+    (counts_then f (n + 2) most s t w (subst (λ x. MovesCounts None (n + calls_on x (λ i. 2)) s t) goes one) other))
 
 pub fault_calls : (n m : ℕ) (end : WalkEnd) (k : ℕ) → end ≡ arrives k → (most : ℕ) (fault : FileFault) (r : Result (Unit {0}) DirError) (s t w : DriveCounts) → most ≡ m → r ≡ Err (File fault)
-    → MovesCounts None (n + calls_on end (λ i. 3)) s t → MovesCounts (file_fault {A = Unit {0}} (Err fault)) (1 + most) t w → MovesCounts (directory_fault r) (n + calls_on end (λ i. 4 + m)) s w
+    → MovesCounts None (n + calls_on end (λ i. 2)) s t → MovesCounts (file_fault {A = Unit {0}} (Err fault)) most t w → MovesCounts (directory_fault r) (n + calls_on end (λ i. 2 + m)) s w
 fault_calls n m end k goes most fault r s t w same is one other =
-    subst (λ f. MovesCounts f (n + calls_on end (λ i. 4 + m)) s w) (sym (ap directory_fault is ∙ by_fault fault))
+    subst (λ f. MovesCounts f (n + calls_on end (λ i. 2 + m)) s w) (sym (ap directory_fault is ∙ by_fault fault))
     (all_calls n m end k goes most (file_fault {A = Unit {0}} (Err fault)) s t w same one other)
   where
     by_fault : (f : FileFault) → directory_fault {A = Unit {0}} (Err (File f)) ≡ file_fault {A = Unit {0}} (Err f)

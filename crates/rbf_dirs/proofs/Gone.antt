@@ -6,7 +6,7 @@ use Rattle.std.proofs.Math.Nat.{mul-le-mul_left}
 use Rattle.std.proofs.lemmas.Bool.{both_ways, false_from_ne_true}
 use Rattle.std.proofs.lemmas.Option.{same_Some, none-some}
 use Rattle.os9_outer.specs.Drive.{sector_at, with_sector}
-use Rattle.rbf_model.specs.Fields.{directory_entry, descriptor_field}
+use Rattle.rbf_model.specs.Fields.{directory_entry, descriptor_field, segments_field}
 use Rattle.rbf_model.specs.File.{DiskFile, file_at, is_directory}
 use Rattle.rbf_model.specs.Geometry.{Geometry, geometry, image_geometry, sector, map_sectors, LieWithin}
 use Rattle.rbf_model.specs.Laws.{IsFileSector, IsMapSector, with_directory_entry}
@@ -31,15 +31,19 @@ use Rattle.rbf_access.proofs.ReadFile.{room_for}
 use Rattle.rbf_drop.specs.Dropped.{IsGone, HasGone, OnlyMap, freed, IsDropped, DropEnds}
 use Rattle.rbf_update.specs.Becomes.{RepresentsOne}
 use Rattle.rbf_update.specs.Deletions.{FreesOn}
+use Rattle.rbf_update.specs.declared.deletion.Deletable.{Deletable}
 use Rattle.rbf_update.specs.Entries.{sector_of_entry}
 use Rattle.rbf_update.proofs.Puts.{free_stored, without}
 use Rattle.rbf_update.proofs.Stored.{becomes_now}
 use Rattle.rbf_walk.proofs.Stepping.{same_content}
 use Rattle.rbf_dirs.specs.Deleted.{ClearsEntry, IsDeleted, IsDeletedBy, LeavesLost, DeletionStops, lost_now}
 
-module _ (media mid : Option (List ℕ)) (d n : ℕ) (name : List ℕ) (frees : FreesOn media mid d name n) where
+module _ (media mid : Option (List ℕ)) (d : ℕ) (name : List ℕ) (found : Deletable) (frees : FreesOn media mid d name found) where
+  abbrev n : ℕ
+  n = found.descriptor
+
   abbrev place : ℕ
-  place = frees.found.place
+  place = found.place
 
   abbrev dir : DiskFile
   dir = frees.at.free.place.dir
@@ -66,7 +70,7 @@ module _ (media mid : Option (List ℕ)) (d n : ℕ) (name : List ℕ) (frees : 
   lsn = sector_of_entry dir place
 
   number : descriptor_field (directory_entry dir.contents place) ≡ n
-  number = sym (frees.number ∙ frees.at.descriptor_is)
+  number = sym frees.at.descriptor_is
 
   pub file_there : v.files n ≡ Some file
   file_there = ap v.files (sym number) ∙ frees.at.free.names
@@ -141,6 +145,13 @@ module _ (media mid : Option (List ℕ)) (d n : ℕ) (name : List ℕ) (frees : 
   shown : file ≡ file_at (sector image) n
   shown = on.vol.sound.shows.shown n file file_there
 
+  -- its descriptor is still in its sector
+  shown_half : file ≡ file_at (sector half) n
+  shown_half = shown ∙ sym (ap (λ disk. file_at disk n) half_sectors ∙ file_at_beside (sector image) lsn news n (subst (λ f. has (own_sectors n f) lsn ≡ false) shown not_own))
+
+  pub list_there : found.file.segs ≡ segments_field (sector_at mid n)
+  list_there = frees.at.says.segments_are ∙ ap (λ (f : DiskFile). f.segments) shown_half ∙ sym (ap (λ m. segments_field (sector_at m n)) mid_is)
+
   clusters_apart : (m c : ℕ) (other : DiskFile) → m ≢ n → v.files m ≡ Some other → has_cluster g n file c ≡ true → has_cluster g m other c ≡ false
   clusters_apart m c other differ is h = false_from_ne_true (has_cluster g m other c) (λ too. differ (on.vol.sound.mapped.apart m n other file c is file_there too h))
 
@@ -164,7 +175,7 @@ module _ (media mid : Option (List ℕ)) (d n : ℕ) (name : List ℕ) (frees : 
     on = on_half;
     none = gone_number (descriptor_field (directory_entry dir.contents place)) number;
     number = subst (λ h. n < h.total) (sym half_shape) (let low = number_below g (sector image) v on.vol.sound n file file_there in omega arith);
-    shown = shown ∙ sym (ap (λ disk. file_at disk n) half_sectors ∙ file_at_beside (sector image) lsn news n (subst (λ f. has (own_sectors n f) lsn ≡ false) shown not_own));
+    shown = shown_half;
     within = subst (λ h. LieWithin h file.segments) (sym half_shape) (on.vol.sound.mapped.within n file file_there);
     marked = λ c h.
         let has_it : has_cluster g n file c ≡ true = subst (λ s. has_cluster s n file c ≡ true) volume_shape h in
@@ -284,17 +295,17 @@ module _ (media mid : Option (List ℕ)) (d n : ℕ) (name : List ℕ) (frees : 
       }
 
 -- of whichever volume the media represents
-pub has_gone : (media mid : Option (List ℕ)) (d n : ℕ) (name : List ℕ) → FreesOn media mid d name n → HasGone mid n
-has_gone media mid d n name frees = record { content = w media mid d n name frees; file = file media mid d n name frees; gone = gone media mid d n name frees }
+pub has_gone : (media mid : Option (List ℕ)) (d : ℕ) (name : List ℕ) (found : Deletable) → FreesOn media mid d name found → HasGone mid found.descriptor
+has_gone media mid d name found frees = record { content = w media mid d name found frees; file = file media mid d name found frees; gone = gone media mid d name found frees }
 
-pub deleted_on : (media mid new : Option (List ℕ)) (d n : ℕ) (name : List ℕ) (frees : FreesOn media mid d name n) (u : DiskVolume) → Represents media u
-    → ((x : DiskVolume) (f : DiskFile) → IsGone mid x n f → IsDropped x n f mid new) → IsDeletedBy u d name media new
-deleted_on media mid new d n name frees u on drops =
-    subst (λ x. IsDeletedBy x d name media new) (same_content media (v media mid d n name frees) u (on_before media mid d n name frees) on)
-    (record { number = n; is = deleted media mid d n name frees new (drops (w media mid d n name frees) (file media mid d n name frees) (gone media mid d n name frees)) })
+pub deleted_on : (media mid new : Option (List ℕ)) (d : ℕ) (name : List ℕ) (found : Deletable) (frees : FreesOn media mid d name found) (u : DiskVolume) → Represents media u
+    → ((x : DiskVolume) (f : DiskFile) → IsGone mid x found.descriptor f → IsDropped x found.descriptor f mid new) → IsDeletedBy u d name media new
+deleted_on media mid new d name found frees u on drops =
+    subst (λ x. IsDeletedBy x d name media new) (same_content media (v media mid d name found frees) u (on_before media mid d name found frees) on)
+    (record { number = found.descriptor; is = deleted media mid d name found frees new (drops (w media mid d name found frees) (file media mid d name found frees) (gone media mid d name found frees)) })
 
-pub stops_on : (media mid new : Option (List ℕ)) (d n : ℕ) (name : List ℕ) (frees : FreesOn media mid d name n) (u : DiskVolume) → Represents media u
-    → ((x : DiskVolume) (f : DiskFile) → IsGone mid x n f → DropEnds x n f mid new) → DeletionStops u d name media new
-stops_on media mid new d n name frees u on drops =
-    subst (λ x. DeletionStops x d name media new) (same_content media (v media mid d n name frees) u (on_before media mid d n name frees) on)
-    (lost_now (stopped media mid d n name frees new (drops (w media mid d n name frees) (file media mid d n name frees) (gone media mid d n name frees))))
+pub stops_on : (media mid new : Option (List ℕ)) (d : ℕ) (name : List ℕ) (found : Deletable) (frees : FreesOn media mid d name found) (u : DiskVolume) → Represents media u
+    → ((x : DiskVolume) (f : DiskFile) → IsGone mid x found.descriptor f → DropEnds x found.descriptor f mid new) → DeletionStops u d name media new
+stops_on media mid new d name found frees u on drops =
+    subst (λ x. DeletionStops x d name media new) (same_content media (v media mid d name found frees) u (on_before media mid d name found frees) on)
+    (lost_now (stopped media mid d name found frees new (drops (w media mid d name found frees) (file media mid d name found frees) (gone media mid d name found frees))))

@@ -78,9 +78,9 @@ AnswersDeletion end (Err (File (Device n))) = Unit
 AnswersDeletion end (Err (File NoCluster)) = ⊥
 AnswersDeletion end (Err (File TooManyRuns)) = ⊥
 
--- how many calls of the drive a deletion makes at most: those that look for the entry, and where the file goes, three
--- for the entry, one for the descriptor, and one for each sector of the map
+-- how many calls of the drive a deletion makes at most: those that look for the entry, and if the file goes a read and
+-- a write of the entry's sector, and one for each sector of the map
 abbrev pub deletion_total : DiskVolume → DiskFile → List ℕ → ℕ → Bool → ℕ
 deletion_total v dir name user execute =
     deletion_calls dir name user execute
-    + calls_on (deletion_end v.files dir name user execute) (λ n. 4 + map_sectors (shape v))
+    + calls_on (deletion_end v.files dir name user execute) (λ n. 2 + map_sectors (shape v))

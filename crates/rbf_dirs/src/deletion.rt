@@ -10,12 +10,13 @@ ghost use Rattle.rbf_dirs.specs.Deleted.{AnswersDeletion, DeletionStops, IsDelet
 use os9_base::name::Name;
 use os9_outer::drive::BlockDriver;
 use rbf_access::Volume;
-use rbf_drop::drop_fd;
-use rbf_update::delete_entry;
+use rbf_drop::{OwnSectors, drop_own};
+use rbf_update::delete_name;
 use rbf_walk::DirError;
 
 /// Deletes a file by its name in a directory, for a user (OS-9 Technical Reference, I$Delete): its
-/// entry is made free, and then its clusters are.
+/// entry is made free, and then its clusters are. Neither the directory's descriptor nor the file's
+/// is read twice.
 ///
 /// # Errors
 ///
@@ -44,7 +45,11 @@ pub fn delete(
     ensures counts { OnNumbered (media d.old) dir (λ on f. Counts ⟦<dyn BlockDriver as BlockDriver>⟧
         (directory_fault result) (deletion_total on f name.now user execute) d.old d.new) }
 {
-    let gone = delete_entry(v, d, dir, name, user, execute)?;
-    drop_fd(v, d, gone)?;
+    let gone = delete_name(v, d, dir, name, user, execute)?;
+    let own = OwnSectors {
+        fd: gone.descriptor,
+        segs: gone.file.segs,
+    };
+    drop_own(v, d, &own)?;
     Ok(())
 }

@@ -20,12 +20,12 @@ use Rattle.rbf_change.proofs.LawfulWrites.{shape-image}
 use Rattle.rbf_access.specs.declared.volume.Volume.{Volume}
 use Rattle.rbf_access.specs.Drive.{DriveCounts, MovesCounts}
 use Rattle.rbf_access.specs.Mounted.{kept, Represents, IsMounted}
-use Rattle.rbf_access.proofs.Counting.{no_calls, counts_then, counts_most}
+use Rattle.rbf_access.proofs.Counting.{no_calls, counts_then}
 use Rattle.rbf_access.proofs.Reading.{below_total}
 use Rattle.rbf_drop.specs.declared.own.OwnSectors.{OwnSectors}
 use Rattle.rbf_drop.specs.Own.{in_own, here}
 use Rattle.rbf_drop.specs.Cleared.{MayClear, IsCleared, IsClearing, MayGoOn, ClearsNext, IsStopped, before}
-use Rattle.rbf_drop.specs.Dropped.{IsGone, IsDropped, DropEnds}
+use Rattle.rbf_drop.specs.Dropped.{IsGone, HasGone, IsDropped, DropEnds}
 use Rattle.rbf_drop.proofs.FileClusters.{own_is, fields_some, AreSome}
 
 and_true : (t : Bool) → (t && true) ≡ t
@@ -82,12 +82,12 @@ one_before gone place c = either (gone c) (nat_lt (c / 2048) place) (c / 2048 ==
 pub record IsDropSoFar (gone : ℕ → Bool) (place : ℕ) (kept kept_now : KeptVolume) (media mid : Option (List ℕ)) (first half : DriveCounts) : Type 0 where
   pub cleared : (v : DiskVolume) (old : List ℕ) → media ≡ Some old → Vol old v → MayClear v old gone → Agrees kept old → IsCleared v old (before gone place) mid kept_now
   pub sizes : kept_now.sizes ≡ kept.sizes
-  pub moved : MovesCounts None (1 + place) first half
+  pub moved : MovesCounts None place first half
 
--- after the descriptor has been read
-pub drop_begins : (gone : ℕ → Bool) (kept kept_now : KeptVolume) (media mid : Option (List ℕ)) (first half : DriveCounts) → mid ≡ media → kept_now ≡ kept → MovesCounts None 1 first half
-    → IsDropSoFar gone 0 kept kept_now media mid first half
-drop_begins gone kept kept_now media mid first half same still moved = record {
+-- none has been
+pub drop_begins : (gone : ℕ → Bool) (kept kept_now : KeptVolume) (media mid : Option (List ℕ)) (first : DriveCounts) → mid ≡ media → kept_now ≡ kept
+    → IsDropSoFar gone 0 kept kept_now media mid first first
+drop_begins gone kept kept_now media mid first same still = record {
   cleared = λ v old is vol may agrees. record {
     now = old;
     is = same ∙ is;
@@ -97,7 +97,7 @@ drop_begins gone kept kept_now media mid first half same still moved = record {
     agrees = subst (λ kv. Agrees kv old) (sym still) agrees;
   };
   sizes = ap (λ (kv : KeptVolume). kv.sizes) still;
-  moved = moved;
+  moved = no_calls first;
 }
 
 module _ (gone : ℕ → Bool) (place : ℕ) (kept kept_now : KeptVolume) (media mid : Option (List ℕ)) (first half : DriveCounts) (far : IsDropSoFar gone place kept kept_now media mid first half) where
@@ -114,7 +114,7 @@ module _ (gone : ℕ → Bool) (place : ℕ) (kept kept_now : KeptVolume) (media
         let low : place < map_sectors (image_geometry old) = subst (λ h. place < map_sectors h) agrees.sizes_are within in
         subst (λ t. IsCleared v old t now kept_then) (fun_ext (one_before gone place)) (next v old (before gone place) (clearing v old is vol may agrees low));
     sizes = sizes ∙ far.sizes;
-    moved = counts_most None (1 + place + 1) (1 + (place + 1)) first after (omega arith) (counts_then None (1 + place) 1 first half after far.moved counts);
+    moved = counts_then None place 1 first half after far.moved counts;
   }
 
 module _ (media : Option (List ℕ)) (n : ℕ) (segs : List (ℕ × ℕ)) (segs_are : segs ≡ segments_field (sector_at media n)) (v : DiskVolume) (file : DiskFile) (gone : IsGone media v n file) where
@@ -303,7 +303,20 @@ drop_unread media n v file gone kv agrees mid same =
     let segs : List (ℕ × ℕ) = segments_field (sector_at media n) in
     let own : OwnSectors = record { fd = n; segs = segs } in
     drop_not_begun media n segs refl v file gone kv.sizes.cluster kv kv refl agrees 0 mid none none
-    (drop_begins (in_own kv.sizes.cluster own) kv kv media mid none none same refl (counts_most None 0 1 none none (omega arith) (no_calls none))) refl
+    (drop_begins (in_own kv.sizes.cluster own) kv kv media mid none same refl) refl
+
+-- the same file has gone from a media that has only been read since
+pub still_gone : (media now : Option (List ℕ)) (n : ℕ) (v : DiskVolume) (file : DiskFile) → now ≡ media → IsGone media v n file → IsGone now v n file
+still_gone media now n v file same gone = subst (λ m. IsGone m v n file) (sym same) gone
+
+pub still_has_gone : (media now : Option (List ℕ)) (n : ℕ) → now ≡ media → HasGone media n → HasGone now n
+still_has_gone media now n same gone = subst (λ m. HasGone m n) (sym same) gone
+
+pub dropped_before : (media mid now : Option (List ℕ)) (n : ℕ) (v : DiskVolume) (file : DiskFile) → mid ≡ media → IsDropped v n file mid now → IsDropped v n file media now
+dropped_before media mid now n v file same done = subst (λ m. IsDropped v n file m now) same done
+
+pub ended_before : (media mid now : Option (List ℕ)) (n : ℕ) (v : DiskVolume) (file : DiskFile) → mid ≡ media → DropEnds v n file mid now → DropEnds v n file media now
+ended_before media mid now n v file same ends = subst (λ m. DropEnds v n file m now) same ends
 
 -- the same where the sizes have come from the call before
 pub go_as : (k other : ℕ) (own : OwnSectors) (place : ℕ) (media : Option (List ℕ)) (kv : KeptVolume) → other ≡ k → MayGoOn (in_own k own) place media kv → MayGoOn (in_own other own) place media kv

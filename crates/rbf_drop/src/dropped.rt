@@ -1,4 +1,6 @@
 ghost use Rattle.std.specs.Prelude.{◌≡◌, ℕ, ◌+◌, List, OnOk, OnErr, IsSome};
+ghost use Rattle.os9_outer.specs.Drive.{sector_at};
+ghost use Rattle.rbf_model.specs.Fields.{segments_field};
 ghost use Rattle.rbf_model.specs.File.{DiskFile};
 ghost use Rattle.rbf_model.specs.Geometry.{map_sectors};
 ghost use Rattle.rbf_model.specs.Volume.{DiskVolume};
@@ -14,8 +16,8 @@ use rbf_access::{FileFault, Volume};
 use rbf_sector::{read_fd, system_sectors};
 
 /// Gives back the clusters of a file that has gone: its descriptor, which is read, is still in its
-/// sector, and no entry names it. Each sector of the map that has a mark of them is written once
-/// (OS-9 Technical Reference, Random Block File Manager, "Disk Allocation Map").
+/// sector, and no entry names it (OS-9 Technical Reference, Random Block File Manager, "Disk
+/// Allocation Map").
 ///
 /// # Errors
 ///
@@ -37,9 +39,36 @@ pub fn drop_fd(volume: &mut Volume, d: &mut dyn BlockDriver, fd: u32) -> Result<
         fd,
         segs: read_fd(&bytes).segs,
     };
+    drop_own(volume, d, &own)?;
+    Ok(())
+}
+
+/// The same where the descriptor has been read: it is not read again. Each sector of the map that
+/// has a mark of the clusters is written once.
+///
+/// # Errors
+///
+/// `Device` if a write of the drive fails; then some of the clusters may still be lost.
+pub fn drop_own(
+    volume: &mut Volume,
+    d: &mut dyn BlockDriver,
+    own: &OwnSectors,
+) -> Result<(), FileFault>
+    requires mounted { IsMounted volume.old (media d.old) }
+    requires gone { HasGone (media d.old) own.now.fd }
+    requires list { own.now.segs ≡ segments_field (sector_at (media d.old) own.now.fd) }
+    ensures ok { (v : DiskVolume) (file : DiskFile) → IsGone (media d.old) v own.now.fd file
+        → OnOk result (IsDropped v own.now.fd file (media d.old) (media d.new)) }
+    ensures fault { (v : DiskVolume) (file : DiskFile) → IsGone (media d.old) v own.now.fd file
+        → OnErr result (DropEnds v own.now.fd file (media d.old) (media d.new)) }
+    ensures device { OnErr result (IsSome (file_fault result)) }
+    ensures mounted { IsMounted volume.new (media d.new) }
+    ensures counts { Counts ⟦<dyn BlockDriver as BlockDriver>⟧ (file_fault result)
+        (map_sectors (kept volume.old).sizes) d.old d.new }
+{
     let end = system_sectors(&volume.ident) - 1;
     for place in 0..end {
-        release_in(volume, d, &own, place)?;
+        release_in(volume, d, own, place)?;
     }
     Ok(())
 }

@@ -3,7 +3,7 @@
 #![tactic(auto)]
 
 pub use bits::clear_mark;
-pub use dropped::drop_fd;
+pub use dropped::{drop_fd, drop_own};
 pub use marks::free_one;
 pub use own::{OwnSectors, Stretch};
 

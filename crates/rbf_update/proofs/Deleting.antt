@@ -1,9 +1,12 @@
 -- The entry of a file that may be deleted.
-use Rattle.std.proofs.Common.{◌≡◌, ℕ, zero, suc, ◌+◌, ◌≤◌, Bool, true, false, not, ◌&&◌, Option, Some, None, is_some, Result, Err, List, [], ◌∷◌, length, ◌==◌, refl, ap, ap₂, sym, subst, ◌∙◌, arith}
+use Rattle.std.proofs.Common.{◌≡◌, ℕ, zero, suc, ◌+◌, ◌*◌, ◌/◌, ◌%◌, ◌<◌, ◌≤◌, Bool, true, false, not, ◌&&◌, Option, Some, None, is_some, Result, Err, List, [], ◌∷◌, length, ◌==◌, refl, ap, ap₂, sym, subst, ◌∙◌, arith}
 use Rattle.std.specs.Prelude.{if◌then◌else◌}
 use Rattle.std.specs.Int.{bit_at}
+use Rattle.std.specs.List.{slice_get}
 use Rattle.std.proofs.lemmas.Bool.{and_parts, cond-true, cond-false, both_ways, false≢true}
 use Rattle.std.proofs.lemmas.Option.{same_Some}
+use Rattle.os9_outer.specs.Drive.{sector_count}
+use Rattle.rbf_model.specs.Segments.{sectors_of}
 use Rattle.rbf_model.specs.Fields.{directory_entry, descriptor_field, is_used}
 use Rattle.rbf_model.specs.File.{DiskFile, is_directory}
 use Rattle.rbf_model.specs.Geometry.{Geometry, image_geometry}
@@ -12,26 +15,30 @@ use Rattle.rbf_model.specs.Volume.{DiskVolume, IsTree, directories, listing}
 use Rattle.rbf_model.specs.Walk.{WalkEnd, arrives, not_allowed, not_found, permits, may_search, file_permits, same_names, look_up}
 use Rattle.rbf_model.specs.Fields.{entry_name_field}
 use Rattle.rbf_model.proofs.Entries.{listing_directory, listing_file}
-use Rattle.rbf_change.specs.Contents.{sector_count}
 use Rattle.rbf_change.specs.Names.{may_change, may_delete, deletion_of, deletion_end}
 use Rattle.rbf_sector.specs.declared.fd.Fd.{Fd}
 use Rattle.rbf_access.specs.Drive.{DriveCounts, MovesCounts}
-use Rattle.rbf_access.specs.Mounted.{Represents, HasFile}
+use Rattle.rbf_access.specs.declared.volume.Volume.{Volume}
+use Rattle.rbf_access.specs.Mounted.{kept, Represents, HasFile, IsMounted}
 use Rattle.rbf_access.specs.Reading.{IsFdOf, OnFile}
-use Rattle.rbf_access.proofs.Counting.{counts_then, counts_most}
-use Rattle.rbf_walk.specs.Search.{OnFd, IsFoundAt, IsAbsent, IsSearched}
+use Rattle.rbf_access.proofs.Counting.{counts_then, counts_most, counts_within}
+use Rattle.rbf_access.proofs.ReadFile.{room_for}
+use Rattle.rbf_access.proofs.Reading.{below_total}
+use Rattle.rbf_walk.specs.Search.{OnFd, IsFoundAt, IsAbsent, IsSearched, sectors_searched}
 use Rattle.rbf_access.specs.declared.faults.FileFault.TheVariants.{Device, NoCluster, TooManyRuns}
 use Rattle.rbf_change.specs.Parts.{EntryIsFreed}
 use Rattle.rbf_walk.specs.declared.error.DirError.{DirError}
 use Rattle.rbf_walk.specs.declared.error.DirError.TheVariants.{NotAllowed, BadPath, NotFound, Exists, File}
 use Rattle.rbf_walk.specs.Walk.{AnswersWalk, calls_on, directory_fault}
-use Rattle.rbf_update.specs.Becomes.{Becomes}
+use Rattle.rbf_update.specs.Becomes.{Becomes, with_piece}
 use Rattle.rbf_walk.specs.declared.directory.Searched.{Searched}
 use Rattle.rbf_walk.specs.declared.directory.Searched.TheVariants.{Found, Absent}
 use Rattle.rbf_walk.proofs.Stepping.{same_content, file_in, found_walked, arrives_on}
-use Rattle.rbf_update.specs.Entries.{MayFree, with_entry_bytes}
+use Rattle.rbf_update.specs.Entries.{sector_of_entry}
 use Rattle.rbf_update.specs.Deletions.{IsDeletable, FreesName, FreesOn, deletion_calls}
 use Rattle.rbf_update.specs.declared.deletion.Deletable.{Deletable}
+use Rattle.rbf_update.proofs.Puts.{entry_lsn, freed_below, without, free_stored, free_changes}
+use Rattle.rbf_update.proofs.Stored.{becomes_now, mounted_now}
 
 -- The first two entries of a directory name directories.
 module _ (g : Geometry) (files : ℕ → Option DiskFile) (tree : IsTree g files) where
@@ -100,6 +107,15 @@ module _ (media : Option (List ℕ)) (dir : ℕ) (has : HasFile media dir) (fd :
       pub name_found : (v : DiskVolume) (file : DiskFile) → Represents media v → v.files dir ≡ Some file → is_some (look_up file.contents name) ≡ true
       name_found v file on is = ap is_some (at v file on is).names
 
+      -- its sector is one of the directory's
+      pub place_listed : place / 8 < length (sectors_of fd.segs)
+      place_listed =
+          let fields = known has.content has.file has.on has.is in
+          let room = room_for media has.content has.on dir has.file has.is in
+          let within = (at has.content has.file has.on has.is).within in
+          let same : length (sectors_of fd.segs) ≡ length (sectors_of has.file.segments) = ap (λ s. length (sectors_of s)) fields.segments_are in
+          omega arith
+
       -- the entry that is found names a file
       pub names_file : HasFile media n
       names_file =
@@ -125,8 +141,8 @@ module _ (media : Option (List ℕ)) (dir : ℕ) (has : HasFile media dir) (fd :
         pub deleted_end : may ≡ true → (v : DiskVolume) (file : DiskFile) → Represents media v → v.files dir ≡ Some file → deletion_end v.files file name user execute ≡ arrives n
         deleted_end goes v file on is = found_end v file on is ∙ cond-true (may_delete (v.files n) user) (arrives n) not_allowed (sym (may_is v on) ∙ goes)
 
-        pub may_be_freed : may ≡ true → IsDeletable media dir name (record { place = place; descriptor = n })
-        may_be_freed goes =
+        pub may_be_freed : may ≡ true → (lsn : ℕ) → slice_get (sectors_of fd.segs) (place / 8) ≡ Some lsn → IsDeletable media dir name (record { place = place; lsn = lsn; descriptor = n; file = target })
+        may_be_freed goes lsn there_is =
             let v = has.content in
             let found_here = at v has.file has.on has.is in
             let fields = known v has.file has.on has.is in
@@ -152,7 +168,9 @@ module _ (media : Option (List ℕ)) (dir : ℕ) (has : HasFile media dir) (fd :
                 not_directory = plain;
               };
               there = found_here.there;
+              lsn_is = entry_lsn has.file fd fields place lsn there_is;
               descriptor_is = found_here.descriptor_is;
+              says = read v names_file.file has.on there;
             }
           where
             not_true : (b : Bool) → not b ≡ true → b ≡ false
@@ -162,7 +180,7 @@ module _ (media : Option (List ℕ)) (dir : ℕ) (has : HasFile media dir) (fd :
 -- How many calls that takes.
 module _ (dir : DiskFile) (name : List ℕ) (user : ℕ) (execute : Bool) (f : Option ℕ) (s t : DriveCounts) where
   abbrev sectors : ℕ
-  sectors = sector_count (length dir.contents)
+  sectors = sectors_searched dir.contents name
 
   abbrev last_look : ℕ
   last_look = if is_some (look_up dir.contents name) then 1 else 0
@@ -174,21 +192,21 @@ module _ (dir : DiskFile) (name : List ℕ) (user : ℕ) (execute : Bool) (f : O
       either true x = omega arith
       either false x = omega arith
 
-  module _ (allowed : may_change dir user execute ≡ true) (size : ℕ) (is : size ≡ length dir.contents) where
+  module _ (allowed : may_change dir user execute ≡ true) where
     open_is : deletion_calls dir name user execute ≡ 1 + sectors + last_look
     open_is = cond-true (may_change dir user execute) (1 + sectors + last_look) 1 allowed
 
-    pub two_looks : (mid : DriveCounts) → MovesCounts None 1 s mid → MovesCounts f (sector_count size) mid t → MovesCounts f (deletion_calls dir name user execute) s t
-    two_looks mid one other =
-        let same : sector_count size ≡ sectors = ap sector_count is in
+    pub two_looks : (most : ℕ) (mid : DriveCounts) → MovesCounts None 1 s mid → MovesCounts f most mid t → t.calls ≤ mid.calls + sectors → MovesCounts f (deletion_calls dir name user execute) s t
+    two_looks most mid one other few =
         subst (λ n. MovesCounts f n s t) (sym open_is)
-        (counts_most f (1 + sector_count size) (1 + sectors + last_look) s t (omega arith) (counts_then f 1 (sector_count size) s mid t one other))
+        (counts_most f (1 + sectors) (1 + sectors + last_look) s t (omega arith) (counts_then f 1 sectors s mid t one (counts_within f most sectors mid t few other)))
 
-    pub three_looks : is_some (look_up dir.contents name) ≡ true → (mid half : DriveCounts) → MovesCounts None 1 s mid → MovesCounts None (sector_count size) mid half → MovesCounts f 1 half t → MovesCounts f (deletion_calls dir name user execute) s t
-    three_looks found mid half one other last =
+    pub three_looks : is_some (look_up dir.contents name) ≡ true → (most : ℕ) (mid half : DriveCounts) → MovesCounts None 1 s mid → MovesCounts None most mid half → half.calls ≤ mid.calls + sectors
+        → MovesCounts f 1 half t → MovesCounts f (deletion_calls dir name user execute) s t
+    three_looks found most mid half one other few last =
         subst (λ n. MovesCounts f n s t)
-        (ap₂ (λ a b. 1 + a + b) (ap sector_count is) (sym (cond-true (is_some (look_up dir.contents name)) 1 0 found)) ∙ sym open_is)
-        (counts_then f (1 + sector_count size) 1 s half t (counts_then None 1 (sector_count size) s mid half one other) last)
+        (ap (λ b. 1 + sectors + b) (sym (cond-true (is_some (look_up dir.contents name)) 1 0 found)) ∙ sym open_is)
+        (counts_then f (1 + sectors) 1 s half t (counts_then None 1 sectors s mid half one (counts_within None most sectors mid half few other)) last)
 
 -- Facts of a media that has only been read since.
 
@@ -198,8 +216,8 @@ file_still media now n same has = subst (λ m. HasFile m n) (sym same) has
 pub read_before : (media now : Option (List ℕ)) (n : ℕ) (fd : Fd) → now ≡ media → OnFile now n (λ file. IsFdOf file fd) → OnFile media n (λ file. IsFdOf file fd)
 read_before media now n fd same read = subst (λ m. OnFile m n (λ file. IsFdOf file fd)) same read
 
-pub free_still : (media now : Option (List ℕ)) (d i : ℕ) → now ≡ media → MayFree media d i → MayFree now d i
-free_still media now d i same may = subst (λ m. MayFree m d i) (sym same) may
+pub read_here : (media now : Option (List ℕ)) (n : ℕ) (fd : Fd) (v : DiskVolume) (file : DiskFile) (fact : DiskFile → Type 0) → now ≡ media → Represents media v → v.files n ≡ Some file → IsFdOf file fd → OnFd now fd fact → fact file
+read_here media now n fd v file fact same on is known read = read v n file (record { image = on.image; is = same ∙ on.is; vol = on.vol }) is known
 
 pub same_answer : (end : WalkEnd) (e : DirError) (r : Result ℕ DirError) → r ≡ Err e → AnswersWalk end (Err e) → AnswersWalk end r
 same_answer end e r is answers = subst (AnswersWalk end) (sym is) answers
@@ -223,24 +241,38 @@ frees_name media now d name found at becomes v on =
 
 -- and nothing else has changed on the media
 pub frees_on : (media mid now : Option (List ℕ)) (d : ℕ) (name : List ℕ) (found : Deletable) → IsDeletable media d name found → mid ≡ media
-    → OnFile mid d (λ file. now ≡ with_entry_bytes mid file found.place (0 ∷ [])) → FreesOn media now d name found.descriptor
-frees_on media mid now d name found at same written = record {
-  found = found;
+    → now ≡ with_piece mid found.lsn (32 * (found.place % 8)) (0 ∷ []) → FreesOn media now d name found
+frees_on media mid now d name found at same is = record {
   at = at;
-  number = refl;
-  written =
-      let place = at.free.place in
-      written place.content place.dir (record { image = place.on.image; is = same ∙ place.on.is; vol = place.on.vol }) place.is ∙ ap (λ m. with_entry_bytes m place.dir found.place (0 ∷ [])) same;
+  written = is ∙ ap (λ m. with_piece m found.lsn (32 * (found.place % 8)) (0 ∷ [])) same ∙ ap (λ s. with_piece media s (32 * (found.place % 8)) (0 ∷ [])) at.lsn_is;
 }
 
-pub all_calls : (end : WalkEnd) (k : ℕ) → end ≡ arrives k → (f : Option ℕ) (n : ℕ) (s t u : DriveCounts) → MovesCounts None n s t → MovesCounts f 3 t u → MovesCounts f (n + calls_on end (λ i. 3)) s u
-all_calls end k is f n s t u one other = subst (λ e. MovesCounts f (n + calls_on e (λ i. 3)) s u) (sym is) (counts_then f n 3 s t u one other)
+module _ (media now : Option (List ℕ)) (d : ℕ) (name : List ℕ) (found : Deletable) (frees : FreesOn media now d name found) where
+  pub freed_becomes : Becomes media now (λ v w. FreesName v w d name)
+  freed_becomes =
+      let may = frees.at.free in
+      frees_name media now d name found frees.at
+      (becomes_now media now may.place.content (without media now d found.place may frees.written) (free_stored media now d found.place may frees.written) (λ v w. EntryIsFreed v w d found.place)
+      (free_changes media now d found.place may frees.written))
 
-pub fewer_calls : (n more : ℕ) (e : DirError) (r : Result ℕ DirError) (s t : DriveCounts) → r ≡ Err e → MovesCounts (directory_fault {A = Deletable} (Err e)) n s t → MovesCounts (directory_fault r) (n + more) s t
-fewer_calls n more e r s t is moved =
-    subst (λ f. MovesCounts f (n + more) s t) (sym (ap directory_fault is ∙ same e)) (counts_most (directory_fault {A = Deletable} (Err e)) n (n + more) s t (omega arith) moved)
+  pub freed_mounted : (old new : Volume) → kept new ≡ kept old → IsMounted old media → IsMounted new now
+  freed_mounted =
+      let may = frees.at.free in
+      mounted_now media now may.place.content (without media now d found.place may frees.written) (free_stored media now d found.place may frees.written)
+
+-- its sector is on the drive
+pub entry_on_drive : (media mid : Option (List ℕ)) (d : ℕ) (name : List ℕ) (found : Deletable) → IsDeletable media d name found → mid ≡ media → found.lsn < sector_count mid
+entry_on_drive media mid d name found at same =
+    let low = below_total media at.free.place.content at.free.place.on (sector_of_entry at.free.place.dir found.place) (freed_below media d found.place at.free) in
+    subst (λ m. found.lsn < sector_count m) (sym same) (subst (λ s. s < sector_count media) (sym at.lsn_is) low)
+
+pub all_calls : (end : WalkEnd) (k : ℕ) → end ≡ arrives k → (f : Option ℕ) (n : ℕ) (s t u : DriveCounts) → MovesCounts None n s t → MovesCounts f 2 t u → MovesCounts f (n + calls_on end (λ i. 2)) s u
+all_calls end k is f n s t u one other = subst (λ e. MovesCounts f (n + calls_on e (λ i. 2)) s u) (sym is) (counts_then f n 2 s t u one other)
+
+pub same_calls : (A B : Type 0) (n : ℕ) (e : DirError) (r : Result A DirError) (s t : DriveCounts) → r ≡ Err e → MovesCounts (directory_fault {A = B} (Err e)) n s t → MovesCounts (directory_fault r) n s t
+same_calls A B n e r s t is moved = subst (λ f. MovesCounts f n s t) (sym (ap directory_fault is ∙ same e)) moved
   where
-    same : (x : DirError) → directory_fault {A = ℕ} (Err x) ≡ directory_fault {A = Deletable} (Err x)
+    same : (x : DirError) → directory_fault {A = A} (Err x) ≡ directory_fault {A = B} (Err x)
     same NotAllowed = refl
     same BadPath = refl
     same NotFound = refl
@@ -248,3 +280,6 @@ fewer_calls n more e r s t is moved =
     same (File (Device k)) = refl
     same (File NoCluster) = refl
     same (File TooManyRuns) = refl
+
+pub fewer_calls : (A B : Type 0) (n more : ℕ) (e : DirError) (r : Result A DirError) (s t : DriveCounts) → r ≡ Err e → MovesCounts (directory_fault {A = B} (Err e)) n s t → MovesCounts (directory_fault r) (n + more) s t
+fewer_calls A B n more e r s t is moved = same_calls A B (n + more) e r s t is (counts_most (directory_fault {A = B} (Err e)) n (n + more) s t (omega arith) moved)

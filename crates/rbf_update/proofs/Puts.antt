@@ -35,6 +35,7 @@ use Rattle.std.specs.List.{slice_get}
 use Rattle.std.proofs.lemmas.Option.{get_or_from_slice_get}
 use Rattle.rbf_access.proofs.ReadFile.{room_for}
 use Rattle.rbf_update.specs.declared.sector.EntrySector.{EntrySector}
+use Rattle.rbf_update.specs.Becomes.{with_piece}
 use Rattle.rbf_update.specs.Entries.{sector_of_entry, IsEntrySector, IsPlace, MayFill, MayFree, with_entry_bytes}
 use Rattle.rbf_update.proofs.Stored.{IsStored}
 
@@ -235,6 +236,10 @@ module _ (media now : Option (List ℕ)) (d i : ℕ) (may : MayFree media d i) (
     volume = ap (λ g. with_file g (with_file_in_place may.place.content d (with_directory_entry may.place.dir i (freed_entry old_entry))) number None) (sym (shape-image may.place.on.image may.place.content may.place.on.vol));
   }
 
+-- the sector of that entry is one of the volume's
+pub freed_below : (media : Option (List ℕ)) (d i : ℕ) (may : MayFree media d i) → lsn media d i may.place < (image_geometry may.place.on.image).total
+freed_below media d i may = below media d i may.place (freed_entry (directory_entry may.place.dir.contents i)) (freed_whole media (with_entry_bytes media may.place.dir i (0 ∷ [])) d i may refl)
+
 -- The sector of an entry, found by the directory's descriptor.
 
 pub place_file : (media : Option (List ℕ)) (d i : ℕ) → IsPlace media d i → HasFile media d
@@ -257,3 +262,8 @@ pub entry_written : (media mid now : Option (List ℕ)) (dir : DiskFile) (i : �
 entry_written media mid now dir i sector bytes piece read same put is =
     is ∙ ap (λ m. with_sector m sector.lsn bytes) same ∙ ap (with_sector media sector.lsn) (put ∙ ap (λ b. put_at b (32 * (i % 8)) piece) read.bytes_are)
     ∙ ap (λ s. with_sector media s (put_at (sector_at media (sector_of_entry dir i)) (32 * (i % 8)) piece)) read.lsn_is
+
+pub piece_written : (media mid now : Option (List ℕ)) (lsn at : ℕ) (read bytes piece : List ℕ) → read ≡ sector_at media lsn → mid ≡ media → bytes ≡ put_at read at piece → now ≡ with_sector mid lsn bytes
+    → now ≡ with_piece media lsn at piece
+piece_written media mid now lsn at read bytes piece here same put is =
+    is ∙ ap (λ m. with_sector m lsn bytes) same ∙ ap (with_sector media lsn) (put ∙ ap (λ b. put_at b at piece) here)

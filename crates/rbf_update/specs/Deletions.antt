@@ -1,34 +1,34 @@
 -- A name that is deleted from a directory.
-use Rattle.std.specs.Prelude.{◌≡◌, ℕ, ◌+◌, Bool, Option, Some, is_some, List, [], ◌∷◌, length, Result, Ok, Err, if◌then◌else◌}
+use Rattle.std.specs.Prelude.{◌≡◌, ℕ, ◌+◌, Bool, Option, Some, is_some, List, [], ◌∷◌, Result, Ok, Err, if◌then◌else◌}
 use Rattle.rbf_model.specs.Fields.{directory_entry, descriptor_field}
 use Rattle.rbf_model.specs.File.{DiskFile}
 use Rattle.rbf_model.specs.Volume.{DiskVolume}
 use Rattle.rbf_model.specs.Walk.{look_up}
-use Rattle.rbf_change.specs.Contents.{sector_count}
 use Rattle.rbf_change.specs.Names.{place_of, may_change, deletion_end}
 use Rattle.rbf_change.specs.Parts.{EntryIsFreed}
 use Rattle.rbf_access.specs.Mounted.{Represents}
+use Rattle.rbf_access.specs.Reading.{IsFdOf}
+use Rattle.rbf_walk.specs.Search.{sectors_searched}
 use Rattle.rbf_walk.specs.Walk.{calls_on}
 use Rattle.rbf_walk.specs.declared.error.DirError.{DirError}
-use Rattle.rbf_update.specs.Entries.{MayFree, with_entry_bytes}
+use Rattle.rbf_update.specs.Entries.{MayFree, sector_of_entry, with_entry_bytes}
 use Rattle.rbf_update.specs.declared.deletion.Deletable.{Deletable}
 
 -- what holds of the volume that the media represents and of its file n
 abbrev pub OnNumbered : Option (List ℕ) → ℕ → (DiskVolume → DiskFile → Type 0) → Type 0
 OnNumbered media n fact = (v : DiskVolume) (file : DiskFile) → Represents media v → v.files n ≡ Some file → fact v file
 
--- the entry of directory d that has a name, and that may be made free
+-- the entry of directory d that has a name, and that may be made free: its sector, and what its file's descriptor says
 pub record IsDeletable (media : Option (List ℕ)) (d : ℕ) (name : List ℕ) (found : Deletable) : Type 0 where
   pub free : MayFree media d found.place
   pub there : place_of free.place.dir.contents name ≡ Some found.place
+  pub lsn_is : found.lsn ≡ sector_of_entry free.place.dir found.place
   pub descriptor_is : found.descriptor ≡ descriptor_field (directory_entry free.place.dir.contents found.place)
+  pub says : IsFdOf free.file found.file
 
--- the entry of directory d that had a name, and that named descriptor n, has been made free by its first byte, and
--- nothing else of the media has changed
-pub record FreesOn (old new : Option (List ℕ)) (d : ℕ) (name : List ℕ) (n : ℕ) : Type 0 where
-  pub found : Deletable
+-- it has been made free by its first byte, and nothing else of the media has changed
+pub record FreesOn (old new : Option (List ℕ)) (d : ℕ) (name : List ℕ) (found : Deletable) : Type 0 where
   pub at : IsDeletable old d name found
-  pub number : n ≡ found.descriptor
   pub written : new ≡ with_entry_bytes old at.free.place.dir found.place (0 ∷ [])
 
 -- the descriptor that it names
@@ -44,14 +44,14 @@ pub record FreesName (v w : DiskVolume) (d : ℕ) (name : List ℕ) : Type 0 whe
   pub there : place_of dir.contents name ≡ Some place
   pub freed : EntryIsFreed v w d place
 
--- how many calls look for it at most: that of the directory's descriptor, and where the user may change the directory,
--- one for each of its sectors, and that of the descriptor that is found
+-- how many calls look for it at most: that of the directory's descriptor, and if the user may change the directory,
+-- those of its sectors up to the one that has the name, and that of the descriptor that is found
 abbrev pub deletion_calls : DiskFile → List ℕ → ℕ → Bool → ℕ
 deletion_calls dir name user execute =
     if may_change dir user execute
-    then 1 + sector_count (length dir.contents) + (if is_some (look_up dir.contents name) then 1 else 0) else 1
+    then 1 + sectors_searched dir.contents name + (if is_some (look_up dir.contents name) then 1 else 0) else 1
 
--- and where the file may be deleted, three more make its entry free
+-- and if the file may be deleted, a read and a write of its entry's sector
 abbrev pub freeing_calls : DiskVolume → DiskFile → List ℕ → ℕ → Bool → ℕ
 freeing_calls v dir name user execute =
-    deletion_calls dir name user execute + calls_on (deletion_end v.files dir name user execute) (λ n. 3)
+    deletion_calls dir name user execute + calls_on (deletion_end v.files dir name user execute) (λ n. 2)

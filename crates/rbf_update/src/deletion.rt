@@ -17,11 +17,14 @@ use rbf_walk::{DirError, Searched, is_open, may, search};
 
 const WRITE: u8 = 2;
 
-/// An entry that may be deleted: its place in the directory, and the descriptor that it names.
+/// An entry that may be deleted: its place in the directory, the sector that has it, and the
+/// descriptor that it names, with what that says of the file.
 #[derive(Clone, Copy, Debug)]
 pub struct Deletable {
     pub place: u32,
+    pub lsn: u32,
     pub descriptor: u32,
+    pub file: Fd,
 }
 
 /// Deletes the name of a file from a directory, for a user, and answers the descriptor that it
@@ -30,9 +33,7 @@ pub struct Deletable {
 ///
 /// # Errors
 ///
-/// `NotAllowed` if the user may not search or may not write the directory, and for a directory or
-/// a file that the user may not write; `NotFound` if the name is not there; `Device` if an access
-/// of the drive fails. The media is as it was then.
+/// As for [`crate::delete_name`].
 pub fn delete_entry(
     v: &mut Volume,
     d: &mut dyn BlockDriver,
@@ -47,6 +48,39 @@ pub fn delete_entry(
         AnswersWalk (deletion_end on.files file name.now user execute) result) }
     ensures ok { OnOk result (Becomes (media d.old) (media d.new) (λ old new.
         FreesName old new dir name.now)) }
+    ensures media_kept { OnErr result (media d.new ≡ media d.old) }
+    ensures mounted { IsMounted v.new (media d.new) }
+    ensures volume_kept { kept v.new ≡ kept v.old }
+    ensures counts { OnNumbered (media d.old) dir (λ on f. Counts ⟦<dyn BlockDriver as BlockDriver>⟧
+        (directory_fault result) (freeing_calls on f name.now user execute) d.old d.new) }
+{
+    let gone = delete_name(v, d, dir, name, user, execute)?;
+    Ok(gone.descriptor)
+}
+
+/// The same, and answers what was found of the file: its descriptor is read once, and so is that of
+/// the directory.
+///
+/// # Errors
+///
+/// `NotAllowed` if the user may not search or may not write the directory, and for a directory or
+/// a file that the user may not write; `NotFound` if the name is not there; `Device` if an access
+/// of the drive fails. The media is as it was then.
+pub fn delete_name(
+    v: &mut Volume,
+    d: &mut dyn BlockDriver,
+    dir: u32,
+    name: &Name,
+    user: u16,
+    execute: bool,
+) -> Result<Deletable, DirError>
+    requires mounted { IsMounted v.old (media d.old) }
+    requires file { HasFile (media d.old) dir }
+    ensures answer { OnNumbered (media d.old) dir (λ on file. AnswersWalk
+        (deletion_end on.files file name.now user execute)
+        (descriptor_found result)) }
+    ensures ok { OnOk result (Becomes (media d.old) (media d.new) (λ old new.
+        FreesName old new dir name.now)) }
     ensures written { IfOk result (FreesOn (media d.old) (media d.new) dir name.now) }
     ensures media_kept { OnErr result (media d.new ≡ media d.old) }
     ensures mounted { IsMounted v.new (media d.new) }
@@ -55,8 +89,8 @@ pub fn delete_entry(
         (directory_fault result) (freeing_calls on f name.now user execute) d.old d.new) }
 {
     let found = find_deletable(v, d, dir, name, user, execute)?;
-    free_entry(v, d, dir, found.place)?;
-    Ok(found.descriptor)
+    free_entry(v, d, &found)?;
+    Ok(found)
 }
 
 /// The entry of a directory that has a name, if a user may delete it: an entry of a file, and not
@@ -98,7 +132,13 @@ pub fn find_deletable(
             if !may_delete(&file, user) {
                 return Err(DirError::NotAllowed);
             }
-            Ok(Deletable { place, descriptor })
+            let lsn = fd.segs.lsn_of(place / 8).unwrap();
+            Ok(Deletable {
+                place,
+                lsn,
+                descriptor,
+                file,
+            })
         }
     }
 }

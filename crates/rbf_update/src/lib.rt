@@ -3,8 +3,8 @@
 #![tactic(auto)]
 
 pub use attributes::{set_attr, set_fd_attr};
-pub use deletion::{Deletable, delete_entry, find_deletable};
-pub use entry::{fill_entry, free_entry};
+pub use deletion::{Deletable, delete_entry, delete_name, find_deletable};
+pub use entry::fill_entry;
 
 mod attributes;
 mod deletion;

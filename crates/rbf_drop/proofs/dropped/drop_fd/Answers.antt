@@ -1,10 +1,11 @@
-use Rattle.std.proofs.Common.{◌≡◌, ◌<◌, ap, ◌∙◌, refl, arith}
+use Rattle.std.proofs.Common.{◌∙◌, ap, sym}
+use Rattle.std.proofs.lemmas.Result.{err_from_is_err_and}
 use Rattle.rbf_model.specs.Fields.{segments_field}
-use Rattle.rbf_model.specs.Geometry.{Geometry, map_sectors}
-use Rattle.rbf_change.specs.Agrees.{KeptVolume}
+use Rattle.os9_outer.specs.Drive.{sector_at}
 use Rattle.rbf_access.specs.Mounted.{kept}
+use Rattle.rbf_access.proofs.Counting.{counts_then, counts_most}
 use Rattle.rbf_access.proofs.Reading.{mounted_still}
-use Rattle.rbf_drop.proofs.Dropping.{agrees_on, drop_begins, drop_more, goes_on, mounted_so_far, mounted_stopped, drop_done, drop_stopped, drop_unread, on_err, go_as, stopped_as, next_as}
+use Rattle.rbf_drop.proofs.Dropping.{agrees_on, drop_unread, on_err, still_gone, still_has_gone, dropped_before, ended_before}
 use Rattle.rbf_drop.proofs.dropped.drop_fd.Goals as goal
 
 pub returns-in_err-bytes-clause-fault : goal.returns-in_err-bytes-clause-fault
@@ -14,61 +15,22 @@ returns-in_err-bytes-clause-fault g c v file gone =
 pub returns-in_err-bytes-clause-mounted : goal.returns-in_err-bytes-clause-mounted
 returns-in_err-bytes-clause-mounted g c = mounted_still _ _ _ _ c.in_err-bytes.ensures.volume_kept c.in_err-bytes.ensures.media_kept c.requires.mounted
 
-pub loop-place-init : goal.loop-place-init
-loop-place-init g c = drop_begins _ (kept c.args.volume.now) _ _ _ _ _ c.in_ok-bytes.ensures.media_kept c.in_ok-bytes.ensures.volume_kept c.in_ok-bytes.ensures.counts
+pub drop_own-requires-clause-mounted : goal.drop_own-requires-clause-mounted
+drop_own-requires-clause-mounted g c = mounted_still _ _ _ _ c.in_ok-bytes.ensures.volume_kept c.in_ok-bytes.ensures.media_kept c.requires.mounted
 
-pub release_in-requires : goal.release_in-requires
-release_in-requires g c =
-    let has = c.requires.gone in
-    let segs = c.read_fd.ensures.segs ∙ ap segments_field c.in_ok-bytes.ensures.bytes in
-    let same = ap (λ (h : Geometry). h.cluster) c.loop-place.invariant.sizes in
-    let sectors = ap (λ (kv : KeptVolume). map_sectors kv.sizes) c.in_ok-bytes.ensures.volume_kept in
-    let low : c.loop-place.place < map_sectors (kept c.args.volume.now).sizes = omega arith in
-    go_as c.args.volume.now.ident.cluster c.loop-place.volume.ident.cluster (record { fd = c.args.fd; segs = c.read_fd.result.segs }) c.loop-place.place _ (kept c.loop-place.volume) same
-    (goes_on _ c.args.fd c.read_fd.result.segs segs has.content has.file has.gone c.args.volume.now.ident.cluster (kept c.args.volume.now) (kept c.loop-place.volume) refl
-    (agrees_on c.args.volume.now _ has.content c.requires.mounted has.gone.on) c.loop-place.place _ _ _ c.loop-place.invariant low)
+pub drop_own-requires-clause-gone : goal.drop_own-requires-clause-gone
+drop_own-requires-clause-gone g c = still_has_gone _ _ c.args.fd c.in_ok-bytes.ensures.media_kept c.requires.gone
 
-pub returns-in_err-release_in-clause-fault : goal.returns-in_err-release_in-clause-fault
-returns-in_err-release_in-clause-fault g c v file gone =
-    let segs = c.read_fd.ensures.segs ∙ ap segments_field c.in_ok-bytes.ensures.bytes in
-    let same = ap (λ (h : Geometry). h.cluster) c.loop-place.invariant.sizes in
-    on_err _ _
-    (drop_stopped _ c.args.fd c.read_fd.result.segs segs v file gone c.args.volume.now.ident.cluster (kept c.args.volume.now) (kept c.loop-place.volume) refl
-    (agrees_on c.args.volume.now _ v c.requires.mounted gone.on) c.loop-place.place _ _ _ c.loop-place.invariant _ _
-    (stopped_as c.args.volume.now.ident.cluster c.loop-place.volume.ident.cluster (record { fd = c.args.fd; segs = c.read_fd.result.segs }) c.loop-place.place _ _ (kept c.loop-place.volume) (kept c.release_in.new.volume) same
-    c.in_err-release_in.ensures.fault))
+pub drop_own-requires-clause-list : goal.drop_own-requires-clause-list
+drop_own-requires-clause-list g c =
+    c.read_fd.ensures.segs ∙ ap segments_field (c.in_ok-bytes.ensures.bytes ∙ ap (λ m. sector_at m c.args.fd) (sym c.in_ok-bytes.ensures.media_kept))
 
-pub returns-in_err-release_in-clause-mounted : goal.returns-in_err-release_in-clause-mounted
-returns-in_err-release_in-clause-mounted g c =
-    let has = c.requires.gone in
-    let segs = c.read_fd.ensures.segs ∙ ap segments_field c.in_ok-bytes.ensures.bytes in
-    let same = ap (λ (h : Geometry). h.cluster) c.loop-place.invariant.sizes in
-    mounted_stopped _ c.args.fd c.read_fd.result.segs segs has.content has.file has.gone c.args.volume.now.ident.cluster (kept c.args.volume.now) (kept c.loop-place.volume) refl
-    (agrees_on c.args.volume.now _ has.content c.requires.mounted has.gone.on) c.loop-place.place _ _ _ c.loop-place.invariant c.release_in.new.volume _
-    (stopped_as c.args.volume.now.ident.cluster c.loop-place.volume.ident.cluster (record { fd = c.args.fd; segs = c.read_fd.result.segs }) c.loop-place.place _ _ (kept c.loop-place.volume) (kept c.release_in.new.volume) same
-    c.in_err-release_in.ensures.fault)
-
-pub loop-place-preserved : goal.loop-place-preserved
-loop-place-preserved g c =
-    let same = ap (λ (h : Geometry). h.cluster) c.loop-place.invariant.sizes in
-    let sectors = ap (λ (kv : KeptVolume). map_sectors kv.sizes) c.in_ok-bytes.ensures.volume_kept in
-    let low : c.loop-place.place < map_sectors (kept c.args.volume.now).sizes = omega arith in
-    drop_more _ c.loop-place.place (kept c.args.volume.now) (kept c.loop-place.volume) _ _ _ _ c.loop-place.invariant _ (kept c.release_in.new.volume) _ low
-    (next_as c.args.volume.now.ident.cluster c.loop-place.volume.ident.cluster (record { fd = c.args.fd; segs = c.read_fd.result.segs }) c.loop-place.place _ _ (kept c.loop-place.volume) (kept c.release_in.new.volume) same
-    c.in_ok-release_in.ensures.ok)
-    c.in_ok-release_in.ensures.sizes c.in_ok-release_in.ensures.counts
+pub returns-in_err-drop_own-clause-fault : goal.returns-in_err-drop_own-clause-fault
+returns-in_err-drop_own-clause-fault g c v file gone =
+    let same = c.in_ok-bytes.ensures.media_kept in
+    on_err _ _ (ended_before _ _ _ c.args.fd v file same (c.in_err-drop_own.ensures.fault v file (still_gone _ _ c.args.fd v file same gone)))
 
 pub returns-clause-ok : goal.returns-clause-ok
 returns-clause-ok g c v file gone =
-    let segs = c.read_fd.ensures.segs ∙ ap segments_field c.in_ok-bytes.ensures.bytes in
-    let sectors = ap (λ (kv : KeptVolume). map_sectors kv.sizes) c.in_ok-bytes.ensures.volume_kept in
-    let end : c.loop-place.place ≡ map_sectors (kept c.args.volume.now).sizes = omega arith in
-    drop_done _ c.args.fd c.read_fd.result.segs segs v file gone c.args.volume.now.ident.cluster (kept c.args.volume.now) (kept c.loop-place.volume) refl
-    (agrees_on c.args.volume.now _ v c.requires.mounted gone.on) c.loop-place.place _ _ _ c.loop-place.invariant end
-
-pub returns-clause-mounted : goal.returns-clause-mounted
-returns-clause-mounted g c =
-    let has = c.requires.gone in
-    let segs = c.read_fd.ensures.segs ∙ ap segments_field c.in_ok-bytes.ensures.bytes in
-    mounted_so_far _ c.args.fd c.read_fd.result.segs segs has.content has.file has.gone c.args.volume.now.ident.cluster (kept c.args.volume.now) (kept c.loop-place.volume) refl
-    (agrees_on c.args.volume.now _ has.content c.requires.mounted has.gone.on) c.loop-place.place _ _ _ c.loop-place.invariant c.loop-place.volume refl
+    let same = c.in_ok-bytes.ensures.media_kept in
+    dropped_before _ _ _ c.args.fd v file same (c.in_ok-drop_own.ensures.ok v file (still_gone _ _ c.args.fd v file same gone))

@@ -1,42 +1,15 @@
-use Rattle.std.proofs.Common.{Err, ap, ◌∙◌}
+use Rattle.std.proofs.Common.{ℕ, Err, ap, ◌∙◌}
 use Rattle.std.proofs.lemmas.Result.{err_from_is_err_and}
-use Rattle.rbf_walk.proofs.Stepping.{fault_walked}
-use Rattle.rbf_update.proofs.Attributed.{fault_counts, becomes_after}
-use Rattle.rbf_update.proofs.Deleting.{free_still, same_answer, frees_name, frees_on, all_calls, fewer_calls}
+use Rattle.rbf_update.specs.declared.deletion.Deletable.{Deletable}
+use Rattle.rbf_update.proofs.Deleting.{same_answer, same_calls}
 use Rattle.rbf_update.proofs.deletion.delete_entry.Goals as goal
 
-pub returns-in_err-found-clause-answer : goal.returns-in_err-found-clause-answer
-returns-in_err-found-clause-answer g c v file on is =
+pub returns-in_err-gone-clause-answer : goal.returns-in_err-gone-clause-answer
+returns-in_err-gone-clause-answer g c v file on is =
     let p = err_from_is_err_and c.from_residual.result c.from_residual.ensures.1 in
-    same_answer _ c.in_err-found.field-0.0 _ (p.1 ∙ ap Err p.2) (c.in_err-found.ensures.answer v file on is)
+    same_answer _ c.in_err-gone.field-0.0 _ (p.1 ∙ ap Err p.2) (c.in_err-gone.ensures.answer v file on is)
 
-pub returns-in_err-found-clause-counts : goal.returns-in_err-found-clause-counts
-returns-in_err-found-clause-counts g c v file on is =
+pub returns-in_err-gone-clause-counts : goal.returns-in_err-gone-clause-counts
+returns-in_err-gone-clause-counts g c v file on is =
     let p = err_from_is_err_and c.from_residual.result c.from_residual.ensures.1 in
-    fewer_calls _ _ c.in_err-found.field-0.0 _ _ _ (p.1 ∙ ap Err p.2) (c.in_err-found.ensures.counts v file on is)
-
-pub free_entry-requires-clause-place : goal.free_entry-requires-clause-place
-free_entry-requires-clause-place g c = free_still _ _ c.args.dir c.in_ok-found.found.place c.in_ok-found.ensures.media_kept c.in_ok-found.ensures.ok.free
-
-pub returns-in_err-free_entry-clause-answer : goal.returns-in_err-free_entry-clause-answer
-returns-in_err-free_entry-clause-answer g c v file on is =
-    let p = err_from_is_err_and c.from_residual-in_err-free_entry.result c.from_residual-in_err-free_entry.ensures.1 in
-    fault_walked Unit _ c.in_err-free_entry.field-0.0 _ (p.1 ∙ ap Err p.2) c.in_err-free_entry.ensures.device
-
-pub returns-in_err-free_entry-clause-counts : goal.returns-in_err-free_entry-clause-counts
-returns-in_err-free_entry-clause-counts g c v file on is =
-    let p = err_from_is_err_and c.from_residual-in_err-free_entry.result c.from_residual-in_err-free_entry.ensures.1 in
-    all_calls _ _ (c.in_ok-found.ensures.answer v file on is) _ _ _ _ _ (c.in_ok-found.ensures.counts v file on is) (fault_counts Unit _ c.in_err-free_entry.field-0.0 _ 3 _ _ (p.1 ∙ ap Err p.2) c.in_err-free_entry.ensures.counts)
-
-pub returns-clause-answer : goal.returns-clause-answer
-returns-clause-answer g c v file on is = c.in_ok-found.ensures.answer v file on is
-
-pub returns-clause-ok : goal.returns-clause-ok
-returns-clause-ok g c =
-    frees_name _ _ c.args.dir c.args.name.now c.in_ok-found.found c.in_ok-found.ensures.ok (becomes_after _ _ _ _ c.in_ok-found.ensures.media_kept c.in_ok-free_entry.ensures.ok)
-
-pub returns-clause-counts : goal.returns-clause-counts
-returns-clause-counts g c v file on is = all_calls _ _ (c.in_ok-found.ensures.answer v file on is) _ _ _ _ _ (c.in_ok-found.ensures.counts v file on is) c.in_ok-free_entry.ensures.counts
-
-pub returns-clause-written : goal.returns-clause-written
-returns-clause-written g c = frees_on _ _ _ c.args.dir c.args.name.now c.in_ok-found.found c.in_ok-found.ensures.ok c.in_ok-found.ensures.media_kept c.in_ok-free_entry.ensures.written
+    same_calls ℕ Deletable _ c.in_err-gone.field-0.0 _ _ _ (p.1 ∙ ap Err p.2) (c.in_err-gone.ensures.counts v file on is)

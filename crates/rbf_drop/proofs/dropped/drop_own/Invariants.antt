@@ -3,10 +3,10 @@ use Rattle.rbf_access.specs.Drive.{drive_counts}
 use Rattle.rbf_access.specs.Mounted.{kept}
 use Rattle.rbf_drop.specs.Own.{in_own}
 use Rattle.rbf_drop.proofs.Dropping.{IsDropSoFar}
-use Rattle.rbf_drop.proofs.dropped.drop_fd.Given as goal
+use Rattle.rbf_drop.proofs.dropped.drop_own.Given as goal
 
 abbrev pub invariant-loop-place : goal.invariant-loop-place
 invariant-loop-place g l =
-    IsDropSoFar (in_own l.fn.volume.ident.cluster l.own) l.place (kept l.fn.volume) (kept l.volume)
+    IsDropSoFar (in_own l.fn.volume.ident.cluster l.fn.own) l.place (kept l.fn.volume) (kept l.volume)
     ((goal.BlockDriver-dyn g l.fn.d.now).media l.fn.d.now.1) ((goal.BlockDriver-dyn g l.d.now).media l.d.now.1)
     (drive_counts (goal.BlockDriver-dyn g l.fn.d.now) l.fn.d.now.1) (drive_counts (goal.BlockDriver-dyn g l.d.now) l.d.now.1)
