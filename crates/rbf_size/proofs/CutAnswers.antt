@@ -289,14 +289,12 @@ module _ (media mid : Option (List ℕ)) (loaded : Loaded) (size : ℕ) (now : T
       volume = left;
       on = record { image = so_far.now; is = so_far.is; vol = so_far.vol };
       ends = ends.cut (record { old = old; is = is; shorter = less; new = new; cut = refl; volume = lose; unfinished = still_marked });
-      taken = [];
-      planned = inl refl;
       tidy = record {
         image = image;
         now = so_far.now;
         was = on.is;
         is = so_far.is;
-        others = λ s none differ outside. others_then (before gone place) after last so_far s none differ;
+        others = λ s none differ. others_then (before gone place) after last so_far s none differ;
         map_end = λ c past. ⊎_elim
             (λ low. inr (marks_then (before gone place) after last so_far c past.in_map ∙ ap (λ t. is_marked (sector image) c && not (gone c && t)) low
             ∙ ap (λ t. is_marked (sector image) c && not t) (and_true (gone c) ∙ sym (giving_is c))))

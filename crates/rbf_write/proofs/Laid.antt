@@ -39,7 +39,7 @@ use Rattle.rbf_files.proofs.Redated.{same_file, beside_put, here_put, agrees_put
 use Rattle.rbf_files.proofs.LaidBytes.{front_byte, rest_byte, length-front, length-target, target_byte, laid_after}
 use Rattle.rbf_write.specs.declared.loaded.Loaded.{Loaded}
 use Rattle.rbf_write.specs.Finished.{IsResized}
-use Rattle.rbf_write.specs.Laying.{Laying, laid_contents, laid_file, laying_needs, IsTidyChange, IsLaidOver, LayingEnds}
+use Rattle.rbf_write.specs.Laying.{Laying, laid_contents, laid_file, laying_needs, IsTidyChange, IsTidyStop, IsLaidOver, LayingEnds}
 use Rattle.rbf_write.proofs.Contents.{put_none, laid_all, laid_part, length-laid, front_of_sectors, front_of_all}
 use Rattle.rbf_write.proofs.Gained.{data_gained, descriptor_apart}
 
@@ -68,6 +68,20 @@ tidy_of before after image mid now n segments was is changes map_same beside lis
   others = λ s not_map differ none. beside s not_map differ none ∙ changes.others s not_map;
   map_end = λ c past. same_mark (sector now) (sector mid) c (map_same (1 + c / 8 / 256) (let low = past.in_map in omega arith)) ∙ changes.end c past;
   list = list;
+}
+
+-- and where a fault came before the descriptor was written
+pub stop_of : (before after : Option (List ℕ)) (image mid now : List ℕ) (n : ℕ) (segments : List (ℕ × ℕ)) → before ≡ Some image → after ≡ Some now → ChangesMap image mid
+    → ((s : ℕ) → s ≤ map_sectors (image_geometry image) → sector now s ≡ sector mid s) → ((s : ℕ) → has (sectors_of segments) s ≡ false → sector now s ≡ sector mid s)
+    → sector now n ≡ sector image n → IsTidyStop before after n segments
+stop_of before after image mid now n segments was is changes map_same beside here = record {
+  image = image;
+  now = now;
+  was = was;
+  is = is;
+  descriptor = here;
+  others = λ s not_map none. beside s none ∙ changes.others s not_map;
+  map_end = λ c past. same_mark (sector now) (sector mid) c (map_same (1 + c / 8 / 256) (let low = past.in_map in omega arith)) ∙ changes.end c past;
 }
 
 -- a size that was there needs no clusters
@@ -134,8 +148,8 @@ module _ (before : Option (List ℕ)) (v : DiskVolume) (on : Represents before v
     on = record { image = ends.now; is = ends.is; vol = ends.vol };
     lose = subst (λ x. MayLose x ends.left (has ends.taken)) (sym same_volume) ends.lose;
     order = inl refl;
-    tidy = tidy_of before after ends.image ends.now ends.now n (with_clusters k old.segments ends.taken) ends.was ends.is ends.changes (λ s low. refl) (λ s map differ out. refl)
-        (same_end (sector ends.image n) (sector ends.now n) (ends.changes.others n (not_map ends.image ends.was)));
+    tidy = stop_of before after ends.image ends.now ends.now n (with_clusters k old.segments ends.taken) ends.was ends.is ends.changes (λ s low. refl) (λ s out. refl)
+        (ends.changes.others n (not_map ends.image ends.was));
   }
 
   -- the clusters have been taken
@@ -229,6 +243,9 @@ module _ (before : Option (List ℕ)) (v : DiskVolume) (on : Represents before v
       tidy_laid = tidy_of before after grown.image grown.now laid.now n segments grown.was laid.is grown.changes
           (λ s low. beside s (map_apart s low)) (λ s map differ out. beside_segments s out) (same_end (sector grown.image n) (sector laid.now n) here)
 
+      stop_laid : IsTidyStop before after n segments
+      stop_laid = stop_of before after grown.image grown.now laid.now n segments grown.was laid.is grown.changes (λ s low. beside s (map_apart s low)) (λ s out. beside_segments s out) here
+
       -- and then a fault
       pub laid_ends : (so_far : ℕ) → IsFront size laying.at laying.bytes so_far → take size bytes ≡ put_at old.contents laying.at (take so_far laying.bytes) → LayingEnds v old laying before after
       laid_ends so_far front contents = record {
@@ -244,7 +261,7 @@ module _ (before : Option (List ℕ)) (v : DiskVolume) (on : Represents before v
           only = λ c now. now;
         };
         order = inr (λ c gained. or_right (v.lost c) (has taken c) gained);
-        tidy = tidy_laid;
+        tidy = stop_laid;
       }
 
     -- a fault among the sectors

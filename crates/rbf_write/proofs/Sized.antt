@@ -26,14 +26,10 @@ use Rattle.rbf_access.proofs.ReadFile.{room_for}
 use Rattle.rbf_files.proofs.FilledFile.{put_same_file}
 use Rattle.rbf_write.specs.Laying.{Laying, laid_contents, laid_file, laying_needs, IsTidyChange, AnswersLaying}
 use Rattle.rbf_write.specs.Outcomes.{laying_calls}
-use Rattle.rbf_write.specs.Sizes.{Sizing, size_needs, giving_up, given_up, IsTidySize, IsTidyEnd, IsSized, SizeIsEnded, AnswersSize, size_calls}
+use Rattle.rbf_write.specs.Sizes.{Sizing, size_needs, giving_up, given_up, IsTidySize, IsSized, SizeIsEnded, AnswersSize, size_calls}
 use Rattle.rbf_write.proofs.Contents.{put_none, length-extended}
 use Rattle.rbf_write.proofs.Laid.{same_volume, no_clusters}
 use Rattle.rbf_write.proofs.Whole.{nothing_changed}
-
-and_true : (t : Bool) → (t && true) ≡ t
-and_true true = refl
-and_true false = refl
 
 pub tidy_size : (before after : Option (List ℕ)) (n : ℕ) (segments : List (ℕ × ℕ)) (gone : ℕ → Bool) → ((c : ℕ) → gone c ≡ false) → IsTidyChange before after n segments → IsTidySize before after n segments gone
 tidy_size before after n segments gone none_gone tidy = record {
@@ -43,17 +39,6 @@ tidy_size before after n segments gone none_gone tidy = record {
   is = tidy.is;
   others = tidy.others;
   map_end = λ c past. tidy.map_end c past ∙ ap (λ t. is_marked (sector tidy.image) c && not t) (sym (none_gone c));
-  list = tidy.list;
-}
-
-pub tidy_end : (before after : Option (List ℕ)) (n : ℕ) (segments : List (ℕ × ℕ)) (gone : ℕ → Bool) → IsTidyChange before after n segments → IsTidyEnd before after n segments gone
-tidy_end before after n segments gone tidy = record {
-  image = tidy.image;
-  now = tidy.now;
-  was = tidy.was;
-  is = tidy.is;
-  others = tidy.others;
-  map_end = λ c past. inl (tidy.map_end c past ∙ and_true (is_marked (sector tidy.image) c));
   list = tidy.list;
 }
 
@@ -107,9 +92,7 @@ module _ (before : Option (List ℕ)) (v : DiskVolume) (old : DiskFile) (on : Re
     volume = v;
     on = record { image = on.image; is = same ∙ on.is; vol = on.vol };
     ends = ends.before refl;
-    taken = [];
-    planned = inl refl;
-    tidy = tidy_end before after n old.segments (giving_up v old sizing) (nothing_changed before after v on same n old.segments);
+    tidy = same;
   }
 
   -- the file is made longer
@@ -173,9 +156,7 @@ module _ (before : Option (List ℕ)) (v : DiskVolume) (old : DiskFile) (on : Re
             planned = inr choice;
             volume = subst (λ x. MayLose x laid.left (has laid.taken)) (same_volume before v on laying old is) lose;
           });
-          taken = laid.taken;
-          planned = inr choice;
-          tidy = tidy_end before after n (with_clusters k old.segments laid.taken) (giving_up v old sizing) laid.tidy;
+          tidy = laid.tidy;
         }
     longer_answers after (Err NoCluster) laid = record { few = subst (λ m. free_total v < m) needs_are laid.few; media_kept = laid.media_kept }
     longer_answers after (Err TooManyRuns) laid = record {

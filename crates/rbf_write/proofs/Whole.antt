@@ -24,9 +24,9 @@ use Rattle.rbf_access.proofs.Counting.{counts_then}
 use Rattle.rbf_access.proofs.ReadFile.{room_for}
 use Rattle.rbf_growth.specs.Grown.{ChangesMap}
 use Rattle.rbf_files.proofs.FilledFile.{put_same_file}
-use Rattle.rbf_write.specs.Laying.{Laying, laid_contents, laid_file, laying_needs, IsTidyChange, AnswersLaying}
+use Rattle.rbf_write.specs.Laying.{Laying, laid_contents, laid_file, laying_needs, IsTidyChange, IsTidyStop, AnswersLaying}
 use Rattle.rbf_write.specs.Outcomes.{contents_written, write_needs, IsWritten, AnswersWrite, laying_calls, write_calls}
-use Rattle.rbf_write.proofs.Laid.{tidy_of, same_end, same_volume, no_clusters}
+use Rattle.rbf_write.proofs.Laid.{tidy_of, stop_of, same_end, same_volume, no_clusters}
 use Rattle.rbf_write.proofs.Steps.{few_segments}
 
 -- an image that stays
@@ -40,6 +40,11 @@ same_map image = record { others = λ s out. refl; end = λ c past. and_true _ }
 pub nothing_changed : (before after : Option (List ℕ)) (v : DiskVolume) → Represents before v → after ≡ before → (n : ℕ) (segments : List (ℕ × ℕ)) → IsTidyChange before after n segments
 nothing_changed before after v on same n segments =
     tidy_of before after on.image on.image on.image n segments on.is (same ∙ on.is) (same_map on.image) (λ s low. refl) (λ s map differ out. refl) (same_end (sector on.image n) (sector on.image n) refl)
+
+-- nor has it where the descriptor could not be read
+pub nothing_stopped : (before after : Option (List ℕ)) (v : DiskVolume) → Represents before v → after ≡ before → (n : ℕ) (segments : List (ℕ × ℕ)) → IsTidyStop before after n segments
+nothing_stopped before after v on same n segments =
+    stop_of before after on.image on.image on.image n segments on.is (same ∙ on.is) (same_map on.image) (λ s low. refl) (λ s out. refl) refl
 
 pub laid_is_written : (contents : List ℕ) (at : ℕ) (bytes : List ℕ) → 1 ≤ length bytes → put_at (extended contents at) at bytes ≡ written contents at bytes
 laid_is_written contents at [] some = absurd (omega arith)
@@ -108,7 +113,7 @@ module _ (before : Option (List ℕ)) (v : DiskVolume) (old : DiskFile) (on : Re
             (record { same = refl; still = λ c was. was; only = λ c lost. or_left (v.lost c) false lost });
         order = inl refl;
       };
-      tidy = nothing_changed before after v on same write.number old.segments;
+      tidy = nothing_stopped before after v on same write.number old.segments;
     }
 
     pub write_answers : (after : Option (List ℕ)) (result : Result (Unit {0}) FileFault) → AnswersLaying v old write before after result → AnswersWrite v old write before after result

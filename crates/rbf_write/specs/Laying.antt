@@ -57,6 +57,18 @@ pub record IsTidyChange (before after : Option (List ℕ)) (n : ℕ) (segments :
   -- the end of the list of segments and the bytes behind it
   pub list : KeepsListEnd (sector image n) (sector now n)
 
+-- what a fault has left as it was, where file n was to be given these segments: its descriptor, and all sectors but
+-- those of the segments and of the map
+pub record IsTidyStop (before after : Option (List ℕ)) (n : ℕ) (segments : List (ℕ × ℕ)) : Type 0 where
+  pub image : List ℕ
+  pub now : List ℕ
+  pub was : before ≡ Some image
+  pub is : after ≡ Some now
+  pub descriptor : sector now n ≡ sector image n
+  pub others : (s : ℕ) → ¬ IsMapSector (image_geometry image) s → has (sectors_of segments) s ≡ false
+      → sector now s ≡ sector image s
+  pub map_end : KeepsMapEnd image now (λ _. false)
+
 -- all is done
 pub record IsLaidOver (v : DiskVolume) (old : DiskFile) (laying : Laying) (before after : Option (List ℕ))
     : Type 0 where
@@ -79,7 +91,7 @@ pub record LayingEnds (v : DiskVolume) (old : DiskFile) (laying : Laying) (befor
   pub lose : MayLose (replaced v laying.number (Some (with_front old laying.at laying.bytes count))) left (has taken)
   -- the first byte comes after the last mark
   pub order : (count ≡ 0) ⊎ ((c : ℕ) → has taken c ≡ true → left.lost c ≡ true)
-  pub tidy : IsTidyChange before after laying.number (with_clusters (cluster_size v) old.segments taken)
+  pub tidy : IsTidyStop before after laying.number (with_clusters (cluster_size v) old.segments taken)
 
 -- fewer clusters are free than it needs
 pub record LayingIsFull (v : DiskVolume) (old : DiskFile) (laying : Laying) (before after : Option (List ℕ))

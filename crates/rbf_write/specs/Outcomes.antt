@@ -10,7 +10,7 @@ use Rattle.rbf_access.specs.declared.faults.FileFault.{FileFault}
 use Rattle.rbf_access.specs.declared.faults.FileFault.TheVariants.{Device, NoCluster, TooManyRuns}
 use Rattle.rbf_access.specs.Faults.{file_fault}
 use Rattle.rbf_access.specs.Mounted.{Represents}
-use Rattle.rbf_write.specs.Laying.{Laying, IsTidyChange}
+use Rattle.rbf_write.specs.Laying.{Laying, IsTidyChange, IsTidyStop}
 
 -- the contents of a file that is written to
 abbrev pub contents_written : DiskFile → Laying → List ℕ
@@ -34,7 +34,7 @@ pub record WriteIsEnded (v : DiskVolume) (write : Laying) (before after : Option
   pub volume : DiskVolume
   pub on : Represents after volume
   pub ends : WriteEnds v volume write.number write.at write.bytes
-  pub tidy : IsTidyChange before after write.number (with_clusters (cluster_size v) ends.old.segments ends.taken)
+  pub tidy : IsTidyStop before after write.number (with_clusters (cluster_size v) ends.old.segments ends.taken)
 
 -- error 248: fewer clusters are free than the write needs
 pub record WriteIsFull (v : DiskVolume) (old : DiskFile) (write : Laying) (before after : Option (List ℕ))

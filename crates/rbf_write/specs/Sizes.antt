@@ -9,11 +9,13 @@ use Rattle.rbf_model.specs.Laws.{IsMapSector}
 use Rattle.rbf_change.specs.Growth.{with_clusters, clusters_needed, IsOneTooMany}
 use Rattle.rbf_change.specs.Cut.{cut_file, is_given_up}
 use Rattle.rbf_change.specs.Calls.{shape, cluster_size, is_free_in, free_total, minute_of, SetsSize}
-use Rattle.rbf_change.specs.Faults.{IsPlanned, SizeEnds}
+use Rattle.rbf_change.specs.Faults as ends
+use Rattle.rbf_change.specs.Faults.{SizeEnds}
 use Rattle.rbf_change.specs.Tidy.{KeepsMapEnd, MayKeepMapEnd, KeepsListEnd}
 use Rattle.rbf_access.specs.declared.faults.FileFault.{FileFault}
 use Rattle.rbf_access.specs.declared.faults.FileFault.TheVariants.{Device, NoCluster, TooManyRuns}
 use Rattle.rbf_access.specs.Mounted.{Represents}
+use Rattle.rbf_write.specs.Laying.{IsTidyStop}
 use Rattle.rbf_write.specs.Outcomes.{laying_calls}
 
 -- a size that file n is given, at a time
@@ -51,16 +53,25 @@ pub record IsTidySize (before after : Option (List ℕ)) (n : ℕ) (segments : L
   -- the end of the list of segments and the bytes behind it
   pub list : KeepsListEnd (sector image n) (sector now n)
 
--- and after a fault, where that mark may stand still
-pub record IsTidyEnd (before after : Option (List ℕ)) (n : ℕ) (segments : List (ℕ × ℕ)) (gone : ℕ → Bool) : Type 0 where
+-- and after a fault, where the file had been cut: only the map and its descriptor have changed, and that mark may stand
+-- still
+pub record IsTidyCut (before after : Option (List ℕ)) (n : ℕ) (gone : ℕ → Bool) : Type 0 where
   pub image : List ℕ
   pub now : List ℕ
   pub was : before ≡ Some image
   pub is : after ≡ Some now
-  pub others : (s : ℕ) → ¬ IsMapSector (image_geometry image) s → s ≢ n → has (sectors_of segments) s ≡ false
-      → sector now s ≡ sector image s
+  pub others : (s : ℕ) → ¬ IsMapSector (image_geometry image) s → s ≢ n → sector now s ≡ sector image s
   pub map_end : MayKeepMapEnd image now gone
   pub list : KeepsListEnd (sector image n) (sector now n)
+
+-- by how the fault ended the call: all has stayed; all but the map and sectors of the segments that the file was to
+-- have; or all but the map and its descriptor
+abbrev pub IsTidyEnd : (left : List ℕ) (v w : DiskVolume) (sizing : Sizing) → (ℕ → Bool) → Option (List ℕ)
+    → Option (List ℕ) → SizeEnds left v w sizing.number sizing.size sizing.now → Type 0
+IsTidyEnd left v w sizing gone media now (ends.before same) = now ≡ media
+IsTidyEnd left v w sizing gone media now (ends.longer end) =
+    IsTidyStop media now sizing.number (with_clusters (cluster_size v) end.old.segments end.taken)
+IsTidyEnd left v w sizing gone media now (ends.cut end) = IsTidyCut media now sizing.number gone
 
 -- the file has the size
 pub record IsSized (v : DiskVolume) (old : DiskFile) (sizing : Sizing) (before after : Option (List ℕ)) : Type 0 where
@@ -77,11 +88,7 @@ pub record SizeIsEnded (v : DiskVolume) (old : DiskFile) (sizing : Sizing) (befo
   pub volume : DiskVolume
   pub on : Represents after volume
   pub ends : SizeEnds on.image v volume sizing.number sizing.size sizing.now
-  -- clusters that were to be gained
-  pub taken : List ℕ
-  pub planned : IsPlanned v old sizing.size taken
-  pub tidy : IsTidyEnd before after sizing.number (with_clusters (cluster_size v) old.segments taken)
-      (giving_up v old sizing)
+  pub tidy : IsTidyEnd on.image v volume sizing (giving_up v old sizing) before after ends
 
 -- error 248: fewer clusters are free than the size needs
 pub record SizeIsFull (v : DiskVolume) (old : DiskFile) (sizing : Sizing) (before after : Option (List ℕ))
