@@ -1,13 +1,14 @@
 -- Calls that wait and unfinished reads, where paths, terminals and calls change.
-use Rattle.std.proofs.Common.{◌≡◌, ◌≢◌, ◌<◌, ◌⊎◌, ℕ, Bool, true, false, MatchBool, if◌then◌else◌, Option, Some, None, IfSome, option_and_then, List, [], ◌++◌, length, get_or, set, take, drop, append_assoc, inl, inr, sym, ap, refl, ◌∙◌, subst, arith}
-use Rattle.std.proofs.lemmas.Bool.{cases_eq, cases_lt, false≢true}
-use Rattle.std.proofs.lemmas.List.{length-set, get_or-set_same, get_or-set_other, get_or_past, take_at}
+use Rattle.std.proofs.Common.{◌≡◌, ◌≢◌, ◌<◌, ◌==◌, ◌⊎◌, ℕ, Bool, true, false, MatchBool, if◌then◌else◌, Option, Some, None, IsSome, IfSome, option_map, option_and_then, List, [], ◌++◌, map, length, get_or, set, take, drop, append_assoc, inl, inr, sym, ap, refl, ◌∙◌, subst, arith}
+use Rattle.std.specs.Option.{option_map_or}
+use Rattle.std.proofs.lemmas.Bool.{cases_eq, cases_lt, eqb-false, false≢true}
+use Rattle.std.proofs.lemmas.List.{length-set, get_or-set_same, get_or-set_other, get_or-map, get_or_past, length-map, take_at}
 use Rattle.os9_base.specs.declared.registers.Pid.{Pid}
 use Rattle.os9_outer.specs.TerminalState.{TerminalState}
 use Rattle.io_model.specs.Edit.{Typing}
 use Rattle.io_model.specs.Kept.{kept_of, with_kept}
-use Rattle.io_model.specs.Path.{PathTable, ArePaths, holds_path, paths_after_begin, paths_after_dup, paths_after_close, paths_after_inherit}
-use Rattle.io_model.specs.Terminal.{Terminal, new_terminal, Reads, Writes, IsCutShort, IsWritten, BreaksOff, Attempted, IsSameCall, is_refused, is_taken, read_attempt, kept_waiting, typed_attempt, attempt_by, typed, stored_bytes, stored_over}
+use Rattle.io_model.specs.Path.{PathTable, ArePaths, desc_of, holds_path, paths_after_begin, paths_after_dup, paths_after_close, paths_after_inherit}
+use Rattle.io_model.specs.Terminal.{Terminal, new_terminal, Reads, Writes, IsCutShort, IsWritten, BreaksOff, Attempted, IsSameCall, is_refused, is_taken, read_attempt, kept_waiting, typed_attempt, attempt_by, typed, stored_bytes, stored_over, is_process, without_reading, released, forgotten}
 use Rattle.io_model.specs.declared.edit.LineEnd.{LineEnd}
 use Rattle.io_model.specs.declared.edit.LineEnd.TheVariants.{Line, EndOfFile}
 use Rattle.io_model.specs.declared.kept.Kept.{Kept}
@@ -18,13 +19,14 @@ use Rattle.io_model.specs.declared.terminal.Progress.TheVariants as progress
 use Rattle.io_model.specs.declared.terminal.ReadKind.{ReadKind}
 use Rattle.io_model.specs.declared.terminal.Reading.{Reading}
 use Rattle.io_rules.specs.Codes.{io_call_of, direction_of, direction_of_call}
-use Rattle.io_rules.specs.Io.{Io, kept_at, terminal_at, with_paths, with_pipes, with_terminal, with_call}
-use Rattle.io_rules.specs.Waiting.{pid}
+use Rattle.io_rules.specs.Io.{Io, kept_at, terminal_at, target_of, with_paths, with_pipes, with_terminal, with_call}
+use Rattle.io_rules.specs.Processes.{without_user}
+use Rattle.io_rules.specs.Waiting.{pid, wait_target}
 use Rattle.io_rules.specs.declared.io_call.Direction.TheVariants as Way
 use Rattle.io_rules.specs.declared.io_call.IoCall.{IoCall}
 use Rattle.io_rules.specs.declared.io_call.IoCall.TheVariants as Call
 use Rattle.terminal_mgr.specs.Term.{read_of}
-use Rattle.io_state.proofs.HeldLemmas.{IsHeldStill, begun-still, doubled-still, closed-still, inherited-still}
+use Rattle.io_state.proofs.HeldLemmas.{IsHeldStill, begun-still, doubled-still, closed-still, inherited-still, held-there}
 use Rattle.io_state.specs.Sound.{AreWaits, MayWait, IsReadOf, IsWaitedFor, IsNoRead, read_kind, read_kind_of, most_of}
 use Rattle.io_state.specs.Terminals.{MayRead, count_of, kept_after}
 
@@ -341,3 +343,72 @@ stored-front stored room into rest count counted is =
     ap (λ (bytes : List ℕ). take count (bytes ++ rest)) is
     ∙ ap (take count) (append_assoc stored (drop (length stored) room) rest)
     ∙ take_at stored (drop (length stored) room ++ rest) count counted
+
+-- ---- a call is broken off
+
+-- what the process of an unfinished read waits on
+reads-here : (io : Io) (p n : ℕ) (reading : Reading) → AreWaits io → (terminal_at io n).reading ≡ Some reading → reading.process.0 ≡ p → wait_target io p ≡ Some (Term n)
+reads-here io p n reading are is same =
+    let was = kept-of io p n reading are is same in
+    ap (option_and_then (λ (kept : Kept). target_of io kept.path)) was.1 ∙ was.2.on
+
+-- who waits on no terminal reads none
+pub no-reader_off : (io : Io) (p : ℕ) → ((n : ℕ) → wait_target io p ≡ Some (Term n) → ⊥) → AreWaits io → IsNoReader io p
+no-reader_off io p off are n reading is same = off n (reads-here io p n reading are is same)
+
+pub waits-dropped : (io : Io) (p : ℕ) → p < length io.calls → IsNoReader io p → AreWaits io → AreWaits (with_call io p None)
+waits-dropped io p process none are =
+    waits-kept io p None process (λ now e. absurd (none-some now e)) none are
+
+-- the unfinished read of a process, after it was released
+released-by : (p : ℕ) (t : Terminal) (reading : Option Reading) → t.reading ≡ reading → (now : Reading) → (if option_map_or (is_process (pid p)) (option_map (λ (it : Reading). it.process) reading) false then without_reading t else t).reading ≡ Some now → (now.process.0 ≡ p → ⊥) × (t.reading ≡ Some now)
+released-by p t None e now is = absurd (none-some now (sym e ∙ is))
+released-by p t (Some it) e now is = by (p == it.process.0) refl is
+  where
+    by : (mine : Bool) → (p == it.process.0) ≡ mine → (if mine then without_reading t else t).reading ≡ Some now → (now.process.0 ≡ p → ⊥) × (t.reading ≡ Some now)
+    by true mine is = absurd (none-some now is)
+    by false mine is = (
+      λ same. eqb-false p it.process.0 mine (sym (ap (λ (r : Reading). r.process.0) (some-same it now (sym e ∙ is)) ∙ same)),
+      is,
+    )
+
+-- is another process's, and was there
+pub released-reads : (p : ℕ) (t : Terminal) (now : Reading) → (released (pid p) t).reading ≡ Some now → (now.process.0 ≡ p → ⊥) × (t.reading ≡ Some now)
+released-reads p t now is = released-by p t t.reading refl now is
+
+forgotten-reads : (p : ℕ) (t : Terminal) (now : Reading) → (forgotten (pid p) t).reading ≡ Some now → (now.process.0 ≡ p → ⊥) × (t.reading ≡ Some now)
+forgotten-reads p t now is = by (option_map_or (is_process (pid p)) t.user false) is
+  where
+    by : (user : Bool) → (if user then record (released (pid p) t) { user = None } else released (pid p) t).reading ≡ Some now → (now.process.0 ≡ p → ⊥) × (t.reading ≡ Some now)
+    by true is = released-reads p t now is
+    by false is = released-reads p t now is
+
+-- who waits on this terminal
+pub waits-released : (io : Io) (p n : ℕ) → p < length io.calls → n < length io.terminals → wait_target io p ≡ Some (Term n) → AreWaits io → AreWaits (with_call (with_terminal io n (released (pid p) (terminal_at io n))) p None)
+waits-released io p n process within on are =
+    let t : Terminal = released (pid p) (terminal_at io n) in
+    let left = waits-with_terminal io n t (λ reading is. are.reads n reading (released-reads p (terminal_at io n) reading is).1) are in
+    waits-dropped (with_terminal io n t) p process (λ m reading is same.
+    let here : m ≡ n = (let e : Some (Term n) ≡ Some (Term m) = sym on ∙ reads-here (with_terminal io n t) p m reading left is same in cc) in
+    (released-reads p (terminal_at io n) reading (sym (ap (λ (x : Terminal). x.reading) (terminal-same io n m t here within)) ∙ is)).0 same) left
+
+-- ---- a process ends
+
+forgotten-at : (io : Io) (p n : ℕ) (now : Reading) → (terminal_at (without_user io p) n).reading ≡ Some now → (now.process.0 ≡ p → ⊥) × ((terminal_at io n).reading ≡ Some now)
+forgotten-at io p n now is = elim (cases_lt n (length io.terminals)) [
+  | inl within ↦
+      forgotten-reads p (terminal_at io n) now (sym (ap (λ (t : Terminal). t.reading) (get_or-map (forgotten (pid p)) io.terminals n new_terminal new_terminal within)) ∙ is)
+  | inr past ↦
+      absurd (none-some now (sym (ap (λ (t : Terminal). t.reading) (get_or_past (map (forgotten (pid p)) io.terminals) n new_terminal (omega (arith, past, length-map io.terminals (forgotten (pid p)))))) ∙ is))
+]
+
+pub waits-forgotten : (io : Io) (p : ℕ) → p < length io.calls → AreWaits io → AreWaits (with_call (without_user io p) p None)
+waits-forgotten io p process are =
+    waits-dropped (without_user io p) p process (λ n reading is same. (forgotten-at io p n reading is).0 same) (record {
+      calls = are.calls;
+      reads = λ n reading is. are.reads n reading (forgotten-at io p n reading is).1;
+    })
+
+-- a call that waits is on a path that is there
+pub call-there : (io : Io) (p : ℕ) (call : Kept) → ArePaths io.paths → AreWaits io → kept_at io p ≡ Some call → IsSome (desc_of io.paths call.path.0)
+call-there io p call paths are kept = held-there io.paths p call.path.0 paths (are.calls p call kept).held

@@ -2,9 +2,11 @@
 //! kernel keeps them.
 #![tactic(auto)]
 
+mod processes;
 pub mod state;
 mod streams;
 mod terminal_calls;
 mod terminals;
 #[cfg(test)]
 mod tests;
+mod waiting;

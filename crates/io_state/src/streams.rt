@@ -130,7 +130,7 @@ fn is_direction(direction: Direction, other: Option<Direction>) -> bool
 }
 
 /// The way in which the call of a code moves bytes; None if it moves none.
-fn direction_of(code: u8) -> Option<Direction>
+pub(crate) fn direction_of(code: u8) -> Option<Direction>
     ensures { result ≡ direction_of_lem code }
 {
     match io_call(code) {

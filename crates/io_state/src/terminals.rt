@@ -1,9 +1,11 @@
 //! The terminals of a machine.
 
-ghost use Rattle.std.specs.Prelude.{◌≡◌, ◌<◌, ◌≤◌, IfOk, length, replicate, slice_index_or, slice_set, take, vec_len};
+ghost use Rattle.std.specs.Prelude.{◌≡◌, ◌<◌, ◌≤◌, not, false, IfOk, length, map, replicate, slice_index_or, slice_set, take, vec_len};
+ghost use Rattle.std.specs.Option.{option_map_or};
 ghost use Rattle.os9_outer.specs.TerminalState.{terminal_states, boxed_terminal_state, ChangesOneTerminal};
 ghost use Rattle.io_model.specs.Line.{line_length, line_put};
-ghost use Rattle.io_model.specs.Terminal.{new_terminal, Arrives, Reads, Writes, IsSameCall, stored_bytes, stored_over};
+ghost use Rattle.io_model.specs.Terminal.{new_terminal, Arrives, Reads, Writes, IsSameCall, is_process, forgotten, released, stored_bytes, stored_over};
+ghost use Rattle.io_rules.specs.Waiting.{may_read_terminal};
 ghost use Rattle.io_state.specs.Terminals.{count_of};
 
 use device_table::devices::Devices;
@@ -59,6 +61,31 @@ impl Terminals {
         ensures { result ≡ (slice_index_or self.now n new_terminal).user }
     {
         self.terms[n as usize].last_user()
+    }
+
+    /// May a read of a terminal by a process go on: is a key there, and no other process's read
+    /// unfinished?
+    pub fn may_read(&self, n: u8, p: Pid) -> bool
+        requires { n < 4 }
+        ensures { result ≡ may_read_terminal p.0 (slice_index_or self.now n new_terminal) }
+    {
+        self.terms[n as usize].waiting() != 0 && !is_taken(p, self.terms[n as usize].reader())
+    }
+
+    /// Drops the unfinished read of a process on a terminal, if it has one there.
+    pub fn release(&mut self, n: u8, p: Pid)
+        requires { n < 4 }
+        ensures { self.new
+            ≡ slice_set self.old n (released p (slice_index_or self.old n new_terminal)) }
+    {
+        self.terms[n as usize].release(p);
+    }
+
+    /// Leaves no trace of a process on the terminals.
+    pub fn forget(&mut self, p: Pid)
+        ensures { self.new ≡ map (forgotten p) self.old }
+    {
+        forget(&mut self.terms, p);
     }
 
     /// An attempt of a read of a terminal. What it moves stands at the front of `into` then.
@@ -217,6 +244,25 @@ fn arrive_in_box(term: &mut Term, tick: u32, driver: &mut Box<dyn CharDriver>) -
         (boxed_terminal_state ⟦<dyn CharDriver as CharDriver>⟧ driver.new) result }
 {
     term.arrive(tick, &mut **driver)
+}
+
+/// Is a read of another process unfinished, where this one's is, if any?
+fn is_taken(p: Pid, reader: Option<Pid>) -> bool
+    ensures { result ≡ option_map_or (λ other. not (is_process p other)) reader false }
+{
+    match reader {
+        Some(other) => other != p,
+        None => false,
+    }
+}
+
+/// Leaves no trace of a process on these terminals.
+fn forget(terms: &mut [Term], p: Pid)
+    ensures { terms.new ≡ map (forgotten p) terms.old }
+{
+    for term in terms.iter_mut() {
+        term.forget(p);
+    }
 }
 
 /// Four terminals.

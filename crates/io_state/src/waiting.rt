@@ -1,0 +1,185 @@
+//! Calls that wait: when they may go on, what they wait for, and how they are broken off.
+
+ghost use Rattle.std.specs.Prelude.{◌≡◌, ◌<◌, ℕ, Some, IfSome, IsSome};
+ghost use Rattle.call_rules.specs.IoReady.{has_io};
+ghost use Rattle.io_model.specs.Path.{desc_of};
+ghost use Rattle.io_model.specs.Pipe.{IsPipe};
+ghost use Rattle.io_rules.specs.Io.{target_of};
+ghost use Rattle.io_rules.specs.Waiting.{can_move as can_move_lem, cause_by, count_by, interrupted_count, io_interrupted, io_may_go, io_waits_for, may_go_by, wait_target as wait_target_lem, would_be_alone as would_be_alone_lem};
+ghost use Rattle.io_state.specs.Sound.{IsThere};
+
+use crate::state::IoState;
+use crate::streams::direction_of;
+use call_rules::io_ready::IoReady;
+use io_model::kept::Kept;
+use io_model::path::Target;
+use io_model::pipe::{PIPE_BYTES, PipeId};
+use io_rules::io_call::Direction;
+use os9_base::calls::I_READ;
+use os9_base::limits::PROCESS_PLACES;
+use os9_base::registers::Pid;
+use os9_sched::Cause;
+
+impl IoState {
+    /// The processes whose calls that wait on a terminal or a pipe may go on.
+    pub fn ready_set(&self) -> IoReady
+        ensures { (p : ℕ) → p < 33 → has_io result p ≡ io_may_go self.now p }
+    {
+        let mut ready = IoReady::none();
+        for number in 0..PROCESS_PLACES {
+            if self.may_go(Pid(number)) {
+                ready.allow(Pid(number));
+            }
+        }
+        ready
+    }
+
+    /// May the call of a process that waits on a terminal or a pipe go on?
+    pub fn may_go(&self, p: Pid) -> bool
+        requires { p.0 < 33 }
+        ensures { result ≡ io_may_go self.now p.0 }
+    {
+        match self.calls[p.0 as usize] {
+            Some(call) => self.goes_on(p, call),
+            None => false,
+        }
+    }
+
+    /// May this call of a process go on?
+    fn goes_on(&self, p: Pid, call: Kept) -> bool
+        requires { IsSome (desc_of self.now.paths call.path.0) }
+        ensures { result ≡ may_go_by self.now p.0 call (target_of self.now call.path) }
+    {
+        match self.paths.desc(call.path).target {
+            Target::File(_, _) | Target::Folder(_, _) => false,
+            Target::Term(terminal) => self.terminals.may_read(terminal, p),
+            Target::Pipe(pipe) => {
+                self.can_move(pipe, direction_of(call.code)) || self.would_be_alone(p, call)
+            }
+        }
+    }
+
+    /// Has a pipe bytes to read, or room for more?
+    fn can_move(&self, pipe: u8, direction: Option<Direction>) -> bool
+        requires { IsPipe self.now.pipes pipe }
+        ensures { result ≡ can_move_lem self.now pipe direction }
+    {
+        let held = self.pipes.held(PipeId(pipe));
+        match direction {
+            None => false,
+            Some(Direction::Reading) => held != 0,
+            Some(Direction::Writing) => held < PIPE_BYTES as u16,
+        }
+    }
+
+    /// Would a process be alone in its wait in this call?
+    fn would_be_alone(&self, p: Pid, call: Kept) -> bool
+        ensures { result ≡ would_be_alone_lem self.now p.0 call }
+    {
+        match direction_of(call.code) {
+            Some(direction) => self.is_alone(p, call.path, direction),
+            None => false,
+        }
+    }
+
+    /// What a process waits for, if a call of it waits on a terminal or a pipe.
+    pub fn waits_for(&self, p: Pid) -> Option<Cause>
+        requires { p.0 < 33 }
+        ensures { result ≡ io_waits_for self.now p.0 }
+    {
+        match self.wait_target(p) {
+            Some(target) => cause(target),
+            None => None,
+        }
+    }
+
+    /// What the call of a process waits on, if one of it waits.
+    fn wait_target(&self, p: Pid) -> Option<Target>
+        requires { p.0 < 33 }
+        ensures target { result ≡ wait_target_lem self.now p.0 }
+        ensures there { IfSome result (IsThere self.now) }
+    {
+        match self.calls[p.0 as usize] {
+            Some(call) => Some(self.paths.desc(call.path).target),
+            None => None,
+        }
+    }
+
+    /// The call of a process that waits is broken off, if one does: it is kept no longer, nor is its
+    /// unfinished read. The answer is the count in Y: what a write or a line read of a pipe has moved;
+    /// None for any other call (System Programmer's Manual, F$Icpt).
+    pub fn interrupt(&mut self, p: Pid) -> Option<u16>
+        requires { p.0 < 33 }
+        ensures count { result ≡ interrupted_count self.old p.0 }
+        ensures io { self.new ≡ io_interrupted self.old p.0 }
+    {
+        let count = self.moved_count(p);
+        self.break_off(p);
+        count
+    }
+
+    /// The count that the call of a process answers where it is broken off.
+    fn moved_count(&self, p: Pid) -> Option<u16>
+        requires { p.0 < 33 }
+        ensures { result ≡ interrupted_count self.now p.0 }
+    {
+        match self.calls[p.0 as usize] {
+            Some(call) => moved_on(call, self.paths.desc(call.path).target),
+            None => None,
+        }
+    }
+
+    /// The call of a process is kept no longer, nor is its unfinished read.
+    fn break_off(&mut self, p: Pid)
+        requires { p.0 < 33 }
+        ensures { self.new ≡ io_interrupted self.old p.0 }
+    {
+        match self.wait_target(p) {
+            Some(target) => self.break_off_from(p, target),
+            None => self.calls[p.0 as usize] = None,
+        }
+    }
+
+    /// The same of a call that waits on this.
+    fn break_off_from(&mut self, p: Pid, target: Target)
+        requires process { p.0 < 33 }
+        requires on { wait_target_lem self.old p.0 ≡ Some target }
+        requires there { IsThere self.old target }
+        ensures { self.new ≡ io_interrupted self.old p.0 }
+    {
+        match target {
+            Target::Term(terminal) => {
+                self.terminals.release(terminal, p);
+                self.calls[p.0 as usize] = None;
+            }
+            _ => self.calls[p.0 as usize] = None,
+        }
+    }
+}
+
+/// The cause of a wait on this.
+fn cause(target: Target) -> Option<Cause>
+    ensures { result ≡ cause_by target }
+{
+    match target {
+        Target::File(_, _) | Target::Folder(_, _) => None,
+        Target::Term(terminal) => Some(Cause::Term(terminal)),
+        Target::Pipe(pipe) => Some(Cause::Pipe(pipe)),
+    }
+}
+
+/// The count that a call which waits on this answers where it is broken off.
+fn moved_on(call: Kept, target: Target) -> Option<u16>
+    ensures { result ≡ count_by call (Some target) }
+{
+    match target {
+        Target::Pipe(_) => {
+            if call.code == I_READ {
+                None
+            } else {
+                Some(call.moved)
+            }
+        }
+        Target::File(_, _) | Target::Folder(_, _) | Target::Term(_) => None,
+    }
+}
