@@ -1,0 +1,31 @@
+-- What an attempt of a call on a pipe leaves of the kernel's processes and of its state of input and output.
+use Rattle.std.specs.Prelude.{◌≡◌, ℕ, IfSome}
+use Rattle.os9_base.specs.declared.call.CallEnd.{CallEnd}
+use Rattle.os9_base.specs.declared.call.CallEnd.TheVariants.{Done, Error, Wait}
+use Rattle.os9_base.specs.declared.registers.Regs.{Regs}
+use Rattle.call_rules.specs.Inner.{Inner}
+use Rattle.io_rules.specs.Attempts.{io_after, result_of}
+use Rattle.io_rules.specs.Io.{Io, kept_at}
+use Rattle.io_rules.specs.Step.{IoEffect, IoEnd, answers, fails, keeps}
+use Rattle.io_state.specs.Sound.{IsNoRead}
+use Rattle.proc_state.specs.Tie.{Comes}
+use Rattle.proc_state.specs.declared.state.ProcState.{ProcState}
+
+-- an attempt of a process that comes to this effect ends so, and leaves the processes and the state so
+abbrev pub Leaves : IoEffect → Inner → ℕ → CallEnd → ProcState → Io → Type 0
+Leaves effect m p end processes new = Comes m p (result_of m p effect) end processes × (new ≡ io_after p effect)
+
+-- a call that ends in this way is told so; where it is done its process has these registers
+abbrev pub IsTold : IoEnd → Regs → CallEnd → Type 0
+IsTold (answers it) regs end = (end ≡ Done) × (it ≡ regs)
+IsTold (fails number) regs end = end ≡ Error number
+IsTold (keeps kept) regs end = end ≡ Wait
+
+-- an attempt of a process that comes to this effect is told so, and leaves the state so; its process has these
+-- registers where it is done
+abbrev pub Settles : IoEffect → Regs → ℕ → CallEnd → Io → Type 0
+Settles effect regs p end new = IsTold effect.end regs end × (new ≡ io_after p effect)
+
+-- no call of a process waits, or the one that does is no read of a terminal
+abbrev pub ReadsNoTerminal : Io → ℕ → Type 0
+ReadsNoTerminal io p = IfSome (kept_at io p) (IsNoRead io)
