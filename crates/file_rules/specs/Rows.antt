@@ -6,14 +6,16 @@ use Rattle.os9_outer.specs.declared.drive.DriveFault.TheVariants.{WriteFault}
 use Rattle.proc_rules.specs.Records.{zero_regs}
 use Rattle.rbf_model.specs.File.{DiskFile}
 use Rattle.rbf_model.specs.Volume.{DiskVolume}
+use Rattle.rbf_change.specs.Calls.{replaced, minute_of, day_of}
 use Rattle.rbf_change.specs.Names.{new_entry, new_listing}
-use Rattle.io_model.specs.Path.{slot_of, with_slot}
-use Rattle.io_rules.specs.Io.{first_io, with_paths}
+use Rattle.io_model.specs.Path.{slot_of, with_slot, paths_after_begin}
+use Rattle.io_model.specs.declared.path.Target.TheVariants.{File}
+use Rattle.io_rules.specs.Io.{first_io, new_desc, with_paths}
 use Rattle.io_rules.specs.Rows.{calling, opened_times}
-use Rattle.io_rules.specs.Step.{IoEnd}
+use Rattle.io_rules.specs.Step.{IoEnd, answers}
 use Rattle.file_rules.specs.Attempts.{file_step, files_after}
 use Rattle.file_rules.specs.Change.{Change, sets_attributes}
-use Rattle.file_rules.specs.Files.{Files, Asker, FilePlace, DriveState, new_drive, with_io}
+use Rattle.file_rules.specs.Files.{Files, Asker, FilePlace, DriveState, new_drive, with_io, with_path_table, with_volume}
 use Rattle.file_rules.specs.Processes.{first_files}
 use Rattle.file_rules.specs.Step.{Deed, leaves_so, as_io, changes, FileEffect, FileStep, deed_of, refuses_so}
 use Rattle.file_rules.specs.declared.path_call.PathCall.{PathCall}
@@ -206,3 +208,33 @@ creation = record { asker = creating_new; step = file_step Call.Create creating_
 -- the drives where D0 has failed once, with a write
 abbrev pub d0_failed : List DriveState
 d0_failed = record { faults = 1; last = Some WriteFault } ∷ replicate 3 new_drive
+
+-- ---- a file that is created
+
+-- what it is then, in sector 4, and the root with its entry
+abbrev pub file_new : DiskFile
+file_new = record {
+  attributes = 0;
+  owner = 0;
+  modified = minute_of noon;
+  links = 1;
+  created = day_of noon;
+  segments = [];
+  contents = [];
+}
+
+abbrev pub root_new : DiskFile
+root_new = record (root_with (new_entry (codes "New") 4)) { modified = minute_of noon }
+
+-- the volume E with it, and what the call leaves
+abbrev pub volume_new : DiskVolume
+volume_new = replaced (replaced volume_e 2 (Some root_new)) 4 (Some file_new)
+
+abbrev pub new_opened : FileEffect
+new_opened = record {
+  end = answers (record zero_regs { a = 3; x = 3 });
+  at = 0;
+  bytes = [];
+  files = with_volume (with_path_table (on volume_e)
+      (paths_after_begin (on volume_e).io.paths 2 (new_desc (File 0 4) 3))) 0 volume_new;
+}
