@@ -1,0 +1,33 @@
+-- Further attempts: a call that waits is attempted again with the registers that it was made with.
+use Rattle.std.specs.Prelude.{◌≡◌, ℕ, ◌<◌, ◌≤◌, Some, IfSome, length}
+use Rattle.os9_base.specs.declared.registers.Regs.{Regs}
+use Rattle.io_model.specs.Path.{slot_of}
+use Rattle.io_model.specs.declared.kept.Kept.{Kept}
+use Rattle.io_rules.specs.Codes.{io_call_of}
+use Rattle.io_rules.specs.Io.{Io, kept_at}
+use Rattle.io_rules.specs.Write.{error_line}
+use Rattle.io_rules.specs.declared.io_call.IoCall.{IoCall}
+use Rattle.io_rules.specs.declared.io_call.IoCall.TheVariants as Call
+use Rattle.io_rules.specs.declared.modes.TheConstants.{STANDARD_ERROR}
+
+-- the number of the path on which a call is made
+abbrev pub path_number : IoCall → Regs → ℕ
+path_number Call.PErr regs = STANDARD_ERROR
+path_number call regs = regs.a
+
+-- the count that is kept of a call is the one that it asks for; that of a line write is what its first attempt found
+abbrev pub KeepsCount : IoCall → Regs → ℕ → Type 0
+KeepsCount Call.WritLn regs count = count ≤ regs.y
+KeepsCount Call.PErr regs count = count ≡ length (error_line regs.b)
+KeepsCount call regs count = count ≡ regs.y
+
+-- what is kept of a call of a process is kept of this one
+pub record IsKept (call : IoCall) (regs : Regs) (io : Io) (p : ℕ) (kept : Kept) : Type 0 where
+  pub code : io_call_of kept.code ≡ Some call
+  pub path : slot_of io.paths p (path_number call regs) ≡ Some kept.path
+  pub count : KeepsCount call regs kept.count
+  pub unfinished : kept.moved < kept.count  -- it has a byte left to move
+
+-- where a call of the process waits, it is this one
+abbrev pub IsAgain : IoCall → Regs → Io → ℕ → Type 0
+IsAgain call regs io p = IfSome (kept_at io p) (IsKept call regs io p)
