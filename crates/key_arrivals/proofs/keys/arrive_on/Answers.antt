@@ -1,0 +1,19 @@
+use Rattle.std.proofs.Common.{Option, ap, rules}
+use Rattle.os9_base.specs.declared.registers.Pid.{Pid}
+use Rattle.io_rules.specs.Arrivals.{after_key_signal}
+use Rattle.io_rules.specs.Io.{terminal_at}
+use Rattle.key_arrivals.proofs.keys.arrive_on.Goals as goal
+
+pub returns-clause-arrived : goal.returns-clause-arrived
+returns-clause-arrived g c = λ ok m tied. (
+  after_key_signal m c.last_user.result c.arrive-answer.result.signal,
+  c.send_to_user.ensures.sent m tied,
+  record {
+    answer = c.arrive-answer.result;
+    terminal = terminal_at c.arrive-answer.new.self c.args.n;
+    memory = search rules;
+    device = c.arrive-answer.ensures.device;
+    io = c.arrive-answer.ensures.io;
+    signal = ap (λ (user : Option Pid). after_key_signal m user c.arrive-answer.result.signal) c.last_user.ensures;
+  },
+)

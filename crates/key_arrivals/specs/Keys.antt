@@ -1,0 +1,42 @@
+-- Keys that arrive, as the kernel's processes and its state of input and output take part in it.
+use Rattle.std.specs.Prelude.{◌≡◌, ℕ, ◌+◌, false, List}
+use Rattle.os9_outer.specs.TerminalState.{TerminalState, ChangesOneTerminal}
+use Rattle.call_rules.specs.Inner.{Inner}
+use Rattle.io_model.specs.Terminal.{Terminal, Arrives}
+use Rattle.io_model.specs.declared.terminal.Arrival.{Arrival}
+use Rattle.io_rules.specs.Arrivals.{Desk, Arrivals, ArrivesFrom}
+use Rattle.io_rules.specs.Io.{Io, terminal_at, with_terminal}
+use Rattle.proc_state.specs.Tie.{Represents}
+use Rattle.proc_state.specs.declared.state.ProcState.{ProcState}
+
+-- what keys that arrive may change
+abbrev pub desk : Inner → Io → List TerminalState → Desk
+desk inner io terms = record { inner = inner; io = io; terms = terms }
+
+-- the keys of all terminals arrived: from each state that the processes represented, to one that they represent then
+abbrev pub KeysArrive : ProcState → Io → List TerminalState → ProcState → Io → List TerminalState → Type 0
+KeysArrive s io terms new now after =
+    (m : Inner) → Represents s m →
+    (next : Inner) × Arrivals s.tick (desk m io terms) (desk next now after) × Represents new next
+
+-- those of so many terminals from this one on arrived
+abbrev pub KeysArriveFrom : ProcState → Io → List TerminalState → ProcState → Io → List TerminalState → ℕ → ℕ → Type 0
+KeysArriveFrom s io terms new now after n count =
+    (m : Inner) → Represents s m →
+    (next : Inner) × ArrivesFrom s.tick n count (desk m io terms) (desk next now after) × Represents new next
+
+-- a bell of this terminal found no memory, which ends its poll before its signal is sent
+pub record PollBreaks (tick n : ℕ) (old : Desk) (new : Io) (after : List TerminalState) : Type 0 where
+  pub answer : Arrival
+  pub terminal : Terminal
+  pub memory : answer.memory ≡ false
+  pub device : ChangesOneTerminal
+      (λ before now. Arrives tick (terminal_at old.io n) terminal before now answer) n old.terms after
+  pub io : new ≡ with_terminal old.io n terminal
+
+-- the keys of some terminals from this one on arrived, and then a poll broke off
+abbrev pub KeysBreak : ProcState → Io → List TerminalState → ProcState → Io → List TerminalState → ℕ → Type 0
+KeysBreak s io terms new now after n =
+    (m : Inner) → Represents s m →
+    (polled : ℕ) × (between : Desk) × ArrivesFrom s.tick n polled (desk m io terms) between
+    × Represents new between.inner × PollBreaks s.tick (n + polled) between now after

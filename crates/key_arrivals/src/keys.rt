@@ -1,0 +1,124 @@
+//! Keys that arrive.
+
+ghost use Rattle.std.specs.Prelude.{◌≡◌, ◌-◌, ◌<◌, ◌≤◌, IsErr, IsOk, vec_len};
+ghost use Rattle.os9_outer.specs.TerminalState.{terminal_states};
+ghost use Rattle.call_rules.specs.Inner.{Inner};
+ghost use Rattle.io_rules.specs.Arrivals.{ArrivesAt, after_key_signal, after_signal_to};
+ghost use Rattle.key_arrivals.specs.Keys.{KeysArrive, KeysArriveFrom, KeysBreak, PollBreaks, desk};
+ghost use Rattle.proc_state.specs.Tie.{Represents};
+
+use device_table::devices::Devices;
+use io_state::state::IoState;
+use os9_base::call::OutOfMemory;
+use os9_base::registers::Pid;
+use os9_outer::terminal::CharDriver;
+use proc_state::state::ProcState;
+
+/// The superuser, who may send a signal to every process.
+const SUPERUSER: u16 = 0;
+
+/// The keys that are due at the tick of these processes arrive, at TERM, T1, T2 and T3 in this order
+/// (Level Two manual, SCF). The signal of the first key of a terminal that sends one is sent to its
+/// last user, when its poll is over. A driver that fails to give a key ends the poll of its terminal
+/// and no other, and the key is not lost.
+///
+/// # Errors
+///
+/// `OutOfMemory` if a bell found no memory: the poll ends there, and no terminal behind it is polled.
+pub fn arrive_keys(
+    s: &mut ProcState,
+    io: &mut IoState,
+    devices: &mut Devices,
+) -> Result<(), OutOfMemory>
+    requires { vec_len devices.old.terms ≤ 4 }
+    ensures arrived { IsOk result → KeysArrive s.old io.old
+        (terminal_states ⟦<dyn CharDriver as CharDriver>⟧ devices.old.terms.items) s.new io.new
+        (terminal_states ⟦<dyn CharDriver as CharDriver>⟧ devices.new.terms.items) }
+    ensures broken { IsErr result → KeysBreak s.old io.old
+        (terminal_states ⟦<dyn CharDriver as CharDriver>⟧ devices.old.terms.items) s.new io.new
+        (terminal_states ⟦<dyn CharDriver as CharDriver>⟧ devices.new.terms.items) 0 }
+    ensures tick { s.new.tick ≡ s.old.tick }
+    ensures drives { devices.new.drives ≡ devices.old.drives }
+    ensures count { vec_len devices.new.terms ≡ vec_len devices.old.terms }
+{
+    arrive_from(s, io, 0, devices)
+}
+
+/// The same from a terminal on.
+fn arrive_from(
+    s: &mut ProcState,
+    io: &mut IoState,
+    n: u8,
+    devices: &mut Devices,
+) -> Result<(), OutOfMemory>
+    requires { vec_len devices.old.terms ≤ 4 }
+    ensures arrived { IsOk result → KeysArriveFrom s.old io.old
+        (terminal_states ⟦<dyn CharDriver as CharDriver>⟧ devices.old.terms.items) s.new io.new
+        (terminal_states ⟦<dyn CharDriver as CharDriver>⟧ devices.new.terms.items) n
+        (vec_len devices.old.terms - n) }
+    ensures broken { IsErr result → KeysBreak s.old io.old
+        (terminal_states ⟦<dyn CharDriver as CharDriver>⟧ devices.old.terms.items) s.new io.new
+        (terminal_states ⟦<dyn CharDriver as CharDriver>⟧ devices.new.terms.items) n }
+    ensures tick { s.new.tick ≡ s.old.tick }
+    ensures drives { devices.new.drives ≡ devices.old.drives }
+    ensures count { vec_len devices.new.terms ≡ vec_len devices.old.terms }
+{
+    if n as usize >= devices.terms.len() {
+        return Ok(());
+    }
+    match arrive_on(s, io, n, devices) {
+        Ok(()) => arrive_from(s, io, n + 1, devices),
+        Err(OutOfMemory) => Err(OutOfMemory),
+    }
+}
+
+/// The same at one terminal.
+fn arrive_on(
+    s: &mut ProcState,
+    io: &mut IoState,
+    n: u8,
+    devices: &mut Devices,
+) -> Result<(), OutOfMemory>
+    requires terminal { n < 4 }
+    requires there { n < vec_len devices.old.terms }
+    ensures arrived { IsOk result → (m : Inner) → Represents s.old m
+        → (next : Inner) × Represents s.new next × ArrivesAt s.old.tick n
+        (desk m io.old (terminal_states ⟦<dyn CharDriver as CharDriver>⟧ devices.old.terms.items))
+        (desk next io.new
+        (terminal_states ⟦<dyn CharDriver as CharDriver>⟧ devices.new.terms.items)) }
+    ensures broken { IsErr result → (m : Inner) → Represents s.old m
+        → Represents s.new m × PollBreaks s.old.tick n
+        (desk m io.old (terminal_states ⟦<dyn CharDriver as CharDriver>⟧ devices.old.terms.items))
+        io.new (terminal_states ⟦<dyn CharDriver as CharDriver>⟧ devices.new.terms.items) }
+    ensures tick { s.new.tick ≡ s.old.tick }
+    ensures drives { devices.new.drives ≡ devices.old.drives }
+    ensures count { vec_len devices.new.terms ≡ vec_len devices.old.terms }
+{
+    let answer = io.arrive(n, s.tick, devices);
+    if !answer.memory {
+        return Err(OutOfMemory);
+    }
+    send_to_user(s, io.last_user(n), answer.signal);
+    Ok(())
+}
+
+/// The signal of a terminal is sent to its last user, if there are both.
+fn send_to_user(s: &mut ProcState, user: Option<Pid>, signal: Option<u8>)
+    ensures sent { (m : Inner) → Represents s.old m
+        → Represents s.new (after_key_signal m user signal) }
+    ensures tick { s.new.tick ≡ s.old.tick }
+{
+    match (user, signal) {
+        (Some(user), Some(signal)) => send(s, user, signal),
+        (Some(_), None) | (None, _) => {}
+    }
+}
+
+/// A signal is sent to a process; it is dropped where that one has a signal pending.
+fn send(s: &mut ProcState, to: Pid, signal: u8)
+    ensures sent { (m : Inner) → Represents s.old m
+        → Represents s.new (after_signal_to m to signal) }
+    ensures tick { s.new.tick ≡ s.old.tick }
+{
+    let _sent = s.table.send(SUPERUSER, to, signal);
+}
