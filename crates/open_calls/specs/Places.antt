@@ -26,7 +26,7 @@ lead_to (Ok (Terminal terminal)) = to_terminal terminal
 lead_to (Ok Pipe) = to_pipe
 lead_to (Err number) = nowhere number
 
--- a terminal is one of four
+-- a device is one of four if it is a terminal, and so is a place
 abbrev pub IsDevice : Dev → Type 0
 IsDevice (Dev.Drive drive) = ⊤
 IsDevice (Dev.Term terminal) = terminal < 4
