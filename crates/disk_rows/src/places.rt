@@ -26,7 +26,10 @@ fn place_in_root(
     let mut volume = Volume::mount(alloc, d)?;
     let root = volume.root();
     let answer = find_place(&mut volume, d, root, name, user, false);
-    Ok(answer)
+    match answer {
+        Ok(found) => Ok(Ok(found.place)),
+        Err(error) => Ok(Err(error)),
+    }
 }
 
 // A mount makes two calls of the drive; the root has three entries, all used.

@@ -32,32 +32,32 @@ use Rattle.rbf_write.specs.Files.{IsLoaded}
 use Rattle.rbf_write.specs.Finished.{IsResized}
 use Rattle.rbf_write.proofs.Steps.{own_not_free}
 use Rattle.rbf_append.specs.Rooms.{place_clusters}
-use Rattle.rbf_append.specs.Appended.{Appending, MayAppend, AppendStops, AnswersAppend, sector_of_place}
-use Rattle.rbf_append.proofs.Appending.{positive, needs_few, unread, growth_answers, place_there, on_drive, unput, put_stored, unnamed, descriptor_on_drive, appended, descriptor_stored}
+use Rattle.rbf_append.specs.NewEntry.{EntryWrite, MayAppend, EntryStops, AnswersEntry, sector_of_place}
+use Rattle.rbf_append.proofs.Appending.{positive, few_runs, needs_few, growth_answers, place_there, on_drive, unput, put_stored, unnamed, descriptor_on_drive, appended, descriptor_stored}
 
-abbrev pub appending : ℕ → ℕ → List ℕ → TimePacket → Appending
+abbrev pub appending : ℕ → ℕ → List ℕ → TimePacket → EntryWrite
 appending d place entry now = record { directory = d; place = place; entry = entry; now = now }
 
 -- the drive's fault
-pub fault_answers : (v : DiskVolume) (dir : DiskFile) (a : Appending) (m0 m1 : Option (List ℕ)) (e : FileFault) → IsSome (file_fault {A = Unit {0}} (Err e)) → AppendStops v dir a m0 m1 → AnswersAppend v dir a m0 m1 (Err e)
+pub fault_answers : (v : DiskVolume) (dir : DiskFile) (a : EntryWrite) (m0 m1 : Option (List ℕ)) (e : FileFault) → IsSome (file_fault {A = Unit {0}} (Err e)) → EntryStops v dir a m0 m1 → AnswersEntry v dir a m0 m1 (Err e)
 fault_answers v dir a m0 m1 (Device x) is stops = stops
 fault_answers v dir a m0 m1 NoCluster is stops = absurd (both_ways false refl is)
 fault_answers v dir a m0 m1 TooManyRuns is stops = absurd (both_ways false refl is)
 
-module _ (m0 : Option (List ℕ)) (a : Appending) (may : MayAppend m0 a.directory a.place a.entry) (whole : length a.entry ≡ 32) where
+module _ (m0 : Option (List ℕ)) (a : EntryWrite) (may : MayAppend m0 a.directory a.place a.entry) (whole : length a.entry ≡ 32) where
   -- whichever volume the media represents
-  pub any_file : (m1 : Option (List ℕ)) (r : Result (Unit {0}) FileFault) → AnswersAppend may.content may.dir a m0 m1 r → (v : DiskVolume) (file : DiskFile) → Represents m0 v → v.files a.directory ≡ Some file → AnswersAppend v file a m0 m1 r
+  pub any_file : (m1 : Option (List ℕ)) (r : Result (Unit {0}) FileFault) → AnswersEntry may.content may.dir a m0 m1 r → (v : DiskVolume) (file : DiskFile) → Represents m0 v → v.files a.directory ≡ Some file → AnswersEntry v file a m0 m1 r
   any_file m1 r answer v file on is =
       let same : may.content ≡ v = same_content m0 may.content v may.on on in
       let one : may.dir ≡ file = same_Some may.dir file (sym may.is ∙ ap (λ (w : DiskVolume). w.files a.directory) same ∙ is) in
-      subst (λ f. AnswersAppend v f a m0 m1 r) one (subst (λ x. AnswersAppend x may.dir a m0 m1 r) same answer)
-
-  pub load_answers : (m1 : Option (List ℕ)) (e : FileFault) → IsSome (file_fault {A = Unit {0}} (Err e)) → m1 ≡ m0 → (v : DiskVolume) (file : DiskFile) → Represents m0 v → v.files a.directory ≡ Some file → AnswersAppend v file a m0 m1 (Err e)
-  load_answers m1 e device same = any_file m1 (Err e) (fault_answers may.content may.dir a m0 m1 e device (unread m0 a may whole m1 same))
+      subst (λ f. AnswersEntry v f a m0 m1 r) one (subst (λ x. AnswersEntry x may.dir a m0 m1 r) same answer)
 
   module _ (m1 : Option (List ℕ)) (same : m1 ≡ m0) (loaded : Loaded) (is_loaded : IsLoaded m0 a.directory loaded) where
     says : IsFdOf may.dir loaded.file
     says = is_loaded.says may.content may.dir may.on may.is
+
+    pub few_listed : length loaded.file.segs ≤ 48
+    few_listed = subst (λ xs. length xs ≤ 48) (sym says.segments_are) (few_runs m0 a may whole)
 
     pub apart_all : (v : DiskVolume) → Represents m1 v → (c : ℕ) → uses (cluster_size v) loaded.file.segs c ≡ true → is_free_in v c ≡ false
     apart_all v on c used =
@@ -90,28 +90,35 @@ module _ (m0 : Option (List ℕ)) (a : Appending) (may : MayAppend m0 a.director
           (subst (λ xs. Grows may.content count xs m1 mid r) says.segments_are (grows may.content (record { image = may.on.image; is = same ∙ may.on.is; vol = may.on.vol })))
 
       module _ (mid : Option (List ℕ)) (e : FileFault) (grows : (v : DiskVolume) → Represents m1 v → Grows v count loaded.file.segs m1 mid (Err e)) where
-        both : (IsSome (file_fault {A = Unit {0}} (Err e))) × AnswersAppend may.content may.dir a m0 mid (Err e)
+        both : (IsSome (file_fault {A = Unit {0}} (Err e))) × AnswersEntry may.content may.dir a m0 mid (Err e)
         both = growth_answers m0 a may whole count counted mid e (grows_here mid (Err e) grows)
 
         pub grow_device : IsSome (file_fault {A = Unit {0}} (Err e))
         grow_device = both.0
 
-        pub grow_answers : (v : DiskVolume) (file : DiskFile) → Represents m0 v → v.files a.directory ≡ Some file → AnswersAppend v file a m0 mid (Err e)
+        pub grow_answers : (v : DiskVolume) (file : DiskFile) → Represents m0 v → v.files a.directory ≡ Some file → AnswersEntry v file a m0 mid (Err e)
         grow_answers = any_file mid (Err e) both.1
 
       -- the calls of the drive
-      pub calls_grow : (f : Option ℕ) (s t u : DriveCounts) → MovesCounts None 1 s t → MovesCounts f count t u → MovesCounts f 5 s u
-      calls_grow f s t u one other = let few = count_few in counts_most f (1 + count) 5 s u (omega arith) (counts_then f 1 count s t u one other)
+      count_is : (v : DiskVolume) (file : DiskFile) → Represents m0 v → v.files a.directory ≡ Some file → count ≡ place_clusters v file a.place
+      count_is v file on is =
+          let one_volume : may.content ≡ v = same_content m0 may.content v may.on on in
+          let one : may.dir ≡ file = same_Some may.dir file (sym may.is ∙ ap (λ (w : DiskVolume). w.files a.directory) one_volume ∙ is) in
+          subst (λ f. count ≡ place_clusters v f a.place) one (subst (λ x. count ≡ place_clusters x may.dir a.place) one_volume counted)
 
-      pub calls_put : (f : Option ℕ) (s t u w : DriveCounts) → MovesCounts None 1 s t → MovesCounts None count t u → MovesCounts f 2 u w → MovesCounts f 5 s w
-      calls_put f s t u w one other third =
-          let few = count_few in
-          counts_most f (1 + count + 2) 5 s w (omega arith) (counts_then f (1 + count) 2 s u w (counts_then None 1 count s t u one other) third)
+      module _ (v : DiskVolume) (file : DiskFile) (on : Represents m0 v) (is : v.files a.directory ≡ Some file) (f : Option ℕ) where
+        pub calls_grow : (t u : DriveCounts) → MovesCounts f count t u → MovesCounts f (3 + place_clusters v file a.place) t u
+        calls_grow t u other = let known = count_is v file on is in counts_most f count (3 + place_clusters v file a.place) t u (omega arith) other
 
-      pub calls_store : (f : Option ℕ) (s t u w x : DriveCounts) → MovesCounts None 1 s t → MovesCounts None count t u → MovesCounts None 2 u w → MovesCounts f 1 w x → MovesCounts f 5 s x
-      calls_store f s t u w x one other third last =
-          let few = count_few in
-          counts_most f (1 + count + 2 + 1) 5 s x (omega arith) (counts_then f (1 + count + 2) 1 s w x (counts_then None (1 + count) 2 s u w (counts_then None 1 count s t u one other) third) last)
+        pub calls_put : (t u w : DriveCounts) → MovesCounts None count t u → MovesCounts f 2 u w → MovesCounts f (3 + place_clusters v file a.place) t w
+        calls_put t u w other third =
+            let known = count_is v file on is in
+            counts_most f (count + 2) (3 + place_clusters v file a.place) t w (omega arith) (counts_then f count 2 t u w other third)
+
+        pub calls_store : (t u w x : DriveCounts) → MovesCounts None count t u → MovesCounts None 2 u w → MovesCounts f 1 w x → MovesCounts f (3 + place_clusters v file a.place) t x
+        calls_store t u w x other third last =
+            let known = count_is v file on is in
+            counts_most f (count + 2 + 1) (3 + place_clusters v file a.place) t x (omega arith) (counts_then f (count + 2) 1 t w x (counts_then None count 2 t u w other third) last)
 
       module _ (mid : Option (List ℕ)) (longer : List (ℕ × ℕ)) (grows : (v : DiskVolume) → Represents m1 v → Grows v count loaded.file.segs m1 mid (Ok longer)) where
         grown : IsGrown may.content count m0 mid may.dir.segments longer
@@ -140,7 +147,7 @@ module _ (m0 : Option (List ℕ)) (a : Appending) (may : MayAppend m0 a.director
           pub put_on_drive : lsn < drive_sectors mid
           put_on_drive = subst (λ s. s < drive_sectors mid) (sym lsn_is) (on_drive m0 a may whole count counted mid longer grown)
 
-          pub put_answers : (m2 : Option (List ℕ)) (e : FileFault) → IsSome (file_fault {A = Unit {0}} (Err e)) → m2 ≡ mid → (v : DiskVolume) (file : DiskFile) → Represents m0 v → v.files a.directory ≡ Some file → AnswersAppend v file a m0 m2 (Err e)
+          pub put_answers : (m2 : Option (List ℕ)) (e : FileFault) → IsSome (file_fault {A = Unit {0}} (Err e)) → m2 ≡ mid → (v : DiskVolume) (file : DiskFile) → Represents m0 v → v.files a.directory ≡ Some file → AnswersEntry v file a m0 m2 (Err e)
           put_answers m2 e device still =
               any_file m2 (Err e) (fault_answers may.content may.dir a m0 m2 e device (unput m0 a may whole count counted mid longer grown m2 still))
 
@@ -154,12 +161,12 @@ module _ (m0 : Option (List ℕ)) (a : Appending) (may : MayAppend m0 a.director
             pub store_on_drive : a.directory < drive_sectors m2
             store_on_drive = descriptor_on_drive m0 a may whole count counted mid longer grown m2 written_at
 
-            pub store_answers : (m3 : Option (List ℕ)) (e : FileFault) → IsSome (file_fault {A = Unit {0}} (Err e)) → m3 ≡ m2 → (v : DiskVolume) (file : DiskFile) → Represents m0 v → v.files a.directory ≡ Some file → AnswersAppend v file a m0 m3 (Err e)
+            pub store_answers : (m3 : Option (List ℕ)) (e : FileFault) → IsSome (file_fault {A = Unit {0}} (Err e)) → m3 ≡ m2 → (v : DiskVolume) (file : DiskFile) → Represents m0 v → v.files a.directory ≡ Some file → AnswersEntry v file a m0 m3 (Err e)
             store_answers m3 e device still =
                 any_file m3 (Err e) (fault_answers may.content may.dir a m0 m3 e device (unnamed m0 a may whole count counted mid longer grown m2 written_at m3 still))
 
             module _ (bytes : List ℕ) (resized : IsResized loaded longer (32 * (a.place + 1)) a.now bytes) (m3 : Option (List ℕ)) (stored : m3 ≡ with_sector m2 a.directory bytes) where
-              pub done_answers : (v : DiskVolume) (file : DiskFile) → Represents m0 v → v.files a.directory ≡ Some file → AnswersAppend v file a m0 m3 (Ok tt)
+              pub done_answers : (v : DiskVolume) (file : DiskFile) → Represents m0 v → v.files a.directory ≡ Some file → AnswersEntry v file a m0 m3 (Ok tt)
               done_answers = any_file m3 (Ok tt) (appended m0 a may whole count counted mid longer grown m2 written_at loaded says is_loaded.bytes_are bytes resized m3 stored)
 
               pub done_mounted : (old new : Volume) → kept new ≡ kept old → IsMounted old m2 → IsMounted new m3

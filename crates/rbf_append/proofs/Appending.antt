@@ -1,9 +1,8 @@
 -- An entry that is appended to a directory: what the media represents at each answer.
 use Rattle.rbf_model.specs.Disk.{disk_of}
-use Rattle.std.proofs.Common.{◌≡◌, ◌≢◌, ℕ, ◌+◌, ◌-◌, ◌*◌, ◌/◌, ◌%◌, ◌<◌, ◌≤◌, Bool, true, false, not, ◌==◌, ◌&&◌, ◌||◌, Option, Some, IsSome, Err, List, [], ◌∷◌, ◌++◌, length, take, drop, get_or, inl, inr, refl, sym, ap, ◌∙◌, subst, ⊎_elim, arith, eq-eqb, eqb-true, le-leb, length-append, length-take, append_assoc}
+use Rattle.std.proofs.Common.{◌≡◌, ◌≢◌, ℕ, ◌+◌, ◌-◌, ◌*◌, ◌/◌, ◌%◌, ◌<◌, ◌≤◌, Bool, true, false, ◌==◌, ◌||◌, Option, Some, IsSome, Err, List, [], ◌∷◌, ◌++◌, length, take, drop, get_or, inl, inr, refl, sym, ap, ◌∙◌, subst, ⊎_elim, arith, eq-eqb, eqb-true, le-leb, length-append, length-take, append_assoc}
 use Rattle.std.specs.Prelude.{flat_map, replicate}
 use Rattle.std.specs.Int.{bit_at}
-use Rattle.std.specs.List.{range_with_len}
 use Rattle.std.proofs.Math.Nat.{lt-div-mul-add, mul-le-mul_left}
 use Rattle.std.proofs.lemmas.Bool.{or_left, or_right, both_ways, false_from_ne_true, cond-false, cases_lt}
 use Rattle.std.proofs.lemmas.List.{append-nil, take_all, drop_all, take-append-le, take-take, get_or_append_left, get_or-append_right}
@@ -14,7 +13,7 @@ use Rattle.rbf_model.specs.File.{DiskFile, file_from, file_at, is_directory, has
 use Rattle.rbf_model.specs.Geometry.{Geometry, image_geometry, sector, map_sectors}
 use Rattle.rbf_model.specs.Laws.{IsMapSector, IsFileSector, IsUnseen, idle, past_size, IsReady, AppendsEntry, DirectoryEntry}
 use Rattle.rbf_model.specs.Segments.{sectors_of, has}
-use Rattle.rbf_model.specs.Space.{own_sectors, has_cluster, is_marked, cluster_count}
+use Rattle.rbf_model.specs.Space.{own_sectors, has_cluster}
 use Rattle.rbf_model.specs.Volume.{DiskVolume, Vol, is_free}
 use Rattle.rbf_model.specs.Writes.{put, put_at, put_sector, with_file, with_lost}
 use Rattle.rbf_model.proofs.Bytes.{put_here, put_beside, has_place}
@@ -26,7 +25,7 @@ use Rattle.rbf_model.proofs.Owners.{cluster_positive, own_after, own_below, owns
 use Rattle.rbf_model.proofs.Pieces.{length-put_at, entry_put}
 use Rattle.rbf_model.proofs.Segments.{has_cases, has_range}
 use Rattle.rbf_model.proofs.Space.{cluster_from_owns}
-use Rattle.rbf_change.specs.Calls.{shape, cluster_size, is_free_in, free_total, replaced, minute_of, written_file}
+use Rattle.rbf_change.specs.Calls.{shape, cluster_size, is_free_in, replaced, minute_of, written_file}
 use Rattle.rbf_change.specs.Contents.{sector_count, extended, written}
 use Rattle.rbf_change.specs.Faults.{MayLose}
 use Rattle.rbf_change.specs.Growth.{with_clusters, clusters_needed, Gains, IsChoice}
@@ -50,10 +49,10 @@ use Rattle.rbf_write.specs.declared.loaded.Loaded.{Loaded}
 use Rattle.rbf_write.specs.Finished.{IsResized}
 use Rattle.rbf_write.proofs.Gained.{cluster_sectors, sectors_with, descriptor_apart, after_map}
 use Rattle.rbf_write.proofs.Laid.{same_mark}
-use Rattle.rbf_write.proofs.Steps.{few_segments, own_not_free}
+use Rattle.rbf_write.proofs.Steps.{few_segments}
 use Rattle.rbf_append.specs.Rooms.{place_clusters}
-use Rattle.rbf_append.specs.Appended.{Appending, MayAppend, WritesEntry, IsAppended, AppendStops, AnswersAppend, sector_of_place}
-use Rattle.rbf_append.proofs.Choice.{fits_with, one_needed, choice_exists, one_passes}
+use Rattle.rbf_append.specs.NewEntry.{EntryWrite, MayAppend, WritesEntry, IsEntryWritten, EntryStops, AnswersEntry, sector_of_place}
+use Rattle.rbf_append.proofs.Choice.{fits_with, one_needed}
 use Rattle.rbf_append.proofs.Longer.{in_taken, file_same, ready_same, describes, lost_then, with_longer}
 
 -- bytes that are written at the end
@@ -74,7 +73,7 @@ front_of_put old bytes at fits =
     ∙ take-append-le at (take at old) (bytes ++ drop (at + length bytes) old) (omega (arith, length-take at old))
     ∙ take-take at at old (omega arith)
 
-module _ (m0 : Option (List ℕ)) (a : Appending) (may : MayAppend m0 a.directory a.place a.entry) (whole : length a.entry ≡ 32) where
+module _ (m0 : Option (List ℕ)) (a : EntryWrite) (may : MayAppend m0 a.directory a.place a.entry) (whole : length a.entry ≡ 32) where
   abbrev v : DiskVolume
   v = may.content
 
@@ -111,7 +110,7 @@ module _ (m0 : Option (List ℕ)) (a : Appending) (may : MayAppend m0 a.director
   room : length dir.contents ≤ 256 * length (sectors_of dir.segments)
   room = room_for m0 v may.on d dir may.is
 
-  few_runs : length dir.segments ≤ 48
+  pub few_runs : length dir.segments ≤ 48
   few_runs = subst (λ f. length f.segments ≤ 48) (sym (may.on.vol.sound.shows.shown d dir may.is)) (few_segments (sector image0 d))
 
   pub needs_few : place_clusters v dir place ≤ 1
@@ -125,39 +124,6 @@ module _ (m0 : Option (List ℕ)) (a : Appending) (may : MayAppend m0 a.director
   choice_of : (count : ℕ) (taken : List ℕ) → count ≡ place_clusters v dir place → IsChosen k count (is_free_in v) dir.segments taken → IsChoice k (is_free_in v) dir.segments (length (written dir.contents (32 * place) entry)) taken
   choice_of count taken counted chosen = record { enough = chosen.counted ∙ counted ∙ ap (clusters_needed k dir.segments) (sym size_then); gained = chosen.gained; fits = chosen.fits }
 
-  free_some : 1 ≤ place_clusters v dir place → 1 ≤ free_total v
-  free_some one = let enough = may.room.enough in omega arith
-
-  some_choice : (taken : List ℕ) × IsChoice k (is_free_in v) dir.segments (length (written dir.contents (32 * place) entry)) taken
-  some_choice =
-      let enough = may.room.enough in
-      subst (λ size. (taken : List ℕ) × IsChoice k (is_free_in v) dir.segments size taken) (sym size_then)
-      (choice_exists k (is_free_in v) dir.segments (32 * (place + 1)) needs_few few_runs (λ one. may.room.few one) (own_not_free m0 v may.on d dir may.is)
-      (λ one. one_passes (is_free_in v) (range_with_len 0 (cluster_count (shape v))) (free_some one)))
-
-  -- a fault came before any cluster was taken
-  pub unread : (m1 : Option (List ℕ)) → m1 ≡ m0 → AppendStops v dir a m0 m1
-  unread m1 same =
-      let c = some_choice in
-      record {
-        image = image0;
-        now = image0;
-        was = may.on.is;
-        is = same ∙ may.on.is;
-        taken = c.0;
-        choice = c.1;
-        left = v;
-        vol = may.on.vol;
-        lose = record { same = refl; still = λ x h. h; only = λ x h. or_left (v.lost x) (has c.0 x) h };
-        others = λ s none differ. refl;
-        order = inl refl;
-        end = λ x h. sym (and_true (is_marked (sector image0) x));
-      }
-    where
-      and_true : (t : Bool) → (t && not false) ≡ t
-      and_true true = refl
-      and_true false = refl
-
   -- a free cluster has no sector of the map
   free_no_map : (s : ℕ) → is_free_in v (s / k) ≡ true → ¬ IsMapSector g0 s
   free_no_map s free map =
@@ -167,6 +133,22 @@ module _ (m0 : Option (List ℕ)) (a : Appending) (may : MayAppend m0 a.director
       both_ways (has_cluster g0 g0.root r.0 (s / k)) (unused g0.root r.0 r.1)
       (subst (λ m. has_cluster g0 g0.root r.0 (s / m) ≡ true) (sym (ap (λ (h : Geometry). h.cluster) shape_is))
       (cluster_from_owns g0 g0.root r.0 s (owns_system g0 r.0 s (has_range 0 (1 + map_sectors g0) s (omega arith) (omega arith)))))
+
+  -- the new file is in clusters that are lost
+  its_lost : (s : ℕ) → has (own_sectors n (file_at (sector image0) n)) s ≡ true → v.lost (s / g0.cluster) ≡ true
+  its_lost s h = may.ready.clusters (s / g0.cluster) (cluster_from_owns g0 n (file_at (sector image0) n) s (owns_own g0 n (file_at (sector image0) n) s h))
+
+  lost_no_map : (s : ℕ) → v.lost (s / g0.cluster) ≡ true → ¬ IsMapSector g0 s
+  lost_no_map s gone map =
+      let within = map.within in
+      let r = root_file g0 (sector image0) v may.on.vol.sound in
+      let known = (may.on.vol.sound.mapped.lost_are (s / g0.cluster)).0 gone in
+      both_ways (has_cluster g0 g0.root r.0 (s / g0.cluster)) (known.unused g0.root r.0 r.1)
+      (cluster_from_owns g0 g0.root r.0 s (owns_system g0 r.0 s (has_range 0 (1 + map_sectors g0) s (omega arith) (omega arith))))
+
+  -- it is as it was where only the map has changed
+  named_still : (image1 : List ℕ) → ((s : ℕ) → ¬ IsMapSector g0 s → sector image1 s ≡ sector image0 s) → file_at (sector image1) n ≡ file_at (sector image0) n
+  named_still image1 others = file_same (sector image0) (sector image1) n (λ s h. others s (lost_no_map s (its_lost s h)))
 
   module _ (count : ℕ) (counted : count ≡ place_clusters v dir place) where
     module _ (taken : List ℕ) (chosen : IsChosen k count (is_free_in v) dir.segments taken) where
@@ -197,7 +179,7 @@ module _ (m0 : Option (List ℕ)) (a : Appending) (may : MayAppend m0 a.director
           (has_cases (sectors_of dir.segments) (cluster_sectors k taken) at (subst (λ xs. has xs at ≡ true) (sectors_with k dir.segments taken) its_sector))
 
     -- a fault while it was taken
-    pub growth_stops : (mid : Option (List ℕ)) → GrowthEnds v count m0 mid dir.segments → AppendStops v dir a m0 mid
+    pub growth_stops : (mid : Option (List ℕ)) → GrowthEnds v count m0 mid dir.segments → EntryStops v dir a m0 mid
     growth_stops mid ends = record {
       image = ends.image;
       now = ends.now;
@@ -210,11 +192,15 @@ module _ (m0 : Option (List ℕ)) (a : Appending) (may : MayAppend m0 a.director
       lose = ends.lose;
       others = λ s none differ. ends.changes.others s none;
       order = inl (ends.changes.others (sector_of_place (with_clusters k dir.segments ends.taken) place) (subst (λ i. ¬ IsMapSector (image_geometry i) (sector_of_place (with_clusters k dir.segments ends.taken) place)) (same_Some image0 ends.image (sym may.on.is ∙ ends.was)) (at_no_map ends.taken ends.chosen)));
+      named =
+          let same : image0 ≡ ends.image = same_Some image0 ends.image (sym may.on.is ∙ ends.was) in
+          subst (λ i. file_at (sector ends.now) n ≡ file_at (sector i) n) same
+          (named_still ends.now (λ s none. subst (λ i. sector ends.now s ≡ sector i s) (sym same) (ends.changes.others s (subst (λ i. ¬ IsMapSector (image_geometry i) s) same none))));
       end = ends.changes.end;
     }
 
     -- the room was there
-    pub growth_answers : (mid : Option (List ℕ)) (fault : FileFault) → Grows v count dir.segments m0 mid (Err fault) → (IsSome (file_fault {A = Unit {0}} (Err fault))) × AnswersAppend v dir a m0 mid (Err fault)
+    pub growth_answers : (mid : Option (List ℕ)) (fault : FileFault) → Grows v count dir.segments m0 mid (Err fault) → (IsSome (file_fault {A = Unit {0}} (Err fault))) × AnswersEntry v dir a m0 mid (Err fault)
     growth_answers mid (Device x) grows = (refl, growth_stops mid grows.ends)
     growth_answers mid NoCluster grows =
         let enough = may.room.enough in
@@ -385,7 +371,7 @@ module _ (m0 : Option (List ℕ)) (a : Appending) (may : MayAppend m0 a.director
       lose = record { same = refl; still = λ c h. or_left (v.lost c) (has taken c) h; only = λ c h. h }
 
       -- a fault came before the entry's sector was written
-      pub unput : (now : Option (List ℕ)) → now ≡ mid → AppendStops v dir a m0 now
+      pub unput : (now : Option (List ℕ)) → now ≡ mid → EntryStops v dir a m0 now
       unput now same = record {
         image = image0;
         now = image1;
@@ -398,6 +384,7 @@ module _ (m0 : Option (List ℕ)) (a : Appending) (may : MayAppend m0 a.director
         lose = lose;
         others = λ s none differ. changes.others s none;
         order = inr taken_lost;
+        named = named_still image1 (λ s none. changes.others s none);
         end = end1;
       }
 
@@ -419,23 +406,6 @@ module _ (m0 : Option (List ℕ)) (a : Appending) (may : MayAppend m0 a.director
           below = below;
           is = put_is ∙ ap (λ m. with_sector mid lsn (put_at (sector_at m lsn) (32 * (place % 8)) entry)) grown.is;
           vol = vol2;
-        }
-
-        -- a fault came before the descriptor was written
-        pub unnamed : (now : Option (List ℕ)) → now ≡ mid2 → AppendStops v dir a m0 now
-        unnamed now same = record {
-          image = image0;
-          now = image2;
-          was = may.on.is;
-          is = same ∙ mid2_is;
-          taken = taken;
-          choice = choice_of count taken counted grown.chosen;
-          left = u;
-          vol = vol2;
-          lose = lose;
-          others = λ s none differ. beside2 s differ ∙ changes.others s none;
-          order = inr taken_lost;
-          end = end2;
         }
 
         abbrev g2 : Geometry
@@ -462,17 +432,6 @@ module _ (m0 : Option (List ℕ)) (a : Appending) (may : MayAppend m0 a.director
             let free = has_free k (is_free_in v) dir.segments taken c grown.chosen.gained h in
             (free_parts g0 (sector image0) v may.on.vol.sound c (subst (λ s. is_free s v c ≡ true) shape_is free)).1
 
-        its_lost : (s : ℕ) → has (own_sectors n (file_at (sector image0) n)) s ≡ true → v.lost (s / g0.cluster) ≡ true
-        its_lost s h = may.ready.clusters (s / g0.cluster) (cluster_from_owns g0 n (file_at (sector image0) n) s (owns_own g0 n (file_at (sector image0) n) s h))
-
-        lost_no_map : (s : ℕ) → v.lost (s / g0.cluster) ≡ true → ¬ IsMapSector g0 s
-        lost_no_map s gone map =
-            let within = map.within in
-            let r = root_file g0 (sector image0) v may.on.vol.sound in
-            let known = (may.on.vol.sound.mapped.lost_are (s / g0.cluster)).0 gone in
-            both_ways (has_cluster g0 g0.root r.0 (s / g0.cluster)) (known.unused g0.root r.0 r.1)
-            (cluster_from_owns g0 g0.root r.0 s (owns_system g0 r.0 s (has_range 0 (1 + map_sectors g0) s (omega arith) (omega arith))))
-
         lost_apart_lsn : v.lost (lsn / g0.cluster) ≡ true → ⊥
         lost_apart_lsn gone = ⊎_elim
             (λ low.
@@ -488,6 +447,24 @@ module _ (m0 : Option (List ℕ)) (a : Appending) (may : MayAppend m0 a.director
         file_stays s h =
             let gone = its_lost s h in
             beside2 s (λ same. lost_apart_lsn (subst (λ t. v.lost (t / g0.cluster) ≡ true) same gone)) ∙ changes.others s (lost_no_map s gone)
+
+        -- a fault came before the descriptor was written
+        pub unnamed : (now : Option (List ℕ)) → now ≡ mid2 → EntryStops v dir a m0 now
+        unnamed now same = record {
+          image = image0;
+          now = image2;
+          was = may.on.is;
+          is = same ∙ mid2_is;
+          taken = taken;
+          choice = choice_of count taken counted grown.chosen;
+          left = u;
+          vol = vol2;
+          lose = lose;
+          others = λ s none differ. beside2 s differ ∙ changes.others s none;
+          order = inr taken_lost;
+          named = file_same (sector image0) (sector image2) n file_stays;
+          end = end2;
+        }
 
         -- the descriptor is written
         module _ (loaded : Loaded) (says : IsFdOf dir loaded.file) (descriptor : loaded.descriptor ≡ sector_at m0 d) (bytes : List ℕ) (resized : IsResized loaded longer (32 * (place + 1)) a.now bytes) where
@@ -638,7 +615,7 @@ module _ (m0 : Option (List ℕ)) (a : Appending) (may : MayAppend m0 a.director
                 same_mark (sector image3) (sector image2) c (beside3 (1 + c / 8 / 256) (λ e. absurd (omega arith))) ∙ end2 c behind;
           }
 
-          pub appended : (now : Option (List ℕ)) → now ≡ with_sector mid2 d bytes → IsAppended v a m0 now
+          pub appended : (now : Option (List ℕ)) → now ≡ with_sector mid2 d bytes → IsEntryWritten v a m0 now
           unfolding entry_put_in
           appended now is = record {
             image = image0;

@@ -1,5 +1,10 @@
 pub mod Choice
 pub mod Needs
 pub mod Longer
+pub mod Placing
 pub mod Appending
 pub mod Answered
+pub mod Filling
+pub mod Entered
+pub mod Sectors
+pub mod Counted

@@ -1,7 +1,7 @@
 -- A new file that a user enters into a directory by a name: what such a call answers, and what it leaves.
-use Rattle.std.specs.Prelude.{◌≡◌, ◌≢◌, ℕ, ◌*◌, ◌%◌, Bool, true, false, Option, Some, None, List, ◌∷◌, length, take, Result, Ok, Err}
+use Rattle.std.specs.Prelude.{◌≡◌, ◌≢◌, ◌⊎◌, ℕ, ◌+◌, ◌*◌, ◌%◌, ◌||◌, nat_lt, Bool, true, false, Option, Some, None, List, ◌∷◌, length, take, Result, Ok, Err, if◌then◌else◌}
 use Rattle.rbf_model.specs.Disk.{image_disk}
-use Rattle.rbf_model.specs.File.{DiskFile}
+use Rattle.rbf_model.specs.File.{DiskFile, file_at}
 use Rattle.rbf_model.specs.Geometry.{image_geometry, sector}
 use Rattle.rbf_model.specs.Laws.{IsMapSector, IsReady}
 use Rattle.rbf_model.specs.Segments.{has, sectors_of}
@@ -12,13 +12,13 @@ use Rattle.rbf_change.specs.Calls.{shape, cluster_size, free_total, is_free_in}
 use Rattle.rbf_change.specs.Contents.{sector_count}
 use Rattle.rbf_change.specs.Faults.{EntryEnds}
 use Rattle.rbf_change.specs.Names.{new_entry, entry_place, is_dots}
-use Rattle.rbf_change.specs.NewFiles.{Plan, Enters, Refusal, bad_path, not_allowed, exists, no_cluster, too_many_runs, entry_refusal}
+use Rattle.rbf_change.specs.NewFiles.{Plan, Enters, Refusal, bad_path, not_allowed, exists, no_cluster, too_many_runs, entry_refusal, entry_clusters}
 use Rattle.rbf_change.specs.Parts.{FileIsMade}
 use Rattle.rbf_change.specs.Tidy.{IsNewList, KeepsListEnd, KeepsMapEnd}
 use Rattle.rbf_access.specs.declared.faults.FileFault.TheVariants.{Device, NoCluster, TooManyRuns}
 use Rattle.rbf_walk.specs.declared.error.DirError.{DirError}
 use Rattle.rbf_walk.specs.declared.error.DirError.TheVariants.{NotAllowed, BadPath, NotFound, Exists, File}
-use Rattle.rbf_append.specs.Appended.{sector_of_place, IsAfterMarks}
+use Rattle.rbf_append.specs.NewEntry.{sector_of_place, IsAfterMarks}
 
 -- the sectors of a new file n that are written: its descriptor's, and those of its contents
 abbrev pub written_sectors : ℕ → DiskFile → List ℕ
@@ -77,6 +77,12 @@ pub record IsEnteredOn (v : DiskVolume) (dir : DiskFile) (e : Entering) (old new
   pub kept_list : KeepsListEnd (sector image e.directory) (sector now e.directory)
   pub end : KeepsMapEnd image now (λ _. false)
 
+-- a new file n stands on the media, and all clusters that it and its directory take were marked before: they are lost
+-- in the volume that is left
+pub record StandsWhole (v left : DiskVolume) (now : List ℕ) (n : ℕ) (file : DiskFile) (gained : List ℕ) : Type 0 where
+  pub shown : file_at (sector now) n ≡ file
+  pub marked : (c : ℕ) → (has_cluster (shape v) n file c || has gained c) ≡ true → left.lost c ≡ true
+
 -- a fault came when a new file and its directory had begun to take clusters: the tree is as it was, and the clusters
 -- may be lost
 pub record EnteringTook (v : DiskVolume) (dir : DiskFile) (e : Entering) (old new : Option (List ℕ)) : Type 0 where
@@ -91,8 +97,15 @@ pub record EnteringTook (v : DiskVolume) (dir : DiskFile) (e : Entering) (old ne
   -- only sectors of the map and of the file, and that of the entry have changed
   pub others : (s : ℕ) → ¬ IsMapSector (image_geometry image) s → has (written_sectors number ends.both.file) s ≡ false
       → s ≢ sector_of_place ends.both.new.segments (entry_place dir.contents) → sector now s ≡ sector image s
-  -- the descriptor comes after the marks of the file's clusters
-  pub order : IsAfterMarks image now number left (has_cluster (shape v) number ends.both.file)
+  -- the file's sectors come after the marks of its clusters
+  pub marks : (s : ℕ) → has (written_sectors number ends.both.file) s ≡ true
+      → IsAfterMarks image now s left (has_cluster (shape v) number ends.both.file)
+  -- its descriptor comes after its contents
+  pub descriptor : (sector now number ≡ sector image number) ⊎ (file_at (sector now) number ≡ ends.both.file)
+  -- the entry comes after the file that it names and after all marks
+  pub entry : (sector now (sector_of_place ends.both.new.segments (entry_place dir.contents))
+      ≡ sector image (sector_of_place ends.both.new.segments (entry_place dir.contents)))
+      ⊎ StandsWhole v left now number ends.both.file ends.both.entry.gained
   pub end : KeepsMapEnd image now (λ _. false)
 
 -- a fault came before the entry was in the directory
@@ -118,3 +131,21 @@ AnswersEntering v dir e old new (Err (File (Device n))) =
     (is_dots e.name ≡ false) × EnteringStops v dir e old new
 AnswersEntering v dir e old new (Err (File NoCluster)) = EnteringIsRefused v dir e no_cluster old new
 AnswersEntering v dir e old new (Err (File TooManyRuns)) = EnteringIsRefused v dir e too_many_runs old new
+
+-- how many calls of the drive write an entry at most: two for its sector in a free place, and besides behind the last
+-- entry one for the directory's descriptor and one for a cluster that the directory gains
+abbrev pub entry_calls : DiskVolume → DiskFile → ℕ
+entry_calls v dir =
+    if nat_lt (32 * entry_place dir.contents) (length dir.contents) then 2
+    else (if nat_lt 0 (entry_clusters (cluster_size v) dir) then 4 else 3)
+
+-- how many enter a file that itself needs so many, when its place has been found: none where it is refused
+abbrev pub entering_calls : DiskVolume → DiskFile → ℕ → Result ℕ DirError → ℕ
+entering_calls v dir made (Ok n) = made + entry_calls v dir
+entering_calls v dir made (Err NotAllowed) = 0
+entering_calls v dir made (Err BadPath) = 0
+entering_calls v dir made (Err NotFound) = 0
+entering_calls v dir made (Err Exists) = 0
+entering_calls v dir made (Err (File (Device n))) = made + entry_calls v dir
+entering_calls v dir made (Err (File NoCluster)) = 0
+entering_calls v dir made (Err (File TooManyRuns)) = 0

@@ -1,3 +1,3 @@
 pub mod Rooms
-pub mod Appended
+pub mod NewEntry
 pub mod Entering

@@ -1,9 +1,10 @@
-//! Entries at the end of a directory of a mounted RBF volume, over a drive that may fail.
+//! Entries of new files in directories of a mounted RBF volume, over a drive that may fail.
 #![tactic(auto)]
 
-pub use append::append_entry;
+pub use enter::enter_file;
 pub use room::check_room;
 
 mod append;
+mod enter;
 mod room;
 mod sector;

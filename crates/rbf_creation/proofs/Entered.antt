@@ -1,34 +1,29 @@
 -- A new file without contents that is entered into a directory: what the media represents at each answer.
 use Rattle.rbf_model.specs.Disk.{image_disk}
-use Rattle.std.proofs.Common.{◌≡◌, ◌≢◌, ℕ, ◌+◌, ◌-◌, ◌*◌, ◌/◌, ◌%◌, ◌<◌, ◌≤◌, Bool, true, false, not, ◌==◌, ◌&&◌, ◌||◌, Option, Some, None, List, [], ◌∷◌, length, take, inl, inr, ◌⊎◌, refl, sym, ap, ◌∙◌, subst, ⊎_elim, arith, eq-eqb}
+use Rattle.std.proofs.Common.{◌≡◌, ◌≢◌, ℕ, ◌+◌, ◌*◌, ◌/◌, ◌%◌, ◌<◌, ◌≤◌, Bool, true, false, not, ◌==◌, ◌&&◌, ◌||◌, Option, Some, None, List, ◌∷◌, length, take, inl, inr, ◌⊎◌, refl, sym, ap, ◌∙◌, subst, ⊎_elim, arith, eq-eqb, eqb-true}
 use Rattle.std.specs.Prelude.{if◌then◌else◌, filter}
 use Rattle.std.specs.List.{range_with_len}
 use mathlib.Core.Path.{fun_ext}
-use Rattle.std.proofs.Math.Nat.{lt-div-mul-add, mul-le-mul_left}
-use Rattle.std.proofs.lemmas.Bool.{and_parts, or_left, or_right, both_ways, not-true}
-use Rattle.std.proofs.lemmas.List.{nil_from_length}
+use Rattle.std.proofs.lemmas.Bool.{or_left, or_right, or_cases, both_ways}
 use Rattle.std.proofs.lemmas.Option.{same_Some, none-some}
 use Rattle.os9_base.specs.Name.{IsName}
 use Rattle.os9_base.specs.declared.registers.TimePacket.{TimePacket}
 use Rattle.os9_outer.specs.Drive.{sector_at}
-use Rattle.rbf_model.specs.Fields.{directory_entry, descriptor_field, is_used}
+use Rattle.rbf_model.specs.Fields.{descriptor_field}
 use Rattle.rbf_model.specs.File.{DiskFile, file_at, is_directory}
 use Rattle.rbf_model.specs.Geometry.{Geometry, geometry, image_geometry, sector, map_sectors}
-use Rattle.rbf_model.specs.Laws.{IsMapSector, IsFileSector, IsReady}
+use Rattle.rbf_model.specs.Laws.{IsMapSector, IsReady}
 use Rattle.rbf_model.specs.Segments.{has, sectors_of}
-use Rattle.rbf_model.specs.Space.{is_marked, own_sectors, has_cluster, Unused, cluster_count, is_whole}
+use Rattle.rbf_model.specs.Space.{is_marked, has_cluster, Unused, cluster_count, is_whole}
 use Rattle.rbf_model.specs.Volume.{DiskVolume, Vol, in_file}
-use Rattle.rbf_model.specs.Writes.{put, put_at, put_file, put_sector, with_file, with_lost}
-use Rattle.rbf_model.proofs.Bytes.{put_here, put_beside, has_place, not_has_first, distinct_first}
+use Rattle.rbf_model.specs.Writes.{put_at, put_file, with_file, with_lost}
+use Rattle.rbf_model.proofs.Bytes.{not_has_first}
 use Rattle.rbf_model.proofs.Change.{put_file_beside}
-use Rattle.rbf_model.proofs.Data.{own_distinct, own_sector, past_map}
-use Rattle.rbf_model.proofs.Lifted.{sector_put}
-use Rattle.rbf_model.proofs.Owners.{own_after, own_below, owns_own, owns_system, root_file}
-use Rattle.rbf_model.proofs.Placed.{news_full}
-use Rattle.rbf_model.proofs.Segments.{has_cases, has_range}
+use Rattle.rbf_model.proofs.Owners.{own_after, owns_own, owns_system, root_file}
+use Rattle.rbf_model.proofs.Segments.{has_range}
 use Rattle.rbf_model.proofs.Space.{cluster_from_owns}
 use Rattle.rbf_change.specs.Calls.{shape, cluster_size, is_free_in, free_total, replaced, written_file, WritesFile}
-use Rattle.rbf_change.specs.Contents.{sector_count, extended, written}
+use Rattle.rbf_change.specs.Contents.{sector_count, written}
 use Rattle.rbf_change.specs.Faults.{MayLose}
 use Rattle.rbf_change.specs.Growth.{uses, with_clusters, clusters_needed, IsChoice}
 use Rattle.rbf_change.specs.Names.{new_entry, entry_place, is_dots}
@@ -37,28 +32,24 @@ use Rattle.rbf_change.specs.Parts.{EntryIsPut}
 use Rattle.rbf_change.specs.Tidy.{KeepsMapEnd, KeepsListEnd, IsNewList}
 use Rattle.rbf_change.proofs.LawfulWrites.{shape-image}
 use Rattle.rbf_access.specs.Mounted.{Represents}
+use Rattle.rbf_access.specs.Reading.{IsFdOf}
 use Rattle.rbf_access.proofs.ReadFile.{room_for}
 use Rattle.rbf_create.specs.Made.{IsMade, MakingEnds}
-use Rattle.rbf_growth.proofs.Chosen.{has_free, length-with}
-use Rattle.rbf_update.specs.Entries.{IsPlace, MayFill, with_entry_bytes}
-use Rattle.rbf_write.proofs.Contents.{length-laid}
-use Rattle.rbf_write.proofs.Gained.{cluster_sectors, sectors_with}
-use Rattle.rbf_write.proofs.Laid.{needed_is, no_clusters, same_mark, same_end}
 use Rattle.rbf_write.proofs.Steps.{few_segments, own_not_free}
-use Rattle.rbf_append.specs.Appended.{Appending, MayAppend, WritesEntry, IsAppended, AppendStops, IsAfterMarks, sector_of_place}
-use Rattle.rbf_append.specs.Entering.{Entering, EnteringTook, IsEnteredOn, refusal_of}
+use Rattle.rbf_append.specs.NewEntry.{EntryWrite, MayEnter, IsEntryWritten, EntryStops, IsAfterMarks, sector_of_place}
+use Rattle.rbf_append.specs.Entering.{Entering, StandsWhole, entry_calls, EnteringTook, IsEnteredOn, refusal_of}
 use Rattle.rbf_append.specs.Rooms.{place_clusters, HasRoom}
 use Rattle.rbf_append.proofs.Choice.{one_needed, choice_exists, one_passes}
-use Rattle.rbf_append.proofs.Longer.{in_taken}
+use Rattle.rbf_append.proofs.Needs.{needs_entry}
+use Rattle.rbf_append.proofs.Sectors.{entry_no_map, entry_apart}
 use Rattle.rbf_make.proofs.NewEntries.{new_length, new_number, may_enter}
 use Rattle.rbf_walk.specs.Search.{IsAbsent}
+use Rattle.rbf_walk.proofs.Stepping.{same_content}
+use Rattle.rbf_write.specs.declared.loaded.Loaded.{Loaded}
+use Rattle.rbf_write.specs.Files.{IsLoaded}
 use Rattle.rbf_creation.specs.Creating.{request}
-use Rattle.rbf_creation.proofs.Placing.{place_most, place_free, behind_dots}
-use Rattle.rbf_creation.proofs.NewOnes.{free_in_lost, positive, first_free, free_facts, still_free}
-
-written_is : (contents bytes : List ℕ) (at : ℕ) → 1 ≤ length bytes → written contents at bytes ≡ put_at (extended contents at) at bytes
-written_is contents [] at some = absurd (omega arith)
-written_is contents (b ∷ bytes) at some = refl
+use Rattle.rbf_append.proofs.Placing.{place_most}
+use Rattle.rbf_creation.proofs.NewOnes.{free_in_lost, positive, first_free, free_facts, contents_are, its_cluster, still_free}
 
 none_from : (o : Option DiskFile) → ((f : DiskFile) → o ≡ Some f → ⊥) → o ≡ None
 none_from None h = refl
@@ -108,12 +99,7 @@ module _ (m0 : Option (List ℕ)) (v : DiskVolume) (on : Represents m0 v) (d : �
     entry_whole = new_length name n named
 
     needs_written : clusters_needed k dir.segments (length (written dir.contents (32 * place) entry)) ≡ place_clusters v dir place
-    needs_written =
-        let low = place_low in
-        ap (λ c. clusters_needed k dir.segments (length c)) (written_is dir.contents entry (32 * place) (let w = entry_whole in omega arith))
-        ∙ ap (clusters_needed k dir.segments) (length-laid dir.contents entry (32 * place))
-        ∙ needed_is k (length dir.contents) (32 * place + length entry) dir.segments fits_dir
-        ∙ ap (clusters_needed k dir.segments) (let w = entry_whole in let s : 32 * place + length entry ≡ 32 * (place + 1) = omega arith in s)
+    needs_written = needs_entry v dir place entry entry_whole fits_dir
 
     needs_few : place_clusters v dir place ≤ 1
     needs_few = let low = place_low in let fits = fits_dir in one_needed k dir.segments place some_k (omega arith)
@@ -144,9 +130,41 @@ module _ (m0 : Option (List ℕ)) (v : DiskVolume) (on : Represents m0 v) (d : �
         (subst (λ h. has_cluster h g.root r.0 (s / h.cluster) ≡ true) (sym volume_shape)
         (cluster_from_owns g g.root r.0 s (owns_system g r.0 s (has_range 0 (1 + map_sectors g) s (omega arith) (omega arith)))))
 
+    -- the new file's clusters were free
+    here_free : is_free_in v (n / k) ≡ true
+    here_free = first_free m0 v on n plan refl file new
+
+    facts : (c : ℕ) → is_free_in v c ≡ true → (v.lost c ≡ false) × Unused (shape v) v.files c
+    facts = free_facts m0 v on n plan refl file new
+
+    fresh : (c : ℕ) → has_cluster (shape v) n file c ≡ true → is_free_in v c ≡ true
+    fresh c h = subst (λ x. is_free_in v x ≡ true) (sym (its_cluster m0 v on n plan refl file new c h)) here_free
+
+    -- its descriptor is the one sector of it that is written
+    only_number : (s : ℕ) → has (n ∷ take (sector_count (length file.contents)) (sectors_of file.segments)) s ≡ true → n ≡ s
+    only_number s h =
+        eqb-true n s (or_false (n == s) (subst (λ c. has (n ∷ take (sector_count (length c)) (sectors_of file.segments)) s ≡ true) (contents_are m0 v on n plan refl file new) h))
+      where
+        or_false : (t : Bool) → (t || false) ≡ true → t ≡ true
+        or_false true h = refl
+        or_false false h = h
+
     module _ (gained : List ℕ) (choice : IsChoice k (free_then n file) dir.segments size_then gained) where
+      abbrev segments : List (ℕ × ℕ)
+      segments = with_clusters k dir.segments gained
+
+      -- the sector of the entry in the directory, which may have gained a cluster
+      abbrev at : ℕ
+      at = sector_of_place segments place
+
+      at_no_map : (image : List ℕ) → m0 ≡ Some image → ¬ IsMapSector (image_geometry image) at
+      at_no_map = entry_no_map m0 v on d place dir is entry entry_whole n file fresh gained choice
+
+      at_apart : at ≢ n
+      at_apart = entry_apart m0 v on d place dir is entry entry_whole n file fresh gained choice n (or_left (n == n) (has (sectors_of file.segments) n) (eq-eqb n n refl))
+
       abbrev new_dir : DiskFile
-      new_dir = written_file dir (32 * entry_place dir.contents) entry now (with_clusters k dir.segments gained)
+      new_dir = written_file dir (32 * entry_place dir.contents) entry now segments
 
       abbrev both : IsEntered v d n name plan
       both = record {
@@ -164,9 +182,10 @@ module _ (m0 : Option (List ℕ)) (v : DiskVolume) (on : Represents m0 v) (d : �
 
       -- a fault came when clusters of these may have been taken
       pub took : (image image1 : List ℕ) (left : DiskVolume) (m1 : Option (List ℕ)) → m0 ≡ Some image → m1 ≡ Some image1 → Vol image1 left → MayLose v left (λ c. has_cluster (shape v) n file c || has gained c)
-          → ((s : ℕ) → ¬ IsMapSector (image_geometry image) s → s ≢ n → s ≢ sector_of_place (with_clusters k dir.segments gained) place → sector image1 s ≡ sector image s)
-          → IsAfterMarks image image1 n left (λ c. has_cluster (shape v) n file c) → KeepsMapEnd image image1 (λ _. false) → EnteringTook v dir e m0 m1
-      took image image1 left m1 was now_is vol lose others order end = record {
+          → ((s : ℕ) → ¬ IsMapSector (image_geometry image) s → s ≢ n → s ≢ at → sector image1 s ≡ sector image s)
+          → IsAfterMarks image image1 n left (λ c. has_cluster (shape v) n file c) → (sector image1 n ≡ sector image n) ⊎ (file_at (sector image1) n ≡ file)
+          → (sector image1 at ≡ sector image at) ⊎ StandsWhole v left image1 n file gained → KeepsMapEnd image image1 (λ _. false) → EnteringTook v dir e m0 m1
+      took image image1 left m1 was now_is vol lose others order described entered_last end = record {
         image = image;
         now = image1;
         was = was;
@@ -177,12 +196,20 @@ module _ (m0 : Option (List ℕ)) (v : DiskVolume) (on : Represents m0 v) (d : �
         ends = record { both = both; volume = lose };
         others = λ s none out differ. others s none
             (λ same. (not_has_first n (take (sector_count (length file.contents)) (sectors_of file.segments)) s out).0 (sym same))
-            (λ same. differ (same ∙ ap (sector_of_place (with_clusters k dir.segments gained)) absent.free_is));
-        order = order;
+            (λ same. differ (same ∙ ap (sector_of_place segments) absent.free_is));
+        marks = λ s h. subst (λ t. IsAfterMarks image image1 t left (λ c. has_cluster (shape v) n file c)) (only_number s h) order;
+        descriptor = described;
+        entry = subst (λ p. (sector image1 (sector_of_place segments p) ≡ sector image (sector_of_place segments p)) ⊎ StandsWhole v left image1 n file gained) absent.free_is entered_last;
         end = end;
       }
 
   -- a fault came before the descriptor was written
+  number_stays : {m1 : Option (List ℕ)} (ends : MakingEnds v plan m0 m1) → sector ends.now ends.number ≡ sector ends.image ends.number
+  number_stays ends =
+      ends.others ends.number
+      (subst (λ i. ¬ IsMapSector (image_geometry i) ends.number) (same_Some on.image ends.image (sym on.is ∙ ends.was))
+      (no_map ends.number ends.file ends.chosen ends.number (first_free m0 v on ends.number plan refl ends.file ends.chosen)))
+
   pub unmade : (m1 : Option (List ℕ)) → MakingEnds v plan m0 m1 → EnteringTook v dir e m0 m1
   unmade m1 ends =
       let c = some_choice ends.number ends.file ends.chosen in
@@ -193,9 +220,9 @@ module _ (m0 : Option (List ℕ)) (v : DiskVolume) (on : Represents m0 v) (d : �
         only = λ x h. more_of (v.lost x) (has_cluster (shape v) ends.number ends.file x) (has c.0 x) (ends.lose.only x h);
       })
       (λ s none differ out. ends.others s none)
-      (inl (ends.others ends.number
-      (subst (λ i. ¬ IsMapSector (image_geometry i) ends.number) (same_Some on.image ends.image (sym on.is ∙ ends.was))
-      (no_map ends.number ends.file ends.chosen ends.number (first_free m0 v on ends.number plan refl ends.file ends.chosen)))))
+      (inl (number_stays ends))
+      (inl (number_stays ends))
+      (inl (ends.others (at ends.number ends.file ends.chosen c.0 c.1) (at_no_map ends.number ends.file ends.chosen c.0 c.1 ends.image ends.was)))
       ends.end
     where
       more_of : (a b t : Bool) → (a || b) ≡ true → (a || (b || t)) ≡ true
@@ -256,31 +283,21 @@ module _ (m0 : Option (List ℕ)) (v : DiskVolume) (on : Represents m0 v) (d : �
     its_lost : (c : ℕ) → its c ≡ true → u.lost c ≡ true
     its_lost c h = or_right (v.lost c) (its c) h
 
-    -- a fault came before the entry was written into a free place
-    pub unfilled : (m1 : Option (List ℕ)) → m1 ≡ mid → EnteringTook v dir e m0 m1
-    unfilled m1 same =
-        let c = some_choice n file new in
-        took n file new c.0 c.1 made.image made.now u m1 made.was (same ∙ made.is) vol_mid
-        (record { same = refl; still = lose_its.still; only = λ x h. more_of (v.lost x) (its x) (has c.0 x) h })
-        (λ s none differ out. made.writes.others s none differ) (inr its_lost) made.writes.end
-      where
-        more_of : (a b t : Bool) → (a || b) ≡ true → (a || (b || t)) ≡ true
-        more_of true b t h = refl
-        more_of false true t h = refl
-        more_of false false t h = absurd (both_ways false refl h)
-
     image_same : image_geometry made.image ≡ g1
     image_same = ap geometry (sym (made.writes.others 0 (λ map. let first = map.after in absurd (omega arith)) (λ same. let some = (made.ready d).number.after in absurd (omega arith))))
 
-    abbrev appending : Appending
+    abbrev appending : EntryWrite
     appending = record { directory = d; place = place; entry = new_entry name n; now = now }
 
-    -- or behind the last one
-    pub unappended : (m1 : Option (List ℕ)) → AppendStops made.left dir appending mid m1 → EnteringTook v dir e m0 m1
-    unappended m1 stops =
-        let here : AppendStops u dir appending mid m1 = subst (λ x. AppendStops x dir appending mid m1) left_is stops in
+    -- a fault came before the entry was in the directory
+    pub unentered : (m1 : Option (List ℕ)) → EntryStops made.left dir appending mid m1 → EnteringTook v dir e m0 m1
+    unentered m1 stops =
+        let here : EntryStops u dir appending mid m1 = subst (λ x. EntryStops x dir appending mid m1) left_is stops in
         let same : here.image ≡ made.now = same_Some here.image made.now (sym here.was ∙ made.is) in
-        took n file new here.taken (subst (λ f. IsChoice k f dir.segments (size_then n file new) here.taken) free_is here.choice) made.image here.now here.left m1 made.was here.is here.vol
+        let choice_here : IsChoice k (free_then n file) dir.segments (size_then n file new) here.taken = subst (λ f. IsChoice k f dir.segments (size_then n file new) here.taken) free_is here.choice in
+        let entry_sector = sector_of_place (with_clusters k dir.segments here.taken) place in
+        let shown_then : file_at (sector here.now) n ≡ file = subst (λ m. file_at (sector here.now) m ≡ file_at (sector here.image) m) number here.named ∙ ap (λ i. file_at (sector i) n) same ∙ made.made.shown in
+        took n file new here.taken choice_here made.image here.now here.left m1 made.was here.is here.vol
         (record {
           same = here.lose.same;
           still = λ c h. here.lose.still c (or_left (v.lost c) (its c) h);
@@ -289,6 +306,14 @@ module _ (m0 : Option (List ℕ)) (v : DiskVolume) (on : Represents m0 v) (d : �
         (λ s none differ out.
         here.others s (λ map. none (subst (λ h. IsMapSector h s) (ap image_geometry same ∙ sym image_same) map)) out ∙ ap (λ i. sector i s) same ∙ made.writes.others s none differ)
         (inr (λ c h. here.lose.still c (its_lost c h)))
+        (inr shown_then)
+        (⊎_elim
+        (λ still. inl (still ∙ ap (λ i. sector i entry_sector) same ∙ made.writes.others entry_sector (at_no_map n file new here.taken choice_here made.image made.was) (at_apart n file new here.taken choice_here)))
+        (λ marked. inr (record {
+          shown = shown_then;
+          marked = λ c h. ⊎_elim (λ own. here.lose.still c (its_lost c own)) (marked c) (or_cases (its c) (has here.taken c) h);
+        }))
+        here.order)
         (λ c behind.
         let there = subst (λ i. KeepsMapEnd i here.now (λ _. false)) same here.end in
         there c (record { not_whole = subst (λ h. h.total / h.cluster ≤ c) image_same behind.not_whole; in_map = subst (λ h. c < 2048 * map_sectors h) image_same behind.in_map })
@@ -308,135 +333,28 @@ module _ (m0 : Option (List ℕ)) (v : DiskVolume) (on : Represents m0 v) (d : �
     ready_entry : IsReady (image_disk made.now) made.left d (descriptor_field (new_entry name n))
     ready_entry = subst (IsReady (image_disk made.now) made.left d) (sym number) (made.ready d)
 
-    pub may_append : (bytes : List ℕ) → bytes ≡ new_entry name n → length dir.contents ≡ 32 * place → MayAppend mid d place bytes
-    may_append bytes same end = subst (MayAppend mid d place) (sym same) (record {
+    pub may_enter_it : (bytes : List ℕ) → bytes ≡ new_entry name n → MayEnter mid d place bytes
+    may_enter_it bytes same = subst (MayEnter mid d place) (sym same) (record {
       content = made.left;
       on = on_mid;
       dir = dir;
       is = left_file;
       directory = directory;
-      end = end;
+      place_is = absent.free_is;
       new = may_enter dir.contents name place n named proper absent.nowhere;
       ready = ready_entry;
       room = subst (λ x. HasRoom x dir place 0) (sym left_is) enough_left;
     })
 
-    -- a free place is filled
-    module _ (inside : 32 * (place + 1) ≤ length dir.contents) where
-      free_place : is_used (directory_entry dir.contents place) ≡ false
-      free_place = place_free dir.contents place absent.free_is (omega arith)
+    its_free : is_free_in v (n / k) ≡ true
+    its_free = here_free n file new
 
-      place_mid : IsPlace mid d place
-      place_mid = record {
-        content = made.left;
-        on = on_mid;
-        dir = dir;
-        is = left_file;
-        directory = directory;
-        after = behind_dots g v.files on.vol.sound.tree d dir is directory place free_place;
-        within = inside;
-      }
-
-      pub may_fill : (bytes : List ℕ) → bytes ≡ new_entry name n → MayFill mid d place bytes
-      unfolding place_mid
-      may_fill bytes same = subst (MayFill mid d place) (sym same) (record {
-        place = place_mid;
-        free = free_place;
-        new = may_enter dir.contents name place n named proper absent.nowhere;
-        ready = ready_entry;
-      })
-
-      abbrev lsn : ℕ
-      lsn = sector_of_place dir.segments place
-
-      at_sector : IsFileSector u d dir (place / 8) lsn
-      at_sector = let fits = fits_dir in record { is = is; within = omega arith; at = refl }
-
-      abbrev news : List ℕ
-      news = put_at (sector made.now lsn) (32 * (place % 8)) (new_entry name n)
-
-      news_whole : length news ≡ 256
-      news_whole = news_full g1 (sector made.now) u vol_mid.sound d (place / 8) lsn dir at_sector (32 * (place % 8)) (new_entry name n) (let size = whole in omega arith)
-
-      its_own : has (own_sectors d dir) lsn ≡ true
-      its_own = own_sector g1 (sector made.now) u vol_mid.sound d (place / 8) lsn dir news news_whole at_sector
-
-      past : map_sectors g1 < lsn
-      past = past_map g1 (sector made.now) u vol_mid.sound d (place / 8) lsn dir news news_whole at_sector
-
-      below : lsn < g1.total
-      below = own_below g1 (sector made.now) u vol_mid.sound d dir lsn is its_own
-
-      fits : 256 * (lsn + 1) ≤ length made.now
-      fits =
-          let less = below in
-          let more : 256 * (lsn + 1) ≤ 256 * g1.total = mul-le-mul_left 256 (omega arith) in
-          let there = vol_mid.header.fits in
-          omega arith
-
-      abbrev half : List ℕ
-      half = put_sector made.now lsn news
-
-      half_sectors : sector half ≡ put (sector made.now) lsn news
-      half_sectors = sector_put made.now lsn news news_whole fits
-
-      beside : (s : ℕ) → s ≢ lsn → sector half s ≡ sector made.now s
-      beside s differ = ap (λ (x : ℕ → List ℕ). x s) half_sectors ∙ put_beside (sector made.now) lsn news s differ
-
-      apart_lsn : d ≢ lsn
-      apart_lsn same =
-          both_ways (has (sectors_of dir.segments) d) (distinct_first d (sectors_of dir.segments) (own_distinct g1 d dir (vol_mid.sound.mapped.once d dir is)))
-          (subst (λ s. has (sectors_of dir.segments) s ≡ true) (sym same) (has_place (sectors_of dir.segments) (place / 8) at_sector.within))
-
-      no_need : clusters_needed k dir.segments (length (written dir.contents (32 * place) (new_entry name n))) ≡ 0
-      no_need =
-          let there = fits_dir in
-          needs_written n file new ∙ no_clusters k (sector_count (32 * (place + 1)) - length (sectors_of dir.segments)) (some_k n file new) (omega arith)
-
-      pub filled_as : (m1 : Option (List ℕ)) (w : DiskVolume) → Represents m1 w → m1 ≡ with_entry_bytes mid dir place (new_entry name n) → EntryIsPut made.left w (sector_at mid) d place (new_entry name n) now → IsAppended made.left appending mid m1
-      filled_as m1 w on1 written_to put =
-          let m1_is : m1 ≡ Some half = written_to ∙ ap (λ m. with_entry_bytes m dir place (new_entry name n)) made.is in
-          let image_is : on1.image ≡ half = same_Some on1.image half (sym on1.is ∙ m1_is) in
-          let put_here_is : EntryIsPut made.left w (sector made.now) d place (new_entry name n) now = subst (λ m. EntryIsPut made.left w (sector_at m) d place (new_entry name n) now) made.is put in
-          record {
-            image = made.now;
-            now = half;
-            was = made.is;
-            is = m1_is;
-            after = w;
-            vol = subst (λ i. Vol i w) image_is on1.vol;
-            put = put_here_is;
-            writes = subst (λ xs. WritesEntry made.now half xs appending) (sym (segments_stay put_here_is)) (record {
-              filled = ap (λ (x : ℕ → List ℕ). x lsn) half_sectors ∙ put_here (sector made.now) lsn news;
-              others = λ s none other differ. beside s differ;
-              list = same_end (sector made.now d) (sector half d) (beside d apart_lsn);
-              end = λ c behind.
-                  let in_map = behind.in_map in
-                  let low_map = past in
-                  same_mark (sector half) (sector made.now) c (beside (1 + c / 8 / 256) (λ same. absurd (omega arith))) ∙ sym (and_not_false (is_marked (sector made.now) c));
-            });
-          }
-        where
-          segments_stay : (p : EntryIsPut made.left w (sector made.now) d place (new_entry name n) now) → p.new.segments ≡ dir.segments
-          segments_stay p =
-              let old_is : p.old ≡ dir = same_Some p.old dir (sym p.is ∙ left_file) in
-              let k_left : cluster_size made.left ≡ k = ap cluster_size left_is in
-              let none : p.written.gained ≡ [] = nil_from_length p.written.gained
-              (p.written.choice.enough
-              ∙ ap (λ f. clusters_needed (cluster_size made.left) f.segments (length (written f.contents (32 * place) (new_entry name n)))) old_is
-              ∙ ap (λ m. clusters_needed m dir.segments (length (written dir.contents (32 * place) (new_entry name n)))) k_left ∙ no_need) in
-              ap (λ f. f.segments) p.written.file ∙ ap (with_clusters (cluster_size made.left) p.old.segments) none ∙ ap (λ f. f.segments) old_is
-
-    -- the new file's clusters were free
-    here_free : is_free_in v (n / k) ≡ true
-    here_free = first_free m0 v on n plan refl file new
-
-    facts : (c : ℕ) → is_free_in v c ≡ true → (v.lost c ≡ false) × Unused (shape v) v.files c
-    facts = free_facts m0 v on n plan refl file new
+    its_facts : (c : ℕ) → is_free_in v c ≡ true → (v.lost c ≡ false) × Unused (shape v) v.files c
+    its_facts = facts n file new
 
     no_file : v.files n ≡ None
     no_file = none_from (v.files n) (λ f at.
-        both_ways (has_cluster (shape v) n f (n / k)) ((facts (n / k) here_free).1 n f at)
+        both_ways (has_cluster (shape v) n f (n / k)) ((its_facts (n / k) its_free).1 n f at)
         (cluster_from_owns (shape v) n f n (owns_own (shape v) n f n (or_left (n == n) (has (sectors_of f.segments) n) (eq-eqb n n refl)))))
 
     apart : n ≢ d
@@ -445,56 +363,28 @@ module _ (m0 : Option (List ℕ)) (v : DiskVolume) (on : Represents m0 v) (d : �
     free_no_map : (s : ℕ) → is_free_in v (s / k) ≡ true → ¬ IsMapSector (image_geometry made.image) s
     free_no_map s free = subst (λ i. ¬ IsMapSector (image_geometry i) s) (same_Some on.image made.image (sym on.is ∙ made.was)) (no_map n file new s free)
 
-    -- the sector of an entry in a directory that may have gained a cluster
-    module _ (gained : List ℕ) (choice : IsChoice k (free_then n file) dir.segments (length (written dir.contents (32 * place) (new_entry name n))) gained) where
-      abbrev segments : List (ℕ × ℕ)
-      segments = with_clusters k dir.segments gained
+    d_no_map : ¬ IsMapSector (image_geometry made.image) d
+    d_no_map map =
+        let inside_map = map.within in
+        let same : map_sectors (image_geometry made.image) ≡ map_sectors g = ap map_sectors (image_same ∙ sym shape1 ∙ volume_shape) in
+        let past_it = own_after g (sector on.image) v on.vol.sound d dir d is (or_left (d == d) (has (sectors_of dir.segments) d) (eq-eqb d d refl)) in
+        absurd (omega arith)
 
-      abbrev at : ℕ
-      at = sector_of_place segments place
+    -- the directory's descriptor is as it was read
+    pub read_still : (loaded : Loaded) → IsLoaded m0 d loaded → IsLoaded mid d loaded
+    read_still loaded read = record {
+      number_is = read.number_is;
+      bytes_are = read.bytes_are ∙ ap (λ m. sector_at m d) made.was ∙ sym (made.writes.others d d_no_map (λ same. apart (sym same))) ∙ sym (ap (λ m. sector_at m d) made.is);
+      list_is = read.list_is;
+      says = λ w f on_w is_w.
+          subst (λ x. IsFdOf x loaded.file) (same_Some dir f (sym left_file ∙ ap (λ (x : DiskVolume). x.files d) (same_content mid made.left w on_mid on_w) ∙ is_w)) (read.says v dir on is);
+    }
 
-      within_place : place / 8 < length (sectors_of segments)
-      within_place =
-          let had = length (sectors_of dir.segments) in
-          let missing = sector_count (32 * (place + 1)) - had in
-          let q = clusters_needed k dir.segments (32 * (place + 1)) in
-          let up : missing + (k - 1) < q * k + k = lt-div-mul-add (some_k n file new) in
-          let many : length gained * k ≡ q * k = ap (λ m. m * k) (choice.enough ∙ needs_written n file new) in
-          let all : length (sectors_of segments) ≡ had + length gained * k = length-with k dir.segments gained in
-          let some = some_k n file new in
-          omega arith
-
-      cases_at : (has (sectors_of dir.segments) at ≡ true) ⊎ (has gained (at / k) ≡ true)
-      cases_at = ⊎_elim (λ own. inl own) (λ more. inr (in_taken k gained at (some_k n file new) more))
-          (has_cases (sectors_of dir.segments) (cluster_sectors k gained) at
-          (subst (λ xs. has xs at ≡ true) (sectors_with k dir.segments gained) (has_place (sectors_of segments) (place / 8) within_place)))
-
-      gained_free : has gained (at / k) ≡ true → (is_free_in v (at / k) ≡ true) × (its (at / k) ≡ false)
-      gained_free h =
-          let both_are = and_parts (is_free_in v (at / k)) (not (its (at / k))) (has_free k (free_then n file) dir.segments gained (at / k) choice.gained h) in
-          (both_are.0, not-true (its (at / k)) both_are.1)
-
-      pub at_no_map : ¬ IsMapSector (image_geometry made.image) at
-      at_no_map = ⊎_elim
-          (λ own map.
-          let inside_map = map.within in
-          let same : map_sectors (image_geometry made.image) ≡ map_sectors g = ap map_sectors (image_same ∙ sym shape1 ∙ volume_shape) in
-          let past_it = own_after g (sector on.image) v on.vol.sound d dir at is (or_right (d == at) (has (sectors_of dir.segments) at) own) in
-          absurd (omega arith))
-          (λ more. free_no_map at (gained_free more).0)
-          cases_at
-
-      pub at_apart : at ≢ n
-      at_apart same = ⊎_elim
-          (λ own. both_ways (has_cluster (shape v) d dir (n / k)) ((facts (n / k) here_free).1 d dir is)
-          (subst (λ s. has_cluster (shape v) d dir (s / k) ≡ true) same
-          (cluster_from_owns (shape v) d dir at (owns_own (shape v) d dir at (or_right (d == at) (has (sectors_of dir.segments) at) own)))))
-          (λ more. both_ways (its (n / k)) (subst (λ s. its (s / k) ≡ false) same (gained_free more).1)
-          (cluster_from_owns (shape v) n file n (owns_own (shape v) n file n (or_left (n == n) (has (sectors_of file.segments) n) (eq-eqb n n refl)))))
-          cases_at
+    pub calls_left : entry_calls made.left dir ≡ entry_calls v dir
+    calls_left = ap (λ x. entry_calls x dir) left_is
 
     -- the entry is in the directory
-    pub entered : refusal_of v dir e ≡ None → (m1 : Option (List ℕ)) → IsAppended made.left appending mid m1 → IsEnteredOn v dir e m0 m1 n
+    pub entered : refusal_of v dir e ≡ None → (m1 : Option (List ℕ)) → IsEntryWritten made.left appending mid m1 → IsEnteredOn v dir e m0 m1 n
     entered allowed m1 done0 =
         record {
           allowed = allowed;
@@ -512,7 +402,7 @@ module _ (m0 : Option (List ℕ)) (v : DiskVolume) (on : Represents m0 v) (d : �
               (λ same. differ (same ∙ ap (sector_of_place put_in.new.segments) absent.free_is))
               ∙ ap (λ i. sector i s) same_image
               ∙ made.writes.others s none (λ same. (not_has_first n (take (sector_count (length file.contents)) (sectors_of file.segments)) s out).0 (sym same));
-          list = subst IsNewList (sym (done.writes.others n (λ map. free_no_map n here_free (subst (λ h. IsMapSector h n) (ap image_geometry same_image ∙ sym image_same) map)) apart (λ same. apart_then_n (sym same)) ∙ ap (λ i. sector i n) same_image)) made.made.rest;
+          list = subst IsNewList (sym (done.writes.others n (λ map. free_no_map n its_free (subst (λ h. IsMapSector h n) (ap image_geometry same_image ∙ sym image_same) map)) apart (λ same. apart_then_n (sym same)) ∙ ap (λ i. sector i n) same_image)) made.made.rest;
           kept_list = subst (λ b. KeepsListEnd b (sector done.now d)) (ap (λ i. sector i d) same_image ∙ made.writes.others d d_no_map (λ same. apart (sym same))) done.writes.list;
           end = λ c behind.
               subst (λ i. KeepsMapEnd i done.now (λ _. false)) same_image done.writes.end c
@@ -520,8 +410,8 @@ module _ (m0 : Option (List ℕ)) (v : DiskVolume) (on : Represents m0 v) (d : �
               ∙ and_not_false (is_marked (sector made.now) c) ∙ made.writes.end c behind;
         }
       where
-        done : IsAppended u appending mid m1
-        done = subst (λ x. IsAppended x appending mid m1) left_is done0
+        done : IsEntryWritten u appending mid m1
+        done = subst (λ x. IsEntryWritten x appending mid m1) left_is done0
 
         same_image : done.image ≡ made.now
         same_image = same_Some done.image made.now (sym done.was ∙ made.is)
@@ -555,20 +445,13 @@ module _ (m0 : Option (List ℕ)) (v : DiskVolume) (on : Represents m0 v) (d : �
         at_is = ap (λ xs. sector_of_place xs place) segments_then
 
         no_map_then : ¬ IsMapSector (image_geometry made.image) (sector_of_place put_in.new.segments place)
-        no_map_then = subst (λ s. ¬ IsMapSector (image_geometry made.image) s) (sym at_is) (at_no_map written_then.gained choice_then)
+        no_map_then = subst (λ s. ¬ IsMapSector (image_geometry made.image) s) (sym at_is) (at_no_map n file new written_then.gained choice_then made.image made.was)
 
         apart_then_n : sector_of_place put_in.new.segments place ≢ n
-        apart_then_n same = at_apart written_then.gained choice_then (sym at_is ∙ same)
+        apart_then_n same = at_apart n file new written_then.gained choice_then (sym at_is ∙ same)
 
         image_at : sector done.image (sector_of_place put_in.new.segments place) ≡ sector made.now (sector_of_place put_in.new.segments place)
         image_at = ap (λ i. sector i (sector_of_place put_in.new.segments place)) same_image
-
-        d_no_map : ¬ IsMapSector (image_geometry made.image) d
-        d_no_map map =
-            let inside_map = map.within in
-            let same : map_sectors (image_geometry made.image) ≡ map_sectors g = ap map_sectors (image_same ∙ sym shape1 ∙ volume_shape) in
-            let past_it = own_after g (sector on.image) v on.vol.sound d dir d is (or_left (d == d) (has (sectors_of dir.segments) d) (eq-eqb d d refl)) in
-            absurd (omega arith)
 
         file_is : file_at (sector done.image) n ≡ file
         file_is = ap (λ i. file_at (sector i) n) same_image ∙ made.made.shown
@@ -577,7 +460,7 @@ module _ (m0 : Option (List ℕ)) (v : DiskVolume) (on : Represents m0 v) (d : �
         lost_same c =
             pick (its c) (in_file (shape v) n (put_file v.files d (Some put_in.new) n) c) (is_whole (shape v) c) (v.lost c)
             (ap (λ o. in_file (shape v) n o c) (put_file_beside v.files d (Some put_in.new) n apart ∙ no_file))
-            (λ h. (facts c (made.fresh c h)).0)
+            (λ h. (its_facts c (made.fresh c h)).0)
           where
             pick : (h t whole_one l : Bool) → t ≡ false → (h ≡ true → l ≡ false) → (if h then false else (if t then whole_one else (l || h))) ≡ l
             pick true t whole_one l none_in none = sym (none refl)

@@ -1,24 +1,25 @@
 ghost use Rattle.std.specs.Prelude.{◌≡◌, ◌+◌, ◌<◌};
 ghost use Rattle.rbf_access.specs.Drive.{Counts};
 ghost use Rattle.rbf_access.specs.Mounted.{HasFile, IsMounted};
-ghost use Rattle.rbf_access.specs.Reading.{OnFile};
 ghost use Rattle.rbf_walk.specs.Walk.{directory_fault};
 ghost use Rattle.rbf_update.specs.Deletions.{OnNumbered};
-ghost use Rattle.rbf_append.specs.Entering.{AnswersEntering};
+ghost use Rattle.rbf_append.specs.Entering.{AnswersEntering, entering_calls};
 ghost use Rattle.rbf_make.specs.Places.{place_calls};
-ghost use Rattle.rbf_creation.specs.Creating.{request, more_calls};
+ghost use Rattle.rbf_creation.specs.Creating.{request};
 
-use crate::placed::create_at;
 use os9_base::name::Name;
 use os9_base::registers::TimePacket;
 use os9_outer::drive::BlockDriver;
 use rbf_access::Volume;
-use rbf_make::find_place;
+use rbf_append::{check_room, enter_file};
+use rbf_create::create_fd;
+use rbf_make::{find_place, new_entry};
 use rbf_walk::DirError;
 
 /// Creates a file without contents in a directory, for a user, and answers the number of its
 /// descriptor (OS-9 Technical Reference, I$Create). Its entry goes into the first free place of the
-/// directory, or behind the last entry, and is there by the last sector that is written.
+/// directory, or behind the last entry, and is there by the last sector that is written. What is
+/// needed is tested before anything is taken.
 ///
 /// # Errors
 ///
@@ -43,11 +44,14 @@ pub fn create(
     ensures answer { OnNumbered (media d.old) dir (λ on file. AnswersEntering on file
         (request dir name.now attr user execute now) (media d.old) (media d.new) result) }
     ensures mounted { IsMounted v.new (media d.new) }
-    ensures counts { OnFile (media d.old) dir (λ file. Counts ⟦<dyn BlockDriver as BlockDriver>⟧
-        (directory_fault result) (place_calls file name.now user execute + more_calls result)
+    ensures counts { OnNumbered (media d.old) dir (λ on file.
+        Counts ⟦<dyn BlockDriver as BlockDriver>⟧ (directory_fault result)
+        (place_calls file name.now user execute + entering_calls on file 2 result)
         d.old d.new) }
 {
-    let place = find_place(v, d, dir, name, user, execute)?;
-    let n = create_at(v, d, dir, place, name, attr, user, now)?;
+    let found = find_place(v, d, dir, name, user, execute)?;
+    check_room(v, &found.dir.file, found.place, 1)?;
+    let n = create_fd(v, d, attr, user, now)?;
+    enter_file(v, d, &found.dir, found.place, &new_entry(name, n), now)?;
     Ok(n)
 }

@@ -1,9 +1,6 @@
-//! New files of a mounted RBF volume by one call, over a drive that may fail: in a free place of a
-//! directory, or at its end.
+//! New files of a mounted RBF volume by one call, over a drive that may fail.
 #![tactic(auto)]
 
 pub use creation::create;
-pub use placed::create_at;
 
 mod creation;
-mod placed;

@@ -2,9 +2,7 @@ pub mod Entries
 pub mod Space
 pub mod Stores
 pub mod Making
-pub mod Named
 pub mod Last
-pub mod LastPlace
-pub mod Answering
+pub mod Entered
 pub mod Counted
-pub mod Whole
+pub mod Stepped

@@ -1,5 +1,5 @@
 -- A new directory: its clusters are taken, its first sector is written, and then its descriptor.
-use Rattle.std.proofs.Common.{◌≡◌, ◌≢◌, ℕ, zero, suc, ◌+◌, ◌-◌, ◌*◌, ◌/◌, ◌%◌, ◌<◌, ◌≤◌, Bool, true, false, ◌==◌, ◌||◌, Option, Some, IsSome, Result, Ok, Err, List, [], ◌∷◌, ◌++◌, length, take, get_or, refl, sym, ap, ap₂, ◌∙◌, subst, ⊎_elim, arith, eq-eqb, leb-true, le-leb}
+use Rattle.std.proofs.Common.{◌≡◌, ◌≢◌, ℕ, zero, suc, ◌+◌, ◌-◌, ◌*◌, ◌/◌, ◌%◌, ◌<◌, ◌≤◌, Bool, true, false, ◌==◌, ◌||◌, Option, Some, IsSome, Result, Ok, Err, List, [], ◌∷◌, ◌++◌, length, inl, inr, take, get_or, refl, sym, ap, ap₂, ◌∙◌, subst, ⊎_elim, arith, eq-eqb, leb-true, le-leb}
 use Rattle.std.specs.Prelude.{nat_le, slice_get, flat_map, if◌then◌else◌}
 use Rattle.std.specs.List.{range_with_len}
 use Rattle.std.proofs.lemmas.List.{append-nil}
@@ -275,6 +275,7 @@ module _ (media : Option (List ℕ)) (v : DiskVolume) (on : Represents media v) 
     left = ends.left;
     vol = ends.vol;
     lose = lose_as ends.left (subst (λ xs. MayLose v ends.left (has xs)) same ends.lose);
+    order = inl (subst (λ s. sector ends.now s ≡ sector ends.image s) (sym (first_is k first (positive_of media v on))) (ends.changes.others first (no_map media v on ends.image first ends.was (taken_free (first / k) first_taken))));
     undescribed = ends.changes.others n (no_map media v on ends.image n ends.was number_free);
     others = λ s none _. ends.changes.others s none;
     end = ends.changes.end;
@@ -321,6 +322,9 @@ module _ (media mid : Option (List ℕ)) (v : DiskVolume) (on : Represents media
   grown_loses : MayLose v u (has grown.taken)
   grown_loses = record { same = refl; still = λ d was. or_left (v.lost d) (has grown.taken d) was; only = λ d is. is }
 
+  all_lost : (c : ℕ) → has_cluster (shape v) number folder c ≡ true → u.lost c ≡ true
+  all_lost c h = taken_lost c (cluster_is media v on parent attr owner now grown.taken grown.chosen c ∙ h)
+
   number_kept : sector old number ≡ sector grown.image number
   number_kept = grown.changes.others number (no_map media v on grown.image number grown.was (number_free media v on parent attr owner now grown.taken grown.chosen))
 
@@ -344,6 +348,7 @@ module _ (media mid : Option (List ℕ)) (v : DiskVolume) (on : Represents media
     left = u;
     vol = grown.vol;
     lose = lose_as media v on parent attr owner now grown.taken grown.chosen u grown_loses;
+    order = inr all_lost;
     undescribed = number_kept;
     others = λ s none _. grown.changes.others s none;
     end = grown.changes.end;
@@ -385,6 +390,7 @@ module _ (media mid : Option (List ℕ)) (v : DiskVolume) (on : Represents media
       left = u;
       vol = vol_then mid u on_mid start start_lost one one_whole;
       lose = lose_as media v on parent attr owner now grown.taken grown.chosen u grown_loses;
+      order = inr all_lost;
       undescribed = beside mid u on_mid start start_lost one one_whole number (λ e. apart (sym e)) ∙ number_kept;
       others = λ s none differ. others1 s none (λ e. differ (e ∙ sym first_name));
       end = end1;

@@ -1,3 +1,2 @@
 pub mod Made
-pub mod Named
-pub mod Ends
+pub mod Asked

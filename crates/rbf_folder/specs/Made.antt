@@ -1,5 +1,5 @@
 -- A new directory whose descriptor is on the media, before it has a name.
-use Rattle.std.specs.Prelude.{◌≡◌, ◌≢◌, ◌↔◌, ℕ, ◌-◌, ◌<◌, ◌==◌, true, false, Option, Some, List, length, get_or, if◌then◌else◌, Result, IfOk, IfSome, IsErrOf}
+use Rattle.std.specs.Prelude.{◌≡◌, ◌≢◌, ◌↔◌, ℕ, ◌+◌, ◌-◌, ◌<◌, ◌==◌, true, false, Option, Some, List, length, get_or, if◌then◌else◌, Result, IfOk, IfSome, IsErrOf}
 use Rattle.rbf_model.specs.File.{DiskFile}
 use Rattle.rbf_model.specs.Geometry.{image_geometry, sector}
 use Rattle.rbf_model.specs.Disk.{image_disk}
@@ -14,6 +14,7 @@ use Rattle.rbf_change.specs.NewFiles.{Plan, IsNewFile, file_clusters}
 use Rattle.rbf_change.specs.Parts.{FileIsMade}
 use Rattle.rbf_change.specs.Tidy.{KeepsMapEnd}
 use Rattle.rbf_access.specs.Faults.{file_fault}
+use Rattle.rbf_append.specs.NewEntry.{IsAfterMarks}
 use Rattle.rbf_access.specs.declared.faults.FileFault.{FileFault}
 use Rattle.rbf_access.specs.declared.faults.FileFault.TheVariants as fault
 
@@ -68,6 +69,8 @@ pub record FolderEnds (v : DiskVolume) (plan : ℕ → Plan) (old new : Option (
   pub left : DiskVolume
   pub vol : Vol now left
   pub lose : MayLose v left (has_cluster (shape v) number file)
+  -- its first sector comes after the marks of its clusters
+  pub order : IsAfterMarks image now (first_sector file) left (has_cluster (shape v) number file)
   -- its descriptor, which is written last, was not
   pub undescribed : sector now number ≡ sector image number
   -- only its first sector and the map have changed
@@ -86,3 +89,7 @@ pub record MakesFolder (v : DiskVolume) (parent : ℕ) (plan : ℕ → Plan) (ol
   pub runs : ¬ IsErrOf result fault.TooManyRuns
   -- an access of the drive has failed
   pub ends : IfSome (file_fault result) (λ _. FolderEnds v plan old new)
+
+-- how many calls of the drive make it at most: one for each cluster that it takes, and one for each of its two sectors
+abbrev pub folder_calls : DiskVolume → ℕ
+folder_calls v = file_clusters (cluster_size v) 64 + 2

@@ -4,7 +4,7 @@ ghost use Rattle.rbf_change.specs.NewFiles.{directory_plan};
 ghost use Rattle.rbf_access.specs.Drive.{Counts};
 ghost use Rattle.rbf_access.specs.Faults.{file_fault};
 ghost use Rattle.rbf_access.specs.Mounted.{IsMounted, Represents};
-ghost use Rattle.rbf_folder.specs.Made.{MakesFolder};
+ghost use Rattle.rbf_folder.specs.Made.{MakesFolder, folder_calls};
 
 use crate::listing::listing;
 use crate::parts::{first_segs, new_clusters, new_directory};
@@ -39,11 +39,9 @@ pub fn create_folder(
         → MakesFolder v parent (directory_plan attr owner now parent)
         (media d.old) (media d.new) result }
     ensures refused { OnErr result (IsNone (file_fault result) → media d.new ≡ media d.old) }
-    ensures refused_calls { OnErr result (IsNone (file_fault result)
-        → drive_calls d.new ≡ drive_calls d.old) }
     ensures mounted { IsMounted volume.new (media d.new) }
-    ensures counts { Counts ⟦<dyn BlockDriver as BlockDriver>⟧
-        (file_fault result) 4 d.old d.new }
+    ensures counts { (v : DiskVolume) → Represents (media d.old) v
+        → Counts ⟦<dyn BlockDriver as BlockDriver>⟧ (file_fault result) (folder_calls v) d.old d.new }
 {
     let k = volume.ident.cluster;
     let space = grow(volume, d, &Segs::empty(), new_clusters(k))?;

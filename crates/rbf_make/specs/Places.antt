@@ -8,6 +8,7 @@ use Rattle.rbf_change.specs.NewFiles.{Refusal, bad_path, not_allowed, exists, en
 use Rattle.rbf_access.specs.declared.faults.FileFault.TheVariants.{Device, NoCluster, TooManyRuns}
 use Rattle.rbf_walk.specs.Search.{IsAbsent}
 use Rattle.rbf_walk.specs.declared.error.DirError.{DirError}
+use Rattle.rbf_make.specs.declared.place.NewPlace.{NewPlace}
 use Rattle.rbf_walk.specs.declared.error.DirError.TheVariants.{NotAllowed, BadPath, NotFound, Exists, File}
 
 -- a new entry with the name is refused so, whatever is to be made and however many clusters are free
@@ -32,6 +33,11 @@ AnswersPlace dir name user execute (Err Exists) = IsRefused dir name user execut
 AnswersPlace dir name user execute (Err (File (Device n))) = is_dots name ≡ false
 AnswersPlace dir name user execute (Err (File NoCluster)) = ⊥
 AnswersPlace dir name user execute (Err (File TooManyRuns)) = ⊥
+
+-- the place that was found
+abbrev pub place_found : Result NewPlace DirError → Result ℕ DirError
+place_found (Ok found) = Ok found.place
+place_found (Err error) = Err error
 
 -- how many calls of the drive find the place at most: none for `.` and `..`, one for a directory that the user may not
 -- change, and one more for each sector of another

@@ -1,4 +1,4 @@
-ghost use Rattle.std.specs.Prelude.{◌≡◌};
+ghost use Rattle.std.specs.Prelude.{◌≡◌, IfOk};
 ghost use Rattle.os9_base.specs.Name.{IsName};
 ghost use Rattle.rbf_model.specs.File.{DiskFile};
 ghost use Rattle.rbf_change.specs.Names.{is_dots as is_dots_lem, may_change as may_change_lem};
@@ -6,19 +6,28 @@ ghost use Rattle.rbf_access.specs.Drive.{Counts};
 ghost use Rattle.rbf_access.specs.Mounted.{kept, HasFile, IsMounted};
 ghost use Rattle.rbf_access.specs.Reading.{IsFdOf, OnFile};
 ghost use Rattle.rbf_walk.specs.Walk.{directory_fault};
-ghost use Rattle.rbf_make.specs.Places.{AnswersPlace, place_calls};
+ghost use Rattle.rbf_write.specs.Files.{IsLoaded};
+ghost use Rattle.rbf_make.specs.Places.{AnswersPlace, place_calls, place_found};
 
 use os9_base::name::Name;
 use os9_outer::drive::BlockDriver;
 use rbf_access::Volume;
 use rbf_sector::Fd;
 use rbf_walk::{DirError, Searched, is_open, may, search};
+use rbf_write::{Loaded, load_file};
 
 const WRITE: u8 = 2;
 
+/// The place of a new entry in a directory, and the directory's descriptor, which has been read.
+#[derive(Clone, Copy, Debug)]
+pub struct NewPlace {
+    pub dir: Loaded,
+    pub place: u32,
+}
+
 /// The place in a directory that a new entry with a name goes to, for a user: the first free one,
 /// or the one behind the last (OS-9 Technical Reference, I$Create and I$MakDir). No sector is read
-/// twice.
+/// twice, and the directory's descriptor is handed on.
 ///
 /// # Errors
 ///
@@ -33,11 +42,12 @@ pub fn find_place(
     name: &Name,
     user: u16,
     execute: bool,
-) -> Result<u32, DirError>
+) -> Result<NewPlace, DirError>
     requires mounted { IsMounted v.old (media d.old) }
     requires file { HasFile (media d.old) dir }
     ensures answer { OnFile (media d.old) dir (λ file.
-        AnswersPlace file name.now user execute result) }
+        AnswersPlace file name.now user execute (place_found result)) }
+    ensures read { IfOk result (λ found. IsLoaded (media d.old) dir found.dir) }
     ensures mounted { IsMounted v.new (media d.new) }
     ensures media_kept { media d.new ≡ media d.old }
     ensures volume_kept { kept v.new ≡ kept v.old }
@@ -47,13 +57,16 @@ pub fn find_place(
     if is_dots(name) {
         return Err(DirError::BadPath);
     }
-    let fd = v.fd(d, dir)?;
-    if !may_change(&fd, user, execute) {
+    let loaded = load_file(v, d, dir)?;
+    if !may_change(&loaded.file, user, execute) {
         return Err(DirError::NotAllowed);
     }
-    match search(v, d, &fd, name)? {
+    match search(v, d, &loaded.file, name)? {
         Searched::Found { .. } => Err(DirError::Exists),
-        Searched::Absent { free } => Ok(free),
+        Searched::Absent { free } => Ok(NewPlace {
+            dir: loaded,
+            place: free,
+        }),
     }
 }
 

@@ -1,12 +1,13 @@
-use Rattle.std.proofs.Common.{Err, IsSome, ◌+◌, ap, sym, subst, ◌∙◌, arith}
+use Rattle.std.proofs.Common.{◌≡◌, ℕ, List, Err, IsSome, ◌+◌, ap, sym, subst, ◌∙◌, arith}
 use Rattle.std.proofs.lemmas.Result.{err_from_is_err_and}
+use Rattle.rbf_change.specs.Calls.{cluster_size}
+use Rattle.rbf_change.specs.NewFiles.{file_clusters}
 use Rattle.rbf_access.proofs.Counting.{counts_then, counts_most}
 use Rattle.rbf_access.proofs.Reading.{mounted_still}
 use Rattle.rbf_growth.proofs.Growing.{sizes_are}
 use Rattle.rbf_update.proofs.Stored.{mounted_now}
 use Rattle.rbf_create.proofs.Making.{refused_as}
-use Rattle.rbf_make.proofs.Creating.{as_number, no_refusal}
-use Rattle.rbf_folder.proofs.Counted.{refused_then}
+use Rattle.rbf_folder.proofs.Counted.{as_folder}
 use Rattle.rbf_folder.proofs.Making.{kept_size, empty_grows, folder_refused, folder_fault, taken_or, number_there, first_there, m_low, f_low, f_on_drive, listed_stored, unlisted, ends_undescribed, m_on_drive, described_stored, made_as}
 use Rattle.rbf_folder.proofs.folder.create_folder.Goals as goal
 
@@ -19,21 +20,6 @@ pub returns-in_err-space-clause-refused : goal.returns-in_err-space-clause-refus
 returns-in_err-space-clause-refused g c =
     let p = err_from_is_err_and c.from_residual.result c.from_residual.ensures.1 in
     refused_as c.in_err-space.field-0.0 _ _ _ (p.1 ∙ ap Err p.2) c.in_err-space.ensures.refused
-
-pub returns-in_err-space-clause-refused_calls : goal.returns-in_err-space-clause-refused_calls
-returns-in_err-space-clause-refused_calls g c =
-    let p = err_from_is_err_and c.from_residual.result c.from_residual.ensures.1 in
-    refused_then c.in_err-space.field-0.0 _ _ (p.1 ∙ ap Err p.2) c.in_err-space.ensures.refused_calls
-
-pub returns-in_err-store-clause-refused_calls : goal.returns-in_err-store-clause-refused_calls
-returns-in_err-store-clause-refused_calls g c =
-    let p = err_from_is_err_and c.from_residual-in_err-store.result c.from_residual-in_err-store.ensures.1 in
-    no_refusal c.in_err-store.field-0.0 _ _ (p.1 ∙ ap Err p.2) c.in_err-store.ensures.device
-
-pub returns-in_err-store-2-clause-refused_calls : goal.returns-in_err-store-2-clause-refused_calls
-returns-in_err-store-2-clause-refused_calls g c =
-    let p = err_from_is_err_and c.from_residual-in_err-store-2.result c.from_residual-in_err-store-2.ensures.1 in
-    no_refusal c.in_err-store-2.field-0.0 _ _ (p.1 ∙ ap Err p.2) c.in_err-store-2.ensures.device
 
 pub unwrap-n-requires : goal.unwrap-n-requires
 unwrap-n-requires g c =
@@ -72,10 +58,10 @@ returns-in_err-store-clause-mounted g c =
     mounted_still _ _ _ _ c.in_err-store.ensures.volume_kept c.in_err-store.ensures.media_kept c.in_ok-space.ensures.mounted
 
 pub returns-in_err-store-clause-counts : goal.returns-in_err-store-clause-counts
-returns-in_err-store-clause-counts g c =
+returns-in_err-store-clause-counts g c v on =
     let p = err_from_is_err_and c.from_residual-in_err-store.result c.from_residual-in_err-store.ensures.1 in
-    let few = c.new_clusters.ensures.few in
-    counts_most _ (c.new_clusters.result + 1) 4 _ _ (omega arith) (counts_then _ c.new_clusters.result 1 _ _ _ c.in_ok-space.ensures.counts (as_number c.in_err-store.field-0.0 _ 1 _ _ (p.1 ∙ ap Err p.2) c.in_err-store.ensures.counts))
+    let is : c.new_clusters.result ≡ file_clusters (cluster_size v) 64 = c.new_clusters.ensures.value ∙ ap (λ x. file_clusters x 64) (kept_size c.args.volume.now _ v c.requires.mounted on) in
+    counts_most _ (c.new_clusters.result + 1) (file_clusters (cluster_size v) 64 + 2) _ _ (omega arith) (counts_then _ c.new_clusters.result 1 _ _ _ c.in_ok-space.ensures.counts (as_folder (Unit {0}) c.in_err-store.field-0.0 _ 1 _ _ (p.1 ∙ ap Err p.2) c.in_err-store.ensures.counts))
 
 pub first_segs-requires-clause-some : goal.first_segs-requires-clause-some
 first_segs-requires-clause-some g c =
@@ -109,10 +95,10 @@ returns-in_err-store-2-clause-mounted g c =
     (mounted_now _ _ _ _ (listed_stored _ _ m.content m.on c.args.parent c.args.attr c.args.owner c.args.now c.in_ok-space.space grows.grown c.unwrap-n.result c.unwrap-first.result (sym c.lsn_of.ensures ∙ c.unwrap-n.ensures) (sym c.lsn_of-2.ensures ∙ c.unwrap-first.ensures) c.listing.result c.listing.ensures _ c.in_ok-store.ensures.written) c.grow.new.volume c.store.new.self c.in_ok-store.ensures.volume_kept c.in_ok-space.ensures.mounted)
 
 pub returns-in_err-store-2-clause-counts : goal.returns-in_err-store-2-clause-counts
-returns-in_err-store-2-clause-counts g c =
+returns-in_err-store-2-clause-counts g c v on =
     let p = err_from_is_err_and c.from_residual-in_err-store-2.result c.from_residual-in_err-store-2.ensures.1 in
-    let few = c.new_clusters.ensures.few in
-    counts_most _ (c.new_clusters.result + 1 + 1) 4 _ _ (omega arith) (counts_then _ (c.new_clusters.result + 1) 1 _ _ _ (counts_then _ c.new_clusters.result 1 _ _ _ c.in_ok-space.ensures.counts c.in_ok-store.ensures.counts) (as_number c.in_err-store-2.field-0.0 _ 1 _ _ (p.1 ∙ ap Err p.2) c.in_err-store-2.ensures.counts))
+    let is : c.new_clusters.result ≡ file_clusters (cluster_size v) 64 = c.new_clusters.ensures.value ∙ ap (λ x. file_clusters x 64) (kept_size c.args.volume.now _ v c.requires.mounted on) in
+    counts_most _ (c.new_clusters.result + 1 + 1) (file_clusters (cluster_size v) 64 + 2) _ _ (omega arith) (counts_then _ (c.new_clusters.result + 1) 1 _ _ _ (counts_then _ c.new_clusters.result 1 _ _ _ c.in_ok-space.ensures.counts c.in_ok-store.ensures.counts) (as_folder (Unit {0}) c.in_err-store-2.field-0.0 _ 1 _ _ (p.1 ∙ ap Err p.2) c.in_err-store-2.ensures.counts))
 
 pub returns-clause-makes : goal.returns-clause-makes
 returns-clause-makes g c v on =
@@ -127,3 +113,14 @@ returns-clause-mounted g c =
     mounted_now _ _ _ _ (described_stored _ _ m.content m.on c.args.parent c.args.attr c.args.owner c.args.now c.in_ok-space.space grows.grown c.unwrap-n.result c.unwrap-first.result (sym c.lsn_of.ensures ∙ c.unwrap-n.ensures) (sym c.lsn_of-2.ensures ∙ c.unwrap-first.ensures) c.listing.result c.listing.ensures _ c.in_ok-store.ensures.written c.descriptor.result c.descriptor.ensures.whole _ c.in_ok-store-2.ensures.written)
     c.store.new.self c.store-2.new.self c.in_ok-store-2.ensures.volume_kept
     (mounted_now _ _ _ _ (listed_stored _ _ m.content m.on c.args.parent c.args.attr c.args.owner c.args.now c.in_ok-space.space grows.grown c.unwrap-n.result c.unwrap-first.result (sym c.lsn_of.ensures ∙ c.unwrap-n.ensures) (sym c.lsn_of-2.ensures ∙ c.unwrap-first.ensures) c.listing.result c.listing.ensures _ c.in_ok-store.ensures.written) c.grow.new.volume c.store.new.self c.in_ok-store.ensures.volume_kept c.in_ok-space.ensures.mounted)
+
+pub returns-in_err-space-clause-counts : goal.returns-in_err-space-clause-counts
+returns-in_err-space-clause-counts g c v on =
+    let p = err_from_is_err_and c.from_residual.result c.from_residual.ensures.1 in
+    let is : c.new_clusters.result ≡ file_clusters (cluster_size v) 64 = c.new_clusters.ensures.value ∙ ap (λ x. file_clusters x 64) (kept_size c.args.volume.now _ v c.requires.mounted on) in
+    counts_most _ c.new_clusters.result (file_clusters (cluster_size v) 64 + 2) _ _ (omega arith) (as_folder (List (ℕ × ℕ)) c.in_err-space.field-0.0 _ c.new_clusters.result _ _ (p.1 ∙ ap Err p.2) c.in_err-space.ensures.counts)
+
+pub returns-clause-counts : goal.returns-clause-counts
+returns-clause-counts g c v on =
+    let is : c.new_clusters.result ≡ file_clusters (cluster_size v) 64 = c.new_clusters.ensures.value ∙ ap (λ x. file_clusters x 64) (kept_size c.args.volume.now _ v c.requires.mounted on) in
+    counts_most _ (c.new_clusters.result + 1 + 1) (file_clusters (cluster_size v) 64 + 2) _ _ (omega arith) (counts_then _ (c.new_clusters.result + 1) 1 _ _ _ (counts_then _ c.new_clusters.result 1 _ _ _ c.in_ok-space.ensures.counts c.in_ok-store.ensures.counts) c.in_ok-store-2.ensures.counts)

@@ -1,9 +1,9 @@
--- A new directory whose entry goes behind the last one of its parent: what is answered.
-use Rattle.std.proofs.Common.{◌≡◌, ◌≢◌, ◌==◌, ◌&&◌, ◌||◌, ℕ, zero, suc, ◌+◌, ◌*◌, ◌/◌, ◌%◌, ◌<◌, ◌≤◌, Bool, true, false, not, Option, Some, None, is_some, List, [], ◌∷◌, length, length-append, take, get_or, inl, inr, refl, sym, ap, ◌∙◌, subst, eqb-true, eq-eqb, lt-ltb, arith}
+-- A new directory that is entered into its parent: what the media represents at each answer.
+use Rattle.std.proofs.Common.{◌≡◌, ◌≢◌, ◌==◌, ◌&&◌, ◌||◌, ◌⊎◌, ℕ, zero, suc, ◌+◌, ◌*◌, ◌/◌, ◌%◌, ◌<◌, ◌≤◌, Bool, true, false, not, Option, Some, None, is_some, List, [], ◌∷◌, length, take, get_or, inl, inr, ⊎_elim, refl, sym, ap, ◌∙◌, subst, eqb-true, eq-eqb, lt-ltb, arith}
 use Rattle.std.specs.Prelude.{nat_lt, if◌then◌else◌}
 use Rattle.std.specs.List.{range_with_len}
 use mathlib.Core.Path.{fun_ext}
-use Rattle.std.proofs.lemmas.Bool.{and_parts, and_from, both_ways, or_left, or_right, false_from_ne_true, false≢true, cond-true, cond-false, le-ltb, ltb-true}
+use Rattle.std.proofs.lemmas.Bool.{and_parts, and_from, both_ways, or_left, or_right, or_cases, false_from_ne_true, false≢true, cond-true, cond-false, le-ltb, ltb-true}
 use Rattle.std.proofs.lemmas.List.Sums.{length-filter}
 use Rattle.std.proofs.lemmas.Option.{same_Some}
 use Rattle.os9_base.specs.declared.registers.TimePacket.{TimePacket}
@@ -13,7 +13,7 @@ use Rattle.rbf_model.specs.File.{DiskFile, file_at, is_directory}
 use Rattle.rbf_model.specs.Geometry.{Geometry, geometry, image_geometry, sector, map_sectors}
 use Rattle.rbf_model.specs.Laws.{IsMapSector, IsReady}
 use Rattle.rbf_model.specs.Segments.{has, sectors_of}
-use Rattle.rbf_model.specs.Space.{has_cluster, own_sectors as owned_sectors, cluster_count, is_marked}
+use Rattle.rbf_model.specs.Space.{has_cluster, own_sectors as owned_sectors, cluster_count, is_marked, Unused}
 use Rattle.rbf_model.specs.Volume.{DiskVolume, is_free}
 use Rattle.rbf_model.specs.Walk.{look_up, file_permits}
 use Rattle.rbf_model.specs.Writes.{put_file, put_at, with_file, with_lost}
@@ -27,17 +27,28 @@ use Rattle.rbf_change.specs.Names.{new_entry, entry_place, is_dots, may_change}
 use Rattle.rbf_change.specs.NewFiles.{Plan, directory_plan, IsNewFile, file_clusters, free_without, entry_clusters, no_cluster, too_many_runs}
 use Rattle.rbf_change.specs.Tidy.{IsNewList, KeepsListEnd, KeepsMapEnd}
 use Rattle.rbf_access.specs.Mounted.{Represents}
+use Rattle.rbf_access.specs.Reading.{IsFdOf}
+use Rattle.rbf_change.proofs.LawfulWrites.{shape-image}
+use Rattle.rbf_model.proofs.Free.{free_parts}
+use Rattle.os9_outer.specs.Drive.{sector_at}
 use Rattle.rbf_access.proofs.ReadFile.{room_for}
 use Rattle.rbf_model.proofs.Owners.{owns_own}
 use Rattle.rbf_model.proofs.Space.{cluster_from_owns}
-use Rattle.rbf_append.specs.Appended.{MayAppend, IsAppended, AppendStops, sector_of_place}
-use Rattle.rbf_append.specs.Entering.{Entering, refusal_of, written_sectors, IsEnteredOn, EnteringStops, took}
+use Rattle.rbf_append.specs.NewEntry.{MayEnter, IsEntryWritten, EntryStops, IsAfterMarks, sector_of_place}
+use Rattle.rbf_append.specs.Entering.{Entering, refusal_of, written_sectors, IsEnteredOn, StandsWhole, EnteringStops, took, entry_calls}
 use Rattle.rbf_append.specs.Rooms.{place_clusters, HasRoom, HasNoSegment}
-use Rattle.rbf_append.proofs.Appending.{written_at_end}
+use Rattle.rbf_append.proofs.Needs.{needs_entry}
+use Rattle.rbf_append.proofs.Placing.{place_most}
+use Rattle.rbf_append.proofs.Sectors.{entry_no_map, entry_apart}
 use Rattle.rbf_append.proofs.Choice.{choice_exists, one_needed, one_passes}
 use Rattle.rbf_write.proofs.Steps.{few_segments, own_not_free}
 use Rattle.rbf_make.proofs.NewEntries.{may_enter, new_length, new_number}
-use Rattle.rbf_folder.specs.Ends.{folder_request, IsLastPlace}
+use Rattle.rbf_make.specs.Places.{IsNewPlace}
+use Rattle.rbf_walk.proofs.Stepping.{same_content}
+use Rattle.rbf_write.specs.declared.loaded.Loaded.{Loaded}
+use Rattle.rbf_write.specs.Files.{IsLoaded}
+use Rattle.rbf_write.proofs.Contents.{length-laid}
+use Rattle.rbf_folder.specs.Asked.{folder_request}
 use Rattle.rbf_folder.specs.Made.{first_sector, ClustersTaken, IsFolderMade, FolderEnds}
 use Rattle.rbf_folder.proofs.Last.{split_count, more_count, listed_count, free_left, apart, joined}
 use Rattle.rbf_folder.proofs.Making.{positive_of, past_system}
@@ -51,6 +62,32 @@ has_place (x ∷ xs) (suc j) low = or_right (x == get_or xs j 0) (has xs (get_or
 pub first_taken : (xs : List ℕ) (size : ℕ) → sector_count size ≡ 1 → has xs (get_or xs 0 0) ≡ true → has (take (sector_count size) xs) (get_or xs 0 0) ≡ true
 first_taken [] size one h = absurd (false≢true h)
 first_taken (x ∷ xs) size one h = subst (λ m. has (take m (x ∷ xs)) x ≡ true) (sym one) (or_left (x == x) false (eq-eqb x x refl))
+
+first_only : (xs : List ℕ) (s : ℕ) → has (take 1 xs) s ≡ true → get_or xs 0 0 ≡ s
+first_only [] s h = absurd (false≢true h)
+first_only (x ∷ xs) s h = eqb-true x s (or_false (x == s) h)
+  where
+    or_false : (t : Bool) → (t || false) ≡ true → t ≡ true
+    or_false true h = refl
+    or_false false h = h
+
+-- bytes that are written lie within the contents then
+written_past : (contents bytes : List ℕ) (at : ℕ) → length bytes ≡ 32 → at + 32 ≤ length (written contents at bytes)
+written_past contents [] at whole = absurd (omega arith)
+written_past contents (b ∷ bytes) at whole = omega (arith, length-laid contents (b ∷ bytes) at)
+
+-- a file's own sector lies in no free cluster
+own_not_free_sector : (media : Option (List ℕ)) (v : DiskVolume) → Represents media v → (d : ℕ) (dir : DiskFile) → v.files d ≡ Some dir → (s : ℕ) → has (owned_sectors d dir) s ≡ true → is_free_in v (s / cluster_size v) ≡ false
+own_not_free_sector media v on d dir is s own = false_from_ne_true (is_free_in v (s / cluster_size v)) (λ free.
+    let facts = free_parts (image_geometry on.image) (sector on.image) v on.vol.sound (s / cluster_size v) (subst (λ h. is_free h v (s / cluster_size v) ≡ true) (shape-image on.image v on.vol) free) in
+    both_ways (has_cluster (shape v) d dir (s / cluster_size v)) (subst (λ h. Unused h v.files (s / cluster_size v)) (sym (shape-image on.image v on.vol)) facts.2 d dir is)
+    (cluster_from_owns (shape v) d dir s (owns_own (shape v) d dir s own)))
+
+pub number_below_all : (media : Option (List ℕ)) (v : DiskVolume) → Represents media v → (d : ℕ) (dir : DiskFile) → v.files d ≡ Some dir → d < 16777216
+number_below_all media v on d dir is =
+    let low = own_below (image_geometry on.image) (sector on.image) v on.vol.sound d dir d is (or_left (d == d) (has (sectors_of dir.segments) d) (eq-eqb d d refl)) in
+    let most = on.vol.header.header.most in
+    omega arith
 
 -- what two steps keep of the marks behind the clusters
 keeps_then : (a b c : List ℕ) → image_geometry b ≡ image_geometry a → KeepsMapEnd a b (λ _. false) → KeepsMapEnd b c (λ _. false) → KeepsMapEnd a c (λ _. false)
@@ -68,7 +105,7 @@ and_false : (a b : Bool) → (a ≡ true → b ≡ false) → (a && b) ≡ false
 and_false true b none = none refl
 and_false false b none = refl
 
-module _ (media : Option (List ℕ)) (v : DiskVolume) (on : Represents media v) (d place : ℕ) (dir : DiskFile) (dir_is : v.files d ≡ Some dir) (name : List ℕ) (attr user : ℕ) (time : TimePacket) (spot : IsLastPlace dir name user place) where
+module _ (media : Option (List ℕ)) (v : DiskVolume) (on : Represents media v) (d place : ℕ) (dir : DiskFile) (dir_is : v.files d ≡ Some dir) (name : List ℕ) (attr user : ℕ) (time : TimePacket) (spot : IsNewPlace dir name user false place) where
   abbrev e : Entering
   e = folder_request d name attr user time
 
@@ -122,16 +159,10 @@ module _ (media : Option (List ℕ)) (v : DiskVolume) (on : Represents media v) 
   few_runs = subst (λ f. length f.segments ≤ 48) (sym (on.vol.sound.shows.shown d dir dir_is)) (few_segments (sector on.image d))
 
   needs_few : place_clusters v dir place ≤ 1
-  needs_few = let end = spot.end in let there = dir_room in one_needed k dir.segments place positive (omega arith)
+  needs_few = let most = place_most dir.contents in let at = place_is in let there = dir_room in one_needed k dir.segments place positive (omega arith)
 
   dir_own : has (owned_sectors d dir) d ≡ true
   dir_own = or_left (d == d) (has (sectors_of dir.segments) d) (eq-eqb d d refl)
-
-  pub dir_low : d < 16777216
-  dir_low =
-      let low = own_below (image_geometry on.image) (sector on.image) v on.vol.sound d dir d dir_is dir_own in
-      let most = on.vol.header.header.most in
-      omega arith
 
   directory : is_directory dir ≡ true
   directory = (and_parts (is_directory dir) (file_permits dir user 1) (and_parts (is_directory dir && file_permits dir user 1) (file_permits dir user 2) spot.allowed).0).0
@@ -209,19 +240,39 @@ module _ (media : Option (List ℕ)) (v : DiskVolume) (on : Represents media v) 
       pub room_left : HasRoom left dir place 0
       room_left = record { enough = let few = free_enough room.enough in omega arith; few = room.few }
 
-      size_then : length (written dir.contents (32 * place) entry) ≡ 32 * (place + 1)
-      size_then =
-          let end = spot.end in
-          let whole = new_length name n spot.named in
-          ap length (written_at_end dir.contents entry (32 * place) (omega arith) spot.end) ∙ length-append dir.contents entry ∙ omega arith
+      whole : length entry ≡ 32
+      whole = new_length name n spot.named
+
+      needs_written : clusters_needed k dir.segments (length (written dir.contents (32 * place) entry)) ≡ place_clusters v dir place
+      needs_written = needs_entry v dir place entry whole dir_room
 
       -- a cluster that the parent may gain then, if it needs one
       pub some_choice : (gained : List ℕ) × IsChoice k (is_free_in left) dir.segments (length (written dir.contents (32 * place) entry)) gained
       some_choice =
-          subst (λ size. (gained : List ℕ) × IsChoice k (is_free_in left) dir.segments size gained) (sym size_then)
-          (choice_exists k (is_free_in left) dir.segments (32 * (place + 1)) needs_few few_runs (λ one. room.few one)
+          let same = needs_written in
+          let most = needs_few in
+          let few = free_enough room.enough in
+          choice_exists k (is_free_in left) dir.segments (length (written dir.contents (32 * place) entry)) (omega arith) few_runs (λ one. room.few (omega arith))
           (λ c used. left_free c ∙ ap (λ t. t && not (has_cluster (shape v) n file c)) (own_not_free media v on d dir dir_is c used))
-          (λ one. one_passes (is_free_in left) (range_with_len 0 (cluster_count (shape left))) (let few = free_enough room.enough in let some : 1 ≤ free_total left = omega arith in some)))
+          (λ one. one_passes (is_free_in left) (range_with_len 0 (cluster_count (shape left))) (let some : 1 ≤ free_total left = omega arith in some))
+
+      -- the sector of the entry
+      module _ (gained : List ℕ) (choice : IsChoice k (is_free_in left) dir.segments (length (written dir.contents (32 * place) entry)) gained) where
+        choice_without : IsChoice k (free_without (shape v) (is_free_in v) n file) dir.segments (length (written dir.contents (32 * place) entry)) gained
+        choice_without = subst (λ f. IsChoice k f dir.segments (length (written dir.contents (32 * place) entry)) gained) (fun_ext left_free) choice
+
+        entry_away : (s : ℕ) → has (owned_sectors n file) s ≡ true → sector_of_place (with_clusters k dir.segments gained) place ≢ s
+        entry_away = entry_apart media v on d place dir dir_is entry whole n file fresh gained choice_without
+
+        entry_not_map : (image : List ℕ) → media ≡ Some image → ¬ IsMapSector (image_geometry image) (sector_of_place (with_clusters k dir.segments gained) place)
+        entry_not_map = entry_no_map media v on d place dir dir_is entry whole n file fresh gained choice_without
+
+      -- its descriptor and its first sector are written
+      written_two : (s : ℕ) → has (written_sectors n file) s ≡ true → (n ≡ s) ⊎ (first_sector file ≡ s)
+      written_two s h =
+          let sized : length file.contents ≡ 64 = ap (λ (f : DiskFile). length f.contents) new.is in
+          ⊎_elim (λ own. inl (eqb-true n s own)) (λ later. inr (first_only (sectors_of file.segments) s (subst (λ m. has (take m (sectors_of file.segments)) s ≡ true) (ap sector_count sized) later)))
+          (or_cases (n == s) (has (take (sector_count (length file.contents)) (sectors_of file.segments)) s) h)
 
       -- the tree is as it was, and clusters may be lost
       abbrev pub ends_by : (gained : List ℕ) → IsChoice k (is_free_in left) dir.segments (length (written dir.contents (32 * place) entry)) gained → (w : DiskVolume) → MayLose v w (λ c. has_cluster (shape v) n file c || has gained c) → EntryEnds v w d n name (plan n)
@@ -260,7 +311,14 @@ module _ (media : Option (List ℕ)) (v : DiskVolume) (on : Represents media v) 
             only = λ x h. wider (v.lost x) (has_cluster (shape v) ends.number ends.file x) (has c.0 x) (ends.lose.only x h);
           });
           others = λ s none not_own _. ends.others s none (unwritten ends.number ends.file ends.chosen ends.takes s not_own).1;
-          order = inl ends.undescribed;
+          marks = λ s h. ⊎_elim
+              (λ own. subst (λ t. IsAfterMarks ends.image ends.now t ends.left (has_cluster (shape v) ends.number ends.file)) own (inl ends.undescribed))
+              (λ first. subst (λ t. IsAfterMarks ends.image ends.now t ends.left (has_cluster (shape v) ends.number ends.file)) first ends.order)
+              (written_two ends.number ends.file ends.chosen ends.takes s h);
+          descriptor = inl ends.undescribed;
+          entry = subst (λ p. (sector ends.now (sector_of_place (with_clusters k dir.segments c.0) p) ≡ sector ends.image (sector_of_place (with_clusters k dir.segments c.0) p)) ⊎ StandsWhole v ends.left ends.now ends.number ends.file c.0) (sym place_is)
+              (inl (ends.others (sector_of_place (with_clusters k dir.segments c.0) place) (entry_not_map ends.number ends.file ends.chosen ends.takes c.0 c.1 ends.image ends.was)
+              (entry_away ends.number ends.file ends.chosen ends.takes c.0 c.1 (first_sector ends.file) (first_own ends.number ends.file ends.chosen ends.takes))));
           end = ends.end;
         })
       where
@@ -295,18 +353,21 @@ module _ (media : Option (List ℕ)) (v : DiskVolume) (on : Represents media v) 
       number : descriptor_field (new_entry name n) ≡ n
       number = new_number name n spot.named low
 
-      pub may_append : (bytes : List ℕ) → bytes ≡ new_entry name n → MayAppend mid d place bytes
-      may_append bytes is = subst (MayAppend mid d place) (sym is) (record {
+      pub may_enter_it : (bytes : List ℕ) → bytes ≡ new_entry name n → MayEnter mid d place bytes
+      may_enter_it bytes is = subst (MayEnter mid d place) (sym is) (record {
         content = made.left;
         on = on_mid;
         dir = dir;
         is = dir_mid;
         directory = directory;
-        end = spot.end;
+        place_is = spot.absent.free_is;
         new = may_enter dir.contents name place n spot.named spot.proper spot.absent.nowhere;
         ready = subst (IsReady (image_disk made.now) made.left d) (sym number) made.ready;
         room = subst (λ x. HasRoom x dir place 0) (sym left_is) (room_left n file made.made.made made.takes);
       })
+
+      pub calls_left : entry_calls made.left dir ≡ entry_calls v dir
+      calls_left = ap (λ x. entry_calls x dir) left_is
 
       number_free : is_free_in v (n / k) ≡ true
       number_free = number_was_free n file made.made.made made.takes
@@ -337,8 +398,28 @@ module _ (media : Option (List ℕ)) (v : DiskVolume) (on : Represents media v) 
       map_made : (s : ℕ) → ¬ IsMapSector (image_geometry made.image) s → ¬ IsMapSector (image_geometry made.now) s
       map_made s none map = none (subst (λ g. IsMapSector g s) shape_made map)
 
+      -- the parent's descriptor is as it was read
+      d_no_map : ¬ IsMapSector (image_geometry made.image) d
+      d_no_map map =
+          let same : map_sectors (image_geometry on.image) ≡ map_sectors (image_geometry made.image) = ap (λ i. map_sectors (image_geometry i)) (same_Some on.image made.image (sym on.is ∙ made.was)) in
+          let past = own_after (image_geometry on.image) (sector on.image) v on.vol.sound d dir d dir_is dir_own in
+          let within = map.within in
+          absurd (omega arith)
+
+      d_used : is_free_in v (d / k) ≡ false
+      d_used = own_not_free_sector media v on d dir dir_is d dir_own
+
+      pub read_still : (loaded : Loaded) → IsLoaded media d loaded → IsLoaded mid d loaded
+      read_still loaded read = record {
+        number_is = read.number_is;
+        bytes_are = read.bytes_are ∙ ap (λ m. sector_at m d) made.was ∙ sym (kept_used d d_no_map d_used) ∙ sym (ap (λ m. sector_at m d) made.is);
+        list_is = read.list_is;
+        says = λ w f on_w is_w.
+            subst (λ x. IsFdOf x loaded.file) (same_Some dir f (sym dir_mid ∙ ap (λ (x : DiskVolume). x.files d) (same_content mid made.left w on_mid on_w) ∙ is_w)) (read.says v dir on dir_is);
+      }
+
       -- the entry was not written
-      module _ (new : Option (List ℕ)) (stops : AppendStops made.left dir (record { directory = d; place = place; entry = new_entry name n; now = time }) mid new) where
+      module _ (new : Option (List ℕ)) (stops : EntryStops made.left dir (record { directory = d; place = place; entry = new_entry name n; now = time }) mid new) where
         stops_image : stops.image ≡ made.now
         stops_image = same_Some stops.image made.now (sym stops.was ∙ made.is)
 
@@ -348,6 +429,19 @@ module _ (media : Option (List ℕ)) (v : DiskVolume) (on : Represents media v) 
         stops_others : (s : ℕ) → ¬ IsMapSector (image_geometry made.now) s → s ≢ sector_of_place (with_clusters k dir.segments stops.taken) place → sector stops.now s ≡ sector made.now s
         stops_others = subst (λ i. (s : ℕ) → ¬ IsMapSector (image_geometry i) s → s ≢ sector_of_place (with_clusters k dir.segments stops.taken) place → sector stops.now s ≡ sector i s) stops_image
             (subst (λ x. (s : ℕ) → ¬ IsMapSector (image_geometry stops.image) s → s ≢ sector_of_place (with_clusters (cluster_size x) dir.segments stops.taken) place → sector stops.now s ≡ sector stops.image s) left_is stops.others)
+
+        abbrev entry_sector : ℕ
+        entry_sector = sector_of_place (with_clusters k dir.segments stops.taken) place
+
+        stops_order : IsAfterMarks made.now stops.now entry_sector stops.left (has stops.taken)
+        stops_order = subst (λ i. IsAfterMarks i stops.now entry_sector stops.left (has stops.taken)) stops_image
+            (subst (λ x. IsAfterMarks stops.image stops.now (sector_of_place (with_clusters (cluster_size x) dir.segments stops.taken) place) stops.left (has stops.taken)) left_is stops.order)
+
+        its_lost : (c : ℕ) → has_cluster (shape v) n file c ≡ true → stops.left.lost c ≡ true
+        its_lost c h = stops.lose.still c (ap (λ (y : DiskVolume). y.lost c) left_is ∙ or_right (v.lost c) (has_cluster (shape v) n file c) h)
+
+        shown_then : file_at (sector stops.now) n ≡ file
+        shown_then = subst (λ m. file_at (sector stops.now) m ≡ file_at (sector stops.image) m) number stops.named ∙ ap (λ i. file_at (sector i) n) stops_image ∙ made.made.shown
 
         pub unnamed : EnteringStops v dir e media new
         unnamed = took (record {
@@ -367,7 +461,15 @@ module _ (media : Option (List ℕ)) (v : DiskVolume) (on : Represents media v) 
               let apart_from = unwritten n file made.made.made made.takes s not_own in
               stops_others s (map_made s none) (λ same. away (same ∙ ap (sector_of_place (with_clusters k dir.segments stops.taken)) (sym place_is)))
               ∙ made.writes.others s none apart_from.0 apart_from.1;
-          order = inr (λ c h. stops.lose.still c (ap (λ (y : DiskVolume). y.lost c) left_is ∙ or_right (v.lost c) (has_cluster (shape v) n file c) h));
+          marks = λ s h. inr its_lost;
+          descriptor = inr shown_then;
+          entry = subst (λ p. (sector stops.now (sector_of_place (with_clusters k dir.segments stops.taken) p) ≡ sector made.image (sector_of_place (with_clusters k dir.segments stops.taken) p)) ⊎ StandsWhole v stops.left stops.now n file stops.taken) (sym place_is)
+              (⊎_elim
+              (λ still. inl (still ∙ made.writes.others entry_sector (entry_not_map n file made.made.made made.takes stops.taken stops_choice made.image made.was)
+              (entry_away n file made.made.made made.takes stops.taken stops_choice n (number_own n file made.made.made made.takes))
+              (entry_away n file made.made.made made.takes stops.taken stops_choice (first_sector file) (first_own n file made.made.made made.takes))))
+              (λ marked. inr (record { shown = shown_then; marked = λ c h. ⊎_elim (its_lost c) (marked c) (or_cases (has_cluster (shape v) n file c) (has stops.taken c) h) }))
+              stops_order);
           end = keeps_then made.image made.now stops.now shape_made made.writes.end (subst (λ i. KeepsMapEnd i stops.now (λ _. false)) stops_image stops.end);
         })
           where
@@ -376,7 +478,7 @@ module _ (media : Option (List ℕ)) (v : DiskVolume) (on : Represents media v) 
             wider false h t is = is
 
       -- the entry is written
-      module _ (new : Option (List ℕ)) (done : IsAppended made.left (record { directory = d; place = place; entry = new_entry name n; now = time }) mid new) where
+      module _ (new : Option (List ℕ)) (done : IsEntryWritten made.left (record { directory = d; place = place; entry = new_entry name n; now = time }) mid new) where
         done_image : done.image ≡ made.now
         done_image = same_Some done.image made.now (sym done.was ∙ made.is)
 
@@ -431,8 +533,8 @@ module _ (media : Option (List ℕ)) (v : DiskVolume) (on : Represents media v) 
         on_after : Represents new done.after
         on_after = record { image = done.now; is = done.is; vol = done.vol }
 
-        new_size : length new_dir.contents ≡ 32 * (place + 1)
-        new_size = ap (λ (f : DiskFile). length f.contents) wrote_left.file ∙ size_then n file made.made.made made.takes
+        new_size : 32 * (place + 1) ≤ length new_dir.contents
+        new_size = subst (λ m. 32 * (place + 1) ≤ m) (sym (ap (λ (f : DiskFile). length f.contents) wrote_left.file)) (let past = written_past dir.contents entry_now (32 * place) (whole n file made.made.made made.takes) in let h : 32 * (place + 1) ≤ length (written dir.contents (32 * place) entry_now) = omega (arith, past) in h)
 
         lsn_own : has (owned_sectors d new_dir) lsn ≡ true
         lsn_own =

@@ -1,9 +1,9 @@
--- An entry that is appended to a directory.
+-- The entry of a new file that is written into a directory whose descriptor has been read.
 use Rattle.std.specs.Prelude.{◌≡◌, ◌≢◌, ◌⊎◌, ℕ, ◌*◌, ◌/◌, ◌%◌, Bool, true, false, Option, Some, List, length, get_or, Result, Ok, Err}
 use Rattle.os9_base.specs.declared.registers.TimePacket.{TimePacket}
 use Rattle.rbf_model.specs.Disk.{image_disk}
 use Rattle.rbf_model.specs.Fields.{descriptor_field}
-use Rattle.rbf_model.specs.File.{DiskFile, is_directory}
+use Rattle.rbf_model.specs.File.{DiskFile, file_at, is_directory}
 use Rattle.rbf_model.specs.Geometry.{image_geometry, sector}
 use Rattle.rbf_model.specs.Laws.{IsMapSector, IsReady}
 use Rattle.rbf_model.specs.Segments.{sectors_of, has}
@@ -13,6 +13,7 @@ use Rattle.rbf_change.specs.Calls.{cluster_size, is_free_in}
 use Rattle.rbf_change.specs.Contents.{written}
 use Rattle.rbf_change.specs.Faults.{MayLose}
 use Rattle.rbf_change.specs.Growth.{with_clusters, IsChoice}
+use Rattle.rbf_change.specs.Names.{entry_place}
 use Rattle.rbf_change.specs.Parts.{EntryIsPut}
 use Rattle.rbf_change.specs.Tidy.{KeepsListEnd, KeepsMapEnd}
 use Rattle.rbf_access.specs.Mounted.{Represents}
@@ -20,15 +21,27 @@ use Rattle.rbf_access.specs.declared.faults.FileFault.{FileFault}
 use Rattle.rbf_access.specs.declared.faults.FileFault.TheVariants.{Device, NoCluster, TooManyRuns}
 use Rattle.rbf_append.specs.Rooms.{HasRoom}
 
--- an entry that is appended to a directory, in the place behind its last one, at a time
-pub record Appending : Type 0 where
+-- an entry that is written into a place of a directory, at a time
+pub record EntryWrite : Type 0 where
   pub directory : ℕ
   pub place : ℕ
   pub entry : List ℕ
   pub now : TimePacket
 
--- the place behind the last entry of directory d, and the entry of a new file, which stands on the disk, by a name that
--- is not in the directory
+-- the place of a new entry in directory d, and the entry of a new file, which stands on the disk, by a name that is not
+-- in the directory
+pub record MayEnter (media : Option (List ℕ)) (d place : ℕ) (entry : List ℕ) : Type 0 where
+  pub content : DiskVolume
+  pub on : Represents media content
+  pub dir : DiskFile
+  pub is : content.files d ≡ Some dir
+  pub directory : is_directory dir ≡ true
+  pub place_is : place ≡ entry_place dir.contents
+  pub new : IsNewEntry dir.contents place entry (descriptor_field entry)
+  pub ready : IsReady (image_disk on.image) content d (descriptor_field entry)
+  pub room : HasRoom content dir place 0
+
+-- the same, where the place is the one behind the last entry
 pub record MayAppend (media : Option (List ℕ)) (d place : ℕ) (entry : List ℕ) : Type 0 where
   pub content : DiskVolume
   pub on : Represents media content
@@ -46,7 +59,7 @@ sector_of_place segments place = get_or (sectors_of segments) (place / 8) 0
 
 -- on the media the entry has its 32 bytes, and beside its sector only the map and the directory's descriptor have
 -- changed; the directory has these segments
-pub record WritesEntry (old now : List ℕ) (segments : List (ℕ × ℕ)) (a : Appending) : Type 0 where
+pub record WritesEntry (old now : List ℕ) (segments : List (ℕ × ℕ)) (a : EntryWrite) : Type 0 where
   pub filled : sector now (sector_of_place segments a.place)
       ≡ put_at (sector old (sector_of_place segments a.place)) (32 * (a.place % 8)) a.entry
   pub others : (s : ℕ) → ¬ IsMapSector (image_geometry old) s → s ≢ a.directory → s ≢ sector_of_place segments a.place
@@ -54,8 +67,8 @@ pub record WritesEntry (old now : List ℕ) (segments : List (ℕ × ℕ)) (a : 
   pub list : KeepsListEnd (sector old a.directory) (sector now a.directory)
   pub end : KeepsMapEnd old now (λ _. false)
 
--- the entry has been appended
-pub record IsAppended (v : DiskVolume) (a : Appending) (old new : Option (List ℕ)) : Type 0 where
+-- the entry is in the directory
+pub record IsEntryWritten (v : DiskVolume) (a : EntryWrite) (old new : Option (List ℕ)) : Type 0 where
   pub image : List ℕ
   pub now : List ℕ
   pub was : old ≡ Some image
@@ -71,8 +84,8 @@ abbrev pub IsAfterMarks : List ℕ → List ℕ → ℕ → DiskVolume → (ℕ 
 IsAfterMarks old now s left clusters =
     (sector now s ≡ sector old s) ⊎ ((c : ℕ) → clusters c ≡ true → left.lost c ≡ true)
 
--- a fault came before the descriptor was written: the tree is as it was, and a cluster that was taken may be lost
-pub record AppendStops (v : DiskVolume) (dir : DiskFile) (a : Appending) (old new : Option (List ℕ)) : Type 0 where
+-- a fault came before the entry was in the directory: the tree is as it was, and a cluster that was taken may be lost
+pub record EntryStops (v : DiskVolume) (dir : DiskFile) (a : EntryWrite) (old new : Option (List ℕ)) : Type 0 where
   pub image : List ℕ
   pub now : List ℕ
   pub was : old ≡ Some image
@@ -86,15 +99,17 @@ pub record AppendStops (v : DiskVolume) (dir : DiskFile) (a : Appending) (old ne
   -- only the map and the entry's sector have changed
   pub others : (s : ℕ) → ¬ IsMapSector (image_geometry image) s
       → s ≢ sector_of_place (with_clusters (cluster_size v) dir.segments taken) a.place → sector now s ≡ sector image s
-  -- the entry comes after the marks
+  -- the entry comes after the marks of the clusters that the directory gains
   pub order : IsAfterMarks image now (sector_of_place (with_clusters (cluster_size v) dir.segments taken) a.place)
       left (has taken)
+  -- the file that it names is as it was
+  pub named : file_at (sector now) (descriptor_field a.entry) ≡ file_at (sector image) (descriptor_field a.entry)
   pub end : KeepsMapEnd image now (λ _. false)
 
 -- each answer, and what it leaves
-abbrev pub AnswersAppend : DiskVolume → DiskFile → Appending → Option (List ℕ) → Option (List ℕ)
+abbrev pub AnswersEntry : DiskVolume → DiskFile → EntryWrite → Option (List ℕ) → Option (List ℕ)
     → Result (Unit {0}) FileFault → Type 0
-AnswersAppend v dir a old new (Ok done) = IsAppended v a old new
-AnswersAppend v dir a old new (Err (Device n)) = AppendStops v dir a old new
-AnswersAppend v dir a old new (Err NoCluster) = ⊥
-AnswersAppend v dir a old new (Err TooManyRuns) = ⊥
+AnswersEntry v dir a old new (Ok done) = IsEntryWritten v a old new
+AnswersEntry v dir a old new (Err (Device n)) = EntryStops v dir a old new
+AnswersEntry v dir a old new (Err NoCluster) = ⊥
+AnswersEntry v dir a old new (Err TooManyRuns) = ⊥
