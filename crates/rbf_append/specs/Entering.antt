@@ -15,6 +15,7 @@ use Rattle.rbf_change.specs.Names.{new_entry, entry_place, is_dots}
 use Rattle.rbf_change.specs.NewFiles.{Plan, Enters, Refusal, bad_path, not_allowed, exists, no_cluster, too_many_runs, entry_refusal, entry_clusters}
 use Rattle.rbf_change.specs.Parts.{FileIsMade}
 use Rattle.rbf_change.specs.Tidy.{IsNewList, KeepsListEnd, KeepsMapEnd}
+use Rattle.rbf_access.specs.declared.faults.FileFault.{FileFault}
 use Rattle.rbf_access.specs.declared.faults.FileFault.TheVariants.{Device, NoCluster, TooManyRuns}
 use Rattle.rbf_walk.specs.declared.error.DirError.{DirError}
 use Rattle.rbf_walk.specs.declared.error.DirError.TheVariants.{NotAllowed, BadPath, NotFound, Exists, File}
@@ -131,6 +132,11 @@ AnswersEntering v dir e old new (Err (File (Device n))) =
     (is_dots e.name ≡ false) × EnteringStops v dir e old new
 AnswersEntering v dir e old new (Err (File NoCluster)) = EnteringIsRefused v dir e no_cluster old new
 AnswersEntering v dir e old new (Err (File TooManyRuns)) = EnteringIsRefused v dir e too_many_runs old new
+
+-- an answer of a call on files, as one of a call on directories
+abbrev pub widened : Result ℕ FileFault → Result ℕ DirError
+widened (Ok n) = Ok n
+widened (Err fault) = Err (File fault)
 
 -- how many calls of the drive write an entry at most: two for its sector in a free place, and besides behind the last
 -- entry one for the directory's descriptor and one for a cluster that the directory gains

@@ -26,9 +26,11 @@ use Rattle.rbf_walk.proofs.Stepping.{same_content}
 use Rattle.rbf_write.specs.declared.loaded.Loaded.{Loaded}
 use Rattle.rbf_write.specs.Files.{IsLoaded, OnVolumeFile}
 use Rattle.rbf_append.specs.NewEntry.{MayEnter, AnswersEntry}
-use Rattle.rbf_append.specs.Entering.{AnswersEntering, unchanged, took as stops_after, entry_calls}
+use Rattle.rbf_append.specs.Entering.{AnswersEntering, unchanged, took as stops_after, entry_calls, entering_calls, widened}
 use Rattle.rbf_append.specs.Rooms.{AnswersRoom, HasRoom}
-use Rattle.rbf_make.specs.Places.{AnswersPlace, IsNewPlace}
+use Rattle.rbf_make.specs.declared.place.NewPlace.{NewPlace}
+use Rattle.rbf_make.specs.Places.{AnswersPlace, IsNewPlace, IsFoundFor}
+use Rattle.rbf_make.proofs.Found.{asked}
 use Rattle.rbf_creation.specs.Creating.{request}
 use Rattle.rbf_creation.proofs.Entered.{unmade, unentered, low, may_enter_it, read_still, calls_left, entered}
 use Rattle.rbf_creation.proofs.Refused.{is_full, is_too_long, is_allowed, needs_one}
@@ -178,3 +180,13 @@ module _ (m0 : Option (List ℕ)) (d place : ℕ) (name : List ℕ) (attr user :
             is_entered answer = answered m2 (Ok n)
                 (entered m0 has.content has.on d name attr user execute now has.file has.is directory place spot.named spot.proper spot.absent room n mid made
                 (is_allowed m0 has.content has.on d name attr user execute now has.file place spot.proper spot.allowed spot.absent room) m2 (here (Ok tt) answer))
+
+-- the place was found before
+module _ (m0 m1 : Option (List ℕ)) (same : m1 ≡ m0) (d : ℕ) (name : List ℕ) (user : ℕ) (execute : Bool) (found : NewPlace) (is : IsFoundFor m0 d user execute found) where
+  pub answer_there : (attr : ℕ) (now : TimePacket) (r : Result ℕ FileFault) (m2 : Option (List ℕ))
+      → ((v : DiskVolume) (file : DiskFile) → Represents m1 v → v.files found.dir.number ≡ Some file → AnswersEntering v file (request found.dir.number name attr found.user found.execute now) m1 m2 (widened r)) → Answered m0 m2 d name attr user execute now (widened r)
+  answer_there attr now r m2 = asked m0 m1 same d name user execute found is (λ m n u x v file. AnswersEntering v file (request n name attr u x now) m m2 (widened r))
+
+  pub calls_there : (r : Result ℕ FileFault) (t u : DriveCounts) → ((v : DiskVolume) (file : DiskFile) → Represents m1 v → v.files found.dir.number ≡ Some file → MovesCounts (file_fault r) (entering_calls v file 2 (widened r)) t u)
+      → (v : DiskVolume) (file : DiskFile) → Represents m0 v → v.files d ≡ Some file → MovesCounts (file_fault r) (entering_calls v file 2 (widened r)) t u
+  calls_there r t u = asked m0 m1 same d name user execute found is (λ m n w x v file. MovesCounts (file_fault r) (entering_calls v file 2 (widened r)) t u)

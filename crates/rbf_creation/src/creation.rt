@@ -7,13 +7,12 @@ ghost use Rattle.rbf_append.specs.Entering.{AnswersEntering, entering_calls};
 ghost use Rattle.rbf_make.specs.Places.{place_calls};
 ghost use Rattle.rbf_creation.specs.Creating.{request};
 
+use crate::placed::create_at;
 use os9_base::name::Name;
 use os9_base::registers::TimePacket;
 use os9_outer::drive::BlockDriver;
 use rbf_access::Volume;
-use rbf_append::{check_room, enter_file};
-use rbf_create::create_fd;
-use rbf_make::{find_place, new_entry};
+use rbf_make::find_place;
 use rbf_walk::DirError;
 
 /// Creates a file without contents in a directory, for a user, and answers the number of its
@@ -50,8 +49,6 @@ pub fn create(
         d.old d.new) }
 {
     let found = find_place(v, d, dir, name, user, execute)?;
-    check_room(v, &found.dir.file, found.place, 1)?;
-    let n = create_fd(v, d, attr, user, now)?;
-    enter_file(v, d, &found.dir, found.place, &new_entry(name, n), now)?;
+    let n = create_at(v, d, &found, name, attr, now)?;
     Ok(n)
 }

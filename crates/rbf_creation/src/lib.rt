@@ -2,5 +2,7 @@
 #![tactic(auto)]
 
 pub use creation::create;
+pub use placed::create_at;
 
 mod creation;
+mod placed;

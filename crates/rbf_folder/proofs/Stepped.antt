@@ -24,9 +24,11 @@ use Rattle.rbf_walk.proofs.Stepping.{same_content}
 use Rattle.rbf_write.specs.declared.loaded.Loaded.{Loaded}
 use Rattle.rbf_write.specs.Files.{IsLoaded, OnVolumeFile}
 use Rattle.rbf_append.specs.NewEntry.{MayEnter, AnswersEntry}
-use Rattle.rbf_append.specs.Entering.{AnswersEntering, unchanged, entry_calls}
+use Rattle.rbf_append.specs.Entering.{AnswersEntering, unchanged, entry_calls, entering_calls, widened}
 use Rattle.rbf_append.specs.Rooms.{AnswersRoom, HasRoom}
-use Rattle.rbf_make.specs.Places.{AnswersPlace, IsNewPlace}
+use Rattle.rbf_make.specs.declared.place.NewPlace.{NewPlace}
+use Rattle.rbf_make.specs.Places.{AnswersPlace, IsNewPlace, IsFoundFor, IsPlaceFor}
+use Rattle.rbf_make.proofs.Found.{asked}
 use Rattle.rbf_folder.specs.Asked.{folder_request}
 use Rattle.rbf_folder.specs.Made.{IsFolderMade, MakesFolder, folder_calls}
 use Rattle.rbf_folder.proofs.Making.{need, kept_size}
@@ -49,6 +51,10 @@ no_place m0 m1 same d name attr user now e answer v file on is = by_error e (ans
     by_error (File (Device x)) proper = (proper, unchanged same)
     by_error (File NoCluster) refused = absurd refused
     by_error (File TooManyRuns) refused = absurd refused
+
+-- a place that was found by a search to read
+pub reading_place : (media : Option (List ℕ)) (name : List ℕ) (found : NewPlace) → IsPlaceFor media name found → found.execute ≡ false → OnFile media found.dir.number (λ file. AnswersPlace file name found.user false (Ok found.place))
+reading_place media name found place reading v file on is = subst (λ x. IsNewPlace file name found.user x found.place) reading (place.new v file on is)
 
 -- the parent's number is one of a sector
 pub parent_low : (media : Option (List ℕ)) (d : ℕ) → HasFile media d → d < 16777216
@@ -165,3 +171,13 @@ module _ (m0 : Option (List ℕ)) (d place : ℕ) (name : List ℕ) (attr user :
 
             pub is_entered : OnVolumeFile mid loaded.number (λ on file. AnswersEntry on file (record { directory = loaded.number; place = place; entry = bytes; now = now }) mid m2 (Ok tt)) → Answered m0 m2 d name attr user now (Ok n)
             is_entered answer = answered m2 (Ok n) (named m0 has.content has.on d place has.file has.is name attr user now spot room mid n made m2 (here (Ok tt) answer))
+
+-- the place was found before
+module _ (m0 m1 : Option (List ℕ)) (same : m1 ≡ m0) (d : ℕ) (name : List ℕ) (user : ℕ) (found : NewPlace) (is : IsFoundFor m0 d user false found) where
+  pub answer_there : (attr : ℕ) (now : TimePacket) (r : Result ℕ FileFault) (m2 : Option (List ℕ))
+      → ((v : DiskVolume) (file : DiskFile) → Represents m1 v → v.files found.dir.number ≡ Some file → AnswersEntering v file (folder_request found.dir.number name attr found.user now) m1 m2 (widened r)) → Answered m0 m2 d name attr user now (widened r)
+  answer_there attr now r m2 = asked m0 m1 same d name user false found is (λ m n u x v file. AnswersEntering v file (folder_request n name attr u now) m m2 (widened r))
+
+  pub calls_there : (r : Result ℕ FileFault) (t u : DriveCounts) → ((v : DiskVolume) (file : DiskFile) → Represents m1 v → v.files found.dir.number ≡ Some file → MovesCounts (file_fault r) (entering_calls v file (folder_calls v) (widened r)) t u)
+      → (v : DiskVolume) (file : DiskFile) → Represents m0 v → v.files d ≡ Some file → MovesCounts (file_fault r) (entering_calls v file (folder_calls v) (widened r)) t u
+  calls_there r t u = asked m0 m1 same d name user false found is (λ m n w x v file. MovesCounts (file_fault r) (entering_calls v file (folder_calls v) (widened r)) t u)

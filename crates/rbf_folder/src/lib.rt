@@ -3,7 +3,7 @@
 #![tactic(auto)]
 
 pub use folder::create_folder;
-pub use make::make_dir;
+pub use make::{make_dir, make_dir_at};
 
 mod folder;
 mod listing;

@@ -1,10 +1,11 @@
 ghost use Rattle.std.specs.Prelude.{◌≡◌, ◌+◌, false};
 ghost use Rattle.rbf_access.specs.Drive.{Counts};
+ghost use Rattle.rbf_access.specs.Faults.{file_fault};
 ghost use Rattle.rbf_access.specs.Mounted.{HasFile, IsMounted};
 ghost use Rattle.rbf_walk.specs.Walk.{directory_fault};
 ghost use Rattle.rbf_update.specs.Deletions.{OnNumbered};
-ghost use Rattle.rbf_append.specs.Entering.{AnswersEntering, entering_calls};
-ghost use Rattle.rbf_make.specs.Places.{place_calls};
+ghost use Rattle.rbf_append.specs.Entering.{AnswersEntering, entering_calls, widened};
+ghost use Rattle.rbf_make.specs.Places.{IsPlaceFor, place_calls};
 ghost use Rattle.rbf_folder.specs.Asked.{folder_request};
 ghost use Rattle.rbf_folder.specs.Made.{folder_calls};
 
@@ -13,9 +14,9 @@ use crate::parts::new_clusters;
 use os9_base::name::Name;
 use os9_base::registers::TimePacket;
 use os9_outer::drive::BlockDriver;
-use rbf_access::Volume;
+use rbf_access::{FileFault, Volume};
 use rbf_append::{check_room, enter_file};
-use rbf_make::{find_place, new_entry};
+use rbf_make::{NewPlace, find_place, new_entry};
 use rbf_walk::DirError;
 
 /// Makes a directory in another one, for a user, and answers the number of its descriptor (OS-9
@@ -51,13 +52,39 @@ pub fn make_dir(
         d.old d.new) }
 {
     let found = find_place(v, d, dir, name, user, false)?;
-    check_room(
-        v,
-        &found.dir.file,
-        found.place,
-        new_clusters(v.ident.cluster),
-    )?;
-    let n = create_folder(v, d, attr, user, dir, now)?;
+    let n = make_dir_at(v, d, &found, name, attr, now)?;
+    Ok(n)
+}
+
+/// Makes a directory by a name that its parent has not, whose entry goes into the place that
+/// [`rbf_make::find_place`] has answered to a user who searched to read, and answers the number of
+/// its descriptor (OS-9 Technical Reference, I$MakDir).
+///
+/// # Errors
+///
+/// As [`make_dir`] from `NoCluster` on; a refusal makes no call of the drive.
+pub fn make_dir_at(
+    v: &mut Volume,
+    d: &mut dyn BlockDriver,
+    found: &NewPlace,
+    name: &Name,
+    attr: u8,
+    now: TimePacket,
+) -> Result<u32, FileFault>
+    requires mounted { IsMounted v.old (media d.old) }
+    requires place { IsPlaceFor (media d.old) name.now found.now }
+    requires reading { found.now.execute ≡ false }
+    ensures answer { OnNumbered (media d.old) found.now.dir.number (λ on file. AnswersEntering on
+        file (folder_request found.now.dir.number name.now attr found.now.user now)
+        (media d.old) (media d.new) (widened result)) }
+    ensures mounted { IsMounted v.new (media d.new) }
+    ensures counts { OnNumbered (media d.old) found.now.dir.number (λ on file.
+        Counts ⟦<dyn BlockDriver as BlockDriver>⟧ (file_fault result)
+        (entering_calls on file (folder_calls on) (widened result)) d.old d.new) }
+{
+    let clusters = new_clusters(v.ident.cluster);
+    check_room(v, &found.dir.file, found.place, clusters)?;
+    let n = create_folder(v, d, attr, found.user, found.dir.number, now)?;
     enter_file(v, d, &found.dir, found.place, &new_entry(name, n), now)?;
     Ok(n)
 }

@@ -1,3 +1,4 @@
 pub mod EntryBytes
 pub mod NewEntries
 pub mod Placed
+pub mod Found

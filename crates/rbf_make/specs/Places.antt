@@ -1,12 +1,15 @@
 -- The place of a new entry, and why it is refused.
-use Rattle.std.specs.Prelude.{◌≡◌, ℕ, ◌+◌, Bool, true, false, Some, List, length, Result, Ok, Err, if◌then◌else◌}
+use Rattle.std.specs.Prelude.{◌≡◌, ℕ, ◌+◌, Bool, true, false, Option, Some, List, length, Result, Ok, Err, if◌then◌else◌}
 use Rattle.os9_base.specs.Name.{IsName}
 use Rattle.rbf_model.specs.File.{DiskFile}
 use Rattle.rbf_change.specs.Contents.{sector_count}
 use Rattle.rbf_change.specs.Names.{may_change, is_dots}
 use Rattle.rbf_change.specs.NewFiles.{Refusal, bad_path, not_allowed, exists, entry_refusal}
 use Rattle.rbf_access.specs.declared.faults.FileFault.TheVariants.{Device, NoCluster, TooManyRuns}
+use Rattle.rbf_access.specs.Mounted.{HasFile}
+use Rattle.rbf_access.specs.Reading.{OnFile}
 use Rattle.rbf_walk.specs.Search.{IsAbsent}
+use Rattle.rbf_write.specs.Files.{IsLoaded}
 use Rattle.rbf_walk.specs.declared.error.DirError.{DirError}
 use Rattle.rbf_make.specs.declared.place.NewPlace.{NewPlace}
 use Rattle.rbf_walk.specs.declared.error.DirError.TheVariants.{NotAllowed, BadPath, NotFound, Exists, File}
@@ -33,6 +36,18 @@ AnswersPlace dir name user execute (Err Exists) = IsRefused dir name user execut
 AnswersPlace dir name user execute (Err (File (Device n))) = is_dots name ≡ false
 AnswersPlace dir name user execute (Err (File NoCluster)) = ⊥
 AnswersPlace dir name user execute (Err (File TooManyRuns)) = ⊥
+
+-- it was found in directory d for a user, and the directory's descriptor has been read
+pub record IsFoundFor (media : Option (List ℕ)) (d user : ℕ) (execute : Bool) (found : NewPlace) : Type 0 where
+  pub read : IsLoaded media d found.dir
+  pub user_is : found.user ≡ user
+  pub execute_is : found.execute ≡ execute
+
+-- it is a place of its directory, where its user may enter the name
+pub record IsPlaceFor (media : Option (List ℕ)) (name : List ℕ) (found : NewPlace) : Type 0 where
+  pub file : HasFile media found.dir.number
+  pub read : IsLoaded media found.dir.number found.dir
+  pub new : OnFile media found.dir.number (λ file. IsNewPlace file name found.user found.execute found.place)
 
 -- the place that was found
 abbrev pub place_found : Result NewPlace DirError → Result ℕ DirError

@@ -6,8 +6,7 @@ ghost use Rattle.rbf_access.specs.Drive.{Counts};
 ghost use Rattle.rbf_access.specs.Mounted.{kept, HasFile, IsMounted};
 ghost use Rattle.rbf_access.specs.Reading.{IsFdOf, OnFile};
 ghost use Rattle.rbf_walk.specs.Walk.{directory_fault};
-ghost use Rattle.rbf_write.specs.Files.{IsLoaded};
-ghost use Rattle.rbf_make.specs.Places.{AnswersPlace, place_calls, place_found};
+ghost use Rattle.rbf_make.specs.Places.{AnswersPlace, IsFoundFor, place_calls, place_found};
 
 use os9_base::name::Name;
 use os9_outer::drive::BlockDriver;
@@ -18,11 +17,14 @@ use rbf_write::{Loaded, load_file};
 
 const WRITE: u8 = 2;
 
-/// The place of a new entry in a directory, and the directory's descriptor, which has been read.
+/// The place of a new entry in a directory, whose descriptor has been read; and for whom it was
+/// found: a user who searched to read or to execute.
 #[derive(Clone, Copy, Debug)]
 pub struct NewPlace {
     pub dir: Loaded,
     pub place: u32,
+    pub user: u16,
+    pub execute: bool,
 }
 
 /// The place in a directory that a new entry with a name goes to, for a user: the first free one,
@@ -47,7 +49,7 @@ pub fn find_place(
     requires file { HasFile (media d.old) dir }
     ensures answer { OnFile (media d.old) dir (λ file.
         AnswersPlace file name.now user execute (place_found result)) }
-    ensures read { IfOk result (λ found. IsLoaded (media d.old) dir found.dir) }
+    ensures read { IfOk result (IsFoundFor (media d.old) dir user execute) }
     ensures mounted { IsMounted v.new (media d.new) }
     ensures media_kept { media d.new ≡ media d.old }
     ensures volume_kept { kept v.new ≡ kept v.old }
@@ -66,6 +68,8 @@ pub fn find_place(
         Searched::Absent { free } => Ok(NewPlace {
             dir: loaded,
             place: free,
+            user,
+            execute,
         }),
     }
 }

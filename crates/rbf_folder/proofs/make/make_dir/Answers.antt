@@ -1,10 +1,9 @@
-use Rattle.std.proofs.Common.{Err, arith}
+use Rattle.std.proofs.Common.{Ok, Err, false}
 use Rattle.std.proofs.lemmas.Result.{err_from_is_err_and}
-use Rattle.rbf_access.proofs.Counting.{counts_then}
-use Rattle.rbf_growth.proofs.Growing.{sizes_are}
-use Rattle.rbf_append.proofs.Counted.{place_calls_most, room_calls, device_calls, done_calls, as_number, some_number}
+use Rattle.rbf_append.proofs.Counted.{place_calls_most, then_calls}
+use Rattle.rbf_make.proofs.Found.{place_for}
 use Rattle.rbf_folder.specs.Made.{folder_calls}
-use Rattle.rbf_folder.proofs.Stepped.{no_place, parent_low, no_room, folder_calls_here, not_made, number_low, read_there, entry_calls_here, enter_may, not_entered, is_entered}
+use Rattle.rbf_folder.proofs.Stepped.{no_place, answer_there, calls_there}
 use Rattle.rbf_folder.proofs.make.make_dir.Goals as goal
 
 pub returns-in_err-found-clause-answer : goal.returns-in_err-found-clause-answer
@@ -17,64 +16,26 @@ returns-in_err-found-clause-counts g c v file on is =
     let p = err_from_is_err_and c.from_residual.result c.from_residual.ensures.1 in
     rw (p.1, p.2) (place_calls_most v file (folder_calls v) _ (Err c.in_err-found.field-0.0) _ _ (c.in_err-found.ensures.counts v file on is))
 
-pub new_clusters-requires : goal.new_clusters-requires
-new_clusters-requires g c =
-    let m = c.in_ok-found.ensures.mounted in
-    (sizes_are c.find_place.new.v m.on.image m.content m.on.vol m.agrees).some
+pub make_dir_at-requires-clause-place : goal.make_dir_at-requires-clause-place
+make_dir_at-requires-clause-place g c = place_for _ _ c.in_ok-found.ensures.media_kept c.args.dir c.args.name.now c.args.user false c.in_ok-found.found c.in_ok-found.ensures.read c.requires.file c.in_ok-found.ensures.answer
 
-pub returns-in_err-check_room-clause-answer : goal.returns-in_err-check_room-clause-answer
-returns-in_err-check_room-clause-answer g c v file on is =
-    let p = err_from_is_err_and c.from_residual-in_err-check_room.result c.from_residual-in_err-check_room.ensures.1 in
-    rw (p.1, p.2) ((no_room _ c.args.dir c.in_ok-found.found.place c.args.name.now c.args.attr c.args.user c.args.now c.requires.file c.in_ok-found.ensures.answer _ c.in_ok-found.ensures.media_kept c.in_ok-found.found.dir c.in_ok-found.ensures.read c.find_place.new.v c.in_ok-found.ensures.mounted c.new_clusters.result c.new_clusters.ensures.value c.in_err-check_room.field-0.0 c.in_err-check_room.ensures).1 v file on is)
-
-pub returns-in_err-check_room-clause-counts : goal.returns-in_err-check_room-clause-counts
-returns-in_err-check_room-clause-counts g c v file on is =
-    let p = err_from_is_err_and c.from_residual-in_err-check_room.result c.from_residual-in_err-check_room.ensures.1 in
-    rw (p.1, p.2) (room_calls v file (folder_calls v) _ c.in_err-check_room.field-0.0 _ _ (no_room _ c.args.dir c.in_ok-found.found.place c.args.name.now c.args.attr c.args.user c.args.now c.requires.file c.in_ok-found.ensures.answer _ c.in_ok-found.ensures.media_kept c.in_ok-found.found.dir c.in_ok-found.ensures.read c.find_place.new.v c.in_ok-found.ensures.mounted c.new_clusters.result c.new_clusters.ensures.value c.in_err-check_room.field-0.0 c.in_err-check_room.ensures).0 (c.in_ok-found.ensures.counts v file on is))
-
-pub create_folder-requires-clause-parent : goal.create_folder-requires-clause-parent
-create_folder-requires-clause-parent g c = parent_low _ c.args.dir c.requires.file
+pub make_dir_at-requires-clause-reading : goal.make_dir_at-requires-clause-reading
+make_dir_at-requires-clause-reading g c = c.in_ok-found.ensures.read.execute_is
 
 pub returns-in_err-n-clause-answer : goal.returns-in_err-n-clause-answer
 returns-in_err-n-clause-answer g c v file on is =
     let p = err_from_is_err_and c.from_residual-in_err-n.result c.from_residual-in_err-n.ensures.1 in
-    rw (p.1, p.2) ((not_made _ c.args.dir c.in_ok-found.found.place c.args.name.now c.args.attr c.args.user c.args.now c.requires.file c.in_ok-found.ensures.answer _ c.in_ok-found.ensures.media_kept c.in_ok-found.found.dir c.in_ok-found.ensures.read c.find_place.new.v c.in_ok-found.ensures.mounted c.new_clusters.result c.new_clusters.ensures.value c.in_ok-check_room.ensures _ c.in_err-n.field-0.0 c.in_err-n.ensures.makes).1 v file on is)
+    rw (p.1, p.2) (answer_there _ _ c.in_ok-found.ensures.media_kept c.args.dir c.args.name.now c.args.user c.in_ok-found.found c.in_ok-found.ensures.read c.args.attr c.args.now (Err c.in_err-n.field-0.0) _ c.in_err-n.ensures.answer v file on is)
 
 pub returns-in_err-n-clause-counts : goal.returns-in_err-n-clause-counts
 returns-in_err-n-clause-counts g c v file on is =
     let p = err_from_is_err_and c.from_residual-in_err-n.result c.from_residual-in_err-n.ensures.1 in
-    let calls = folder_calls_here _ c.args.dir c.in_ok-found.found.place c.args.name.now c.args.attr c.args.user c.args.now c.requires.file c.in_ok-found.ensures.answer _ c.in_ok-found.ensures.media_kept c.in_ok-found.found.dir c.in_ok-found.ensures.read c.find_place.new.v c.in_ok-found.ensures.mounted c.new_clusters.result c.new_clusters.ensures.value c.in_ok-check_room.ensures _ _ _ c.in_err-n.ensures.counts v file on is in
-    rw (p.1, p.2) (device_calls v file (folder_calls v) _ c.in_err-n.field-0.0 (folder_calls v) _ _ _ (omega arith) (not_made _ c.args.dir c.in_ok-found.found.place c.args.name.now c.args.attr c.args.user c.args.now c.requires.file c.in_ok-found.ensures.answer _ c.in_ok-found.ensures.media_kept c.in_ok-found.found.dir c.in_ok-found.ensures.read c.find_place.new.v c.in_ok-found.ensures.mounted c.new_clusters.result c.new_clusters.ensures.value c.in_ok-check_room.ensures _ c.in_err-n.field-0.0 c.in_err-n.ensures.makes).0 (c.in_ok-found.ensures.counts v file on is) calls)
-
-pub new_entry-requires : goal.new_entry-requires
-new_entry-requires g c = number_low _ c.args.dir c.in_ok-found.found.place c.args.name.now c.args.attr c.args.user c.args.now c.requires.file c.in_ok-found.ensures.answer _ c.in_ok-found.ensures.media_kept c.in_ok-found.found.dir c.in_ok-found.ensures.read c.find_place.new.v c.in_ok-found.ensures.mounted c.new_clusters.result c.new_clusters.ensures.value c.in_ok-check_room.ensures _ c.in_ok-n.n c.in_ok-n.ensures.makes
-
-pub enter_file-requires-clause-read : goal.enter_file-requires-clause-read
-enter_file-requires-clause-read g c = read_there _ c.args.dir c.in_ok-found.found.place c.args.name.now c.args.attr c.args.user c.args.now c.requires.file c.in_ok-found.ensures.answer _ c.in_ok-found.ensures.media_kept c.in_ok-found.found.dir c.in_ok-found.ensures.read c.find_place.new.v c.in_ok-found.ensures.mounted c.new_clusters.result c.new_clusters.ensures.value c.in_ok-check_room.ensures _ c.in_ok-n.n c.in_ok-n.ensures.makes
-
-pub enter_file-requires-clause-place : goal.enter_file-requires-clause-place
-enter_file-requires-clause-place g c =
-    enter_may _ c.args.dir c.in_ok-found.found.place c.args.name.now c.args.attr c.args.user c.args.now c.requires.file c.in_ok-found.ensures.answer _ c.in_ok-found.ensures.media_kept c.in_ok-found.found.dir c.in_ok-found.ensures.read c.find_place.new.v c.in_ok-found.ensures.mounted c.new_clusters.result c.new_clusters.ensures.value c.in_ok-check_room.ensures _ c.in_ok-n.n c.in_ok-n.ensures.makes c.new_entry.result c.new_entry.ensures
-
-pub returns-in_err-enter_file-clause-answer : goal.returns-in_err-enter_file-clause-answer
-returns-in_err-enter_file-clause-answer g c v file on is =
-    let p = err_from_is_err_and c.from_residual-in_err-enter_file.result c.from_residual-in_err-enter_file.ensures.1 in
-    rw (p.1, p.2) (not_entered _ c.args.dir c.in_ok-found.found.place c.args.name.now c.args.attr c.args.user c.args.now c.requires.file c.in_ok-found.ensures.answer _ c.in_ok-found.ensures.media_kept c.in_ok-found.found.dir c.in_ok-found.ensures.read c.find_place.new.v c.in_ok-found.ensures.mounted c.new_clusters.result c.new_clusters.ensures.value c.in_ok-check_room.ensures _ c.in_ok-n.n c.in_ok-n.ensures.makes c.new_entry.result c.new_entry.ensures _ c.in_err-enter_file.field-0.0 c.in_err-enter_file.ensures.device c.in_err-enter_file.ensures.answer v file on is)
-
-pub returns-in_err-enter_file-clause-counts : goal.returns-in_err-enter_file-clause-counts
-returns-in_err-enter_file-clause-counts g c v file on is =
-    let p = err_from_is_err_and c.from_residual-in_err-enter_file.result c.from_residual-in_err-enter_file.ensures.1 in
-    let made = folder_calls_here _ c.args.dir c.in_ok-found.found.place c.args.name.now c.args.attr c.args.user c.args.now c.requires.file c.in_ok-found.ensures.answer _ c.in_ok-found.ensures.media_kept c.in_ok-found.found.dir c.in_ok-found.ensures.read c.find_place.new.v c.in_ok-found.ensures.mounted c.new_clusters.result c.new_clusters.ensures.value c.in_ok-check_room.ensures _ _ _ c.in_ok-n.ensures.counts v file on is in
-    let calls = entry_calls_here _ c.args.dir c.in_ok-found.found.place c.args.name.now c.args.attr c.args.user c.args.now c.requires.file c.in_ok-found.ensures.answer _ c.in_ok-found.ensures.media_kept c.in_ok-found.found.dir c.in_ok-found.ensures.read c.find_place.new.v c.in_ok-found.ensures.mounted c.new_clusters.result c.new_clusters.ensures.value c.in_ok-check_room.ensures _ c.in_ok-n.n c.in_ok-n.ensures.makes _ _ _ c.in_err-enter_file.ensures.counts v file on is in
-    rw (p.1, p.2) (device_calls v file (folder_calls v) _ c.in_err-enter_file.field-0.0 _ _ _ _ (omega arith) (some_number c.in_err-enter_file.field-0.0 c.in_err-enter_file.ensures.device) (c.in_ok-found.ensures.counts v file on is)
-    (counts_then _ (folder_calls v) _ _ _ _ made (as_number c.in_err-enter_file.field-0.0 _ _ _ calls)))
+    rw (p.1, p.2) (then_calls v file (folder_calls v) _ (Err c.in_err-n.field-0.0) _ _ _ (c.in_ok-found.ensures.counts v file on is) (calls_there _ _ c.in_ok-found.ensures.media_kept c.args.dir c.args.name.now c.args.user c.in_ok-found.found c.in_ok-found.ensures.read (Err c.in_err-n.field-0.0) _ _ c.in_err-n.ensures.counts v file on is))
 
 pub returns-clause-answer : goal.returns-clause-answer
 returns-clause-answer g c v file on is =
-    is_entered _ c.args.dir c.in_ok-found.found.place c.args.name.now c.args.attr c.args.user c.args.now c.requires.file c.in_ok-found.ensures.answer _ c.in_ok-found.ensures.media_kept c.in_ok-found.found.dir c.in_ok-found.ensures.read c.find_place.new.v c.in_ok-found.ensures.mounted c.new_clusters.result c.new_clusters.ensures.value c.in_ok-check_room.ensures _ c.in_ok-n.n c.in_ok-n.ensures.makes c.new_entry.result c.new_entry.ensures _ c.in_ok-enter_file.ensures.answer v file on is
+    answer_there _ _ c.in_ok-found.ensures.media_kept c.args.dir c.args.name.now c.args.user c.in_ok-found.found c.in_ok-found.ensures.read c.args.attr c.args.now (Ok c.in_ok-n.n) _ c.in_ok-n.ensures.answer v file on is
 
 pub returns-clause-counts : goal.returns-clause-counts
 returns-clause-counts g c v file on is =
-    let made = folder_calls_here _ c.args.dir c.in_ok-found.found.place c.args.name.now c.args.attr c.args.user c.args.now c.requires.file c.in_ok-found.ensures.answer _ c.in_ok-found.ensures.media_kept c.in_ok-found.found.dir c.in_ok-found.ensures.read c.find_place.new.v c.in_ok-found.ensures.mounted c.new_clusters.result c.new_clusters.ensures.value c.in_ok-check_room.ensures _ _ _ c.in_ok-n.ensures.counts v file on is in
-    done_calls v file (folder_calls v) _ _ _ _ _ (c.in_ok-found.ensures.counts v file on is) made
-    (entry_calls_here _ c.args.dir c.in_ok-found.found.place c.args.name.now c.args.attr c.args.user c.args.now c.requires.file c.in_ok-found.ensures.answer _ c.in_ok-found.ensures.media_kept c.in_ok-found.found.dir c.in_ok-found.ensures.read c.find_place.new.v c.in_ok-found.ensures.mounted c.new_clusters.result c.new_clusters.ensures.value c.in_ok-check_room.ensures _ c.in_ok-n.n c.in_ok-n.ensures.makes _ _ _ c.in_ok-enter_file.ensures.counts v file on is)
+    then_calls v file (folder_calls v) _ (Ok c.in_ok-n.n) _ _ _ (c.in_ok-found.ensures.counts v file on is) (calls_there _ _ c.in_ok-found.ensures.media_kept c.args.dir c.args.name.now c.args.user c.in_ok-found.found c.in_ok-found.ensures.read (Ok c.in_ok-n.n) _ _ c.in_ok-n.ensures.counts v file on is)

@@ -70,3 +70,6 @@ returns-then-not-may_change-clause-mounted g c = mounted_still _ _ _ _ c.in_ok-l
 
 pub search-requires-clause-mounted : goal.search-requires-clause-mounted
 search-requires-clause-mounted g c = mounted_still _ _ _ _ c.in_ok-loaded.ensures.volume_kept c.in_ok-loaded.ensures.media_kept c.requires.mounted
+
+pub returns-in-Absent-clause-read : goal.returns-in-Absent-clause-read
+returns-in-Absent-clause-read g c = record { read = c.in_ok-loaded.ensures.ok; user_is = refl; execute_is = refl }

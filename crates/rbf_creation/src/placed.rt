@@ -1,0 +1,52 @@
+ghost use Rattle.std.specs.Prelude.{◌≡◌, ◌<◌};
+ghost use Rattle.rbf_access.specs.Drive.{Counts};
+ghost use Rattle.rbf_access.specs.Faults.{file_fault};
+ghost use Rattle.rbf_access.specs.Mounted.{IsMounted};
+ghost use Rattle.rbf_update.specs.Deletions.{OnNumbered};
+ghost use Rattle.rbf_append.specs.Entering.{AnswersEntering, entering_calls, widened};
+ghost use Rattle.rbf_make.specs.Places.{IsPlaceFor};
+ghost use Rattle.rbf_creation.specs.Creating.{request};
+
+use os9_base::name::Name;
+use os9_base::registers::TimePacket;
+use os9_outer::drive::BlockDriver;
+use rbf_access::{FileFault, Volume};
+use rbf_append::{check_room, enter_file};
+use rbf_create::create_fd;
+use rbf_make::{NewPlace, new_entry};
+
+/// Creates a file without contents by a name that a directory has not, whose entry goes into the
+/// place that [`rbf_make::find_place`] has answered, for the user for whom it was found, and answers
+/// the number of its descriptor (OS-9 Technical Reference, I$Create). What is needed is tested before
+/// anything is taken, and the entry is there by the last sector that is written.
+///
+/// # Errors
+///
+/// In this order: `NoCluster` if fewer clusters are free than the file and its entry need,
+/// `TooManyRuns` if the directory needs a cluster and has all its segments already: then nothing has
+/// changed, and no call of the drive was made. `Device` if an access of the drive fails: then the
+/// tree is as it was, and clusters may be lost.
+pub fn create_at(
+    v: &mut Volume,
+    d: &mut dyn BlockDriver,
+    found: &NewPlace,
+    name: &Name,
+    attr: u8,
+    now: TimePacket,
+) -> Result<u32, FileFault>
+    requires mounted { IsMounted v.old (media d.old) }
+    requires place { IsPlaceFor (media d.old) name.now found.now }
+    requires attributes { attr < 128 }
+    ensures answer { OnNumbered (media d.old) found.now.dir.number (λ on file. AnswersEntering on
+        file (request found.now.dir.number name.now attr found.now.user found.now.execute now)
+        (media d.old) (media d.new) (widened result)) }
+    ensures mounted { IsMounted v.new (media d.new) }
+    ensures counts { OnNumbered (media d.old) found.now.dir.number (λ on file.
+        Counts ⟦<dyn BlockDriver as BlockDriver>⟧ (file_fault result)
+        (entering_calls on file 2 (widened result)) d.old d.new) }
+{
+    check_room(v, &found.dir.file, found.place, 1)?;
+    let n = create_fd(v, d, attr, found.user, now)?;
+    enter_file(v, d, &found.dir, found.place, &new_entry(name, n), now)?;
+    Ok(n)
+}
