@@ -1,7 +1,7 @@
 -- F$Fork and F$Chain of a program that is loaded (System Programmer's Manual, F$Fork and F$Chain). Where the bytes at X
 -- are one name, and a module of that name is entered that has the type and language in A, they start that module. Else
--- X is a path list, and its file is loaded as F$Load does; the program is the file's first module, whose one link is the
--- process's. Where the call is refused then, nothing of the file is in memory.
+-- X is a path list, and its file is loaded as F$Load does; the program is the file's first module, whose one link is
+-- the process's. Where the call is refused then, nothing of the file is in memory.
 -- Errors, in this order: E$BPAddr; E$NEMod (of A); those of the file and of F$Load but for its slots; E$NEMod (of the
 -- module); then those of starting it: E$PrcFul (of F$Fork), E$MemFul, E$NoRAM.
 use Rattle.std.specs.Prelude.{◌≡◌, ℕ, ◌-◌, ◌==◌, nat_lt, not, is_none, Option, unwrap_or, option_and_then, Result, List, [], MatchOption}

@@ -1,5 +1,5 @@
 -- Calls on small volumes that are worked through by hand.
-use Rattle.std.specs.Prelude.{ℕ, ◌/◌, ◌%◌, ◌==◌, nat_lt, false, Option, Some, None, List, [], ◌∷◌, ◌++◌, codes, replicate, if◌then◌else◌}
+use Rattle.std.specs.Prelude.{ℕ, ◌-◌, ◌/◌, ◌%◌, ◌==◌, nat_lt, false, Option, Some, None, List, [], ◌∷◌, ◌++◌, codes, replicate, if◌then◌else◌}
 use Rattle.os9_base.specs.declared.registers.Regs.{Regs}
 use Rattle.os9_base.specs.declared.registers.TimePacket.{TimePacket}
 use Rattle.os9_outer.specs.declared.drive.DriveFault.TheVariants.{WriteFault}
@@ -25,7 +25,7 @@ use Rattle.file_rules.specs.declared.path_call.PathCall.TheVariants as Call
 
 -- the identification sector of a volume of so many sectors, so many a cluster, with two bytes of map and root 2
 abbrev pub ident_of : ℕ → ℕ → List ℕ
-ident_of total k = 0 ∷ 0 ∷ total ∷ 0 ∷ 0 ∷ 2 ∷ 0 ∷ k ∷ 0 ∷ 0 ∷ 2 ∷ replicate 245 0
+ident_of total k = 0 ∷ 0 ∷ total ∷ 0 ∷ 0 ∷ 2 ∷ 0 ∷ k ∷ 0 ∷ 0 ∷ 2 ∷ replicate (256 - 11) 0
 
 -- noon of 1 January 1990
 abbrev pub noon : TimePacket
@@ -163,8 +163,8 @@ abbrev pub bytes_on : PathCall → Regs → List ℕ → Files → List ℕ
 bytes_on call regs bytes files = (effect_on call regs bytes files).bytes
 
 -- the registers of a call on path 3 with a status code
-abbrev pub asking_size : ℕ → Regs
-asking_size code = record zero_regs { a = 3; b = code }
+abbrev pub with_code : ℕ → Regs
+with_code code = record zero_regs { a = 3; b = code }
 
 -- how an attempt on path 3 by a user ends
 abbrev pub on_path : ℕ → PathCall → Regs → Files → IoEnd

@@ -1,6 +1,6 @@
 -- The way along which a path list leads to a file: where it starts, and the walk from there (System Programmer's
--- Manual, "Path lists"; Level Two manual, device descriptors). It starts at the root of the drive that it names, else at
--- the execution directory of the process where the mode is for execution, or at its data directory.
+-- Manual, "Path lists"; Level Two manual, device descriptors). It starts at the root of the drive that it names, else
+-- at the execution directory of the process where the mode is for execution, or at its data directory.
 -- Errors, in this order: E$BPAddr, E$BMode (of the call's mode), E$BPNam, E$MNF; then on the drive E$FNA and E$PNNF at
 -- the first name that fails.
 use Rattle.std.specs.Prelude.{ℕ, ◌-◌, ◌==◌, ◌&&◌, ◌||◌, Bool, true, false, Option, Some, None, Result, Ok, Err, List, length, take, slice_get, if◌then◌else◌}

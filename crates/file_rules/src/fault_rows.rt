@@ -8,8 +8,8 @@ ghost use Rattle.file_rules.specs.Files.{Files, Asker, with_drives};
 ghost use Rattle.file_rules.specs.Rows.{on, volume_e, creation, d0_failed, new_opened};
 ghost use Rattle.file_rules.specs.Step.{FileEffect, FileStep, Deed, refused, comes, IsBroken, FileDoes, refuses_so};
 
-/// A creation comes to a file in the first free cluster, with an entry in its directory and a path on
-/// it.
+/// A creation comes to a file in the first free cluster, with an entry in its directory and a path
+/// on it.
 pub fn a_file_is_created()
     ensures { (terms : List TerminalState) → FileDoes creation.step creation.asker (on volume_e)
         new_opened terms terms }

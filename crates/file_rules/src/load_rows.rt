@@ -6,8 +6,8 @@ ghost use Rattle.call_rules.specs.Inner.{regs_at, cells_at};
 ghost use Rattle.file_rules.specs.Load.{Loads};
 ghost use Rattle.file_rules.specs.LoadRows.{first_revision, second_revision, linked_memory, newer_loaded, loaded_by_two, found_by_three, given_up};
 
-/// A file whose module is entered is refused, and one of a newer revision is loaded. A file of zeros
-/// has no module.
+/// A file whose module is entered is refused, and one of a newer revision is loaded. A file of
+/// zeros has no module.
 pub fn newer_revisions_are_loaded()
     ensures known { Loads linked_memory first_revision (Err E_KWNMOD) }
     ensures newer { Loads linked_memory second_revision (Ok newer_loaded) }

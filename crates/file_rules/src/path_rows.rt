@@ -80,9 +80,11 @@ pub fn directories_of_a_process_change()
         ≡ record { data_directory = Some (place_of 2); execution_directory = Some (place_of 4) } }
     ensures no_cmds { directories_at (on (volume_a 3)) 2
         ≡ record { data_directory = Some (place_of 2); execution_directory = Some (place_of 2) } }
-    ensures to_cmds { directories_at (files_on Call.ChgDir (with_a 1) (codes "CMDS ") (on volume_cmds)) 2
+    ensures to_cmds { directories_at
+        (files_on Call.ChgDir (with_a 1) (codes "CMDS ") (on volume_cmds)) 2
         ≡ record { data_directory = Some (place_of 4); execution_directory = Some (place_of 4) } }
-    ensures execution { directories_at (files_on Call.ChgDir (with_a 5) (codes ".. ") (on volume_cmds)) 2
+    ensures execution { directories_at
+        (files_on Call.ChgDir (with_a 5) (codes ".. ") (on volume_cmds)) 2
         ≡ record { data_directory = Some (place_of 2); execution_directory = Some (place_of 2) } }
     ensures file { end_on Call.ChgDir (with_a 1) (codes "A ") (on (volume_a 3)) ≡ fails E_FNA }
 {}
@@ -96,7 +98,8 @@ pub fn files_are_deleted()
     ensures open { end_on Call.Delete zero_regs (codes "A ") (opened_a 3 1) ≡ fails E_SHARE }
     ensures absent { end_on Call.Delete zero_regs (codes "B ") (on (volume_a 3)) ≡ fails E_PNNF }
     ensures root { end_on Call.Delete zero_regs (codes "/D0 ") (on volume_e) ≡ fails E_FNA }
-    ensures directory { end_on Call.Delete zero_regs (codes "CMDS ") (on volume_cmds) ≡ fails E_FNA }
+    ensures directory { end_on Call.Delete zero_regs (codes "CMDS ") (on volume_cmds)
+        ≡ fails E_FNA }
     ensures execution { end_on Call.DeletX (with_a 4) (codes "A ") (on volume_cmds) ≡ fails E_PNNF }
     ensures no_mode { end_on Call.DeletX zero_regs (codes "A ") (on volume_e) ≡ fails E_BMODE }
 {}

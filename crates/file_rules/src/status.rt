@@ -1,5 +1,5 @@
-//! The status codes of files (System Programmer's Manual, "I$GetStt" and "I$SetStt"; the argument of
-//! SS.Attr is this project's own), and the bits of modes and attributes that only files have.
+//! The status codes of files (System Programmer's Manual, "I$GetStt" and "I$SetStt"; the argument
+//! of SS.Attr is this project's own), and the bits of modes and attributes that only files have.
 
 /// SS.Size: the size of a file.
 pub const SS_SIZE: u8 = 0x02;
