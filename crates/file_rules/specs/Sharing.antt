@@ -1,6 +1,6 @@
 -- Whether a file may be shared (System Programmer's Manual, I$Open; OS-9 Technical Reference, FD.ATT, single user). The
 -- paths of every process count; a directory of a process is no path.
-use Rattle.std.specs.Prelude.{ℕ, ◌==◌, ◌&&◌, ◌||◌, Bool, false, Option, Some, None}
+use Rattle.std.specs.Prelude.{ℕ, ◌==◌, ◌&&◌, ◌||◌, Bool, true, false, Option, Some, None}
 use Rattle.std.specs.List.{list_any}
 use Rattle.std.specs.Option.{option_map_or}
 use Rattle.io_model.specs.declared.path.Desc.{Desc}
@@ -24,7 +24,7 @@ some_path_on files place test = list_any (is_path_on place test) files.io.paths.
 
 -- there is a path on the file
 abbrev pub is_open : Files → FilePlace → Bool
-is_open files place = some_path_on files place (λ desc. desc.mode == desc.mode)
+is_open files place = some_path_on files place (λ desc. true)
 
 -- a mode or attributes say a single user
 abbrev pub is_single : ℕ → Bool
