@@ -1,0 +1,3 @@
+pub mod PipeEvents
+pub mod PipeRuns
+pub mod PipeSteps

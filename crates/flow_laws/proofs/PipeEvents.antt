@@ -1,0 +1,193 @@
+-- What each event moves through a pipe.
+use Rattle.std.proofs.Common.{◌≡◌, ◌⊎◌, ℕ, zero, suc, ◌+◌, ◌==◌, Bool, true, false, Option, Some, None, Result, Ok, Err, List, [], ◌++◌, length, refl, sym, ap, ◌∙◌, subst, inl, inr}
+use Rattle.std.specs.Prelude.{MatchOption, if◌then◌else◌}
+use Rattle.std.proofs.lemmas.Bool.{cases_lt}
+use Rattle.std.proofs.lemmas.List.{get_or-set_same, get_or_past, length-set}
+use Rattle.std.proofs.lemmas.Option.{none-some, same_Some}
+use Rattle.os9_base.specs.declared.calls.TheConstants.{F_FORK}
+use Rattle.os9_base.specs.declared.errors.TheConstants.{E_UNKSVC}
+use Rattle.os9_outer.specs.TerminalState.{TerminalState}
+use Rattle.cpu_model.specs.Step.{Outcome, Done, Calls, Aborts}
+use Rattle.proc_model.specs.MemoryChanges.{stored}
+use Rattle.call_rules.specs.declared.proc_call.ProcCall.{ProcCall}
+use Rattle.call_rules.specs.Attempts.{after_attempt, attempted}
+use Rattle.call_rules.specs.CallResult.{CallResult, done, waits, ends}
+use Rattle.call_rules.specs.Codes.{call_of}
+use Rattle.call_rules.specs.Delivery.{delivered}
+use Rattle.call_rules.specs.Inner.{Inner, regs_at}
+use Rattle.call_rules.specs.Ready.{Act, attempts, delivers, executes, act_of}
+use Rattle.io_model.specs.Path.{slot_of}
+use Rattle.io_model.specs.Pipe.{IsPipe, In, Out}
+use Rattle.io_model.specs.declared.kept.Kept.{Kept}
+use Rattle.io_model.specs.declared.path.SysPath.{SysPath}
+use Rattle.io_model.specs.declared.path.Target.{Target}
+use Rattle.io_model.specs.declared.path.Target.TheVariants.{File, Folder, Term, Pipe}
+use Rattle.io_model.specs.declared.path.TheConstants.{PROCESS_PATHS}
+use Rattle.io_rules.specs.Attempts.{Does, IoAttempts, caller_of, kept_in, result_by, step_of}
+use Rattle.io_rules.specs.Codes.{io_call_of}
+use Rattle.io_rules.specs.Io.{Io, kept_at, pipe_bytes, with_call}
+use Rattle.io_rules.specs.Processes.{closed_below, closed_if_open, io_ended, io_started}
+use Rattle.io_rules.specs.Step.{Caller, IoEffect, IoEnd, IoStep, answers, fails, keeps, refused, comes, reads, writes}
+use Rattle.io_rules.specs.Waiting.{io_interrupted, wait_target, without_unfinished}
+use Rattle.io_rules.specs.declared.io_call.IoCall.{IoCall}
+use Rattle.io_machine.specs.declared.ends.EventEnd.{EventEnd}
+use Rattle.io_machine.specs.Event.{Acts, Event, before_delivery, io_after_call, io_after_delivery, io_after_instruction, next_instruction}
+use Rattle.io_machine.specs.State.{State}
+use Rattle.flow_laws.specs.Flow.{CountsOn, Passes, moved_before, stored_from}
+use Rattle.flow_laws.proofs.PipeSteps.{IsStoring, Moved, PipeLeft, StepMoves, closed-left, left-held, left-then, step-moves}
+
+-- ---- what a process closes
+
+closed-if : (n : ℕ) (io : Io) (p k : ℕ) (path : Option SysPath) → PipeLeft n io (closed_if_open io p k path)
+closed-if n io p k None = inl refl
+closed-if n io p k (Some path) = closed-left n io p k
+
+all-closed : (n : ℕ) (io : Io) (p k : ℕ) → PipeLeft n io (closed_below io p k)
+all-closed n io p zero = inl refl
+all-closed n io p (suc k) =
+    left-then n io (closed_below io p k) (closed_below io p (suc k)) (all-closed n io p k)
+    (closed-if n (closed_below io p k) p k (slot_of (closed_below io p k).paths p k))
+
+ended-left : (n : ℕ) (io : Io) (p : ℕ) → PipeLeft n io (io_ended io p)
+ended-left n io p = all-closed n io p PROCESS_PATHS
+
+unfinished-left : (n : ℕ) (io : Io) (p : ℕ) (target : Option Target) → PipeLeft n io (without_unfinished io p target)
+unfinished-left n io p None = inl refl
+unfinished-left n io p (Some (File drive sector)) = inl refl
+unfinished-left n io p (Some (Folder drive sector)) = inl refl
+unfinished-left n io p (Some (Term terminal)) = inl refl
+unfinished-left n io p (Some (Pipe pipe)) = inl refl
+
+interrupted-left : (n : ℕ) (io : Io) (p : ℕ) → PipeLeft n io (io_interrupted io p)
+interrupted-left n io p = unfinished-left n io p (wait_target io p)
+
+-- ---- an attempt of a call on paths
+
+does-moves : (call : IoCall) (caller : Caller) (io : Io) (n : ℕ) (step : IoStep) (effect : IoEffect) (before after : List TerminalState) → StepMoves call caller io n step → Does step caller io effect before after → IsPipe io.pipes n → IsPipe effect.io.pipes n → Moved call caller io n effect
+does-moves call caller io n (refused number) effect before after moves (is, same) lives still =
+    inl (ap (λ (effect : IoEffect). pipe_bytes effect.io n) is)
+does-moves call caller io n (comes it) effect before after moves (is, same) lives still =
+    subst (λ (effect : IoEffect). Moved call caller io n effect) (sym is) (moves lives (subst (λ (effect : IoEffect). IsPipe effect.io.pipes n) is still))
+does-moves call caller io n (reads read) effect before after moves does lives still =
+    inl (ap (λ (effect : IoEffect). pipe_bytes effect.io n) does.effect_is)
+does-moves call caller io n (writes write) effect before after moves does lives still =
+    inl (ap (λ (effect : IoEffect). pipe_bytes effect.io n) does.effect_is)
+
+-- what is kept is what was put there
+call-put : (io : Io) (p : ℕ) (place : Option Kept) (kept : Kept) → kept_at (with_call io p place) p ≡ Some kept → place ≡ Some kept
+call-put io p place kept is =
+    elim (cases_lt p (length io.calls)) [
+      | inl within ↦ sym (get_or-set_same io.calls p place None within) ∙ is
+      | inr past ↦ absurd (none-some kept (sym (get_or_past (with_call io p place).calls p None (rw length-set past)) ∙ is))
+    ]
+
+kept-end : (end : IoEnd) (kept : Kept) → kept_in end ≡ Some kept → end ≡ keeps kept
+kept-end (answers regs) kept is = absurd (none-some kept is)
+kept-end (fails number) kept is = absurd (none-some kept is)
+kept-end (keeps other) kept is = ap keeps (same_Some other kept is)
+
+-- bytes are stored where the process sees them
+stores-them : (m : Inner) (p : ℕ) (effect : IoEffect) (end : IoEnd) → IsStoring end → (after_attempt m p (result_by end m p effect)).memory ≡ stored m.memory p effect.at effect.bytes
+stores-them m p effect (answers regs) storing = refl
+stores-them m p effect (fails number) storing = absurd storing
+stores-them m p effect (keeps kept) storing = refl
+
+module _ (s : State) (p n : ℕ) (chosen : s.chosen ≡ Some p) (lives : IsPipe s.io.pipes n) where
+  -- nothing moves
+  unmoved : (t : State) → PipeLeft n s.io t.io → IsPipe t.io.pipes n → Passes n s t
+  unmoved t left still = (None, left-held n s.io t.io left still)
+
+  module _ (code : ℕ) (call : IoCall) (result : CallResult) (io : Io) (terms : List TerminalState) (next : act_of s.inner p ≡ attempts code) (coded : io_call_of code ≡ Some call) (attempt : IoAttempts call s.inner s.io s.drives p result io s.terms terms) (still : IsPipe io.pipes n) where
+    abbrev last : State
+    last = record s { inner = after_attempt s.inner p result; io = io; terms = terms }
+
+    held-then : pipe_bytes io n ≡ pipe_bytes attempt.effect.io n
+    held-then = ap (λ (io : Io). pipe_bytes io n) attempt.state
+
+    counts-on : (count : ℕ) → ((kept : Kept) → attempt.effect.end ≡ keeps kept → kept.moved ≡ moved_before s.io p + count) → CountsOn s p count last
+    counts-on count counts kept is =
+        counts kept (kept-end attempt.effect.end kept (call-put attempt.effect.io p (kept_in attempt.effect.end) kept (sym (ap (λ (io : Io). kept_at io p) attempt.state) ∙ is)))
+
+    memory-then : IsStoring attempt.effect.end → (after_attempt s.inner p result).memory ≡ stored s.inner.memory p attempt.effect.at attempt.effect.bytes
+    memory-then storing =
+        ap (λ (result : CallResult). (after_attempt s.inner p result).memory) attempt.result_is ∙ stores-them s.inner p attempt.effect attempt.effect.end storing
+
+    by_moved : Moved call (caller_of s.inner p) s.io n attempt.effect → Passes n s last
+    by_moved (inl same) = (None, held-then ∙ same)
+    by_moved (inr (inl it)) = (
+      Some (Out it.bytes),
+      record {
+        process = p;
+        chosen = chosen;
+        call = call;
+        attempt = record { attempted = (code, next, coded); way_is = it.way; path = it.path };
+        front = it.front ∙ ap (λ (held : List ℕ). it.bytes ++ held) (sym held-then);
+        seen = by_seen it.seen;
+        counts = counts-on (length it.bytes) it.counts;
+      },
+    )
+      where
+        by_seen : (it.bytes ≡ []) ⊎ (attempt.effect.bytes ≡ it.bytes) × (attempt.effect.at ≡ stored_from call (regs_at s.inner p) (moved_before s.io p)) × IsStoring attempt.effect.end → (it.bytes ≡ []) ⊎ ((after_attempt s.inner p result).memory ≡ stored s.inner.memory p (stored_from call (regs_at s.inner p) (moved_before s.io p)) it.bytes)
+        by_seen (inl none) = inl none
+        by_seen (inr (bytes, at, storing)) =
+            inr (memory-then storing ∙ (λ i. stored s.inner.memory p (at i) (bytes i)))
+    by_moved (inr (inr it)) = (
+      Some (In it.bytes),
+      record {
+        process = p;
+        chosen = chosen;
+        call = call;
+        attempt = record { attempted = (code, next, coded); way_is = it.way; path = it.path };
+        behind = held-then ∙ it.behind;
+        sent = it.sent;
+        sends = it.sends;
+        next = it.next;
+        counts = counts-on (length it.bytes) it.counts;
+      },
+    )
+
+    io-passes : Passes n s last
+    io-passes =
+        by_moved (does-moves call (caller_of s.inner p) s.io n (step_of call s.inner p s.io s.drives s.terms) attempt.effect s.terms terms (step-moves call (caller_of s.inner p) s.io n s.drives (length s.terms)) attempt.does lives (subst (λ (io : Io). IsPipe io.pipes n) attempt.state still))
+
+  -- ---- the event
+
+  after-call : (code : ℕ) (result : CallResult) → PipeLeft n s.io (io_after_call code s.io p result)
+  after-call code (CallResult.refused number) = inl refl
+  after-call code (waits t) = inl refl
+  after-call code (ends status) = ended-left n s.io p
+  after-call code (done t) = by_fork (code == F_FORK)
+    where
+      by_fork : (fork : Bool) → PipeLeft n s.io (if fork then io_started s.io p (regs_at t p).a else s.io)
+      by_fork true = inl refl
+      by_fork false = inl refl
+
+  after-instruction : (outcome : Outcome) → PipeLeft n s.io (io_after_instruction s.io p outcome)
+  after-instruction (Done effect) = inl refl
+  after-instruction (Calls code regs) = inl refl
+  after-instruction (Aborts status) = ended-left n s.io p
+
+  after-delivery : (result : Result Inner ℕ) → PipeLeft n s.io (io_after_delivery s.io p result)
+  after-delivery (Ok t) = interrupted-left n s.io p
+  after-delivery (Err status) = ended-left n s.io p
+
+  by-io : (code : ℕ) (call : Option IoCall) (result : CallResult) (io : Io) (terms : List TerminalState) → act_of s.inner p ≡ attempts code → io_call_of code ≡ call → MatchOption call ((result ≡ CallResult.refused E_UNKSVC) × (io ≡ s.io) × (terms ≡ s.terms)) (λ call. IoAttempts call s.inner s.io s.drives p result io s.terms terms) → IsPipe io.pipes n → Passes n s (record s { inner = after_attempt s.inner p result; io = io; terms = terms })
+  by-io code None result io terms next coded (is, same, unchanged) still = (None, ap (λ (io : Io). pipe_bytes io n) same)
+  by-io code (Some call) result io terms next coded attempt still = io-passes code call result io terms next coded attempt still
+
+  by-call : (code : ℕ) (call : Option ProcCall) (result : CallResult) (io : Io) (terms : List TerminalState) → act_of s.inner p ≡ attempts code → call_of code ≡ call → MatchOption call (MatchOption (io_call_of code) ((result ≡ CallResult.refused E_UNKSVC) × (io ≡ s.io) × (terms ≡ s.terms)) (λ call. IoAttempts call s.inner s.io s.drives p result io s.terms terms)) (λ call. (result ≡ attempted call s.inner p) × (io ≡ io_after_call code s.io p result) × (terms ≡ s.terms)) → IsPipe io.pipes n → Passes n s (record s { inner = after_attempt s.inner p result; io = io; terms = terms })
+  by-call code None result io terms next coded answer still = by-io code (io_call_of code) result io terms next refl answer still
+  by-call code (Some call) result io terms next coded (is, io_is, unchanged) still =
+      (None, left-held n s.io io (subst (PipeLeft n s.io) (sym io_is) (after-call code result)) still)
+
+  acts-pass : (act : Act) (end : EventEnd) (t : State) → act_of s.inner p ≡ act → Acts act s p end t → IsPipe t.io.pipes n → Passes n s t
+  acts-pass executes end t next (over, is) still =
+      unmoved t (subst (λ (t : State). PipeLeft n s.io t.io) (sym is) (after-instruction (next_instruction s.inner p))) still
+  acts-pass (delivers signal) end t next (over, is) still =
+      unmoved t (subst (λ (t : State). PipeLeft n s.io t.io) (sym is) (after-delivery (delivered (before_delivery s p) p signal))) still
+  acts-pass (attempts code) end t next (result, io, terms, answer, over, is) still =
+      subst (λ (t : State). Passes n s t) (sym is) (by-call code (call_of code) result io terms next refl answer (subst (λ (t : State). IsPipe t.io.pipes n) is still))
+
+pub event-passes : (s t : State) (end : EventEnd) (n : ℕ) → Event s end t → IsPipe s.io.pipes n → IsPipe t.io.pipes n → Passes n s t
+event-passes s t end n (p, chosen, living, acts) lives still =
+    acts-pass s p n chosen lives (act_of s.inner p) end t refl acts still

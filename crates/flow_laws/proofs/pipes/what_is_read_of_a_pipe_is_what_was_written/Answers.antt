@@ -1,0 +1,6 @@
+use Rattle.flow_laws.proofs.PipeEvents.{event-passes}
+use Rattle.flow_laws.proofs.PipeRuns.{run-passes, slice-passes}
+use Rattle.flow_laws.proofs.pipes.what_is_read_of_a_pipe_is_what_was_written.Goals as goal
+
+pub returns : goal.returns
+returns c = record { event = event-passes; slice = slice-passes; run = run-passes }

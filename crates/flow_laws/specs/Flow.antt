@@ -1,0 +1,116 @@
+-- What events move through a pipe (Level Two manual, "Pipes").
+use Rattle.std.specs.Prelude.{◌≡◌, ◌⊎◌, ℕ, ◌+◌, Option, Some, None, List, [], ◌++◌, length, map, take, drop}
+use Rattle.std.specs.List.{AllByRecursion, filter_map, flat_map}
+use Rattle.std.specs.Option.{option_map_or}
+use Rattle.os9_base.specs.declared.registers.Regs.{Regs}
+use Rattle.proc_model.specs.MemoryChanges.{stored}
+use Rattle.call_rules.specs.Inner.{regs_at}
+use Rattle.call_rules.specs.Ready.{attempts, act_of}
+use Rattle.call_rules.specs.UserBytes.{user_bytes}
+use Rattle.io_model.specs.Pipe.{Flows, IsPipe, Movement, In, Out, came_in, went_out}
+use Rattle.io_model.specs.declared.kept.Kept.{Kept}
+use Rattle.io_model.specs.declared.path.Target.TheVariants.{Pipe}
+use Rattle.io_rules.specs.Attempts.{caller_of}
+use Rattle.io_rules.specs.Codes.{direction_of_call, io_call_of}
+use Rattle.io_rules.specs.Io.{Io, OpenPath, kept_at, open_path, pipe_bytes}
+use Rattle.io_rules.specs.Step.{Caller}
+use Rattle.io_rules.specs.Write.{error_line, line_bytes}
+use Rattle.io_rules.specs.declared.io_call.Direction.{Direction}
+use Rattle.io_rules.specs.declared.io_call.Direction.TheVariants.{Reading, Writing}
+use Rattle.io_rules.specs.declared.io_call.IoCall.{IoCall}
+use Rattle.io_rules.specs.declared.io_call.IoCall.TheVariants as Call
+use Rattle.io_machine.specs.declared.ends.EventEnd.{EventEnd}
+use Rattle.io_machine.specs.Event.{Event}
+use Rattle.io_machine.specs.State.{State}
+
+-- ---- one attempt
+
+-- how many bytes the attempts of a call of a process have moved before
+abbrev pub moved_before : Io → ℕ → ℕ
+moved_before io p = option_map_or (λ kept. kept.moved) (kept_at io p) 0
+
+-- where a read stores: I$ReadLn behind what it has moved
+abbrev pub stored_from : IoCall → Regs → ℕ → ℕ
+stored_from Call.ReadLn regs moved = regs.x + moved
+stored_from call regs moved = regs.x
+
+-- the bytes that a call sends in all
+abbrev pub sent_by : IoCall → Caller → Io → Option (List ℕ)
+sent_by Call.Write caller io = user_bytes caller.cells caller.regs.x caller.regs.y
+sent_by Call.WritLn caller io = line_bytes caller (kept_at io caller.process.0)
+sent_by Call.PErr caller io = Some (error_line caller.regs.b)
+sent_by call caller io = None
+
+-- a process attempts a call that moves bytes this way, on a path that was opened on this pipe
+pub record AttemptsOn (s : State) (p n : ℕ) (call : IoCall) (way : Direction) : Type 0 where
+  pub attempted : (code : ℕ) × (act_of s.inner p ≡ attempts code) × (io_call_of code ≡ Some call)
+  pub way_is : direction_of_call call ≡ Some way
+  pub path : (number : ℕ) × (opened : OpenPath) × (open_path s.io p number ≡ Some opened) × (opened.desc.target ≡ Pipe n)
+
+-- where a call of a process waits then, it has moved so many bytes more
+abbrev pub CountsOn : State → ℕ → ℕ → State → Type 0
+CountsOn s p count t =
+    (kept : Kept) → kept_at t.io p ≡ Some kept → kept.moved ≡ moved_before s.io p + count
+
+-- a read takes bytes out of a pipe, from its front, and its process sees them then
+pub record TakesOut (n : ℕ) (s : State) (bytes : List ℕ) (t : State) : Type 0 where
+  pub process : ℕ
+  pub chosen : s.chosen ≡ Some process
+  pub call : IoCall
+  pub attempt : AttemptsOn s process n call Reading
+  pub front : pipe_bytes s.io n ≡ bytes ++ pipe_bytes t.io n
+  pub seen : (bytes ≡ []) ⊎ (t.inner.memory ≡ stored s.inner.memory process
+      (stored_from call (regs_at s.inner process) (moved_before s.io process)) bytes)
+  pub counts : CountsOn s process (length bytes) t
+
+-- a write puts bytes into a pipe, at its end: the next ones of those that its process sends
+pub record PutsIn (n : ℕ) (s : State) (bytes : List ℕ) (t : State) : Type 0 where
+  pub process : ℕ
+  pub chosen : s.chosen ≡ Some process
+  pub call : IoCall
+  pub attempt : AttemptsOn s process n call Writing
+  pub behind : pipe_bytes t.io n ≡ pipe_bytes s.io n ++ bytes
+  pub sent : List ℕ
+  pub sends : sent_by call (caller_of s.inner process) s.io ≡ Some sent
+  pub next : bytes ≡ take (length bytes) (drop (moved_before s.io process) sent)
+  pub counts : CountsOn s process (length bytes) t
+
+-- ---- events
+
+-- an event moves this through a pipe, or leaves it as it is
+abbrev pub MovesThrough : ℕ → State → Option Movement → State → Type 0
+MovesThrough n s None t = pipe_bytes t.io n ≡ pipe_bytes s.io n
+MovesThrough n s (Some (In bytes)) t = PutsIn n s bytes t
+MovesThrough n s (Some (Out bytes)) t = TakesOut n s bytes t
+
+abbrev pub Passes : ℕ → State → State → Type 0
+Passes n s t = (moved : Option Movement) × MovesThrough n s moved t
+
+-- an event of a run, and what it moves
+pub record Passing : Type 0 where
+  pub before : State
+  pub moved : Option Movement
+  pub after : State
+
+abbrev pub IsPassing : ℕ → Passing → Type 0
+IsPassing n it = (end : EventEnd) × Event it.before end it.after × MovesThrough n it.before it.moved it.after
+
+-- ---- runs
+
+-- the pipe lives in each of these states
+abbrev pub AllLive : ℕ → List State → Type 0
+AllLive n states = AllByRecursion (λ (s : State). IsPipe s.io.pipes n) states
+
+-- what events that lead through these states move through a pipe, one after another
+abbrev pub moved_by : List Passing → List Movement
+moved_by events = filter_map (λ it. it.moved) events
+
+-- what goes through a pipe from one state to another, through these: all that comes out is the front of what was in it
+-- and comes in, and the rest is what it holds
+pub record PassesThrough (n : ℕ) (s : State) (states : List State) (t : State) : Type 0 where
+  pub events : List Passing
+  pub through : map (λ it. it.after) events ≡ states
+  pub each : AllByRecursion (IsPassing n) events
+  pub flow : Flows (moved_by events) (pipe_bytes s.io n) (pipe_bytes t.io n)
+  pub in_order : pipe_bytes s.io n ++ flat_map came_in (moved_by events)
+      ≡ flat_map went_out (moved_by events) ++ pipe_bytes t.io n

@@ -1,0 +1,26 @@
+//! Pipes over a run: what is read is what was written, in order.
+
+ghost use Rattle.std.specs.Prelude.{ℕ, List};
+ghost use Rattle.io_model.specs.Pipe.{IsPipe};
+ghost use Rattle.io_machine.specs.declared.ends.EventEnd.{EventEnd};
+ghost use Rattle.io_machine.specs.declared.ends.SliceEnd.{SliceEnd};
+ghost use Rattle.io_machine.specs.Event.{Event};
+ghost use Rattle.io_machine.specs.Run.{Run, Slice};
+ghost use Rattle.io_machine.specs.State.{State};
+ghost use Rattle.flow_laws.specs.Flow.{AllLive, Passes, PassesThrough};
+
+/// While a pipe lives, an event moves bytes into it or out of it only as an attempt of a call on it
+/// does: a read takes them from its front and stores them where its process sees them, and a write
+/// puts them in at its end, which are the next ones of those that its process sends. So over a slice
+/// and a run in which it lives, what the readers got, one after another, is a front of what it held
+/// and the writers put in, and the rest is what it holds.
+pub fn what_is_read_of_a_pipe_is_what_was_written()
+    ensures event { (s t : State) (end : EventEnd) (n : ℕ) → Event s end t → IsPipe s.io.pipes n
+        → IsPipe t.io.pipes n → Passes n s t }
+    ensures slice { (size : ℕ) (s t : State) (states : List State) (end : SliceEnd) (n : ℕ)
+        → Slice size s states end t → IsPipe s.io.pipes n → AllLive n states
+        → PassesThrough n s states t }
+    ensures run { (slices written : List ℕ) (s t : State) (states : List State) (n : ℕ)
+        → Run slices s states written t → IsPipe s.io.pipes n → AllLive n states
+        → PassesThrough n s states t }
+{}

@@ -1,0 +1,23 @@
+-- Isolation: an event of a process leaves what is not its own.
+use Rattle.std.specs.Prelude.{◌≡◌, ◌≢◌, ℕ}
+use Rattle.proc_rules.specs.Records.{record_of}
+use Rattle.call_rules.specs.Inner.{Inner}
+use Rattle.io_machine.specs.declared.ends.EventEnd.{EventEnd}
+use Rattle.io_isolation.specs.NewObjects.{HoldNothingElse}
+use Rattle.io_isolation.specs.Objects.{KeepsSizes, KeepsObjects, KeepsToItself}
+use Rattle.io_isolation.specs.Others.{ComesOf, turns_of_others}
+use Rattle.io_isolation.specs.Links.{ChangesLinks}
+use Rattle.io_isolation.specs.Modules.{KeepsModules}
+
+-- ---- one event
+
+-- an event of a process, which ends so, leaves what is not its own
+pub record LeavesOthers (m : Inner) (p : ℕ) (end : EventEnd) (n : Inner) : Type 0 where
+  pub sizes : KeepsSizes m.memory n.memory
+  pub objects : KeepsObjects m.memory p n.memory
+  pub new_objects : HoldNothingElse m p n.memory
+  pub map : KeepsToItself m.memory p n.memory
+  pub others : (q : ℕ) → q ≢ p → ComesOf m p end n q (record_of m.records q) (record_of n.records q)
+  pub turns : turns_of_others m p n.order ≡ turns_of_others m p m.order
+  pub modules : KeepsModules m.memory.modules n.memory.modules  -- what comes of each
+  pub links : ChangesLinks m p end n.memory  -- which of their links change

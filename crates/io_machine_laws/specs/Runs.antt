@@ -1,0 +1,35 @@
+-- Events, slices and runs that there are.
+use Rattle.std.specs.Prelude.{◌≡◌, ℕ, List}
+use Rattle.os9_outer.specs.TerminalState.{fault_counts}
+use Rattle.io_machine.specs.declared.ends.EventEnd.{EventEnd}
+use Rattle.io_machine.specs.declared.ends.SliceEnd.{SliceEnd}
+use Rattle.io_machine.specs.Event.{Event}
+use Rattle.io_machine.specs.Run.{Run, Slice}
+use Rattle.io_machine.specs.State.{State}
+
+-- the count of faults of each terminal is the same in two states
+abbrev pub SameCounts : State → State → Type 0
+SameCounts s t = fault_counts t.terms ≡ fault_counts s.terms
+
+-- a state has an event in which no terminal fails
+pub record HasEvent (s : State) : Type 0 where
+  pub end : EventEnd
+  pub last : State
+  pub event : Event s end last
+  pub counts : SameCounts s last
+
+-- a slice of so many instructions comes to an end without a terminal's failure
+pub record HasSlice (n : ℕ) (s : State) : Type 0 where
+  pub states : List State
+  pub end : SliceEnd
+  pub last : State
+  pub slice : Slice n s states end last
+  pub counts : SameCounts s last
+
+-- there is a run over these slices in which no terminal fails
+pub record HasRun (slices : List ℕ) (s : State) : Type 0 where
+  pub states : List State
+  pub written : List ℕ
+  pub last : State
+  pub run : Run slices s states written last
+  pub counts : SameCounts s last

@@ -1,0 +1,21 @@
+use Rattle.std.proofs.Common.{refl, arith}
+use Rattle.os9_base.specs.declared.calls.TheConstants.{F_ID}
+use Rattle.call_rules.specs.declared.proc_call.ProcCall.TheVariants as Call
+use Rattle.call_rules.specs.Ready.{attempts, delivers, executes}
+use Rattle.cpu_model.specs.BasePage.{base_page}
+use Rattle.cpu_model.specs.TenPage.{ten_page}
+use Rattle.cpu_model.specs.Reading.{reading}
+use Rattle.cpu_model.specs.Step.{window, effect_of, outcome_of, step_of}
+use Rattle.cpu_model.specs.Table.{row}
+use Rattle.io_machine.specs.declared.ends.EventEnd.TheVariants.{Ran}
+use Rattle.io_machine_rows.specs.Rows.{at_choice, after_events, signalled_in_call}
+use Rattle.io_machine_rows.proofs.RowEvents.{event-is}
+use Rattle.io_machine_rows.proofs.rows.a_signal_is_delivered_after_the_first_attempt.Goals as goal
+
+pub returns : goal.returns
+unfolding step_of window reading row outcome_of effect_of base_page ten_page
+returns c = record {
+  slice = (_, _, (_, refl, refl), refl, (refl, (omega arith, Ran, (event-is (at_choice signalled_in_call) 2 refl refl (attempts F_ID) Ran refl (Call.Id, refl) refl), (omega arith, Ran, (event-is (after_events 1 (at_choice signalled_in_call)) 2 refl refl (delivers 7) Ran refl tt refl), (omega arith, Ran, (event-is (after_events 2 (at_choice signalled_in_call)) 2 refl refl executes Ran refl tt refl), (refl, refl))))));
+  chosen = refl;
+  does = refl;
+}

@@ -1,0 +1,35 @@
+use Rattle.std.proofs.Common.{refl, arith}
+use Rattle.call_rules.specs.Ready.{executes}
+use Rattle.cpu_model.specs.BasePage.{base_page}
+use Rattle.cpu_model.specs.TenPage.{ten_page}
+use Rattle.cpu_model.specs.Reading.{reading}
+use Rattle.cpu_model.specs.Step.{window, effect_of, outcome_of, step_of}
+use Rattle.cpu_model.specs.Table.{row}
+use Rattle.io_machine.specs.declared.ends.EventEnd.TheVariants.{Ran}
+use Rattle.io_machine_rows.specs.Rows.{at_choice, after_slice, two_running}
+use Rattle.io_machine_rows.proofs.RowEvents.{event-is}
+use Rattle.io_machine_rows.proofs.rows.equals_are_chosen_in_turns.Goals as goal
+
+pub returns-clause-first : goal.returns-clause-first
+unfolding step_of window reading row outcome_of effect_of base_page ten_page
+returns-clause-first c = record {
+  slice = (_, _, (_, refl, refl), refl, (refl, (omega arith, Ran, (event-is (at_choice two_running) 2 refl refl executes Ran refl tt refl), (refl, refl))));
+  chosen = refl;
+  does = refl;
+}
+
+pub returns-clause-second : goal.returns-clause-second
+unfolding step_of window reading row outcome_of effect_of base_page ten_page
+returns-clause-second c = record {
+  slice = (_, _, (_, refl, refl), refl, (refl, (omega arith, Ran, (event-is (at_choice (after_slice 1 two_running)) 3 refl refl executes Ran refl tt refl), (refl, refl))));
+  chosen = refl;
+  does = refl;
+}
+
+pub returns-clause-first_again : goal.returns-clause-first_again
+unfolding step_of window reading row outcome_of effect_of base_page ten_page
+returns-clause-first_again c = record {
+  slice = (_, _, (_, refl, refl), refl, (refl, (omega arith, Ran, (event-is (at_choice (after_slice 1 (after_slice 1 two_running))) 2 refl refl executes Ran refl tt refl), (refl, refl))));
+  chosen = refl;
+  does = refl;
+}

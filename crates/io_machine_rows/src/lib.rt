@@ -1,0 +1,4 @@
+//! Worked slices of the machine of many processes.
+#![tactic(auto)]
+
+pub mod rows;

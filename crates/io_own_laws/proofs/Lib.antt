@@ -1,0 +1,4 @@
+pub mod Appearing
+pub mod Beginning
+pub mod OwnKept
+pub mod OwnRows

@@ -1,0 +1,31 @@
+-- Blocks that are a process's own.
+use Rattle.std.specs.Prelude.{◌≡◌, ◌≢◌, ℕ, ◌<◌, Some, length, slice_get}
+use Rattle.proc_model.specs.Memory.{map_at}
+use Rattle.proc_model.specs.Slots.{NamesBlock, block_at}
+use Rattle.proc_rules.specs.Records.{IsLiving}
+use Rattle.call_rules.specs.Inner.{Inner}
+use Rattle.io_isolation.specs.Objects.{IsOfModule}
+use Rattle.io_isolation.specs.Others.{HasRecord}
+
+-- the maps of processes and the groups of modules name objects that have appeared
+pub record NameAppeared (m : Inner) : Type 0 where
+  pub maps : (q object : ℕ) → HasRecord m q → NamesBlock (map_at m.memory q) object → object < length m.memory.objects
+  pub groups : (object : ℕ) → IsOfModule m.memory object → object < length m.memory.objects
+
+-- an object is a process's own: its map names it, no other process's map does, and it is of no entered module's group
+pub record IsOwn (m : Inner) (p object : ℕ) : Type 0 where
+  pub appeared : object < length m.memory.objects
+  pub named : NamesBlock (map_at m.memory p) object
+  pub alone : (q : ℕ) → q ≢ p → HasRecord m q → NamesBlock (map_at m.memory q) object → ⊥
+  pub in_no_module : IsOfModule m.memory object → ⊥
+
+-- an object is of the data area of a process: a slot of the low area of its map names it
+abbrev pub IsOfArea : Inner → ℕ → ℕ → Type 0
+IsOfArea m p object =
+    (slot : ℕ) × (slot < (map_at m.memory p).low) × (block_at (map_at m.memory p) slot ≡ Some object)
+
+-- a process that lives still lives, the object is its own still, and has the same bytes
+pub record KeepsOwnObject (m : Inner) (p object : ℕ) (n : Inner) : Type 0 where
+  pub lives : IsLiving n.records p
+  pub own : IsOwn n p object
+  pub bytes : slice_get n.memory.objects object ≡ slice_get m.memory.objects object

@@ -1,0 +1,12 @@
+use Rattle.kept_laws.proofs.RunningLaws.{start-running, event-running, tick-running, choice-running, slice-running, run-running}
+use Rattle.kept_laws.proofs.kept.calls_that_wait_are_kept.Goals as goal
+
+pub returns : goal.returns
+returns c = record {
+  start = start-running;
+  event = event-running;
+  tick = tick-running;
+  choice = choice-running;
+  slice = slice-running;
+  run = run-running;
+}

@@ -1,0 +1,28 @@
+//! What holds of every state of a run, as laws over its steps.
+
+ghost use Rattle.std.specs.Prelude.{ℕ, ◌<◌, ◌≤◌, List, length};
+ghost use Rattle.os9_outer.specs.TerminalState.{TerminalState};
+ghost use Rattle.io_machine.specs.declared.ends.EventEnd.{EventEnd};
+ghost use Rattle.io_machine.specs.declared.ends.SliceEnd.{SliceEnd};
+ghost use Rattle.io_machine.specs.Event.{Event};
+ghost use Rattle.io_machine.specs.Run.{Choose, Run, Slice, Tick};
+ghost use Rattle.io_machine.specs.Start.{Starts};
+ghost use Rattle.io_machine.specs.State.{State};
+ghost use Rattle.kept_laws.specs.Running.{IsRunning, AllRunning};
+
+/// What is kept of a call that waits is of the call that its process waits in, made with the registers
+/// that the process has; and each terminal that a path was opened on is there. That holds at the start
+/// of a machine with one to four terminals, and each event, each tick and each choice keeps it. So it
+/// holds of every state of a run.
+pub fn calls_that_wait_are_kept()
+    ensures start { (file : List ℕ) (blocks drives : ℕ) (terms : List TerminalState) (s : State)
+        → Starts file blocks drives terms s → 0 < length terms → length terms ≤ 4
+        → IsRunning s }
+    ensures event { (s t : State) (end : EventEnd) → Event s end t → IsRunning s → IsRunning t }
+    ensures tick { (s t : State) → Tick s t → IsRunning s → IsRunning t }
+    ensures choice { (s t : State) → Choose s t → IsRunning s → IsRunning t }
+    ensures slice { (n : ℕ) (s t : State) (states : List State) (end : SliceEnd)
+        → Slice n s states end t → IsRunning s → AllRunning states t }
+    ensures run { (slices written : List ℕ) (s t : State) (states : List State)
+        → Run slices s states written t → IsRunning s → AllRunning states t }
+{}
