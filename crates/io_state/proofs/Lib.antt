@@ -1,4 +1,5 @@
 pub mod HeldLemmas
+pub mod OpenedLemmas
 pub mod SoundLemmas
 pub mod StreamLemmas
 pub mod TerminalLemmas

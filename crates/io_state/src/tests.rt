@@ -1,6 +1,40 @@
+ghost use Rattle.std.specs.Prelude.{◌<◌};
+
 use crate::state::IoState;
+use io_model::kept::Kept;
+use io_model::path::Target;
+use os9_base::calls::I_WRITE;
 use os9_base::registers::Pid;
+use os9_sched::Cause;
 use std::test::Fail;
+
+/// A process whose call is kept waits in a write of 300 bytes into the pipe that it has as this
+/// number, of which 256 are moved. False if that is no pipe, or if a call is kept.
+fn wait_in_write(io: &mut IoState, p: Pid, n: u8) -> bool
+    requires { p.0 < 33 }
+{
+    if io.kept(p).is_some() {
+        return false;
+    }
+    match io.open_path(p, n) {
+        Some((path, desc)) => match desc.target {
+            Target::Pipe(_) => {
+                io.keep(
+                    p,
+                    Some(Kept {
+                        code: I_WRITE,
+                        path,
+                        moved: 256,
+                        count: 300,
+                    }),
+                );
+                true
+            }
+            _ => false,
+        },
+        None => false,
+    }
+}
 
 #[test]
 fn ample_memory(rt: HostRuntime) -> Result<(), Fail> {
@@ -11,5 +45,23 @@ fn ample_memory(rt: HostRuntime) -> Result<(), Fail> {
     assert_eq!(rt; io.begin_terminal(first, 1, 3).ok(), Some(3));
     assert_eq!(rt; io.begin_pipe(first, 3).ok(), Some(4));
     assert!(rt; io.open_path(first, 4).is_some());
+    Ok(())
+}
+
+#[test]
+fn interrupted_pipe_write(rt: HostRuntime) -> Result<(), Fail> {
+    let mut io = IoState::new(rt.alloc())?;
+    let writer = Pid(2);
+    assert_eq!(rt; io.begin_pipe(writer, 3).ok(), Some(3));
+    assert!(rt; wait_in_write(&mut io, writer, 3));
+    assert!(rt; io.may_go(writer));
+    assert_eq!(rt; io.waits_for(writer), Some(Cause::Pipe(1)));
+    assert!(rt; io.ready_set().allows(writer));
+    assert_eq!(rt; io.interrupt(writer), Some(256));
+    assert!(rt; !io.may_go(writer));
+    assert_eq!(rt; io.waits_for(writer), None);
+    assert_eq!(rt; io.interrupt(writer), None);
+    io.end(writer);
+    assert!(rt; io.slot(writer, 3).is_none());
     Ok(())
 }

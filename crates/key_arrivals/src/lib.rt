@@ -2,3 +2,5 @@
 #![tactic(auto)]
 
 pub mod keys;
+#[cfg(test)]
+mod tests;
