@@ -4,6 +4,7 @@
 
 pub mod byte_rows;
 pub mod fault_rows;
+pub mod laws;
 pub mod load_rows;
 pub mod path_call;
 pub mod path_rows;
