@@ -1,0 +1,4 @@
+pub mod DeviceLemmas
+pub mod MovingLemmas
+pub mod StepLemmas
+pub mod TryingLemmas

@@ -1,0 +1,7 @@
+//! I$Read, I$ReadLn, I$Write, I$WritLn and F$PErr on terminals and pipes.
+#![tactic(auto)]
+
+mod ends;
+mod modes;
+pub mod reads;
+mod terminals;

@@ -1,0 +1,291 @@
+//! I$Read and I$ReadLn (System Programmer's Manual, I$Read and I$ReadLn).
+
+ghost use Rattle.std.specs.Prelude.{◌≡◌, ◌≢◌, ℕ, ◌<◌, not, Some, vec_len};
+ghost use Rattle.os9_base.specs.Cells.{FitsIn};
+ghost use Rattle.os9_outer.specs.TerminalState.{terminal_states};
+ghost use Rattle.proc_rules.specs.Records.{IsLiving, record_at};
+ghost use Rattle.call_rules.specs.Inner.{Inner, regs_at};
+ghost use Rattle.guest_memory.specs.Tie.{cells_of};
+ghost use Rattle.io_model.specs.Pipe.{IsPipe};
+ghost use Rattle.io_rules.specs.Attempts.{caller_of};
+ghost use Rattle.io_rules.specs.Io.{open_path};
+ghost use Rattle.io_rules.specs.Read.{i_read as i_read_lem, i_readln as i_readln_lem, pipe_read};
+ghost use Rattle.io_rules.specs.Modes.{can_read as can_read_lem};
+ghost use Rattle.io_rules.specs.Step.{refuses};
+ghost use Rattle.io_rules.specs.declared.io_call.IoCall.TheVariants as Call;
+ghost use Rattle.io_state.specs.Again.{IsAgain};
+ghost use Rattle.io_state.specs.Attempt.{Attempts};
+ghost use Rattle.io_state.specs.Sound.{IsThere, MayWait, read_kind};
+ghost use Rattle.pipe_calls.specs.Leaving.{Leaves, ReadsNoTerminal};
+ghost use Rattle.proc_state.specs.Tie.{Represents};
+ghost use Rattle.stream_calls.specs.Moving.{AreTerminals, MayMove, StaysIfKept, read_call, read_code as read_code_lem, read_step, read_named as read_named_lem, read_open as read_open_lem, read_on as read_on_lem};
+ghost use Rattle.stream_calls.specs.Trying.{Tries, WantsMemory};
+
+use crate::ends::{answer, call_now, refuse};
+use crate::modes::can_read;
+use crate::terminals::read_terminal;
+use device_table::devices::Devices;
+use io_model::kept::Kept;
+use io_model::path::{Desc, SysPath, Target};
+use io_model::terminal::ReadKind;
+use io_state::state::IoState;
+use os9_base::call::CallEnd;
+use os9_base::calls::{I_READ, I_READLN};
+use os9_base::errors::{E_BMODE, E_BPADDR, E_BPNUM, E_UNKSVC};
+use os9_base::registers::{Pid, Regs};
+use os9_outer::terminal::CharDriver;
+use pipe_calls::reads::{read_pipe, read_pipe_line};
+use proc_state::state::ProcState;
+
+/// I$Read: reads bytes (System Programmer's Manual, I$Read). Takes the path in A, the address of the
+/// buffer in X and its most bytes in Y; answers the count in Y. A read of a terminal or a pipe waits
+/// until a byte is there. Registers and bytes stay where it is refused or waits.
+///
+/// # Errors
+///
+/// E$BPAddr exactly if a byte of the buffer is in no named slot or past `FFFF`, else E$BPNum exactly
+/// if the number names no path, else E$BMode exactly if the path may not be read; then E$EOF at the
+/// end of the file, and E$Write where a terminal failed.
+pub fn i_read(s: &mut ProcState, io: &mut IoState, devices: &mut Devices, p: Pid) -> CallEnd
+    requires lives { IsLiving s.old.table p.0 }
+    requires again { IsAgain Call.Read (record_at s.old.table p.0).regs io.old p.0 }
+    requires stays { StaysIfKept (cells_of s.old.memory p.0) (record_at s.old.table p.0).regs
+        io.old p.0 }
+    requires terminals { AreTerminals io.old.paths (vec_len devices.old.terms) }
+    ensures call { (m : Inner) (drives : ℕ) → Represents s.old m → result ≢ CallEnd.NoMemory
+        → Attempts Call.Read m io.old drives p.0 result s.new io.new
+        (terminal_states ⟦<dyn CharDriver as CharDriver>⟧ devices.old.terms.items)
+        (terminal_states ⟦<dyn CharDriver as CharDriver>⟧ devices.new.terms.items) }
+    ensures memory { (m : Inner) → Represents s.old m → result ≡ CallEnd.NoMemory
+        → WantsMemory (i_read_lem (caller_of m p.0) io.old)
+        (terminal_states ⟦<dyn CharDriver as CharDriver>⟧ devices.old.terms.items)
+        (terminal_states ⟦<dyn CharDriver as CharDriver>⟧ devices.new.terms.items) }
+    ensures lives { IsLiving s.new.table p.0 }
+    ensures drives { devices.new.drives ≡ devices.old.drives }
+    ensures count { vec_len devices.new.terms ≡ vec_len devices.old.terms }
+{
+    let regs = s.table.regs(p);
+    read(s, io, devices, p, regs, ReadKind::Bytes)
+}
+
+/// I$ReadLn: reads a line (System Programmer's Manual, I$ReadLn). Takes the path in A, the address of
+/// the buffer in X and its most bytes in Y; answers the count in Y, a carriage return counted. It
+/// waits until the line has ended, or has as many bytes as it asks for.
+///
+/// # Errors
+///
+/// E$BPAddr exactly if a byte of the buffer is in no named slot or past `FFFF`, else E$BPNum exactly
+/// if the number names no path, else E$BMode exactly if the path may not be read; then E$EOF at the
+/// end of the file, and E$Write where a terminal failed.
+pub fn i_readln(s: &mut ProcState, io: &mut IoState, devices: &mut Devices, p: Pid) -> CallEnd
+    requires lives { IsLiving s.old.table p.0 }
+    requires again { IsAgain Call.ReadLn (record_at s.old.table p.0).regs io.old p.0 }
+    requires stays { StaysIfKept (cells_of s.old.memory p.0) (record_at s.old.table p.0).regs
+        io.old p.0 }
+    requires terminals { AreTerminals io.old.paths (vec_len devices.old.terms) }
+    ensures call { (m : Inner) (drives : ℕ) → Represents s.old m → result ≢ CallEnd.NoMemory
+        → Attempts Call.ReadLn m io.old drives p.0 result s.new io.new
+        (terminal_states ⟦<dyn CharDriver as CharDriver>⟧ devices.old.terms.items)
+        (terminal_states ⟦<dyn CharDriver as CharDriver>⟧ devices.new.terms.items) }
+    ensures memory { (m : Inner) → Represents s.old m → result ≡ CallEnd.NoMemory
+        → WantsMemory (i_readln_lem (caller_of m p.0) io.old)
+        (terminal_states ⟦<dyn CharDriver as CharDriver>⟧ devices.old.terms.items)
+        (terminal_states ⟦<dyn CharDriver as CharDriver>⟧ devices.new.terms.items) }
+    ensures lives { IsLiving s.new.table p.0 }
+    ensures drives { devices.new.drives ≡ devices.old.drives }
+    ensures count { vec_len devices.new.terms ≡ vec_len devices.old.terms }
+{
+    let regs = s.table.regs(p);
+    read(s, io, devices, p, regs, ReadKind::WholeLine)
+}
+
+/// An attempt of a read of this kind.
+fn read(
+    s: &mut ProcState,
+    io: &mut IoState,
+    devices: &mut Devices,
+    p: Pid,
+    regs: Regs,
+    kind: ReadKind,
+) -> CallEnd
+    requires lives { IsLiving s.old.table p.0 }
+    requires again { IsAgain (read_call kind) regs io.old p.0 }
+    requires stays { StaysIfKept (cells_of s.old.memory p.0) regs io.old p.0 }
+    requires terminals { AreTerminals io.old.paths (vec_len devices.old.terms) }
+    ensures call { (m : Inner) → Represents s.old m → regs ≡ regs_at m p.0
+        → Tries (read_step kind (caller_of m p.0) io.old) m io.old p.0 result s.new io.new
+        (terminal_states ⟦<dyn CharDriver as CharDriver>⟧ devices.old.terms.items)
+        (terminal_states ⟦<dyn CharDriver as CharDriver>⟧ devices.new.terms.items) }
+    ensures lives { IsLiving s.new.table p.0 }
+    ensures drives { devices.new.drives ≡ devices.old.drives }
+    ensures count { vec_len devices.new.terms ≡ vec_len devices.old.terms }
+{
+    if !s.is_named(p, regs.x, regs.y) {
+        return refuse(io, p, E_BPADDR);
+    }
+    read_named(s, io, devices, p, regs, kind)
+}
+
+/// An attempt of a read whose buffer is there.
+fn read_named(
+    s: &mut ProcState,
+    io: &mut IoState,
+    devices: &mut Devices,
+    p: Pid,
+    regs: Regs,
+    kind: ReadKind,
+) -> CallEnd
+    requires lives { IsLiving s.old.table p.0 }
+    requires again { IsAgain (read_call kind) regs io.old p.0 }
+    requires stays { StaysIfKept (cells_of s.old.memory p.0) regs io.old p.0 }
+    requires named { FitsIn (cells_of s.old.memory p.0) regs.x regs.y }
+    requires terminals { AreTerminals io.old.paths (vec_len devices.old.terms) }
+    ensures call { (m : Inner) → Represents s.old m → regs ≡ regs_at m p.0
+        → Tries (read_named_lem kind (caller_of m p.0) io.old) m io.old p.0 result s.new io.new
+        (terminal_states ⟦<dyn CharDriver as CharDriver>⟧ devices.old.terms.items)
+        (terminal_states ⟦<dyn CharDriver as CharDriver>⟧ devices.new.terms.items) }
+    ensures lives { IsLiving s.new.table p.0 }
+    ensures drives { devices.new.drives ≡ devices.old.drives }
+    ensures count { vec_len devices.new.terms ≡ vec_len devices.old.terms }
+{
+    match io.open_path(p, regs.a) {
+        None => refuse(io, p, E_BPNUM),
+        Some(found) => read_found(s, io, devices, p, regs, kind, found.0, found.1),
+    }
+}
+
+/// An attempt of a read on the path that its number names.
+fn read_found(
+    s: &mut ProcState,
+    io: &mut IoState,
+    devices: &mut Devices,
+    p: Pid,
+    regs: Regs,
+    kind: ReadKind,
+    path: SysPath,
+    desc: Desc,
+) -> CallEnd
+    requires lives { IsLiving s.old.table p.0 }
+    requires again { IsAgain (read_call kind) regs io.old p.0 }
+    requires stays { StaysIfKept (cells_of s.old.memory p.0) regs io.old p.0 }
+    requires named { FitsIn (cells_of s.old.memory p.0) regs.x regs.y }
+    requires opened { open_path io.old p.0 regs.a ≡ Some (record { path = path; desc = desc }) }
+    requires there { IsThere io.old desc.target }
+    requires terminals { AreTerminals io.old.paths (vec_len devices.old.terms) }
+    ensures call { (m : Inner) → Represents s.old m → regs ≡ regs_at m p.0
+        → Tries (refuses (not (can_read_lem desc.mode)) E_BMODE
+        (read_open_lem kind (caller_of m p.0) io.old (record { path = path; desc = desc })))
+        m io.old p.0 result s.new io.new
+        (terminal_states ⟦<dyn CharDriver as CharDriver>⟧ devices.old.terms.items)
+        (terminal_states ⟦<dyn CharDriver as CharDriver>⟧ devices.new.terms.items) }
+    ensures lives { IsLiving s.new.table p.0 }
+    ensures drives { devices.new.drives ≡ devices.old.drives }
+    ensures count { vec_len devices.new.terms ≡ vec_len devices.old.terms }
+{
+    if !can_read(desc.mode) {
+        return refuse(io, p, E_BMODE);
+    }
+    read_open(s, io, devices, p, regs, kind, path, desc)
+}
+
+/// An attempt of a read on a path that may be read.
+fn read_open(
+    s: &mut ProcState,
+    io: &mut IoState,
+    devices: &mut Devices,
+    p: Pid,
+    regs: Regs,
+    kind: ReadKind,
+    path: SysPath,
+    desc: Desc,
+) -> CallEnd
+    requires lives { IsLiving s.old.table p.0 }
+    requires again { IsAgain (read_call kind) regs io.old p.0 }
+    requires named { FitsIn (cells_of s.old.memory p.0) regs.x regs.y }
+    requires opened { open_path io.old p.0 regs.a ≡ Some (record { path = path; desc = desc }) }
+    requires there { IsThere io.old desc.target }
+    requires terminals { AreTerminals io.old.paths (vec_len devices.old.terms) }
+    ensures call { (m : Inner) → Represents s.old m → regs ≡ regs_at m p.0
+        → Tries (read_open_lem kind (caller_of m p.0) io.old (record { path = path; desc = desc }))
+        m io.old p.0 result s.new io.new
+        (terminal_states ⟦<dyn CharDriver as CharDriver>⟧ devices.old.terms.items)
+        (terminal_states ⟦<dyn CharDriver as CharDriver>⟧ devices.new.terms.items) }
+    ensures lives { IsLiving s.new.table p.0 }
+    ensures drives { devices.new.drives ≡ devices.old.drives }
+    ensures count { vec_len devices.new.terms ≡ vec_len devices.old.terms }
+{
+    let code = read_code(kind);
+    let call = call_now(io, p, code, path, regs.y);
+    if regs.y == 0 {
+        return answer(s, io, p, regs);
+    }
+    read_on(s, io, devices, p, regs, kind, call, desc.target)
+}
+
+/// The code of the call that reads so.
+fn read_code(kind: ReadKind) -> u8
+    ensures { result ≡ read_code_lem kind }
+{
+    match kind {
+        ReadKind::Bytes => I_READ,
+        ReadKind::WholeLine => I_READLN,
+    }
+}
+
+/// An attempt of a read on what its path was opened on.
+fn read_on(
+    s: &mut ProcState,
+    io: &mut IoState,
+    devices: &mut Devices,
+    p: Pid,
+    regs: Regs,
+    kind: ReadKind,
+    call: Kept,
+    target: Target,
+) -> CallEnd
+    requires lives { IsLiving s.old.table p.0 }
+    requires named { FitsIn (cells_of s.old.memory p.0) regs.x call.count }
+    requires may { MayMove io.old p.0 target call }
+    requires kind_is { read_kind call.code ≡ Some kind }
+    requires there { IsThere io.old target }
+    requires terminals { AreTerminals io.old.paths (vec_len devices.old.terms) }
+    ensures call { (m : Inner) → Represents s.old m → regs ≡ regs_at m p.0
+        → Tries (read_on_lem kind (caller_of m p.0) io.old call target) m io.old p.0 result s.new
+        io.new (terminal_states ⟦<dyn CharDriver as CharDriver>⟧ devices.old.terms.items)
+        (terminal_states ⟦<dyn CharDriver as CharDriver>⟧ devices.new.terms.items) }
+    ensures lives { IsLiving s.new.table p.0 }
+    ensures drives { devices.new.drives ≡ devices.old.drives }
+    ensures count { vec_len devices.new.terms ≡ vec_len devices.old.terms }
+{
+    match target {
+        Target::File(_, _) => refuse(io, p, E_UNKSVC),
+        Target::Folder(_, _) => refuse(io, p, E_UNKSVC),
+        Target::Term(n) => read_terminal(s, io, devices, p, regs, kind, n, call),
+        Target::Pipe(pipe) => read_pipe_as(s, io, p, regs, kind, pipe, call),
+    }
+}
+
+/// An attempt of a read of this kind on a pipe.
+fn read_pipe_as(
+    s: &mut ProcState,
+    io: &mut IoState,
+    p: Pid,
+    regs: Regs,
+    kind: ReadKind,
+    pipe: u8,
+    call: Kept,
+) -> CallEnd
+    requires lives { IsLiving s.old.table p.0 }
+    requires named { FitsIn (cells_of s.old.memory p.0) regs.x call.count }
+    requires pipe { IsPipe io.old.pipes pipe }
+    requires may { MayWait io.old.paths p.0 call }
+    requires no_read { ReadsNoTerminal io.old p.0 }
+    ensures call { (m : Inner) → Represents s.old m → regs ≡ regs_at m p.0
+        → Leaves (pipe_read kind (caller_of m p.0) io.old pipe call) m p.0 result s.new io.new }
+    ensures lives { IsLiving s.new.table p.0 }
+{
+    match kind {
+        ReadKind::Bytes => read_pipe(s, io, p, regs, pipe, call),
+        ReadKind::WholeLine => read_pipe_line(s, io, p, regs, pipe, call),
+    }
+}
