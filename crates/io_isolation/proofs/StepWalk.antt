@@ -31,7 +31,7 @@ use Rattle.io_rules.specs.Status.{gets_end, gets_options, gets_ready, gets_statu
 use Rattle.io_rules.specs.Step.{Caller, IoStep, answers, refused, comes, reads, writes, needs, refuses, done, stores}
 use Rattle.io_rules.specs.Transfer.{call_now, on_path, unless_nothing}
 use Rattle.io_rules.specs.Write.{Sending, f_perr, line_bytes, sends_on, sent_bytes, sent_error, sent_line, writes_target}
-use Rattle.io_rules.specs.declared.io_call.Direction.TheVariants.{Writing}
+use Rattle.io_rules.specs.declared.io_call.Direction.TheVariants.{Reading, Writing}
 use Rattle.io_rules.specs.declared.io_call.IoCall.{IoCall}
 use Rattle.io_rules.specs.declared.io_call.IoCall.TheVariants as Call
 use Rattle.io_rules.specs.declared.modes.TheConstants.{STANDARD_ERROR}
@@ -85,12 +85,12 @@ abbrev pub HasPathOn : Caller → Io → ℕ → Type 0
 HasPathOn caller io terminal =
     (number : ℕ) × (opened : OpenPath) × (open_path io caller.process.0 number ≡ Some opened) × (opened.desc.target ≡ Term terminal)
 
--- an attempt that reaches no device comes to a state of this kind; only a write writes to a terminal, and the process
--- has a path on it
+-- an attempt that reaches no device comes to a state of this kind; only a read reads a terminal, and only a write writes
+-- to one, and the process has a path on it
 abbrev pub StepGives : IoCall → (Io → Type 0) → Caller → Io → IoStep → Type 0
 StepGives call P caller io (refused number) = Unit {0}
 StepGives call P caller io (comes effect) = P effect.io
-StepGives call P caller io (reads read) = HasPathOn caller io read.terminal
+StepGives call P caller io (reads read) = (direction_of_call call ≡ Some Reading) × HasPathOn caller io read.terminal
 StepGives call P caller io (writes write) = (direction_of_call call ≡ Some Writing) × HasPathOn caller io write.terminal
 
 -- the states that an attempt of a process may come to without a device, on a machine with so many terminals, are of
@@ -160,18 +160,18 @@ module _ (call : IoCall) (P : Io → Type 0) (caller : Caller) (io : Io) (terms 
   nothing-left true next left = walk.same
   nothing-left false next left = left
 
-  read-target : (kind : ReadKind) (now : Kept) (target : Target) → ((terminal : ℕ) → target ≡ Term terminal → HasPathOn caller io terminal) → Left (reads_target kind caller io now target)
-  read-target kind now (File drive sector) on = tt
-  read-target kind now (Folder drive sector) on = tt
-  read-target kind now (Term terminal) on = on terminal refl
-  read-target Bytes now (Pipe pipe) on = walk.pipes _
-  read-target WholeLine now (Pipe pipe) on = walk.pipes _
+  read-target : direction_of_call call ≡ Some Reading → (kind : ReadKind) (now : Kept) (target : Target) → ((terminal : ℕ) → target ≡ Term terminal → HasPathOn caller io terminal) → Left (reads_target kind caller io now target)
+  read-target direction kind now (File drive sector) on = tt
+  read-target direction kind now (Folder drive sector) on = tt
+  read-target direction kind now (Term terminal) on = (direction, on terminal refl)
+  read-target direction Bytes now (Pipe pipe) on = walk.pipes _
+  read-target direction WholeLine now (Pipe pipe) on = walk.pipes _
 
-  read-left : (kind : ReadKind) (code : ℕ) (is_missing : Bool) → Left (refuses is_missing E_BPADDR (on_path caller io caller.regs.a can_read (λ opened. unless_nothing caller io (reads_target kind caller io (call_now caller io code opened caller.regs.y) opened.desc.target))))
-  read-left kind code true = tt
-  read-left kind code false =
+  read-left : direction_of_call call ≡ Some Reading → (kind : ReadKind) (code : ℕ) (is_missing : Bool) → Left (refuses is_missing E_BPADDR (on_path caller io caller.regs.a can_read (λ opened. unless_nothing caller io (reads_target kind caller io (call_now caller io code opened caller.regs.y) opened.desc.target))))
+  read-left direction kind code true = tt
+  read-left direction kind code false =
       path-left caller.regs.a can_read (λ opened. unless_nothing caller io (reads_target kind caller io (call_now caller io code opened caller.regs.y) opened.desc.target))
-      (λ opened is. nothing-left (caller.regs.y == 0) (reads_target kind caller io (call_now caller io code opened caller.regs.y) opened.desc.target) (read-target kind (call_now caller io code opened caller.regs.y) opened.desc.target (λ terminal on. (caller.regs.a, opened, is, on))))
+      (λ opened is. nothing-left (caller.regs.y == 0) (reads_target kind caller io (call_now caller io code opened caller.regs.y) opened.desc.target) (read-target direction kind (call_now caller io code opened caller.regs.y) opened.desc.target (λ terminal on. (caller.regs.a, opened, is, on))))
 
   module _ (direction : direction_of_call call ≡ Some Writing) where
     write-target : (sending : Sending) (now : Kept) (target : Target) → ((terminal : ℕ) → target ≡ Term terminal → HasPathOn caller io terminal) → Left (writes_target sending caller io now target)
@@ -228,9 +228,9 @@ step-gives Call.Open P caller io drives terms walk =
 step-gives Call.Close P caller io drives terms walk =
     close-left Call.Close P caller io terms walk (slot_of io.paths caller.process.0 caller.regs.a)
 step-gives Call.Read P caller io drives terms walk =
-    read-left Call.Read P caller io terms walk Bytes I_READ (is_none (user_bytes caller.cells caller.regs.x caller.regs.y))
+    read-left Call.Read P caller io terms walk refl Bytes I_READ (is_none (user_bytes caller.cells caller.regs.x caller.regs.y))
 step-gives Call.ReadLn P caller io drives terms walk =
-    read-left Call.ReadLn P caller io terms walk WholeLine I_READLN (is_none (user_bytes caller.cells caller.regs.x caller.regs.y))
+    read-left Call.ReadLn P caller io terms walk refl WholeLine I_READLN (is_none (user_bytes caller.cells caller.regs.x caller.regs.y))
 step-gives Call.Write P caller io drives terms walk =
     send-left Call.Write P caller io terms walk refl (sent_bytes caller) I_WRITE (user_bytes caller.cells caller.regs.x caller.regs.y)
 step-gives Call.WritLn P caller io drives terms walk =

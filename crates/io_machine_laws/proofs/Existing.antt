@@ -229,7 +229,7 @@ path-there terms caller io terminal on (number, opened, is, target) =
 call-there : (call : IoCall) (caller : Caller) (io : Io) (terms : ℕ) (step : IoStep) → AreOnTerminals terms io.paths → StepGives call (λ (new : Io). Unit {0}) caller io step → IsThere terms step
 call-there call caller io terms (refused number) on gives = tt
 call-there call caller io terms (comes effect) on gives = tt
-call-there call caller io terms (reads read) on gives = path-there terms caller io read.terminal on gives
+call-there call caller io terms (reads read) on gives = path-there terms caller io read.terminal on gives.1
 call-there call caller io terms (writes write) on gives = path-there terms caller io write.terminal on gives.1
 
 -- what an attempt comes to, without a failure of a terminal
