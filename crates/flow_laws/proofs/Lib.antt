@@ -1,3 +1,5 @@
+pub mod KeyEvents
+pub mod KeyRuns
 pub mod PipeEvents
 pub mod PipeRuns
 pub mod PipeSteps

@@ -45,7 +45,8 @@ sent_by call caller io = None
 pub record AttemptsOn (s : State) (p n : ℕ) (call : IoCall) (way : Direction) : Type 0 where
   pub attempted : (code : ℕ) × (act_of s.inner p ≡ attempts code) × (io_call_of code ≡ Some call)
   pub way_is : direction_of_call call ≡ Some way
-  pub path : (number : ℕ) × (opened : OpenPath) × (open_path s.io p number ≡ Some opened) × (opened.desc.target ≡ Pipe n)
+  pub path : (number : ℕ) × (opened : OpenPath) × (open_path s.io p number ≡ Some opened)
+      × (opened.desc.target ≡ Pipe n)
 
 -- where a call of a process waits then, it has moved so many bytes more
 abbrev pub CountsOn : State → ℕ → ℕ → State → Type 0

@@ -1,0 +1,30 @@
+//! Keys of terminals over a run: each is used by one read, in order, or is dropped by a rule.
+
+ghost use Rattle.std.specs.Prelude.{ℕ, ◌<◌, List};
+ghost use Rattle.io_machine.specs.declared.ends.EventEnd.{EventEnd};
+ghost use Rattle.io_machine.specs.declared.ends.SliceEnd.{SliceEnd};
+ghost use Rattle.io_machine.specs.Event.{Event};
+ghost use Rattle.io_machine.specs.Run.{Run, Slice, Tick};
+ghost use Rattle.io_machine.specs.Start.{Starts};
+ghost use Rattle.io_machine.specs.State.{State};
+ghost use Rattle.os9_outer.specs.TerminalState.{TerminalState};
+ghost use Rattle.os9_outer.specs.declared.terminal.Key.{Key};
+ghost use Rattle.flow_laws.specs.Keys.{EventKeys, HasAhead, KeyMove, KeysArrive, KeysPass};
+
+/// The keys of a terminal arrive in ticks, in order, and go into the type-ahead, but for those that
+/// send a signal or find it full. Only a read takes keys out of it, from its front, while no other
+/// process's read is unfinished, and they make its line, which is dropped where the read is broken
+/// off. So over a slice and a run each key that came into the type-ahead is used by one read, in
+/// order, or still stands there.
+pub fn each_key_is_used_once()
+    ensures start { (file : List ℕ) (blocks drives : ℕ) (terms : List TerminalState) (s : State)
+        (n : ℕ) → Starts file blocks drives terms s → n < 4 → HasAhead n s }
+    ensures event { (s t : State) (end : EventEnd) (n : ℕ) → Event s end t → HasAhead n s
+        → (move : KeyMove) × EventKeys n s move t × HasAhead n t }
+    ensures tick { (s t : State) (n : ℕ) → Tick s t → HasAhead n s
+        → (keys : List Key) × KeysArrive n s keys t × HasAhead n t }
+    ensures slice { (size : ℕ) (s t : State) (states : List State) (end : SliceEnd) (n : ℕ)
+        → Slice size s states end t → HasAhead n s → KeysPass n s t × HasAhead n t }
+    ensures run { (slices written : List ℕ) (s t : State) (states : List State) (n : ℕ)
+        → Run slices s states written t → HasAhead n s → KeysPass n s t × HasAhead n t }
+{}
