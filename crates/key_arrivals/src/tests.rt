@@ -18,17 +18,6 @@ const FIRST: Pid = Pid(2);
 
 const SECOND: Pid = Pid(3);
 
-/// A machine with TERM alone, over a driver whose calls of these numbers fail.
-fn machine(alloc: Global, plan: &[u64]) -> Result<Devices, Fail> {
-    let mut devices = Devices {
-        drives: Vec::new(alloc),
-        terms: Vec::new(alloc),
-    };
-    let tty = ScriptTty::new(alloc, Vec::from_slice(alloc, plan)?);
-    devices.terms.push(Box::new(alloc, tty)?)?;
-    Ok(devices)
-}
-
 /// Two processes, FIRST and SECOND.
 fn processes(alloc: Global) -> Result<ProcState, Fail> {
     let mut s = ProcState::new(alloc, 8)?;
@@ -82,13 +71,24 @@ fn lives(s: &ProcState, p: Pid) -> bool
 #[test]
 fn keys_signal_the_last_user(rt: HostRuntime) -> Result<(), Fail> {
     let alloc = rt.alloc();
-    let mut devices = machine(alloc, &[])?;
+    let mut devices = Devices {
+        drives: Vec::new(alloc),
+        terms: Vec::new(alloc),
+    };
+    let tty = ScriptTty::new(alloc, Vec::new(alloc));
+    devices.terms.push(Box::new(alloc, tty)?)?;
     let mut s = processes(alloc)?;
     let mut io = IoState::new(alloc)?;
     assert_eq!(rt; devices.terms.len(), 1);
-    assert_eq!(rt; write(&mut io, FIRST, b"1", &mut devices), Progress::Done(1));
+    assert_eq!(rt;
+        write(&mut io, FIRST, b"1", &mut devices),
+        Progress::Done(1)
+    );
     assert_eq!(rt; devices.terms.len(), 1);
-    assert_eq!(rt; write(&mut io, SECOND, b"2", &mut devices), Progress::Done(1));
+    assert_eq!(rt;
+        write(&mut io, SECOND, b"2", &mut devices),
+        Progress::Done(1)
+    );
     assert_eq!(rt; devices.terms.len(), 1);
     load(alloc, &mut devices, b"a\x05b\x03c")?;
     assert_eq!(rt; devices.terms.len(), 1);
@@ -102,11 +102,19 @@ fn keys_signal_the_last_user(rt: HostRuntime) -> Result<(), Fail> {
 #[test]
 fn last_user_that_ended_is_sent_nothing(rt: HostRuntime) -> Result<(), Fail> {
     let alloc = rt.alloc();
-    let mut devices = machine(alloc, &[])?;
+    let mut devices = Devices {
+        drives: Vec::new(alloc),
+        terms: Vec::new(alloc),
+    };
+    let tty = ScriptTty::new(alloc, Vec::new(alloc));
+    devices.terms.push(Box::new(alloc, tty)?)?;
     let mut s = processes(alloc)?;
     let mut io = IoState::new(alloc)?;
     assert_eq!(rt; devices.terms.len(), 1);
-    assert_eq!(rt; write(&mut io, SECOND, b"2", &mut devices), Progress::Done(1));
+    assert_eq!(rt;
+        write(&mut io, SECOND, b"2", &mut devices),
+        Progress::Done(1)
+    );
     io.end(SECOND);
     assert_eq!(rt; io.last_user(0), None);
     assert_eq!(rt; devices.terms.len(), 1);
@@ -120,11 +128,19 @@ fn last_user_that_ended_is_sent_nothing(rt: HostRuntime) -> Result<(), Fail> {
 #[test]
 fn fault_in_the_middle_of_a_poll(rt: HostRuntime) -> Result<(), Fail> {
     let alloc = rt.alloc();
-    let mut devices = machine(alloc, &[3])?;
+    let mut devices = Devices {
+        drives: Vec::new(alloc),
+        terms: Vec::new(alloc),
+    };
+    let tty = ScriptTty::new(alloc, vec![in alloc; 3]?);
+    devices.terms.push(Box::new(alloc, tty)?)?;
     let mut s = processes(alloc)?;
     let mut io = IoState::new(alloc)?;
     assert_eq!(rt; devices.terms.len(), 1);
-    assert_eq!(rt; write(&mut io, SECOND, b"2", &mut devices), Progress::Done(1));
+    assert_eq!(rt;
+        write(&mut io, SECOND, b"2", &mut devices),
+        Progress::Done(1)
+    );
     assert_eq!(rt; devices.terms.len(), 1);
     load(alloc, &mut devices, b"a\x03")?;
     assert_eq!(rt; devices.terms.len(), 1);
