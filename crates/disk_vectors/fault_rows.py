@@ -2,7 +2,7 @@
 
 fault_rows.py rows > ROWS; fault_rows.py expected > EXPECTED. What a row prints is worked out here from
 the order of each operation's sector writes (docs/disk.md), by a model of trees that knows no sectors.
-In the table of faults each of ten operations is tried on volumes with 1, 4 and 64 sectors per cluster.
+In the table of faults each of thirteen operations is tried on volumes with 1, 4 and 64 sectors per cluster.
 """
 import copy
 import sys
@@ -160,15 +160,17 @@ def minute(call):
     return bytes([90, 2, 3, 4, call])
 
 
-def volume_for_faults(k, free):
-    """Files A, whose last sector has 168 bytes left, and B, which has a cluster of its own."""
+def volume_for_faults(k, free, others):
+    """Files A, whose last sector has 168 bytes left, and B, which has a cluster of its own.
+
+    So many others, and then free entries."""
     volume = Volume(k)
     sectors = 3 if k < 64 else 63
     size = 256 * sectors - 168
     behind = 3 if k == 1 else 0
     volume.add("A", 0x03, 0, pattern(600, 5).ljust(size, b"\0"), behind)
     volume.add("B", 0x0B, 7, pattern(300, 9), 2 if k == 1 else 1)
-    for i in range(4 - free):
+    for i in range(others):
         volume.add(f"C{i}", 0x03, 0, b"", 0)
     volume.lay_entries(free)
     return volume
@@ -177,9 +179,9 @@ def volume_for_faults(k, free):
 class Fault:
     """An operation: its call, what it leaves as the old tree stands, and the tree when it is done."""
 
-    def __init__(self, name, k, call, free=4):
+    def __init__(self, name, k, call, free=4, others=0):
         self.name, self.call = name, call
-        self.volume = volume_for_faults(k, free)
+        self.volume = volume_for_faults(k, free, others)
         self.old = self.volume.root
         self.new = copy.deepcopy(self.old)
         self.blocks = []
@@ -235,22 +237,37 @@ def fault_table(k):
     fault.stops(fault.old, 1)
     yield fault.ends(1)
 
-    fault = Fault("a file in a new sector of the directory", k, "create /N 0b 7 r", 0)
+    fault = Fault("a file behind the last entry", k, "create /N 0b 7 r", 0)
+    fault.new.entries.append(("N", File(0x0B, 7, b"", minute(2), minute(2)[:3])))
+    fault.new.date = minute(2)
+    fault.stops(fault.old, 0)
+    fault.stops(fault.old, 1)
+    yield fault.ends(1)
+
+    fault = Fault("a file in a new sector of the directory", k, "create /N 0b 7 r", 0, 4)
     fault.new.entries.append(("N", File(0x0B, 7, b"", minute(2), minute(2)[:3])))
     fault.new.date = minute(2)
     for lost in range(3):
         fault.stops(fault.old, lost)
     yield fault.ends(2)
 
-    fault = Fault("a directory", k, "mkdir /M bf 7")
     made = File(0xBF, 7, b"", minute(2), minute(2)[:3])
     made.entries = []
+    its = 2 if k == 1 else 1
+
+    fault = Fault("a directory", k, "mkdir /M bf 7")
     fault.new.entries[2] = ("M", made)
-    fault.stops(fault.old, 0)
-    fault.stops(fault.old, 1, head="outcome maybe" if k == 1 else "outcome")
-    if k == 1:
-        fault.stops(fault.old, 2)
-    yield fault.ends(2 if k == 1 else 1)
+    yield folder(fault, its, 0)
+
+    fault = Fault("a directory behind the last entry", k, "mkdir /M bf 7", 0)
+    fault.new.entries.append(("M", made))
+    fault.new.date = minute(2)
+    yield folder(fault, its, 0)
+
+    fault = Fault("a directory in a new sector of its parent", k, "mkdir /M bf 7", 0, 4)
+    fault.new.entries.append(("M", made))
+    fault.new.date = minute(2)
+    yield folder(fault, its, 1)
 
     given = 3 if k == 1 else 2
     fault = Fault("a deletion", k, "delete /B 0 r")
@@ -264,6 +281,16 @@ def fault_table(k):
     fault.new.at("A").date = minute(2)
     fault.stops(fault.old, 0)
     yield fault.ends(0)
+
+
+def folder(fault, its, more):
+    """A directory takes its clusters by one write of the map, and then its parent may take one."""
+    fault.stops(fault.old, 0)
+    if its == 2:
+        fault.stops(fault.old, 1, head="outcome maybe")
+    for lost in range(its, its + more + 1):
+        fault.stops(fault.old, lost)
+    return fault.ends(its + more)
 
 
 def grown(fault, gained):
@@ -361,10 +388,61 @@ def clusters():
     yield ["clusters", three, "-", ["free"], ["outcome\n1 not rbf\ncheck rule 1 at LSN 0\n"]]
 
 
+def without_room():
+    """A file needs a cluster, a directory of clusters of one sector two; and the parent's end may need one."""
+    for k in (1, 4):
+        for call, attr, its in (("create /N 0b 7 r", 0x0B, 1), ("mkdir /N bf 7", 0xBF, 2 if k == 1 else 1)):
+            for more in (0, 1):
+                for free in (its + more - 1, its + more):
+                    volume = Volume(k, 16)
+                    for i in range(6 if more else 1):
+                        volume.add(f"C{i}", 0x03, 0, b"", 0)
+                    volume.lay_entries(0 if more else 1)
+                    lost = set(range(volume.next, 16 - free))
+                    volume.mark(lost)
+                    root, answer = copy.deepcopy(volume.root), "error 248"
+                    left = free
+                    if free == its + more:
+                        made = File(attr, 7, b"", minute(2), minute(2)[:3])
+                        made.entries = [] if attr == 0xBF else None
+                        if more:
+                            root.entries.append(("N", made))
+                            root.date = minute(2)
+                        else:
+                            root.entries[1] = ("N", made)
+                        answer, left = "ok", 0
+                    blocks = [volume.block(["ok", answer], root, left, len(lost))]
+                    yield ["room", volume, "-", [call], blocks]
+
+
+def most_segments():
+    """A parent of 48 segments of one sector, which hold an entry in each of their places."""
+    volume = Volume(1, 448)
+    segments = [(4 + 2 * i, 1) for i in range(48)]
+    others = [lsn for lsn in range(5, 448) if lsn > 98 or lsn % 2 == 1]
+    entries = [("..", 2), (".", 2)]
+    for i in range(382):
+        name, file, lsn = f"F{i}", File(0x03, 0, b""), others[i]
+        volume.sectors[lsn] = volume.descriptor(file, 0, [])
+        volume.root.entries.append((name, file))
+        entries.append((name, lsn))
+    data = b"".join(name_field(name) + lsn.to_bytes(3, "big") for name, lsn in entries)
+    for i, (lsn, _) in enumerate(segments):
+        volume.sectors[lsn] = data[256 * i : 256 * (i + 1)]
+    volume.sectors[2] = volume.descriptor(volume.root, len(data), segments)
+    volume.used = {0, 1, 2} | {lsn for lsn, _ in segments} | {lsn for _, lsn in entries}
+    size = volume.map_bytes().to_bytes(2, "big")
+    volume.sectors[0] = volume.total.to_bytes(3, "big") + b"\0" + size + b"\0\1\0\0\2"
+    volume.mark()
+    free = volume.free()
+    blocks = [volume.block(["ok", "error 217", "error 217", f"ok {free}"], volume.root, free, 0)]
+    return [["segments", volume, "-", ["create /N 0b 0 r", "mkdir /N bf 0", "free"], blocks]]
+
+
 def all_rows():
     """The title, the fields and the outcomes of each row."""
     number = 1
-    for make in (file_growth, check_and_full, write_fault, clusters):
+    for make in (file_growth, check_and_full, write_fault, clusters, without_room, most_segments):
         for title, volume, swept, calls, blocks in make():
             yield title, [str(number), volume.field(), swept, "mount", *calls], blocks
             number += 1
