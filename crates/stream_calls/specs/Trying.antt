@@ -39,7 +39,9 @@ Tries step m io p Wait processes new before after = Takes step m io p Wait proce
 Tries step m io p Ended processes new before after = Takes step m io p Ended processes new before after
 Tries step m io p NoMemory processes new before after = WantsMemory step before after
 
--- a call that ends in this way and stores these bytes at an address comes to this; where it has no end memory is wanting
+-- a call that ends in this way and stores these bytes at an address comes to this; where it has no end memory is
+-- wanting
 abbrev pub EndsBy : Option IoEnd → ℕ → List ℕ → Inner → ℕ → CallEnd → ProcState → Type 0
 EndsBy None at bytes m p end processes = end ≡ NoMemory
-EndsBy (Some it) at bytes m p end processes = (io : Io) → Comes m p (result_by it m p (stores at bytes it io)) end processes
+EndsBy (Some it) at bytes m p end processes =
+    (io : Io) → Comes m p (result_by it m p (stores at bytes it io)) end processes

@@ -1,4 +1,4 @@
-//! I$Read, I$ReadLn, I$Write, I$WritLn and F$PErr on terminals and pipes.
+//! I$Read and I$ReadLn on terminals and pipes.
 #![tactic(auto)]
 
 mod ends;
