@@ -13,6 +13,7 @@ use Rattle.rbf_model.specs.Laws.{IsFileSector, IsMapSector, with_directory_entry
 use Rattle.rbf_model.specs.Segments.{has}
 use Rattle.rbf_model.specs.Space.{is_marked, is_whole, own_sectors, has_cluster}
 use Rattle.rbf_model.specs.Volume.{DiskVolume, Vol, in_file}
+use Rattle.rbf_model.specs.Walk.{arrives}
 use Rattle.rbf_model.specs.Writes.{put, put_at, put_file, put_sector}
 use Rattle.rbf_model.proofs.Bytes.{put_here, put_beside, marked_beside, file_at_beside}
 use Rattle.rbf_model.proofs.Change.{put_file_here, put_file_beside, put_file_cases, has_cluster_is}
@@ -22,7 +23,7 @@ use Rattle.rbf_model.proofs.Lifted.{sector_put}
 use Rattle.rbf_model.proofs.Owners.{own_below, own_apart, marks_stay, file_cluster_below}
 use Rattle.rbf_model.proofs.Placed.{news_full}
 use Rattle.rbf_change.specs.Calls.{shape}
-use Rattle.rbf_change.specs.Names.{freed_entry}
+use Rattle.rbf_change.specs.Names.{freed_entry, deletion_end}
 use Rattle.rbf_change.specs.NewFiles.{Deletes}
 use Rattle.rbf_change.specs.Tidy.{IsMapEnd, KeepsMapEnd, MayKeepMapEnd}
 use Rattle.rbf_change.proofs.LawfulWrites.{shape-image}
@@ -30,7 +31,7 @@ use Rattle.rbf_access.specs.Mounted.{Represents}
 use Rattle.rbf_access.proofs.ReadFile.{room_for}
 use Rattle.rbf_drop.specs.Dropped.{IsGone, HasGone, OnlyMap, freed, IsDropped, DropEnds}
 use Rattle.rbf_update.specs.Becomes.{RepresentsOne}
-use Rattle.rbf_update.specs.Deletions.{FreesOn}
+use Rattle.rbf_update.specs.Deletions.{OnNumbered, FreesOn}
 use Rattle.rbf_update.specs.declared.deletion.Deletable.{Deletable}
 use Rattle.rbf_update.specs.Entries.{sector_of_entry}
 use Rattle.rbf_update.proofs.Puts.{free_stored, without}
@@ -269,9 +270,9 @@ module _ (media mid : Option (List ℕ)) (d : ℕ) (name : List ℕ) (found : De
         end = λ c behind. end c (end_half c behind) ∙ ap (λ t. t && not (has_cluster (shape w) n file c)) (end_mark c behind);
       }
 
-  pub stopped : (new : Option (List ℕ)) → DropEnds w n file mid new → LeavesLost v d n name media new
+  pub stopped : (new : Option (List ℕ)) (user : ℕ) (execute : Bool) → deletion_end v.files dir name user execute ≡ arrives n → DropEnds w n file mid new → LeavesLost v d n name user execute media new
   unfolding deletes
-  stopped new drop =
+  stopped new user execute allowed drop =
       let same : drop.image ≡ half = same_Some drop.image half (sym drop.was ∙ mid_is) in
       let end : MayKeepMapEnd half drop.now (has_cluster (shape w) n file) = subst (λ i. MayKeepMapEnd i drop.now (has_cluster (shape w) n file)) same drop.end in
       record {
@@ -283,6 +284,7 @@ module _ (media mid : Option (List ℕ)) (d : ℕ) (name : List ℕ) (found : De
         there = file_there;
         after = freed w n file;
         deletes = deletes;
+        allowed = allowed;
         left = drop.left;
         vol = drop.vol;
         lose = drop.lose;
@@ -304,8 +306,11 @@ deleted_on media mid new d name found frees u on drops =
     subst (λ x. IsDeletedBy x d name media new) (same_content media (v media mid d name found frees) u (on_before media mid d name found frees) on)
     (record { number = found.descriptor; is = deleted media mid d name found frees new (drops (w media mid d name found frees) (file media mid d name found frees) (gone media mid d name found frees)) })
 
-pub stops_on : (media mid new : Option (List ℕ)) (d : ℕ) (name : List ℕ) (found : Deletable) (frees : FreesOn media mid d name found) (u : DiskVolume) → Represents media u
-    → ((x : DiskVolume) (f : DiskFile) → IsGone mid x found.descriptor f → DropEnds x found.descriptor f mid new) → DeletionStops u d name media new
-stops_on media mid new d name found frees u on drops =
-    subst (λ x. DeletionStops x d name media new) (same_content media (v media mid d name found frees) u (on_before media mid d name found frees) on)
-    (lost_now (stopped media mid d name found frees new (drops (w media mid d name found frees) (file media mid d name found frees) (gone media mid d name found frees))))
+pub stops_on : (media mid new : Option (List ℕ)) (d : ℕ) (name : List ℕ) (user : ℕ) (execute : Bool) (found : Deletable) (frees : FreesOn media mid d name found)
+    → OnNumbered media d (λ x f. deletion_end x.files f name user execute ≡ arrives found.descriptor) → (u : DiskVolume) → Represents media u
+    → ((x : DiskVolume) (f : DiskFile) → IsGone mid x found.descriptor f → DropEnds x found.descriptor f mid new) → DeletionStops u d name user execute media new
+stops_on media mid new d name user execute found frees allowed u on drops =
+    let its = frees.at.free.place in
+    subst (λ x. DeletionStops x d name user execute media new) (same_content media (v media mid d name found frees) u (on_before media mid d name found frees) on)
+    (lost_now (stopped media mid d name found frees new user execute (allowed its.content its.dir its.on its.is)
+    (drops (w media mid d name found frees) (file media mid d name found frees) (gone media mid d name found frees))))

@@ -45,8 +45,10 @@ pub record IsDeletedBy (v : DiskVolume) (d : ℕ) (name : List ℕ) (old new : O
   pub number : ℕ
   pub is : IsDeleted v d number name old new
 
--- a fault came when the entry was free already: some clusters of the file may be lost, and one of them is still marked
-pub record LeavesLost (v : DiskVolume) (d n : ℕ) (name : List ℕ) (old new : Option (List ℕ)) : Type 0 where
+-- a fault came when the entry was free already, in a deletion that the user is allowed: some clusters of the file may
+-- be lost, and one of them is still marked
+pub record LeavesLost (v : DiskVolume) (d n : ℕ) (name : List ℕ) (user : ℕ) (execute : Bool) (old new : Option (List ℕ))
+    : Type 0 where
   pub image : List ℕ
   pub now : List ℕ
   pub was : old ≡ Some image
@@ -55,6 +57,7 @@ pub record LeavesLost (v : DiskVolume) (d n : ℕ) (name : List ℕ) (old new : 
   pub there : v.files n ≡ Some file
   pub after : DiskVolume
   pub deletes : Deletes v after d n name
+  pub allowed : deletion_end v.files deletes.dir name user execute ≡ arrives n
   pub left : DiskVolume
   pub vol : Vol now left
   pub lose : MayLose after left (λ c. is_whole (shape v) c && has_cluster (shape v) n file c)
@@ -62,10 +65,11 @@ pub record LeavesLost (v : DiskVolume) (d n : ℕ) (name : List ℕ) (old new : 
   pub writes : ClearsEntry image now deletes.dir deletes.place
   pub end : MayKeepMapEnd image now (has_cluster (shape v) n file)
 
--- a deletion that a fault ended: nothing has changed, or the file has gone
-pub data DeletionStops (v : DiskVolume) (d : ℕ) (name : List ℕ) (old new : Option (List ℕ)) : Type 0 where
-  as_before : new ≡ old → DeletionStops v d name old new
-  lost_now : {n : ℕ} → LeavesLost v d n name old new → DeletionStops v d name old new
+-- a deletion that a fault ended: nothing has changed, or the file has gone, and the user might delete it
+pub data DeletionStops (v : DiskVolume) (d : ℕ) (name : List ℕ) (user : ℕ) (execute : Bool) (old new : Option (List ℕ))
+    : Type 0 where
+  as_before : new ≡ old → DeletionStops v d name user execute old new
+  lost_now : {n : ℕ} → LeavesLost v d n name user execute old new → DeletionStops v d name user execute old new
 
 -- what is answered where a deletion ends so, if no fault of the drive ended it before
 abbrev pub AnswersDeletion : WalkEnd → Result (Unit {0}) DirError → Type 0

@@ -15,15 +15,16 @@ use rbf_update::delete_name;
 use rbf_walk::DirError;
 
 /// Deletes a file by its name in a directory, for a user (OS-9 Technical Reference, I$Delete): its
-/// entry is made free, and then its clusters are. Neither the directory's descriptor nor the file's
-/// is read twice.
+/// entry is made free, and then its clusters are. The calls of the drive are at most those of the
+/// search up to the name, one for the descriptor that is found, a read and a write of the entry's
+/// sector, and one for each sector of the map.
 ///
 /// # Errors
 ///
 /// `NotAllowed` if the user may not search or may not write the directory, and for a directory or
 /// a file that the user may not write; `NotFound` if the name is not there: then nothing has
-/// changed. `Device` if an access of the drive fails: then nothing has changed, or the file has
-/// gone and some of its clusters may be lost.
+/// changed. `Device` if an access of the drive fails: then nothing has changed, or it is a file that
+/// the user may delete, which has gone, and some of its clusters may be lost.
 pub fn delete(
     v: &mut Volume,
     d: &mut dyn BlockDriver,
@@ -39,12 +40,13 @@ pub fn delete(
     ensures ok { (on : DiskVolume) → Represents (media d.old) on
         → OnOk result (IsDeletedBy on dir name.now (media d.old) (media d.new)) }
     ensures fault { (on : DiskVolume) → Represents (media d.old) on
-        → OnErr result (DeletionStops on dir name.now (media d.old) (media d.new)) }
+        → OnErr result (DeletionStops on dir name.now user execute (media d.old) (media d.new)) }
     ensures refused { OnErr result (IsNone (directory_fault result) → media d.new ≡ media d.old) }
     ensures mounted { IsMounted v.new (media d.new) }
     ensures counts { OnNumbered (media d.old) dir (λ on f. Counts ⟦<dyn BlockDriver as BlockDriver>⟧
         (directory_fault result) (deletion_total on f name.now user execute) d.old d.new) }
 {
+    // Neither descriptor is read twice: `gone` has what was read of the file.
     let gone = delete_name(v, d, dir, name, user, execute)?;
     let own = OwnSectors {
         fd: gone.descriptor,

@@ -37,7 +37,7 @@ returns-in_err-drop_own-clause-answer g c v file on is =
 
 pub returns-in_err-drop_own-clause-fault : goal.returns-in_err-drop_own-clause-fault
 returns-in_err-drop_own-clause-fault g c u on =
-    on_err _ _ (stops_on _ _ _ c.args.dir c.args.name.now c.in_ok-gone.gone c.in_ok-gone.ensures.written u on c.in_err-drop_own.ensures.fault)
+    on_err _ _ (stops_on _ _ _ c.args.dir c.args.name.now c.args.user c.args.execute c.in_ok-gone.gone c.in_ok-gone.ensures.written c.in_ok-gone.ensures.answer u on c.in_err-drop_own.ensures.fault)
 
 pub returns-in_err-drop_own-clause-refused : goal.returns-in_err-drop_own-clause-refused
 returns-in_err-drop_own-clause-refused g c =
