@@ -84,9 +84,10 @@ pub record StandsWhole (v left : DiskVolume) (now : List ℕ) (n : ℕ) (file : 
   pub shown : file_at (sector now) n ≡ file
   pub marked : (c : ℕ) → (has_cluster (shape v) n file c || has gained c) ≡ true → left.lost c ≡ true
 
--- a fault came when a new file and its directory had begun to take clusters: the tree is as it was, and the clusters
--- may be lost
+-- a fault came when a new file and its directory, which are not refused, had begun to take clusters: the tree is as it
+-- was, and the clusters may be lost
 pub record EnteringTook (v : DiskVolume) (dir : DiskFile) (e : Entering) (old new : Option (List ℕ)) : Type 0 where
+  pub allowed : refusal_of v dir e ≡ None
   pub image : List ℕ
   pub now : List ℕ
   pub was : old ≡ Some image

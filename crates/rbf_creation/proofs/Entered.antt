@@ -181,11 +181,12 @@ module _ (m0 : Option (List ℕ)) (v : DiskVolume) (on : Represents m0 v) (d : �
       }
 
       -- a fault came when clusters of these may have been taken
-      pub took : (image image1 : List ℕ) (left : DiskVolume) (m1 : Option (List ℕ)) → m0 ≡ Some image → m1 ≡ Some image1 → Vol image1 left → MayLose v left (λ c. has_cluster (shape v) n file c || has gained c)
+      pub took : refusal_of v dir e ≡ None → (image image1 : List ℕ) (left : DiskVolume) (m1 : Option (List ℕ)) → m0 ≡ Some image → m1 ≡ Some image1 → Vol image1 left → MayLose v left (λ c. has_cluster (shape v) n file c || has gained c)
           → ((s : ℕ) → ¬ IsMapSector (image_geometry image) s → s ≢ n → s ≢ at → sector image1 s ≡ sector image s)
           → IsAfterMarks image image1 n left (λ c. has_cluster (shape v) n file c) → (sector image1 n ≡ sector image n) ⊎ (file_at (sector image1) n ≡ file)
           → (sector image1 at ≡ sector image at) ⊎ StandsWhole v left image1 n file gained → KeepsMapEnd image image1 (λ _. false) → EnteringTook v dir e m0 m1
-      took image image1 left m1 was now_is vol lose others order described entered_last end = record {
+      took allowed image image1 left m1 was now_is vol lose others order described entered_last end = record {
+        allowed = allowed;
         image = image;
         now = image1;
         was = was;
@@ -210,10 +211,10 @@ module _ (m0 : Option (List ℕ)) (v : DiskVolume) (on : Represents m0 v) (d : �
       (subst (λ i. ¬ IsMapSector (image_geometry i) ends.number) (same_Some on.image ends.image (sym on.is ∙ ends.was))
       (no_map ends.number ends.file ends.chosen ends.number (first_free m0 v on ends.number plan refl ends.file ends.chosen)))
 
-  pub unmade : (m1 : Option (List ℕ)) → MakingEnds v plan m0 m1 → EnteringTook v dir e m0 m1
-  unmade m1 ends =
+  pub unmade : refusal_of v dir e ≡ None → (m1 : Option (List ℕ)) → MakingEnds v plan m0 m1 → EnteringTook v dir e m0 m1
+  unmade allowed m1 ends =
       let c = some_choice ends.number ends.file ends.chosen in
-      took ends.number ends.file ends.chosen c.0 c.1 ends.image ends.now ends.left m1 ends.was ends.is ends.vol
+      took ends.number ends.file ends.chosen c.0 c.1 allowed ends.image ends.now ends.left m1 ends.was ends.is ends.vol
       (record {
         same = ends.lose.same;
         still = ends.lose.still;
@@ -290,14 +291,14 @@ module _ (m0 : Option (List ℕ)) (v : DiskVolume) (on : Represents m0 v) (d : �
     appending = record { directory = d; place = place; entry = new_entry name n; now = now }
 
     -- a fault came before the entry was in the directory
-    pub unentered : (m1 : Option (List ℕ)) → EntryStops made.left dir appending mid m1 → EnteringTook v dir e m0 m1
-    unentered m1 stops =
+    pub unentered : refusal_of v dir e ≡ None → (m1 : Option (List ℕ)) → EntryStops made.left dir appending mid m1 → EnteringTook v dir e m0 m1
+    unentered allowed m1 stops =
         let here : EntryStops u dir appending mid m1 = subst (λ x. EntryStops x dir appending mid m1) left_is stops in
         let same : here.image ≡ made.now = same_Some here.image made.now (sym here.was ∙ made.is) in
         let choice_here : IsChoice k (free_then n file) dir.segments (size_then n file new) here.taken = subst (λ f. IsChoice k f dir.segments (size_then n file new) here.taken) free_is here.choice in
         let entry_sector = sector_of_place (with_clusters k dir.segments here.taken) place in
         let shown_then : file_at (sector here.now) n ≡ file = subst (λ m. file_at (sector here.now) m ≡ file_at (sector here.image) m) number here.named ∙ ap (λ i. file_at (sector i) n) same ∙ made.made.shown in
-        took n file new here.taken choice_here made.image here.now here.left m1 made.was here.is here.vol
+        took n file new here.taken choice_here allowed made.image here.now here.left m1 made.was here.is here.vol
         (record {
           same = here.lose.same;
           still = λ c h. here.lose.still c (or_left (v.lost c) (its c) h);

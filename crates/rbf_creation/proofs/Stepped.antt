@@ -26,7 +26,7 @@ use Rattle.rbf_walk.proofs.Stepping.{same_content}
 use Rattle.rbf_write.specs.declared.loaded.Loaded.{Loaded}
 use Rattle.rbf_write.specs.Files.{IsLoaded, OnVolumeFile}
 use Rattle.rbf_append.specs.NewEntry.{MayEnter, AnswersEntry}
-use Rattle.rbf_append.specs.Entering.{AnswersEntering, unchanged, took as stops_after, entry_calls, entering_calls, widened}
+use Rattle.rbf_append.specs.Entering.{AnswersEntering, unchanged, took as stops_after, entry_calls, entering_calls, refusal_of, widened}
 use Rattle.rbf_append.specs.Rooms.{AnswersRoom, HasRoom}
 use Rattle.rbf_make.specs.declared.place.NewPlace.{NewPlace}
 use Rattle.rbf_make.specs.Places.{AnswersPlace, IsNewPlace, IsFoundFor}
@@ -107,6 +107,9 @@ module _ (m0 : Option (List ℕ)) (d place : ℕ) (name : List ℕ) (attr user :
       room : HasRoom has.content has.file place 1
       room = room_of (Ok tt) answers
 
+      allowed : refusal_of has.content has.file (request d name attr user execute now) ≡ None
+      allowed = is_allowed m0 has.content has.on d name attr user execute now has.file place spot.proper spot.allowed spot.absent room
+
       makes_here : (mid : Option (List ℕ)) (r : Result ℕ FileFault) → ((v : DiskVolume) → Represents m1 v → Makes v (file_plan attr user now) m1 mid r) → Makes has.content (file_plan attr user now) m0 mid r
       makes_here mid r makes = subst (λ m. Makes has.content (file_plan attr user now) m mid r) same (makes has.content on1)
 
@@ -119,7 +122,7 @@ module _ (m0 : Option (List ℕ)) (d place : ℕ) (name : List ℕ) (attr user :
             refl,
             answered mid (Err (File (Device x))) (
               spot.proper,
-              stops_after (unmade m0 has.content has.on d name attr user execute now has.file has.is directory place spot.named spot.proper spot.absent room mid here.ends),
+              stops_after (unmade m0 has.content has.on d name attr user execute now has.file has.is directory place spot.named spot.proper spot.absent room allowed mid here.ends),
             ),
           )
           by_fault NoCluster here =
@@ -171,15 +174,14 @@ module _ (m0 : Option (List ℕ)) (d place : ℕ) (name : List ℕ) (attr user :
             not_entered (Device x) device answer = answered m2 (Err (File (Device x))) (
               spot.proper,
               stops_after
-                  (unentered m0 has.content has.on d name attr user execute now has.file has.is directory place spot.named spot.proper spot.absent room n mid made m2 (here (Err (Device x)) answer)),
+                  (unentered m0 has.content has.on d name attr user execute now has.file has.is directory place spot.named spot.proper spot.absent room n mid made allowed m2 (here (Err (Device x)) answer)),
             )
             not_entered NoCluster device answer = absurd (both_ways false refl device)
             not_entered TooManyRuns device answer = absurd (both_ways false refl device)
 
             pub is_entered : OnVolumeFile mid loaded.number (λ on file. AnswersEntry on file (record { directory = loaded.number; place = place; entry = bytes; now = now }) mid m2 (Ok tt)) → Answered m0 m2 d name attr user execute now (Ok n)
             is_entered answer = answered m2 (Ok n)
-                (entered m0 has.content has.on d name attr user execute now has.file has.is directory place spot.named spot.proper spot.absent room n mid made
-                (is_allowed m0 has.content has.on d name attr user execute now has.file place spot.proper spot.allowed spot.absent room) m2 (here (Ok tt) answer))
+                (entered m0 has.content has.on d name attr user execute now has.file has.is directory place spot.named spot.proper spot.absent room n mid made allowed m2 (here (Ok tt) answer))
 
 -- the place was found before
 module _ (m0 m1 : Option (List ℕ)) (same : m1 ≡ m0) (d : ℕ) (name : List ℕ) (user : ℕ) (execute : Bool) (found : NewPlace) (is : IsFoundFor m0 d user execute found) where

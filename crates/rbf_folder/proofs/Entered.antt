@@ -298,6 +298,7 @@ module _ (media : Option (List ℕ)) (v : DiskVolume) (on : Represents media v) 
     unmade mid ends =
         let c = some_choice ends.number ends.file ends.chosen ends.takes in
         took (record {
+          allowed = roomy;
           image = ends.image;
           now = ends.now;
           was = ends.was;
@@ -445,6 +446,7 @@ module _ (media : Option (List ℕ)) (v : DiskVolume) (on : Represents media v) 
 
         pub unnamed : EnteringStops v dir e media new
         unnamed = took (record {
+          allowed = roomy;
           image = made.image;
           now = stops.now;
           was = made.was;
