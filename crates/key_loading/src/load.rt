@@ -106,34 +106,3 @@ fn load_terminal(term: &mut dyn CharDriver, keys: Vec<Key>)
 {
     let _ = term.load(keys);
 }
-
-#[cfg(test)]
-mod tests {
-    use super::*;
-    use os9_outer::sure_tty::SureTty;
-    use std::test::Fail;
-
-    #[test]
-    fn keys_of_two_terminals(rt: HostRuntime) -> Result<(), Fail> {
-        let alloc = rt.alloc();
-        let mut terms: Vec<Box<dyn CharDriver>> = Vec::new(alloc);
-        terms.push(Box::new(alloc, SureTty::new(alloc))?)?;
-        terms.push(Box::new(alloc, SureTty::new(alloc))?)?;
-        let mut devices = Devices {
-            drives: Vec::new(alloc),
-            terms,
-        };
-        let key = |term, tick, byte| ScriptKey { term, tick, byte };
-        let keys = [key(0, 1, 0x61), key(1, 1, 0x62), key(0, 2, 0x0D)];
-        load_keys(alloc, &mut devices, &keys)?;
-        assert_eq!(rt; devices.terms.len(), 2);
-        assert_eq!(rt; devices.term(0).key(1), Ok(Some(0x61)));
-        assert_eq!(rt; devices.terms.len(), 2);
-        assert_eq!(rt; devices.term(0).key(1), Ok(None));
-        assert_eq!(rt; devices.terms.len(), 2);
-        assert_eq!(rt; devices.term(0).key(2), Ok(Some(0x0D)));
-        assert_eq!(rt; devices.terms.len(), 2);
-        assert_eq!(rt; devices.term(1).key(9), Ok(Some(0x62)));
-        Ok(())
-    }
-}
