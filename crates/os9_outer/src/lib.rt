@@ -10,6 +10,7 @@ pub mod mem_host;
 mod pending;
 pub mod ram_drive;
 pub mod real_host;
+mod replace;
 pub mod script_tty;
 mod slot;
 pub mod sure_drive;

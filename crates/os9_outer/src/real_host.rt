@@ -2,6 +2,7 @@ ghost use Rattle.std.specs.Prelude.{◌≡◌, ℕ, ◌+◌, ◌-◌, ◌^◌, �
 
 use crate::failure::Failure;
 use crate::host::{Host, HostFault};
+use crate::replace::write_whole;
 use std::io::{ErrorKind, Read};
 use std::rt::Runtime;
 use std::{fs, io, str};
@@ -12,7 +13,8 @@ const LONGEST_FILE: u64 = 536_870_912;
 /// The host of the running program: its files, its standard output and its standard error.
 ///
 /// No contents are observed of it. A file that is missing or too long is a fault, a write that takes nothing
-/// is one, and bytes that are no text are one of the error stream.
+/// is one, and bytes that are no text are one of the error stream. A plain file is written as a whole new one
+/// beside it (its name and `.os9-new`), which then takes its place with its mode; where that fails it is as it was.
 #[derive(Drop)]
 pub struct RealHost<R> {
     rt: R,
@@ -90,7 +92,7 @@ impl<R: Runtime + AllocGlobal> Host for RealHost<R> {
     }
 
     fn write_file(&mut self, name: &str, bytes: &[u8]) -> Result<(), HostFault> {
-        match fs::write(&self.rt, name, bytes) {
+        match write_whole(&self.rt, name, bytes) {
             Ok(()) => Ok(()),
             Err(error) if wants_memory(&error) => Err(HostFault::OutOfMemory),
             Err(_) => {
