@@ -1,4 +1,4 @@
-use std::fs::{File, Files, Metadata, OpenFile};
+use std::fs::{File, Files, Metadata, OpenFile, OpenOptions};
 use std::io::{ErrorKind, Write};
 use std::path::Path;
 use std::rt::Runtime;
@@ -26,6 +26,8 @@ pub(crate) fn write_whole<R: Runtime + AllocGlobal>(
     if !old.is_file() {
         return fs::write(rt, name, bytes);
     }
+    // (one that may not be written is not replaced either)
+    OpenOptions::new().write(true).open(rt, place.as_path())?;
     let beside = place.as_path().with_added_extension(rt.alloc(), ENDING)?;
     let replaced = write_beside(rt, beside.as_path(), &old, bytes).and_then(|()| fs::rename(
         rt,

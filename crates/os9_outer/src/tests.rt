@@ -10,6 +10,8 @@ use crate::sure_host::SureHost;
 use crate::sure_tty::SureTty;
 use crate::terminal::{CharDriver, Key, PutFault, TermFault};
 use std::alloc::Global;
+use std::fs::Permissions;
+use std::os::unix::fs::{PermissionsExt, symlink};
 use std::test::Fail;
 use std::{env, fs, process};
 
@@ -79,6 +81,32 @@ fn real_host_holds_files(rt: HostRuntime) -> Result<(), Fail> {
     host.out(b"out\n")?;
     host.err(b"err\n")?;
     assert_eq!(rt; host.err(&[255]), Err(HostFault::Failed));
+    Ok(())
+}
+
+#[test]
+fn real_host_replaces_files(rt: HostRuntime) -> Result<(), Fail> {
+    let alloc = rt.alloc();
+    let folder = env::temp_dir(&rt)?;
+    let id = process::id(rt.process());
+    let name = format!(in alloc; "{}/os9_outer_old_{id}", folder.as_str())?;
+    let link = format!(in alloc; "{}/os9_outer_link_{id}", folder.as_str())?;
+    let beside = format!(in alloc; "{name}.os9-new")?;
+    let mut host = RealHost::new(rt.clone()?);
+    host.write_file(&name, b"the old bytes")?;
+    fs::set_permissions(&rt, &name, Permissions::from_mode(0o640))?;
+    symlink(&rt, &name, &link)?;
+    host.write_file(&beside, b"what a broken run left")?;
+    host.write_file(&link, b"the new")?;
+    assert_eq!(rt; host.read_file(&name)?.as_slice(), b"the new".as_slice());
+    assert!(rt; fs::symlink_metadata(&rt, &link)?.is_symlink());
+    assert!(rt; !fs::exists(&rt, &beside)?);
+    assert_eq!(rt;
+        fs::metadata(&rt, &name)?.permissions().mode() & 0o777,
+        0o640
+    );
+    fs::remove_file(&rt, &link)?;
+    fs::remove_file(&rt, &name)?;
     Ok(())
 }
 
