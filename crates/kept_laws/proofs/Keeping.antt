@@ -1,6 +1,6 @@
 -- What an attempt of a call on paths keeps, where it waits: each call by its code.
 use Rattle.std.proofs.Common.{◌≡◌, ◌≢◌, ℕ, ◌+◌, ◌-◌, ◌<◌, ◌≤◌, ◌==◌, not, Bool, true, false, Option, Some, None, Result, Ok, Err, List, length, drop, refl, sym, ap, ◌∙◌, subst, arith}
-use Rattle.std.specs.Prelude.{is_none, min, option_and_then, option_map, unwrap_or, ◌||◌, if◌then◌else◌}
+use Rattle.std.specs.Prelude.{IsSomeAnd, is_none, min, option_and_then, option_map, unwrap_or, ◌||◌, if◌then◌else◌}
 use Rattle.std.proofs.lemmas.Bool.{eqb-false}
 use Rattle.std.proofs.lemmas.List.{length-drop}
 use Rattle.std.proofs.lemmas.Option.{none-some, same_Some}
@@ -29,7 +29,7 @@ use Rattle.io_rules.specs.Again.{IsKept, KeepsCount, path_number}
 use Rattle.io_rules.specs.Alone.{is_alone}
 use Rattle.io_rules.specs.Attempts.{Does, io_step}
 use Rattle.io_rules.specs.Close.{after_close}
-use Rattle.io_rules.specs.Codes.{io_call_of}
+use Rattle.io_rules.specs.Codes.{direction_of_call, io_call_of}
 use Rattle.io_rules.specs.Io.{Io, OpenPath, kept_at, new_desc, open_path, pipe_bytes, with_paths, with_pipes}
 use Rattle.io_rules.specs.Lead.{Lead, to_terminal, to_pipe, nowhere, what_is_there, a_new_place, lead_of}
 use Rattle.io_rules.specs.Modes.{can_read, can_write, is_mode}
@@ -47,7 +47,8 @@ use Rattle.io_rules.specs.declared.io_call.IoCall.{IoCall}
 use Rattle.io_rules.specs.declared.io_call.IoCall.TheVariants as Call
 use Rattle.io_rules.specs.declared.modes.TheConstants.{STANDARD_ERROR}
 use Rattle.io_rules.specs.declared.status.TheConstants.{SS_OPT, SS_READY, SS_EOF, OPTION_BYTES}
-use Rattle.kept_laws.proofs.Lengths.{LineLength, line-length, user-length}
+use Rattle.kept_laws.specs.Kept.{StaysAllowed}
+use Rattle.kept_laws.proofs.Lengths.{LineLength, line-length, user-fits, user-length}
 
 -- a path that is open is the image of its number
 open-slot : (io : Io) (p n : ℕ) (opened : OpenPath) → open_path io p n ≡ Some opened → slot_of io.paths p n ≡ Some opened.path
@@ -66,16 +67,21 @@ open-slot io p n opened is = by_slot (slot_of io.paths p n) refl is
 
 -- ---- what an attempt does
 
+-- a call may wait, and this is kept of it then: it is not refused where it is attempted again
+pub record MayWait (call : IoCall) (caller : Caller) (io : Io) (kept : Kept) : Type 0 where
+  pub kept_is : IsKept call caller.regs io caller.process.0 kept
+  pub stays : StaysAllowed call caller.cells caller.regs io caller.process.0
+
 -- where a call waits, this is kept of it, and the paths stay
 abbrev pub EndKeeps : IoCall → Caller → Io → Io → IoEnd → Type 0
 EndKeeps call caller io new (answers regs) = Unit {0}
 EndKeeps call caller io new (fails number) = Unit {0}
-EndKeeps call caller io new (keeps kept) = IsKept call caller.regs io caller.process.0 kept × (new.paths ≡ io.paths)
+EndKeeps call caller io new (keeps kept) = MayWait call caller io kept × (new.paths ≡ io.paths)
 
 abbrev pub StepKeeps : IoCall → Caller → Io → IoStep → Type 0
 StepKeeps call caller io (refused number) = Unit {0}
 StepKeeps call caller io (comes effect) = EndKeeps call caller io effect.io effect.end
-StepKeeps call caller io (reads read) = IsKept call caller.regs io caller.process.0 read.call
+StepKeeps call caller io (reads read) = MayWait call caller io read.call
 StepKeeps call caller io (writes write) = Unit {0}
 
 -- a call of the process that waits is this one
@@ -86,6 +92,10 @@ Again call caller io =
 module _ (call : IoCall) (caller : Caller) (io : Io) (again : Again call caller io) where
   abbrev Good : Kept → Type 0
   Good kept = IsKept call caller.regs io caller.process.0 kept
+
+  -- a further attempt of it is not refused
+  abbrev Stays : Type 0
+  Stays = StaysAllowed call caller.cells caller.regs io caller.process.0
 
   abbrev Ends : Io → IoEnd → Type 0
   Ends new end = EndKeeps call caller io new end
@@ -129,25 +139,25 @@ module _ (call : IoCall) (caller : Caller) (io : Io) (again : Again call caller 
       below : (a b : ℕ) → a ≤ b → a ≢ b → a < b
       below a b few differ = omega arith
 
-  read-ends : (pipe : ℕ) (now : Kept) (answer : PipeAns) → Good now → Ends (after_taking io pipe answer) (read_end caller now answer)
-  read-ends pipe now (Ans.Done count) good = tt
-  read-ends pipe now Ans.Wait good = (good, refl)
-  read-ends pipe now Ans.End good = tt
-  read-ends pipe now Ans.NoReader good = tt
+  read-ends : (pipe : ℕ) (now : Kept) (answer : PipeAns) → Good now → Stays → Ends (after_taking io pipe answer) (read_end caller now answer)
+  read-ends pipe now (Ans.Done count) good stays = tt
+  read-ends pipe now Ans.Wait good stays = (record { kept_is = good; stays = stays }, refl)
+  read-ends pipe now Ans.End good stays = tt
+  read-ends pipe now Ans.NoReader good stays = tt
 
   -- the answer of a line read
   abbrev line_answer : Bool → Bool → Kept → List ℕ → PipeAns
   line_answer empty alone now held =
       if empty then answer_unmoved alone Ans.End else Ans.Done (min (count_left now) (line_length held))
 
-  line-ends : (pipe : ℕ) (now : Kept) (held : List ℕ) (empty alone : Bool) → Good now → Ends (after_taking io pipe (line_answer empty alone now held)) (read_line_end caller alone now (bytes_moved (line_answer empty alone now held) (pipe_bytes io pipe)) (line_answer empty alone now held))
-  line-ends pipe now held true true good = by_moved (now.moved == 0)
+  line-ends : (pipe : ℕ) (now : Kept) (held : List ℕ) (empty alone : Bool) → Good now → Stays → Ends (after_taking io pipe (line_answer empty alone now held)) (read_line_end caller alone now (bytes_moved (line_answer empty alone now held) (pipe_bytes io pipe)) (line_answer empty alone now held))
+  line-ends pipe now held true true good stays = by_moved (now.moved == 0)
     where
       by_moved : (none : Bool) → Ends (after_taking io pipe Ans.End) (if none then fails E_EOF else answers (count_regs caller now.moved))
       by_moved true = tt
       by_moved false = tt
-  line-ends pipe now held true false good = (good, refl)
-  line-ends pipe now held false alone good =
+  line-ends pipe now held true false good stays = (record { kept_is = good; stays = stays }, refl)
+  line-ends pipe now held false alone good stays =
       by_tests (has_return (bytes_moved (Ans.Done count) (pipe_bytes io pipe))) (is_complete (moved_on now count)) alone refl
     where
       count : ℕ
@@ -159,17 +169,17 @@ module _ (call : IoCall) (caller : Caller) (io : Io) (again : Again call caller 
       by_tests false false true is = tt
       by_tests false false false is =
           let started = good.unfinished in
-          (moves-on now (min (count_left now) (line_length held)) good (omega arith) is, refl)
+          (record { kept_is = moves-on now (min (count_left now) (line_length held)) good (omega arith) is; stays = stays }, refl)
 
   -- the answer of a write
   abbrev write_answered : Bool → Bool → List ℕ → List ℕ → PipeAns
   write_answered full alone held rest =
       if full then answer_unmoved alone Ans.NoReader else Ans.Done (min (length rest) (pipe_room held))
 
-  write-ends : (pipe : ℕ) (now : Kept) (held rest : List ℕ) (regs : Regs) (full alone : Bool) → Good now → length rest ≡ now.count - now.moved → Ends (after_adding io pipe (write_answered full alone held rest) rest) (write_end alone now regs (write_answered full alone held rest))
-  write-ends pipe now held rest regs true true good left = tt
-  write-ends pipe now held rest regs true false good left = (good, refl)
-  write-ends pipe now held rest regs false alone good left =
+  write-ends : (pipe : ℕ) (now : Kept) (held rest : List ℕ) (regs : Regs) (full alone : Bool) → Good now → Stays → length rest ≡ now.count - now.moved → Ends (after_adding io pipe (write_answered full alone held rest) rest) (write_end alone now regs (write_answered full alone held rest))
+  write-ends pipe now held rest regs true true good stays left = tt
+  write-ends pipe now held rest regs true false good stays left = (record { kept_is = good; stays = stays }, refl)
+  write-ends pipe now held rest regs false alone good stays left =
       by_tests (is_complete (moved_on now (min (length rest) (pipe_room held)))) alone refl
     where
       by_tests : (complete single : Bool) → is_complete (moved_on now (min (length rest) (pipe_room held))) ≡ complete → Ends (after_adding io pipe (Ans.Done (min (length rest) (pipe_room held))) rest) (if complete then answers regs else (if single then fails E_WRITE else keeps (moved_on now (min (length rest) (pipe_room held)))))
@@ -177,38 +187,38 @@ module _ (call : IoCall) (caller : Caller) (io : Io) (again : Again call caller 
       by_tests false true is = tt
       by_tests false false is =
           let started = good.unfinished in
-          (moves-on now (min (length rest) (pipe_room held)) good (omega arith) is, refl)
+          (record { kept_is = moves-on now (min (length rest) (pipe_room held)) good (omega arith) is; stays = stays }, refl)
 
   -- ---- on what the path was opened on
 
-  read-target : (kind : ReadKind) (now : Kept) (target : Target) → Good now → Keeps (reads_target kind caller io now target)
-  read-target kind now (File drive sector) good = tt
-  read-target kind now (Folder drive sector) good = tt
-  read-target kind now (Term terminal) good = good
-  read-target Bytes now (Pipe pipe) good = read-ends pipe now _ good
-  read-target WholeLine now (Pipe pipe) good =
-      line-ends pipe now (pipe_bytes io pipe) (length (pipe_bytes io pipe) == 0) (is_alone io caller.process.0 now.path.0 Reading) good
+  read-target : (kind : ReadKind) (now : Kept) (target : Target) → Good now → Stays → Keeps (reads_target kind caller io now target)
+  read-target kind now (File drive sector) good stays = tt
+  read-target kind now (Folder drive sector) good stays = tt
+  read-target kind now (Term terminal) good stays = record { kept_is = good; stays = stays }
+  read-target Bytes now (Pipe pipe) good stays = read-ends pipe now _ good stays
+  read-target WholeLine now (Pipe pipe) good stays =
+      line-ends pipe now (pipe_bytes io pipe) (length (pipe_bytes io pipe) == 0) (is_alone io caller.process.0 now.path.0 Reading) good stays
 
-  write-target : (sending : Sending) (now : Kept) (target : Target) → Good now → length sending.bytes ≡ now.count → Keeps (writes_target sending caller io now target)
-  write-target sending now (File drive sector) good counted = tt
-  write-target sending now (Folder drive sector) good counted = tt
-  write-target sending now (Term terminal) good counted = tt
-  write-target sending now (Pipe pipe) good counted =
+  write-target : (sending : Sending) (now : Kept) (target : Target) → Good now → Stays → length sending.bytes ≡ now.count → Keeps (writes_target sending caller io now target)
+  write-target sending now (File drive sector) good stays counted = tt
+  write-target sending now (Folder drive sector) good stays counted = tt
+  write-target sending now (Term terminal) good stays counted = tt
+  write-target sending now (Pipe pipe) good stays counted =
       let left : length (drop now.moved sending.bytes) ≡ now.count - now.moved = length-drop now.moved sending.bytes ∙ ap (λ (n : ℕ). n - now.moved) counted in
-      write-ends pipe now (pipe_bytes io pipe) (drop now.moved sending.bytes) sending.regs (pipe_room (pipe_bytes io pipe) == 0) (is_alone io caller.process.0 now.path.0 Writing) good left
+      write-ends pipe now (pipe_bytes io pipe) (drop now.moved sending.bytes) sending.regs (pipe_room (pipe_bytes io pipe) == 0) (is_alone io caller.process.0 now.path.0 Writing) good stays left
 
   -- ---- reads and writes
 
-  path-keeps : (number : ℕ) (is_allowed : ℕ → Bool) (next : OpenPath → IoStep) → ((opened : OpenPath) → open_path io caller.process.0 number ≡ Some opened → Keeps (next opened)) → Keeps (on_path caller io number is_allowed next)
+  path-keeps : (number : ℕ) (is_allowed : ℕ → Bool) (next : OpenPath → IoStep) → ((opened : OpenPath) → open_path io caller.process.0 number ≡ Some opened → is_allowed opened.desc.mode ≡ true → Keeps (next opened)) → Keeps (on_path caller io number is_allowed next)
   path-keeps number is_allowed next good = by_path (open_path io caller.process.0 number) refl
     where
-      by_mode : (opened : OpenPath) → open_path io caller.process.0 number ≡ Some opened → (allowed : Bool) → Keeps (refuses (not allowed) E_BMODE (next opened))
-      by_mode opened is true = good opened is
-      by_mode opened is false = tt
+      by_mode : (opened : OpenPath) → open_path io caller.process.0 number ≡ Some opened → (allowed : Bool) → is_allowed opened.desc.mode ≡ allowed → Keeps (refuses (not allowed) E_BMODE (next opened))
+      by_mode opened is true may = good opened is may
+      by_mode opened is false may = tt
 
       by_path : (opened : Option OpenPath) → open_path io caller.process.0 number ≡ opened → Keeps (needs opened E_BPNUM (λ opened. refuses (not (is_allowed opened.desc.mode)) E_BMODE (next opened)))
       by_path None is = tt
-      by_path (Some opened) is = by_mode opened is (is_allowed opened.desc.mode)
+      by_path (Some opened) is = by_mode opened is (is_allowed opened.desc.mode) refl
 
   nothing-keeps : (next : IoStep) → (0 < caller.regs.y → Keeps next) → Keeps (unless_nothing caller io next)
   nothing-keeps next good = by_count (caller.regs.y == 0) refl
@@ -220,33 +230,46 @@ module _ (call : IoCall) (caller : Caller) (io : Io) (again : Again call caller 
       by_count true is = tt
       by_count false is = good (above caller.regs.y (eqb-false caller.regs.y 0 is))
 
-  read-keeps : (kind : ReadKind) (code : ℕ) → io_call_of code ≡ Some call → path_number call caller.regs ≡ caller.regs.a → KeepsCount call caller.regs caller.regs.y → (is_missing : Bool) → Keeps (refuses is_missing E_BPADDR (on_path caller io caller.regs.a can_read (λ opened. unless_nothing caller io (reads_target kind caller io (call_now caller io code opened caller.regs.y) opened.desc.target))))
-  read-keeps kind code coded at counts true = tt
-  read-keeps kind code coded at counts false =
+  -- a read whose buffer is there, on a path that it may read
+  stays-read : (bytes : List ℕ) (opened : OpenPath) → user_bytes caller.cells caller.regs.x caller.regs.y ≡ Some bytes → 0 < caller.regs.y → open_path io caller.process.0 caller.regs.a ≡ Some opened → can_read opened.desc.mode ≡ true → Stays
+  stays-read bytes opened there some is may way = record {
+    named = user-fits caller.cells caller.regs.x caller.regs.y bytes some there;
+    mode = subst (λ (opened : Option OpenPath). IsSomeAnd opened (λ opened. can_read opened.desc.mode ≡ true)) (sym is) may;
+  }
+
+  read-keeps : (kind : ReadKind) (code : ℕ) → io_call_of code ≡ Some call → path_number call caller.regs ≡ caller.regs.a → KeepsCount call caller.regs caller.regs.y → (buffer : Option (List ℕ)) → user_bytes caller.cells caller.regs.x caller.regs.y ≡ buffer → Keeps (refuses (is_none buffer) E_BPADDR (on_path caller io caller.regs.a can_read (λ opened. unless_nothing caller io (reads_target kind caller io (call_now caller io code opened caller.regs.y) opened.desc.target))))
+  read-keeps kind code coded at counts None there = tt
+  read-keeps kind code coded at counts (Some bytes) there =
       path-keeps caller.regs.a can_read (λ opened. unless_nothing caller io (reads_target kind caller io (call_now caller io code opened caller.regs.y) opened.desc.target))
-      (λ opened is. nothing-keeps (reads_target kind caller io (call_now caller io code opened caller.regs.y) opened.desc.target)
-      (λ some. read-target kind (call_now caller io code opened caller.regs.y) opened.desc.target (found-now code caller.regs.y opened coded (ap (slot_of io.paths caller.process.0) at ∙ open-slot io caller.process.0 caller.regs.a opened is) (λ first. (counts, some)))))
+      (λ opened is may. nothing-keeps (reads_target kind caller io (call_now caller io code opened caller.regs.y) opened.desc.target)
+      (λ some. read-target kind (call_now caller io code opened caller.regs.y) opened.desc.target (found-now code caller.regs.y opened coded (ap (slot_of io.paths caller.process.0) at ∙ open-slot io caller.process.0 caller.regs.a opened is) (λ first. (counts, some))) (stays-read bytes opened there some is may)))
+
+  -- a write is no read
+  stays-write : direction_of_call call ≡ Some Writing → Stays
+  stays-write is way = absurd (let e : Some Writing ≡ Some Reading = sym is ∙ way in cc)
 
   -- what is known of bytes that are sent
   record Sent (bytes : List ℕ) : Type 0 where
     pub first : kept_at io caller.process.0 ≡ None → 0 < caller.regs.y → KeepsCount call caller.regs (length bytes) × (0 < length bytes)
     pub later : (kept : Kept) → kept_at io caller.process.0 ≡ Some kept → length bytes ≡ kept.count
 
-  send-keeps : (sending : List ℕ → Sending) (code : ℕ) → io_call_of code ≡ Some call → path_number call caller.regs ≡ caller.regs.a → ((bytes : List ℕ) → (sending bytes).bytes ≡ bytes) → (bytes : Option (List ℕ)) → ((found : List ℕ) → bytes ≡ Some found → Sent found) → Keeps (needs bytes E_BPADDR (λ bytes. on_path caller io caller.regs.a can_write (λ opened. unless_nothing caller io (sends_on (sending bytes) code caller io opened))))
-  send-keeps sending code coded at same None sent = tt
-  send-keeps sending code coded at same (Some bytes) sent =
+  send-keeps : (sending : List ℕ → Sending) (code : ℕ) → direction_of_call call ≡ Some Writing → io_call_of code ≡ Some call → path_number call caller.regs ≡ caller.regs.a → ((bytes : List ℕ) → (sending bytes).bytes ≡ bytes) → (bytes : Option (List ℕ)) → ((found : List ℕ) → bytes ≡ Some found → Sent found) → Keeps (needs bytes E_BPADDR (λ bytes. on_path caller io caller.regs.a can_write (λ opened. unless_nothing caller io (sends_on (sending bytes) code caller io opened))))
+  send-keeps sending code way coded at same None sent = tt
+  send-keeps sending code way coded at same (Some bytes) sent =
       path-keeps caller.regs.a can_write (λ opened. unless_nothing caller io (sends_on (sending bytes) code caller io opened))
-      (λ opened is. nothing-keeps (sends_on (sending bytes) code caller io opened)
+      (λ opened is may. nothing-keeps (sends_on (sending bytes) code caller io opened)
       (λ some. write-target (sending bytes) (call_now caller io code opened (length (sending bytes).bytes)) opened.desc.target
       (found-now code (length (sending bytes).bytes) opened coded (ap (slot_of io.paths caller.process.0) at ∙ open-slot io caller.process.0 caller.regs.a opened is)
       (λ first. subst (λ (bytes : List ℕ). KeepsCount call caller.regs (length bytes) × (0 < length bytes)) (sym (same bytes)) ((sent bytes refl).first first some)))
+      (stays-write way)
       (found-count code (length (sending bytes).bytes) opened (λ kept there. ap (length {A = ℕ}) (same bytes) ∙ (sent bytes refl).later kept there))))
 
-  error-keeps : path_number call caller.regs ≡ STANDARD_ERROR → io_call_of F_PERR ≡ Some call → ((kept : Kept) → kept_at io caller.process.0 ≡ Some kept → length (error_line caller.regs.b) ≡ kept.count) → KeepsCount call caller.regs (length (error_line caller.regs.b)) → Keeps (f_perr caller io)
-  error-keeps at coded later first =
+  error-keeps : direction_of_call call ≡ Some Writing → path_number call caller.regs ≡ STANDARD_ERROR → io_call_of F_PERR ≡ Some call → ((kept : Kept) → kept_at io caller.process.0 ≡ Some kept → length (error_line caller.regs.b) ≡ kept.count) → KeepsCount call caller.regs (length (error_line caller.regs.b)) → Keeps (f_perr caller io)
+  error-keeps way at coded later first =
       path-keeps STANDARD_ERROR can_write (λ opened. sends_on (sent_error caller) F_PERR caller io opened)
-      (λ opened is. write-target (sent_error caller) (call_now caller io F_PERR opened (length (sent_error caller).bytes)) opened.desc.target
+      (λ opened is may. write-target (sent_error caller) (call_now caller io F_PERR opened (length (sent_error caller).bytes)) opened.desc.target
       (found-now F_PERR (length (sent_error caller).bytes) opened coded (ap (slot_of io.paths caller.process.0) at ∙ open-slot io caller.process.0 STANDARD_ERROR opened is) (λ none. (first, omega arith)))
+      (stays-write way)
       (found-count F_PERR (length (sent_error caller).bytes) opened later))
 
   -- ---- calls that never wait
@@ -332,40 +355,40 @@ step-keeps Call.Open caller io drives terms again =
 step-keeps Call.Close caller io drives terms again =
     close-keeps Call.Close caller io again (slot_of io.paths caller.process.0 caller.regs.a)
 step-keeps Call.Read caller io drives terms again =
-    read-keeps Call.Read caller io again Bytes I_READ refl refl refl (is_none (user_bytes caller.cells caller.regs.x caller.regs.y))
+    read-keeps Call.Read caller io again Bytes I_READ refl refl refl (user_bytes caller.cells caller.regs.x caller.regs.y) refl
 step-keeps Call.ReadLn caller io drives terms again =
-    read-keeps Call.ReadLn caller io again WholeLine I_READLN refl refl refl (is_none (user_bytes caller.cells caller.regs.x caller.regs.y))
+    read-keeps Call.ReadLn caller io again WholeLine I_READLN refl refl refl (user_bytes caller.cells caller.regs.x caller.regs.y) refl
 step-keeps Call.Write caller io drives terms again =
-    send-keeps Call.Write caller io again (sent_bytes caller) I_WRITE refl refl (λ bytes. refl) (user_bytes caller.cells caller.regs.x caller.regs.y) (bytes-sent caller io again)
+    send-keeps Call.Write caller io again (sent_bytes caller) I_WRITE refl refl refl (λ bytes. refl) (user_bytes caller.cells caller.regs.x caller.regs.y) (bytes-sent caller io again)
 step-keeps Call.WritLn caller io drives terms again =
-    send-keeps Call.WritLn caller io again (sent_line caller) I_WRITLN refl refl (λ bytes. refl) (line_bytes caller (kept_at io caller.process.0)) (line-sent caller io again)
+    send-keeps Call.WritLn caller io again (sent_line caller) I_WRITLN refl refl refl (λ bytes. refl) (line_bytes caller (kept_at io caller.process.0)) (line-sent caller io again)
 step-keeps Call.GetStt caller io drives terms again =
     get-keeps Call.GetStt caller io again (open_path io caller.process.0 caller.regs.a)
 step-keeps Call.SetStt caller io drives terms again =
     set-keeps Call.SetStt caller io again (open_path io caller.process.0 caller.regs.a)
 step-keeps Call.PErr caller io drives terms again =
-    error-keeps Call.PErr caller io again refl refl (λ kept there. sym (again kept there).count) refl
+    error-keeps Call.PErr caller io again refl refl refl (λ kept there. sym (again kept there).count) refl
 
 -- ---- what it leaves
 
 module _ (call : IoCall) (caller : Caller) (io : Io) (before after : List TerminalState) where
   abbrev Kept_then : IoEffect → Kept → Type 0
-  Kept_then effect kept = IsKept call caller.regs io caller.process.0 kept × (effect.io.paths ≡ io.paths)
+  Kept_then effect kept = MayWait call caller io kept × (effect.io.paths ≡ io.paths)
 
   -- a read of a terminal
-  read-waits : (read : TerminalRead) (effect : IoEffect) (kept : Kept) → IsKept call caller.regs io caller.process.0 read.call → ReadsTerminal caller io read effect before after → effect.end ≡ keeps kept → Kept_then effect kept
+  read-waits : (read : TerminalRead) (effect : IoEffect) (kept : Kept) → MayWait call caller io read.call → ReadsTerminal caller io read effect before after → effect.end ≡ keeps kept → Kept_then effect kept
   read-waits read effect kept good it waits =
       (by_answer it.answer it.ends, ap (λ (effect : IoEffect). effect.io.paths) it.effect_is)
     where
       end_is : it.end ≡ keeps kept
       end_is = sym (ap (λ (effect : IoEffect). effect.end) it.effect_is) ∙ waits
 
-      by_answer : (answer : Progress) → read_ends caller read answer ≡ Some it.end → IsKept call caller.regs io caller.process.0 kept
+      by_answer : (answer : Progress) → read_ends caller read answer ≡ Some it.end → MayWait call caller io kept
       by_answer (Progress.Done count) ends = absurd (let e : answers (count_regs caller count) ≡ keeps kept = same_Some (answers (count_regs caller count)) it.end ends ∙ end_is in cc)
       by_answer Progress.Wait ends =
           let e : keeps read.call ≡ keeps kept = same_Some (keeps read.call) it.end ends ∙ end_is in
           let same : read.call ≡ kept = cc in
-          subst (λ (kept : Kept). IsKept call caller.regs io caller.process.0 kept) same good
+          subst (MayWait call caller io) same good
       by_answer Progress.End ends = absurd (let e : fails E_EOF ≡ keeps kept = same_Some (fails E_EOF) it.end ends ∙ end_is in cc)
       by_answer Progress.Fault ends = absurd (let e : fails E_WRITE ≡ keeps kept = same_Some (fails E_WRITE) it.end ends ∙ end_is in cc)
       by_answer Progress.NoMemory ends = absurd (none-some it.end ends)

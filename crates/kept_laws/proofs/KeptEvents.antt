@@ -1,14 +1,16 @@
 -- What is kept of calls that wait, from one state to the next.
 use Rattle.std.proofs.Common.{◌≡◌, ◌≢◌, ◌⊎◌, ℕ, ◌<◌, ◌==◌, not, Bool, true, false, Option, Some, None, Result, Ok, Err, List, length, refl, sym, ap, ◌∙◌, subst, inl, inr}
-use Rattle.std.specs.Prelude.{MatchOption, if◌then◌else◌, slice_index_or, unwrap_or}
+use Rattle.std.specs.Prelude.{IsSomeAnd, MatchOption, if◌then◌else◌, slice_index_or, unwrap_or}
 use Rattle.std.proofs.lemmas.Bool.{cases_eq, cases_lt, false≢true}
 use Rattle.std.proofs.lemmas.List.{get_or-set_same, get_or_past, length-set}
 use Rattle.std.proofs.lemmas.Option.{none-some, same_Some}
+use Rattle.os9_base.specs.Cells.{Cells, FitsIn}
 use Rattle.os9_base.specs.declared.calls.TheConstants.{F_FORK}
 use Rattle.os9_base.specs.declared.errors.TheConstants.{E_UNKSVC}
 use Rattle.os9_base.specs.declared.registers.Regs.{Regs}
 use Rattle.os9_outer.specs.TerminalState.{TerminalState}
 use Rattle.cpu_model.specs.Step.{Outcome, Done, Calls, Aborts}
+use Rattle.proc_model.specs.MemoryChanges.{writes_from}
 use Rattle.proc_rules.specs.declared.own.Own.{Own}
 use Rattle.proc_rules.specs.declared.record.Life.TheVariants.{Waiting}
 use Rattle.proc_rules.specs.declared.record.Record.{Record}
@@ -18,7 +20,7 @@ use Rattle.call_rules.specs.Attempts.{after_attempt, attempted}
 use Rattle.call_rules.specs.CallResult.{CallResult, done, refused, waits, ends}
 use Rattle.call_rules.specs.Codes.{call_of}
 use Rattle.call_rules.specs.Delivery.{delivered}
-use Rattle.call_rules.specs.Inner.{Inner, own_at, regs_at}
+use Rattle.call_rules.specs.Inner.{Inner, own_at, regs_at, cells_at}
 use Rattle.call_rules.specs.Ready.{Act, attempts, delivers, executes, act_of, next_act}
 use Rattle.io_model.specs.Path.{numbers_of, slot_of}
 use Rattle.io_model.specs.declared.kept.Kept.{Kept}
@@ -26,7 +28,8 @@ use Rattle.io_model.specs.declared.path.SysPath.{SysPath}
 use Rattle.io_rules.specs.Again.{IsKept, path_number}
 use Rattle.io_rules.specs.Attempts.{IoAttempts, caller_of, kept_in, result_by, step_of, with_stored}
 use Rattle.io_rules.specs.Codes.{io_call_of}
-use Rattle.io_rules.specs.Io.{Io, kept_at, with_call}
+use Rattle.io_rules.specs.Io.{Io, OpenPath, kept_at, open_path, with_call}
+use Rattle.io_rules.specs.Modes.{can_read}
 use Rattle.io_rules.specs.Processes.{closed_below, io_ended, io_started, without_user}
 use Rattle.io_rules.specs.Waiting.{io_interrupted, wait_target, without_unfinished}
 use Rattle.io_model.specs.declared.path.TheConstants.{PROCESS_PATHS}
@@ -37,13 +40,16 @@ use Rattle.io_machine.specs.Event.{Acts, Event, before_delivery, io_after_call, 
 use Rattle.io_machine.specs.State.{State}
 use Rattle.io_isolation.specs.InputOutput.{IsGivenPaths, LeavesIo}
 use Rattle.io_isolation.specs.Isolation.{LeavesOthers}
+use Rattle.io_isolation.specs.Objects.{KeepsSizes}
 use Rattle.io_isolation.specs.Others.{ComesOf, Stays}
 use Rattle.io_isolation.proofs.EventsKept.{event-leaves}
 use Rattle.io_isolation.proofs.IoEvents.{io-event-leaves}
+use Rattle.io_isolation.proofs.MemoryKept.{kept-written}
 use Rattle.io_isolation.proofs.OthersKept.{free-is, living-record, living-within}
-use Rattle.kept_laws.specs.Kept.{AreKept, KeepsCall}
+use Rattle.kept_laws.specs.Kept.{AreKept, KeepsCall, StaysAllowed, StaysRead}
 use Rattle.kept_laws.proofs.CallCodes.{code-is, not-both}
-use Rattle.kept_laws.proofs.Keeping.{Again, does-keep, step-keeps}
+use Rattle.kept_laws.proofs.Keeping.{Again, MayWait, does-keep, step-keeps}
+use Rattle.kept_laws.proofs.Named.{fits-on}
 
 -- ---- records
 
@@ -66,9 +72,27 @@ there-lives records p r is runs =
 pub there-at : (records : List (Option Record)) (p : ℕ) (r : Record) → record_of records p ≡ Some r → record_at records p ≡ r
 there-at records p r is = ap (λ place. unwrap_or place (new_record (record { 0 = 0 }) 0 0)) is
 
--- what is kept of a call stays, where its process and its path do
-pub keeps-on : (m n : Inner) (io new : Io) (p : ℕ) (kept : Kept) → IsLiving n.records p → (record_at n.records p).life ≡ (record_at m.records p).life → regs_at n p ≡ regs_at m p → (own_at n p).call ≡ (own_at m p).call → numbers_of new.paths p ≡ numbers_of io.paths p → KeepsCall m io p kept → KeepsCall n new p kept
-keeps-on m n io new p kept lives life regs own numbers it = record {
+-- a path that may be read stays
+mode-on : (io new : Io) (p number : ℕ) → ((opened : OpenPath) → open_path io p number ≡ Some opened → open_path new p number ≡ Some opened) → IsSomeAnd (open_path io p number) (λ opened. can_read opened.desc.mode ≡ true) → IsSomeAnd (open_path new p number) (λ opened. can_read opened.desc.mode ≡ true)
+mode-on io new p number same may = by_path (open_path io p number) refl may
+  where
+    by_path : (path : Option OpenPath) → open_path io p number ≡ path → IsSomeAnd path (λ opened. can_read opened.desc.mode ≡ true) → IsSomeAnd (open_path new p number) (λ opened. can_read opened.desc.mode ≡ true)
+    by_path None is may = absurd may
+    by_path (Some opened) is may =
+        subst (λ (path : Option OpenPath). IsSomeAnd path (λ opened. can_read opened.desc.mode ≡ true)) (sym (same opened is)) may
+
+-- a call stays allowed, where what is named and the paths do
+pub stays-on : (call : IoCall) (cells later : Cells) (regs now : Regs) (io new : Io) (p : ℕ) → now ≡ regs → ((at count : ℕ) → FitsIn cells at count → FitsIn later at count) → ((number : ℕ) (opened : OpenPath) → open_path io p number ≡ Some opened → open_path new p number ≡ Some opened) → StaysAllowed call cells regs io p → StaysAllowed call later now new p
+stays-on call cells later regs now io new p same fits paths stays reads =
+    let it = stays reads in
+    subst (λ (regs : Regs). StaysRead later regs new p) (sym same) (record {
+      named = fits regs.x regs.y it.named;
+      mode = mode-on io new p regs.a (paths regs.a) it.mode;
+    })
+
+-- what is kept of a call stays, where its process, what is named and its paths do
+pub keeps-on : (m n : Inner) (io new : Io) (p : ℕ) (kept : Kept) → IsLiving n.records p → (record_at n.records p).life ≡ (record_at m.records p).life → regs_at n p ≡ regs_at m p → (own_at n p).call ≡ (own_at m p).call → numbers_of new.paths p ≡ numbers_of io.paths p → ((at count : ℕ) → FitsIn (cells_at m p) at count → FitsIn (cells_at n p) at count) → ((number : ℕ) (opened : OpenPath) → open_path io p number ≡ Some opened → open_path new p number ≡ Some opened) → KeepsCall m io p kept → KeepsCall n new p kept
+keeps-on m n io new p kept lives life regs own numbers fits paths it = record {
   lives = lives;
   waits = ap is_waiting life ∙ it.waits;
   made = own ∙ it.made;
@@ -80,6 +104,7 @@ keeps-on m n io new p kept lives life regs own numbers it = record {
     count = it.again.count;
     unfinished = it.again.unfinished;
   });
+  stays = stays-on it.call (cells_at m p) (cells_at n p) (regs_at m p) (regs_at n p) io new p regs fits paths it.stays;
 }
 
 -- ---- the other processes
@@ -107,7 +132,9 @@ module _ (s t : State) (end : EventEnd) (p : ℕ) (leaves : LeavesOthers s.inner
           let regs : new.regs ≡ regs_at s.inner q = ap (λ (r : Record). r.regs) stays.record_is.others in
           keeps-on s.inner t.inner s.io t.io q kept (there-lives t.inner.records q new is (ap has_ended life ∙ other-runs))
           (ap (λ (r : Record). r.life) here ∙ life) (ap (λ (r : Record). r.regs) here ∙ regs)
-          (ap (λ (own : Own). own.call) stays.own.others) other-numbers it
+          (ap (λ (own : Own). own.call) stays.own.others) other-numbers
+          (λ at count. fits-on s.inner.memory t.inner.memory leaves.sizes q at count stays.map)
+          (λ number opened. io_leaves.paths q number opened differ it.lives) it
 
       by_place : (place : Option Record) → record_of t.inner.records q ≡ place → ComesOf s.inner p end t.inner q (Some (record_at s.inner.records q)) (record_of t.inner.records q) → KeepsCall t.inner t.io q kept
       by_place (Some new) is comes =
@@ -143,6 +170,17 @@ call-put io p place kept is =
       | inr past ↦ absurd (none-some kept (sym (get_or_past (with_call io p place).calls p None (rw length-set past)) ∙ is))
     ]
 
+-- a process that attempts a call made it
+pub attempts-code : (inner : Inner) (p code : ℕ) → act_of inner p ≡ attempts code → (own_at inner p).call ≡ Some code
+attempts-code inner p code next = by_call (own_at inner p).call (is_waiting (record_at inner.records p).life) (record_at inner.records p).signal next
+  where
+    by_call : (call : Option ℕ) (held : Bool) (signal : Option ℕ) → next_act call held signal ≡ attempts code → call ≡ Some code
+    by_call None held None is = cc
+    by_call None held (Some signal) is = cc
+    by_call (Some other) false signal is = (let same : other ≡ code = cc in ap Some same)
+    by_call (Some other) true None is = (let same : other ≡ code = cc in ap Some same)
+    by_call (Some other) true (Some signal) is = cc
+
 module _ (s : State) (p : ℕ) (kept_all : AreKept s.inner s.io) (lives : IsLiving s.inner.records p) where
   within : p < length s.inner.records
   within = living-within s.inner.records p lives
@@ -164,16 +202,6 @@ module _ (s : State) (p : ℕ) (kept_all : AreKept s.inner s.io) (lives : IsLivi
       by_call (Some code) true None is = cc
       by_call (Some code) true (Some signal) is = cc
 
-  attempts-code : (code : ℕ) → act_of s.inner p ≡ attempts code → (own_at s.inner p).call ≡ Some code
-  attempts-code code next = by_call (own_at s.inner p).call (is_waiting (record_at s.inner.records p).life) (record_at s.inner.records p).signal next
-    where
-      by_call : (call : Option ℕ) (held : Bool) (signal : Option ℕ) → next_act call held signal ≡ attempts code → call ≡ Some code
-      by_call None held None is = cc
-      by_call None held (Some signal) is = cc
-      by_call (Some other) false signal is = (let same : other ≡ code = cc in ap Some same)
-      by_call (Some other) true None is = (let same : other ≡ code = cc in ap Some same)
-      by_call (Some other) true (Some signal) is = cc
-
   -- ---- an instruction, and a delivery
 
   after-instruction : (outcome : Outcome) → None_waits s.io p → None_waits (io_after_instruction s.io p outcome) p
@@ -194,7 +222,7 @@ module _ (s : State) (p : ℕ) (kept_all : AreKept s.inner s.io) (lives : IsLivi
       by_place None is = refl
       by_place (Some kept) is =
           let it = kept_all p kept is in
-          let same : code ≡ kept.code = same_Some code kept.code (sym (attempts-code code next) ∙ it.made) in
+          let same : code ≡ kept.code = same_Some code kept.code (sym (attempts-code s.inner p code next) ∙ it.made) in
           absurd (not-both kept.code call it.call (sym (ap call_of same) ∙ coded) it.again.code)
 
   after-call : (code : ℕ) (result : CallResult) → None_waits s.io p → None_waits (io_after_call code s.io p result) p
@@ -213,7 +241,7 @@ module _ (s : State) (p : ℕ) (kept_all : AreKept s.inner s.io) (lives : IsLivi
     again : Again call (caller_of s.inner p) s.io
     again kept is =
         let it = kept_all p kept is in
-        let same : code ≡ kept.code = same_Some code kept.code (sym (attempts-code code next) ∙ it.made) in
+        let same : code ≡ kept.code = same_Some code kept.code (sym (attempts-code s.inner p code next) ∙ it.made) in
         let one : it.call ≡ call = same_Some it.call call (sym it.again.code ∙ sym (ap io_call_of same) ∙ coded) in
         subst (λ (call : IoCall). IsKept call (regs_at s.inner p) s.io p kept) one it.again
 
@@ -237,24 +265,30 @@ module _ (s : State) (p : ℕ) (kept_all : AreKept s.inner s.io) (lives : IsLivi
         let good = does-keep call (caller_of s.inner p) s.io s.terms terms (step_of call s.inner p s.io s.drives s.terms) attempt.effect kept (step-keeps call (caller_of s.inner p) s.io s.drives (length s.terms) again) attempt.does waits_so in
         subst (λ (n : Inner). KeepsCall n io p kept) (sym (waits-then kept waits_so)) (by_record good.0 good.1)
       where
-        by_record : IsKept call (regs_at s.inner p) s.io p kept → attempt.effect.io.paths ≡ s.io.paths → KeepsCall (record (with_stored s.inner p attempt.effect) { records = with_record s.inner.records p (record (record_at s.inner.records p) { life = Waiting }) }) io p kept
+        written-sizes : KeepsSizes s.inner.memory (with_stored s.inner p attempt.effect).memory
+        written-sizes = (kept-written {Given = λ byte. Unit {0}} s.inner.memory p (writes_from attempt.effect.at attempt.effect.bytes)).sizes
+
+        by_record : MayWait call (caller_of s.inner p) s.io kept → attempt.effect.io.paths ≡ s.io.paths → KeepsCall (record (with_stored s.inner p attempt.effect) { records = with_record s.inner.records p (record (record_at s.inner.records p) { life = Waiting }) }) io p kept
         by_record good paths =
             let at : record_of (with_record s.inner.records p (record (record_at s.inner.records p) { life = Waiting })) p ≡ Some (record (record_at s.inner.records p) { life = Waiting }) = get_or-set_same s.inner.records p (Some (record (record_at s.inner.records p) { life = Waiting })) None within in
             let here = there-at (with_record s.inner.records p (record (record_at s.inner.records p) { life = Waiting })) p (record (record_at s.inner.records p) { life = Waiting }) at in
-            let same : code ≡ kept.code = code-is code call coded ∙ sym (code-is kept.code call good.code) in
+            let same : code ≡ kept.code = code-is code call coded ∙ sym (code-is kept.code call good.kept_is.code) in
             record {
               lives =
                   there-lives (with_record s.inner.records p (record (record_at s.inner.records p) { life = Waiting })) p (record (record_at s.inner.records p) { life = Waiting }) at refl;
               waits = ap (λ (r : Record). is_waiting r.life) here;
-              made = attempts-code code next ∙ ap Some same;
+              made = attempts-code s.inner p code next ∙ ap Some same;
               call = call;
               again = subst (λ (regs : Regs). IsKept call regs io p kept) (sym (ap (λ (r : Record). r.regs) here)) (record {
-                code = good.code;
+                code = good.kept_is.code;
                 path =
-                    ap (λ (io : Io). slot_of io.paths p (path_number call (regs_at s.inner p))) attempt.state ∙ ap (λ paths. slot_of paths p (path_number call (regs_at s.inner p))) paths ∙ good.path;
-                count = good.count;
-                unfinished = good.unfinished;
+                    ap (λ (io : Io). slot_of io.paths p (path_number call (regs_at s.inner p))) attempt.state ∙ ap (λ paths. slot_of paths p (path_number call (regs_at s.inner p))) paths ∙ good.kept_is.path;
+                count = good.kept_is.count;
+                unfinished = good.kept_is.unfinished;
               });
+              stays = stays-on call (cells_at s.inner p) (cells_at (with_stored s.inner p attempt.effect) p) (regs_at s.inner p) _ s.io io p (ap (λ (r : Record). r.regs) here)
+                  (λ at count. fits-on s.inner.memory (with_stored s.inner p attempt.effect).memory written-sizes p at count refl)
+                  (λ number opened is. ap (λ (io : Io). open_path io p number) attempt.state ∙ ap (λ paths. open_path (record s.io { paths = paths }) p number) paths ∙ is) good.stays;
             }
 
   -- ---- its event
@@ -263,7 +297,7 @@ module _ (s : State) (p : ℕ) (kept_all : AreKept s.inner s.io) (lives : IsLivi
   by-io code None result io terms next coded (is, same, still) kept there =
       let before : kept_at s.io p ≡ Some kept = sym (ap (λ (io : Io). kept_at io p) same) ∙ there in
       let it = kept_all p kept before in
-      let one : code ≡ kept.code = same_Some code kept.code (sym (attempts-code code next) ∙ it.made) in
+      let one : code ≡ kept.code = same_Some code kept.code (sym (attempts-code s.inner p code next) ∙ it.made) in
       absurd (none-some it.call (sym coded ∙ ap io_call_of one ∙ it.again.code))
   by-io code (Some call) result io terms next coded attempt kept there =
       io-keeps code call result io terms next coded attempt kept there

@@ -1,8 +1,9 @@
--- How many bytes a process sends.
-use Rattle.std.proofs.Common.{◌≡◌, ℕ, zero, suc, ◌+◌, ◌<◌, ◌≤◌, ◌==◌, Bool, true, false, Option, Some, None, List, [], ◌∷◌, length, refl, sym, ap, arith}
+-- How many bytes a process sends, and where the bytes of a call are named.
+use Rattle.std.proofs.Common.{◌≡◌, ℕ, zero, suc, ◌+◌, ◌<◌, ◌≤◌, ◌==◌, nat_lt, Bool, true, false, Option, Some, None, IsSome, is_some, List, [], ◌∷◌, length, refl, sym, ap, ◌∙◌, arith}
 use Rattle.std.specs.Prelude.{option_map, if◌then◌else◌}
+use Rattle.std.proofs.lemmas.Bool.{ltb-true}
 use Rattle.std.proofs.lemmas.Option.{none-some, same_Some}
-use Rattle.os9_base.specs.Cells.{Cells}
+use Rattle.os9_base.specs.Cells.{Cells, FitsIn}
 use Rattle.user_names.specs.UserNames.{user_cell}
 use Rattle.call_rules.specs.UserBytes.{byte_before, user_bytes}
 use Rattle.io_model.specs.declared.keys.TheConstants.{RETURN}
@@ -19,6 +20,45 @@ user-length cells at (suc count) bytes is = by_byte (user_cell cells at) (user_b
         let few : length rest ≡ count = there rest refl in
         let all : length (byte ∷ rest) ≡ length bytes = ap (length {A = ℕ}) (same_Some (byte ∷ rest) bytes is) in
         omega (arith, all, few)
+
+-- a byte that a call may use is named
+pub user-named : (cells : Cells) (at byte : ℕ) → user_cell cells at ≡ Some byte → (at < 65536) × (cells at ≡ Some byte)
+user-named cells at byte is = by_test (nat_lt at 65536) refl is
+  where
+    by_test : (test : Bool) → nat_lt at 65536 ≡ test → (if test then cells at else None) ≡ Some byte → (at < 65536) × (cells at ≡ Some byte)
+    by_test true within is = (ltb-true at 65536 within, is)
+    by_test false past is = absurd (none-some byte is)
+
+-- the bytes that a call uses fit, where there are some
+pub user-fits : (cells : Cells) (at count : ℕ) (bytes : List ℕ) → 0 < count → user_bytes cells at count ≡ Some bytes → FitsIn cells at count
+user-fits cells at zero bytes some is = absurd (omega (arith, some))
+user-fits cells at (suc count) bytes some is = by_byte (user-fits cells (at + 1) count) (user_cell cells at) refl (user_bytes cells (at + 1) count) refl is
+  where
+    named-at : (byte : ℕ) → user_cell cells at ≡ Some byte → (k : ℕ) → k ≡ 0 → IsSome (cells (at + k))
+    named-at byte first k here =
+        let there : at + k ≡ at = omega (arith, here) in
+        ap is_some (ap cells there ∙ (user-named cells at byte first).1)
+
+    by_count : (byte : ℕ) → user_cell cells at ≡ Some byte → (rest : List ℕ) (count : ℕ) → user_bytes cells (at + 1) count ≡ Some rest → (0 < count → FitsIn cells (at + 1) count) → FitsIn cells at (suc count)
+    by_count byte first rest zero later fits =
+        let within : at < 65536 = (user-named cells at byte first).0 in
+        (omega (arith, within), λ k below. named-at byte first k (omega (arith, below)))
+    by_count byte first rest (suc count) later fits =
+        let there : FitsIn cells (at + 1) (suc count) = fits (omega arith) in
+        let end : at + 1 + suc count ≤ 65536 = there.0 in
+        (omega (arith, end), by_place there)
+      where
+        by_place : FitsIn cells (at + 1) (suc count) → (k : ℕ) → k < suc (suc count) → IsSome (cells (at + k))
+        by_place there zero below = named-at byte first 0 refl
+        by_place there (suc k) below =
+            let next : at + suc k ≡ at + 1 + k = omega arith in
+            ap is_some (ap cells next) ∙ there.1 k (omega (arith, below))
+
+    by_byte : ((bytes : List ℕ) → 0 < count → user_bytes cells (at + 1) count ≡ Some bytes → FitsIn cells (at + 1) count) → (byte : Option ℕ) → user_cell cells at ≡ byte → (rest : Option (List ℕ)) → user_bytes cells (at + 1) count ≡ rest → byte_before byte rest ≡ Some bytes → FitsIn cells at (suc count)
+    by_byte fits None first rest later is = absurd (none-some bytes is)
+    by_byte fits (Some byte) first None later is = absurd (none-some bytes is)
+    by_byte fits (Some byte) first (Some rest) later is =
+        by_count byte first rest count later (λ more. fits rest more later)
 
 -- a line has at most so many bytes, and one at least where it may have one
 pub record LineLength (most : ℕ) (line : List ℕ) : Type 0 where

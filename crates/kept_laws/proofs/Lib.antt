@@ -1,6 +1,10 @@
 pub mod CallCodes
+pub mod InCalls
 pub mod Keeping
 pub mod KeptEvents
 pub mod Lengths
+pub mod Named
 pub mod OnTerminals
+pub mod Places
 pub mod RunningLaws
+pub mod WaitsMade

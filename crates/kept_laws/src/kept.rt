@@ -11,9 +11,11 @@ ghost use Rattle.io_machine.specs.State.{State};
 ghost use Rattle.kept_laws.specs.Running.{IsRunning, AllRunning};
 
 /// What is kept of a call that waits is of the call that its process waits in, made with the registers
-/// that the process has; and each terminal that a path was opened on is there. That holds at the start
-/// of a machine with one to four terminals, and each event, each tick and each choice keeps it. So it
-/// holds of every state of a run.
+/// that the process has, and a read among them is not refused where it is attempted again: its buffer
+/// is named, and its path may be read. Something is kept of each call on paths in which a process
+/// waits. Each terminal that a path was opened on is there. All that holds at the start of a machine
+/// with one to four terminals, and each event, each tick and each choice keeps it. So it holds of every
+/// state of a run.
 pub fn calls_that_wait_are_kept()
     ensures start { (file : List ℕ) (blocks drives : ℕ) (terms : List TerminalState) (s : State)
         → Starts file blocks drives terms s → 0 < length terms → length terms ≤ 4
