@@ -18,10 +18,11 @@ use Rattle.io_state.specs.Terminals.{kept_after}
 use Rattle.proc_state.specs.Tie.{Comes}
 use Rattle.proc_state.specs.declared.state.ProcState.{ProcState}
 use Rattle.stream_calls.specs.Trying.{EndsBy, Tries, WantsMemory}
+use Rattle.stream_calls.proofs.EchoLemmas.{echo-some}
 use Rattle.stream_calls.proofs.TryingLemmas.{never-wants, tries-takes}
 
 -- the counts of faults stay where one terminal changed whose count stayed
-faults-same : (terms : List TerminalState) (n : ℕ) (old new : TerminalState) → slice_get terms n ≡ Some old → new.faults ≡ old.faults → fault_counts (slice_set terms n new) ≡ fault_counts terms
+pub faults-same : (terms : List TerminalState) (n : ℕ) (old new : TerminalState) → slice_get terms n ≡ Some old → new.faults ≡ old.faults → fault_counts (slice_set terms n new) ≡ fault_counts terms
 faults-same [] n old new there same = refl
 faults-same (t ∷ terms) zero old new there same =
     ap (λ (count : ℕ). count ∷ fault_counts terms) (same ∙ ap (λ (it : TerminalState). it.faults) (sym (some-same t old there)))
@@ -52,8 +53,8 @@ module _ (m : Inner) (io : Io) (p : ℕ) (processes : ProcState) (new : Io) (bef
   tries-read End same device stored_is state ends = ended End _ refl refl same device stored_is state ends
   tries-read Fault same device stored_is state ends = ended Fault _ refl refl same device stored_is state ends
   tries-read NoMemory same device stored_is state ends =
-      let wants : WantsMemory (reads read) before after = record {
-        puts = tt;
+      let wants : WantsMemory (reads read) (caller_of m p) io before after = record {
+        puts = echo-some (request_of (caller_of m p) read) (terminal_at io read.terminal) (terminal_at new read.terminal) device.0 device.1 device.4.outcome (device.4.turn refl);
         faults = ap (λ (terms : List TerminalState). fault_counts terms) device.3 ∙ faults-same before read.terminal device.0 device.1 device.2 device.4.driver.faults;
       } in
       subst (λ (e : CallEnd). Tries (reads read) m io p e processes new before after) (sym ends) wants

@@ -94,5 +94,5 @@ module _ (m : Inner) (io : Io) (p : ℕ) (end : CallEnd) (processes : ProcState)
   tries-same one other same tries = subst (λ (step : IoStep). Tries step m io p end processes new before after) same tries
 
   -- memory is wanting
-  pub wants-of : (step : IoStep) → end ≡ NoMemory → Tries step m io p end processes new before after → WantsMemory step before after
+  pub wants-of : (step : IoStep) → end ≡ NoMemory → Tries step m io p end processes new before after → WantsMemory step (caller_of m p) io before after
   wants-of step is tries = subst (λ (e : CallEnd). Tries step m io p e processes new before after) is tries

@@ -1,12 +1,14 @@
 -- What an attempt of a read or a write leaves, and what it leaves where memory is wanting.
-use Rattle.std.specs.Prelude.{◌≡◌, ℕ, ◌<◌, ⊤, Option, Some, None, List, length}
+use Rattle.std.specs.Prelude.{◌≡◌, ℕ, ◌<◌, ⊥, Option, Some, None, List, length}
 use Rattle.os9_base.specs.declared.call.CallEnd.{CallEnd}
 use Rattle.os9_base.specs.declared.call.CallEnd.TheVariants.{Done, Error, Wait, Ended, NoMemory}
 use Rattle.os9_outer.specs.TerminalState.{TerminalState, fault_counts}
 use Rattle.call_rules.specs.Inner.{Inner}
+use Rattle.io_model.specs.Terminal.{read_attempt}
 use Rattle.io_rules.specs.Attempts.{Does, caller_of, io_after, result_by, result_of}
-use Rattle.io_rules.specs.Io.{Io}
-use Rattle.io_rules.specs.Step.{IoEffect, IoEnd, IoStep, stores, refused, comes, reads, writes}
+use Rattle.io_rules.specs.Io.{Io, terminal_at}
+use Rattle.io_rules.specs.Step.{Caller, IoEffect, IoEnd, IoStep, stores, refused, comes, reads, writes}
+use Rattle.io_rules.specs.Terminals.{request_of}
 use Rattle.proc_state.specs.Tie.{Comes}
 use Rattle.proc_state.specs.declared.state.ProcState.{ProcState}
 
@@ -18,16 +20,17 @@ pub record Takes (step : IoStep) (m : Inner) (io : Io) (p : ℕ) (end : CallEnd)
   pub comes : Comes m p (result_of m p effect) end processes
   pub state : new ≡ io_after p effect
 
--- an attempt puts bytes on a terminal: it reads one, whose keys have an echo, or writes a byte at least
-abbrev pub MayPut : IoStep → Type 0
-MayPut (refused number) = ⊥
-MayPut (comes effect) = ⊥
-MayPut (reads read) = ⊤
-MayPut (writes write) = 0 < length write.put
+-- an attempt has a byte to put on a terminal: a key that it is due to take has an echo, or it writes a byte at least
+abbrev pub PutsSome : IoStep → Caller → Io → Type 0
+PutsSome (refused number) caller io = ⊥
+PutsSome (comes effect) caller io = ⊥
+PutsSome (reads read) caller io =
+    0 < length (read_attempt (request_of caller read) (terminal_at io read.terminal)).echo
+PutsSome (writes write) caller io = 0 < length write.put
 
--- memory is wanting: an attempt was to put a byte on a terminal, and no terminal failed
-pub record WantsMemory (step : IoStep) (before after : List TerminalState) : Type 0 where
-  pub puts : MayPut step
+-- memory is wanting: an attempt had a byte to put on a terminal, and no terminal failed
+pub record WantsMemory (step : IoStep) (caller : Caller) (io : Io) (before after : List TerminalState) : Type 0 where
+  pub puts : PutsSome step caller io
   pub faults : fault_counts after ≡ fault_counts before
 
 -- an attempt of a process ends so, with these processes, this state and these terminals then
@@ -37,7 +40,7 @@ Tries step m io p (Error number) processes new before after =
     Takes step m io p (Error number) processes new before after
 Tries step m io p Wait processes new before after = Takes step m io p Wait processes new before after
 Tries step m io p Ended processes new before after = Takes step m io p Ended processes new before after
-Tries step m io p NoMemory processes new before after = WantsMemory step before after
+Tries step m io p NoMemory processes new before after = WantsMemory step (caller_of m p) io before after
 
 -- a call that ends in this way and stores these bytes at an address comes to this; where it has no end memory is
 -- wanting

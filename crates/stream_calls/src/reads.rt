@@ -57,7 +57,7 @@ pub fn i_read(s: &mut ProcState, io: &mut IoState, devices: &mut Devices, p: Pid
         (terminal_states ⟦<dyn CharDriver as CharDriver>⟧ devices.old.terms.items)
         (terminal_states ⟦<dyn CharDriver as CharDriver>⟧ devices.new.terms.items) }
     ensures memory { (m : Inner) → Represents s.old m → result ≡ CallEnd.NoMemory
-        → WantsMemory (i_read_lem (caller_of m p.0) io.old)
+        → WantsMemory (i_read_lem (caller_of m p.0) io.old) (caller_of m p.0) io.old
         (terminal_states ⟦<dyn CharDriver as CharDriver>⟧ devices.old.terms.items)
         (terminal_states ⟦<dyn CharDriver as CharDriver>⟧ devices.new.terms.items) }
     ensures lives { IsLiving s.new.table p.0 }
@@ -88,7 +88,7 @@ pub fn i_readln(s: &mut ProcState, io: &mut IoState, devices: &mut Devices, p: P
         (terminal_states ⟦<dyn CharDriver as CharDriver>⟧ devices.old.terms.items)
         (terminal_states ⟦<dyn CharDriver as CharDriver>⟧ devices.new.terms.items) }
     ensures memory { (m : Inner) → Represents s.old m → result ≡ CallEnd.NoMemory
-        → WantsMemory (i_readln_lem (caller_of m p.0) io.old)
+        → WantsMemory (i_readln_lem (caller_of m p.0) io.old) (caller_of m p.0) io.old
         (terminal_states ⟦<dyn CharDriver as CharDriver>⟧ devices.old.terms.items)
         (terminal_states ⟦<dyn CharDriver as CharDriver>⟧ devices.new.terms.items) }
     ensures lives { IsLiving s.new.table p.0 }
