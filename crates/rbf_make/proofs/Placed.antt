@@ -1,12 +1,11 @@
 -- The place of a new entry, or why there is none.
-use Rattle.std.proofs.Common.{◌≡◌, ℕ, ◌+◌, ◌≤◌, Bool, true, false, not, Option, Some, None, IsSome, is_some, Result, Err, List, length, sym, ap, ◌∙◌, subst, arith}
+use Rattle.std.proofs.Common.{◌≡◌, ℕ, ◌+◌, ◌≤◌, Bool, true, false, not, Option, Some, None, IsSome, is_some, Result, Err, List, sym, ap, ◌∙◌, subst, arith}
 use Rattle.std.specs.Prelude.{if◌then◌else◌}
 use Rattle.std.proofs.lemmas.Bool.{cond-true, cond-false, false≢true}
 use Rattle.os9_base.specs.Name.{IsName}
 use Rattle.rbf_model.specs.File.{DiskFile}
 use Rattle.rbf_model.specs.Volume.{DiskVolume}
 use Rattle.rbf_model.specs.Walk.{look_up}
-use Rattle.rbf_change.specs.Contents.{sector_count}
 use Rattle.rbf_change.specs.Names.{may_change, is_dots}
 use Rattle.rbf_change.specs.NewFiles.{not_allowed, exists}
 use Rattle.rbf_sector.specs.declared.fd.Fd.{Fd}
@@ -16,8 +15,8 @@ use Rattle.rbf_access.specs.Mounted.{Represents}
 use Rattle.rbf_access.specs.Reading.{IsFdOf, OnFile}
 use Rattle.rbf_access.specs.declared.faults.FileFault.{FileFault}
 use Rattle.rbf_access.specs.declared.faults.FileFault.TheVariants.{Device, NoCluster, TooManyRuns}
-use Rattle.rbf_access.proofs.Counting.{no_calls, counts_then, counts_most}
-use Rattle.rbf_walk.specs.Search.{OnFd, IsFoundAt, IsSearched}
+use Rattle.rbf_access.proofs.Counting.{no_calls, counts_then, counts_most, counts_within}
+use Rattle.rbf_walk.specs.Search.{OnFd, IsFoundAt, IsSearched, sectors_searched}
 use Rattle.rbf_walk.specs.declared.directory.Searched.{Searched}
 use Rattle.rbf_walk.specs.declared.directory.Searched.TheVariants.{Found, Absent}
 use Rattle.rbf_walk.specs.declared.error.DirError.{DirError}
@@ -67,10 +66,10 @@ module _ (media : Option (List ℕ)) (dir : ℕ) (fd : Fd) (known : OnFile media
 pub no_look : (dir : DiskFile) (name : List ℕ) (user : ℕ) (execute : Bool) (s : DriveCounts) → MovesCounts None (place_calls dir name user execute) s s
 no_look dir name user execute s = counts_most None 0 (place_calls dir name user execute) s s (omega arith) (no_calls s)
 
--- one look at the descriptor, and one at each sector
+-- one look at the descriptor, and one at each sector that is searched
 module _ (dir : DiskFile) (name : List ℕ) (user : ℕ) (execute : Bool) (proper : is_dots name ≡ false) (f : Option ℕ) (s t : DriveCounts) where
   abbrev sectors : ℕ
-  sectors = sector_count (length dir.contents)
+  sectors = sectors_searched dir.contents name
 
   calls_are : place_calls dir name user execute ≡ (if may_change dir user execute then 1 + sectors else 1)
   calls_are = cond-false (is_dots name) 0 (if may_change dir user execute then 1 + sectors else 1) proper
@@ -82,8 +81,8 @@ module _ (dir : DiskFile) (name : List ℕ) (user : ℕ) (execute : Bool) (prope
       either true = omega arith
       either false = omega arith
 
-  pub all_looks : may_change dir user execute ≡ true → (size : ℕ) → size ≡ length dir.contents → (mid : DriveCounts) → MovesCounts None 1 s mid → MovesCounts f (sector_count size) mid t → MovesCounts f (place_calls dir name user execute) s t
-  all_looks allowed size is mid one other =
+  pub all_looks : may_change dir user execute ≡ true → (most : ℕ) (mid : DriveCounts) → MovesCounts None 1 s mid → MovesCounts f most mid t → t.calls ≤ mid.calls + sectors → MovesCounts f (place_calls dir name user execute) s t
+  all_looks allowed most mid one other few =
       subst (λ n. MovesCounts f n s t)
-      (ap (λ n. 1 + sector_count n) is ∙ sym (calls_are ∙ cond-true (may_change dir user execute) (1 + sectors) 1 allowed))
-      (counts_then f 1 (sector_count size) s mid t one other)
+      (sym (calls_are ∙ cond-true (may_change dir user execute) (1 + sectors) 1 allowed))
+      (counts_then f 1 sectors s mid t one (counts_within f most sectors mid t few other))

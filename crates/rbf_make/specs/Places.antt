@@ -1,14 +1,13 @@
 -- The place of a new entry, and why it is refused.
-use Rattle.std.specs.Prelude.{◌≡◌, ℕ, ◌+◌, Bool, true, false, Option, Some, List, length, Result, Ok, Err, if◌then◌else◌}
+use Rattle.std.specs.Prelude.{◌≡◌, ℕ, ◌+◌, Bool, true, false, Option, Some, List, Result, Ok, Err, if◌then◌else◌}
 use Rattle.os9_base.specs.Name.{IsName}
 use Rattle.rbf_model.specs.File.{DiskFile}
-use Rattle.rbf_change.specs.Contents.{sector_count}
 use Rattle.rbf_change.specs.Names.{may_change, is_dots}
 use Rattle.rbf_change.specs.NewFiles.{Refusal, bad_path, not_allowed, exists, entry_refusal}
 use Rattle.rbf_access.specs.declared.faults.FileFault.TheVariants.{Device, NoCluster, TooManyRuns}
 use Rattle.rbf_access.specs.Mounted.{HasFile}
 use Rattle.rbf_access.specs.Reading.{OnFile}
-use Rattle.rbf_walk.specs.Search.{IsAbsent}
+use Rattle.rbf_walk.specs.Search.{IsAbsent, sectors_searched}
 use Rattle.rbf_write.specs.Files.{IsLoaded}
 use Rattle.rbf_walk.specs.declared.error.DirError.{DirError}
 use Rattle.rbf_make.specs.declared.place.NewPlace.{NewPlace}
@@ -55,8 +54,8 @@ place_found (Ok found) = Ok found.place
 place_found (Err error) = Err error
 
 -- how many calls of the drive find the place at most: none for `.` and `..`, one for a directory that the user may not
--- change, and one more for each sector of another
+-- change, and of another one more for each sector up to the one that has the name
 abbrev pub place_calls : DiskFile → List ℕ → ℕ → Bool → ℕ
 place_calls dir name user execute =
     if is_dots name then 0
-    else (if may_change dir user execute then 1 + sector_count (length dir.contents) else 1)
+    else (if may_change dir user execute then 1 + sectors_searched dir.contents name else 1)

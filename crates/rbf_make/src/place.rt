@@ -28,8 +28,9 @@ pub struct NewPlace {
 }
 
 /// The place in a directory that a new entry with a name goes to, for a user: the first free one,
-/// or the one behind the last (OS-9 Technical Reference, I$Create and I$MakDir). No sector is read
-/// twice, and the directory's descriptor is handed on.
+/// or the one behind the last (OS-9 Technical Reference, I$Create and I$MakDir). It makes one call of
+/// the drive for the directory's descriptor, which is handed on, and at most as many more as the
+/// directory has sectors up to the one with the name.
 ///
 /// # Errors
 ///

@@ -6,6 +6,7 @@ use Rattle.rbf_walk.specs.declared.directory.Searched.{Searched}
 use Rattle.rbf_walk.specs.declared.error.DirError.TheVariants.{File}
 use Rattle.rbf_walk.proofs.Stepping.{fd_on}
 use Rattle.rbf_update.proofs.Attributed.{fault_counts}
+use Rattle.rbf_update.proofs.Deleting.{read_here}
 use Rattle.rbf_make.proofs.Placed.{fault_placed, closed_refused, found_refused, absent_placed, no_look, one_look, all_looks}
 use Rattle.rbf_make.proofs.place.find_place.Goals as goal
 
@@ -30,7 +31,8 @@ pub returns-in_err-search-clause-counts : goal.returns-in_err-search-clause-coun
 returns-in_err-search-clause-counts g c v file on is =
     let p = err_from_is_err_and c.from_residual-in_err-search.result c.from_residual-in_err-search.ensures.1 in
     all_looks file c.args.name.now c.args.user c.args.execute (sym c.is_dots.ensures.value ∙ c.if-is_dots.false) _ _ _
-    (sym (c.may_change.ensures file (c.in_ok-loaded.ensures.ok.says v file on is)) ∙ c.if-not-may_change.false) c.in_ok-loaded.loaded.file.size (c.in_ok-loaded.ensures.ok.says v file on is).size_is _ c.in_ok-loaded.ensures.counts (fault_counts Searched _ c.in_err-search.field-0.0 _ _ _ _ (p.1 ∙ ap Err p.2) c.in_err-search.ensures.counts)
+    (sym (c.may_change.ensures file (c.in_ok-loaded.ensures.ok.says v file on is)) ∙ c.if-not-may_change.false) _ _ c.in_ok-loaded.ensures.counts (fault_counts Searched _ c.in_err-search.field-0.0 _ _ _ _ (p.1 ∙ ap Err p.2) c.in_err-search.ensures.counts)
+    (read_here _ _ c.args.dir c.in_ok-loaded.loaded.file v file _ c.in_ok-loaded.ensures.media_kept on is (c.in_ok-loaded.ensures.ok.says v file on is) c.in_err-search.ensures.read)
 
 pub returns-in-Found-clause-answer : goal.returns-in-Found-clause-answer
 returns-in-Found-clause-answer g c v file on is =
@@ -39,7 +41,8 @@ returns-in-Found-clause-answer g c v file on is =
 pub returns-in-Found-clause-counts : goal.returns-in-Found-clause-counts
 returns-in-Found-clause-counts g c v file on is =
     all_looks file c.args.name.now c.args.user c.args.execute (sym c.is_dots.ensures.value ∙ c.if-is_dots.false) _ _ _
-    (sym (c.may_change.ensures file (c.in_ok-loaded.ensures.ok.says v file on is)) ∙ c.if-not-may_change.false) c.in_ok-loaded.loaded.file.size (c.in_ok-loaded.ensures.ok.says v file on is).size_is _ c.in_ok-loaded.ensures.counts c.in_ok-search.ensures.counts
+    (sym (c.may_change.ensures file (c.in_ok-loaded.ensures.ok.says v file on is)) ∙ c.if-not-may_change.false) _ _ c.in_ok-loaded.ensures.counts c.in_ok-search.ensures.counts
+    (read_here _ _ c.args.dir c.in_ok-loaded.loaded.file v file _ c.in_ok-loaded.ensures.media_kept on is (c.in_ok-loaded.ensures.ok.says v file on is) c.in_ok-search.ensures.read)
 
 pub returns-in-Absent-clause-answer : goal.returns-in-Absent-clause-answer
 returns-in-Absent-clause-answer g c v file on is =
@@ -48,7 +51,8 @@ returns-in-Absent-clause-answer g c v file on is =
 pub returns-in-Absent-clause-counts : goal.returns-in-Absent-clause-counts
 returns-in-Absent-clause-counts g c v file on is =
     all_looks file c.args.name.now c.args.user c.args.execute (sym c.is_dots.ensures.value ∙ c.if-is_dots.false) _ _ _
-    (sym (c.may_change.ensures file (c.in_ok-loaded.ensures.ok.says v file on is)) ∙ c.if-not-may_change.false) c.in_ok-loaded.loaded.file.size (c.in_ok-loaded.ensures.ok.says v file on is).size_is _ c.in_ok-loaded.ensures.counts c.in_ok-search.ensures.counts
+    (sym (c.may_change.ensures file (c.in_ok-loaded.ensures.ok.says v file on is)) ∙ c.if-not-may_change.false) _ _ c.in_ok-loaded.ensures.counts c.in_ok-search.ensures.counts
+    (read_here _ _ c.args.dir c.in_ok-loaded.loaded.file v file _ c.in_ok-loaded.ensures.media_kept on is (c.in_ok-loaded.ensures.ok.says v file on is) c.in_ok-search.ensures.read)
 
 pub returns-then-is_dots-clause-counts : goal.returns-then-is_dots-clause-counts
 returns-then-is_dots-clause-counts g c v file on is = no_look file c.args.name.now c.args.user c.args.execute _
