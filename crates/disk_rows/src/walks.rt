@@ -7,7 +7,7 @@ use os9_base::registers::TimePacket;
 use os9_outer::drive::BlockDriver;
 use rbf_access::{FileFault, Volume};
 use rbf_check::check;
-use rbf_update::{delete_entry, set_attr};
+use rbf_update::{delete_name, set_attr};
 use rbf_walk::{DirError, walk};
 use std::alloc::{AllocError, Global};
 use std::test::Fail;
@@ -96,7 +96,8 @@ fn walk_root(
     Ok(answer)
 }
 
-// What a user is answered who deletes a name from the root of this image.
+// What a user is answered who deletes a name from the root of this image: the descriptor that it
+// named.
 fn delete_in_root(
     alloc: Global,
     image: &[u8],
@@ -109,8 +110,11 @@ fn delete_in_root(
     let _tree = check(alloc, image)?;
     let mut volume = Volume::mount(alloc, d)?;
     let root = volume.root();
-    let answer = delete_entry(&mut volume, d, root, name, user, false);
-    Ok(answer)
+    let answer = delete_name(&mut volume, d, root, name, user, false);
+    match answer {
+        Ok(gone) => Ok(Ok(gone.descriptor)),
+        Err(error) => Ok(Err(error)),
+    }
 }
 
 // What a user is answered who gives the root of this image the attributes 9B.

@@ -28,15 +28,13 @@ use Rattle.rbf_change.specs.Contents.{sector_count, written}
 use Rattle.rbf_change.specs.Names.{freed_entry}
 use Rattle.rbf_change.specs.Parts.{EntryIsPut, EntryIsFreed}
 use Rattle.rbf_change.proofs.LawfulWrites.{shape-image}
-use Rattle.rbf_access.specs.Mounted.{HasFile}
 use Rattle.rbf_access.specs.Reading.{IsFdOf}
 use Rattle.rbf_sector.specs.declared.fd.Fd.{Fd}
 use Rattle.std.specs.List.{slice_get}
 use Rattle.std.proofs.lemmas.Option.{get_or_from_slice_get}
 use Rattle.rbf_access.proofs.ReadFile.{room_for}
-use Rattle.rbf_update.specs.declared.sector.EntrySector.{EntrySector}
 use Rattle.rbf_update.specs.Becomes.{with_piece}
-use Rattle.rbf_update.specs.Entries.{sector_of_entry, IsEntrySector, IsPlace, MayFill, MayFree, with_entry_bytes}
+use Rattle.rbf_update.specs.Entries.{sector_of_entry, IsPlace, MayFill, MayFree, with_entry_bytes}
 use Rattle.rbf_update.proofs.Stored.{IsStored}
 
 -- A write inside a file changes neither its size nor its segments.
@@ -242,9 +240,6 @@ freed_below media d i may = below media d i may.place (freed_entry (directory_en
 
 -- The sector of an entry, found by the directory's descriptor.
 
-pub place_file : (media : Option (List ℕ)) (d i : ℕ) → IsPlace media d i → HasFile media d
-place_file media d i place = record { content = place.content; on = place.on; file = place.dir; is = place.is }
-
 pub listed_place : (media : Option (List ℕ)) (d i : ℕ) (place : IsPlace media d i) (fd : Fd) → IsFdOf place.dir fd → i / 8 < length (sectors_of fd.segs)
 listed_place media d i place fd known =
     let room = room_for media place.content place.on d place.dir place.is in
@@ -257,12 +252,6 @@ entry_lsn dir fd known i lsn there =
     sym (get_or_from_slice_get (sectors_of fd.segs) (i / 8) lsn 0 there) ∙ ap (λ s. get_or (sectors_of s) (i / 8) 0) known.segments_are
 
 -- what is written then
-pub entry_written : (media mid now : Option (List ℕ)) (dir : DiskFile) (i : ℕ) (sector : EntrySector) (bytes piece : List ℕ) → IsEntrySector media dir i sector → mid ≡ media
-    → bytes ≡ put_at sector.bytes (32 * (i % 8)) piece → now ≡ with_sector mid sector.lsn bytes → now ≡ with_entry_bytes media dir i piece
-entry_written media mid now dir i sector bytes piece read same put is =
-    is ∙ ap (λ m. with_sector m sector.lsn bytes) same ∙ ap (with_sector media sector.lsn) (put ∙ ap (λ b. put_at b (32 * (i % 8)) piece) read.bytes_are)
-    ∙ ap (λ s. with_sector media s (put_at (sector_at media (sector_of_entry dir i)) (32 * (i % 8)) piece)) read.lsn_is
-
 pub piece_written : (media mid now : Option (List ℕ)) (lsn at : ℕ) (read bytes piece : List ℕ) → read ≡ sector_at media lsn → mid ≡ media → bytes ≡ put_at read at piece → now ≡ with_sector mid lsn bytes
     → now ≡ with_piece media lsn at piece
 piece_written media mid now lsn at read bytes piece here same put is =

@@ -1,6 +1,5 @@
 -- Entries of a directory that are written in their places.
 use Rattle.std.specs.Prelude.{◌≡◌, ℕ, ◌+◌, ◌*◌, ◌/◌, ◌%◌, ◌≤◌, true, false, Option, Some, List, length, get_or}
-use Rattle.os9_outer.specs.Drive.{sector_at}
 use Rattle.rbf_model.specs.Disk.{image_disk}
 use Rattle.rbf_model.specs.Fields.{directory_entry, descriptor_field, is_used}
 use Rattle.rbf_model.specs.File.{DiskFile, is_directory}
@@ -10,16 +9,10 @@ use Rattle.rbf_model.specs.Volume.{DiskVolume}
 use Rattle.rbf_model.specs.Writes.{IsNewEntry}
 use Rattle.rbf_access.specs.Mounted.{Represents}
 use Rattle.rbf_update.specs.Becomes.{with_piece}
-use Rattle.rbf_update.specs.declared.sector.EntrySector.{EntrySector}
 
 -- the sector that holds the entry in place i of a directory: there are 8 in each
 abbrev pub sector_of_entry : DiskFile → ℕ → ℕ
 sector_of_entry dir i = get_or (sectors_of dir.segments) (i / 8) 0
-
--- the sector, and its bytes
-pub record IsEntrySector (media : Option (List ℕ)) (dir : DiskFile) (i : ℕ) (sector : EntrySector) : Type 0 where
-  pub lsn_is : sector.lsn ≡ sector_of_entry dir i
-  pub bytes_are : sector.bytes ≡ sector_at media (sector_of_entry dir i)
 
 -- the media with bytes written over the front of that entry
 abbrev pub with_entry_bytes : Option (List ℕ) → DiskFile → ℕ → List ℕ → Option (List ℕ)

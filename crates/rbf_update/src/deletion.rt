@@ -27,39 +27,9 @@ pub struct Deletable {
     pub file: Fd,
 }
 
-/// Deletes the name of a file from a directory, for a user, and answers the descriptor that it
-/// named. The file has gone from the volume then, and its whole clusters are lost until they are
-/// given back.
-///
-/// # Errors
-///
-/// As for [`crate::delete_name`].
-pub fn delete_entry(
-    v: &mut Volume,
-    d: &mut dyn BlockDriver,
-    dir: u32,
-    name: &Name,
-    user: u16,
-    execute: bool,
-) -> Result<u32, DirError>
-    requires mounted { IsMounted v.old (media d.old) }
-    requires file { HasFile (media d.old) dir }
-    ensures answer { OnNumbered (media d.old) dir (λ on file.
-        AnswersWalk (deletion_end on.files file name.now user execute) result) }
-    ensures ok { OnOk result (Becomes (media d.old) (media d.new) (λ old new.
-        FreesName old new dir name.now)) }
-    ensures media_kept { OnErr result (media d.new ≡ media d.old) }
-    ensures mounted { IsMounted v.new (media d.new) }
-    ensures volume_kept { kept v.new ≡ kept v.old }
-    ensures counts { OnNumbered (media d.old) dir (λ on f. Counts ⟦<dyn BlockDriver as BlockDriver>⟧
-        (directory_fault result) (freeing_calls on f name.now user execute) d.old d.new) }
-{
-    let gone = delete_name(v, d, dir, name, user, execute)?;
-    Ok(gone.descriptor)
-}
-
-/// The same, and answers what was found of the file: its descriptor is read once, and so is that of
-/// the directory.
+/// Deletes the name of a file from a directory, for a user, and answers what was found of the file.
+/// It has gone from the volume then, and its whole clusters are lost until they are given back. For
+/// its descriptor and for that of the directory one call of the drive each is made.
 ///
 /// # Errors
 ///
@@ -94,7 +64,9 @@ pub fn delete_name(
 }
 
 /// The entry of a directory that has a name, if a user may delete it: an entry of a file, and not
-/// of a directory (OS-9 Technical Reference, I$Delete). No sector is read twice.
+/// of a directory (OS-9 Technical Reference, I$Delete). It makes one call of the drive for each of
+/// the two descriptors, and at most as many more as the directory has sectors up to the one with the
+/// name.
 ///
 /// # Errors
 ///

@@ -1,10 +1,9 @@
 //! Changes of a mounted RBF volume by one sector, over a drive that may fail: an entry of a
-//! directory that is filled or made free in its place, and the attributes of a file.
+//! directory that is made free in its place, and the attributes of a file.
 #![tactic(auto)]
 
 pub use attributes::{set_attr, set_fd_attr};
-pub use deletion::{Deletable, delete_entry, delete_name, find_deletable};
-pub use entry::fill_entry;
+pub use deletion::{Deletable, delete_name, find_deletable};
 
 mod attributes;
 mod deletion;

@@ -2,13 +2,13 @@ use Rattle.std.proofs.Common.{◌∙◌}
 use Rattle.disk_rows.proofs.Tree.{on_image, has_root}
 use Rattle.disk_rows.proofs.walks.delete_in_root.Goals as goal
 
-pub delete_entry-answer-requires-clause-mounted : goal.delete_entry-answer-requires-clause-mounted
-delete_entry-answer-requires-clause-mounted g c =
+pub delete_name-answer-requires-clause-mounted : goal.delete_name-answer-requires-clause-mounted
+delete_name-answer-requires-clause-mounted g c =
     let known = c.in_ok-_tree.ensures.tree in
     c.in_ok-volume.ensures.mounted known.volume (on_image _ _ _ c.requires known)
 
-pub delete_entry-answer-requires-clause-file : goal.delete_entry-answer-requires-clause-file
-delete_entry-answer-requires-clause-file g c =
+pub delete_name-answer-requires-clause-file : goal.delete_name-answer-requires-clause-file
+delete_name-answer-requires-clause-file g c =
     let known = c.in_ok-_tree.ensures.tree in
     let mounted = c.in_ok-volume.ensures.mounted known.volume (on_image _ _ _ c.requires known) in
     has_root _ _ _ mounted (c.root-root.ensures.volume mounted.on.image mounted.content mounted.agrees mounted.on.vol)
