@@ -357,6 +357,9 @@ module _ (m0 : Option (List ℕ)) (a : EntryWrite) (may : MayAppend m0 a.directo
           let low = past in
           absurd (omega arith)
 
+      lsn_filled : sector image2 lsn ≡ put_at (sector image0 lsn) (32 * (place % 8)) entry
+      lsn_filled = here2 ∙ ap (λ b. put_at b (32 * (place % 8)) entry) (changes.others lsn lsn_no_map)
+
       end1 : KeepsMapEnd image0 image1 (λ _. false)
       end1 = changes.end
 
@@ -383,7 +386,7 @@ module _ (m0 : Option (List ℕ)) (a : EntryWrite) (may : MayAppend m0 a.directo
         vol = grown.vol;
         lose = lose;
         others = λ s none differ. changes.others s none;
-        order = inr taken_lost;
+        order = inl (changes.others lsn lsn_no_map);
         named = named_still image1 (λ s none. changes.others s none);
         end = end1;
       }
@@ -461,7 +464,7 @@ module _ (m0 : Option (List ℕ)) (a : EntryWrite) (may : MayAppend m0 a.directo
           vol = vol2;
           lose = lose;
           others = λ s none differ. beside2 s differ ∙ changes.others s none;
-          order = inr taken_lost;
+          order = inr (record { end = may.end; filled = lsn_filled }, taken_lost);
           named = file_same (sector image0) (sector image2) n file_stays;
           end = end2;
         }
@@ -604,7 +607,7 @@ module _ (m0 : Option (List ℕ)) (a : EntryWrite) (may : MayAppend m0 a.directo
 
           writes : WritesEntry image0 image3 segments a
           writes = record {
-            filled = beside3 lsn lsn_apart ∙ here2 ∙ ap (λ b. put_at b (32 * (place % 8)) entry) (changes.others lsn lsn_no_map);
+            filled = beside3 lsn lsn_apart ∙ lsn_filled;
             others = λ s none other differ. beside3 s other ∙ beside2 s differ ∙ changes.others s none;
             list = subst (KeepsListEnd (sector image0 d)) (sym (ap (λ (x : ℕ → List ℕ). x d) sectors3 ∙ put_here (sector image2) d bytes))
                 (subst (λ b. KeepsListEnd b bytes) (descriptor ∙ ap (λ m. sector_at m d) may.on.is) resized.end);

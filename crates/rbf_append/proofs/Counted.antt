@@ -11,7 +11,6 @@ use Rattle.rbf_access.specs.declared.faults.FileFault.TheVariants.{Device, NoClu
 use Rattle.rbf_access.proofs.Counting.{counts_most, counts_then, no_calls}
 use Rattle.rbf_walk.specs.Walk.{directory_fault}
 use Rattle.rbf_walk.specs.declared.error.DirError.{DirError}
-use Rattle.rbf_walk.specs.declared.error.DirError.TheVariants.{File}
 use Rattle.rbf_append.specs.Entering.{entry_calls, entering_calls, widened}
 
 -- the calls of the drive

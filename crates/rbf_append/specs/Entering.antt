@@ -19,7 +19,7 @@ use Rattle.rbf_access.specs.declared.faults.FileFault.{FileFault}
 use Rattle.rbf_access.specs.declared.faults.FileFault.TheVariants.{Device, NoCluster, TooManyRuns}
 use Rattle.rbf_walk.specs.declared.error.DirError.{DirError}
 use Rattle.rbf_walk.specs.declared.error.DirError.TheVariants.{NotAllowed, BadPath, NotFound, Exists, File}
-use Rattle.rbf_append.specs.NewEntry.{sector_of_place, IsAfterMarks}
+use Rattle.rbf_append.specs.NewEntry.{sector_of_place, IsAfterMarks, StandsBehind}
 
 -- the sectors of a new file n that are written: its descriptor's, and those of its contents
 abbrev pub written_sectors : ℕ → DiskFile → List ℕ
@@ -104,10 +104,12 @@ pub record EnteringTook (v : DiskVolume) (dir : DiskFile) (e : Entering) (old ne
       → IsAfterMarks image now s left (has_cluster (shape v) number ends.both.file)
   -- its descriptor comes after its contents
   pub descriptor : (sector now number ≡ sector image number) ⊎ (file_at (sector now) number ≡ ends.both.file)
-  -- the entry comes after the file that it names and after all marks
+  -- the entry's sector is as it was, or it was written after the file that it names and after all marks
   pub entry : (sector now (sector_of_place ends.both.new.segments (entry_place dir.contents))
       ≡ sector image (sector_of_place ends.both.new.segments (entry_place dir.contents)))
-      ⊎ StandsWhole v left now number ends.both.file ends.both.entry.gained
+      ⊎ (StandsBehind image now dir (sector_of_place ends.both.new.segments (entry_place dir.contents))
+      (entry_place dir.contents) (new_entry e.name number)
+      × StandsWhole v left now number ends.both.file ends.both.entry.gained)
   pub end : KeepsMapEnd image now (λ _. false)
 
 -- a fault came before the entry was in the directory

@@ -84,6 +84,12 @@ abbrev pub IsAfterMarks : List ℕ → List ℕ → ℕ → DiskVolume → (ℕ 
 IsAfterMarks old now s left clusters =
     (sector now s ≡ sector old s) ⊎ ((c : ℕ) → clusters c ≡ true → left.lost c ≡ true)
 
+-- the sector of an entry has its 32 bytes besides what it had; they are behind the last entry of the directory, which
+-- does not count them yet
+pub record StandsBehind (old now : List ℕ) (dir : DiskFile) (s place : ℕ) (entry : List ℕ) : Type 0 where
+  pub end : length dir.contents ≡ 32 * place
+  pub filled : sector now s ≡ put_at (sector old s) (32 * (place % 8)) entry
+
 -- a fault came before the entry was in the directory: the tree is as it was, and a cluster that was taken may be lost
 pub record EntryStops (v : DiskVolume) (dir : DiskFile) (a : EntryWrite) (old new : Option (List ℕ)) : Type 0 where
   pub image : List ℕ
@@ -99,9 +105,11 @@ pub record EntryStops (v : DiskVolume) (dir : DiskFile) (a : EntryWrite) (old ne
   -- only the map and the entry's sector have changed
   pub others : (s : ℕ) → ¬ IsMapSector (image_geometry image) s
       → s ≢ sector_of_place (with_clusters (cluster_size v) dir.segments taken) a.place → sector now s ≡ sector image s
-  -- the entry comes after the marks of the clusters that the directory gains
-  pub order : IsAfterMarks image now (sector_of_place (with_clusters (cluster_size v) dir.segments taken) a.place)
-      left (has taken)
+  -- the entry's sector is as it was, or it was written after the marks of all clusters that the directory gains
+  pub order : (sector now (sector_of_place (with_clusters (cluster_size v) dir.segments taken) a.place)
+      ≡ sector image (sector_of_place (with_clusters (cluster_size v) dir.segments taken) a.place))
+      ⊎ (StandsBehind image now dir (sector_of_place (with_clusters (cluster_size v) dir.segments taken) a.place)
+      a.place a.entry × ((c : ℕ) → has taken c ≡ true → left.lost c ≡ true))
   -- the file that it names is as it was
   pub named : file_at (sector now) (descriptor_field a.entry) ≡ file_at (sector image) (descriptor_field a.entry)
   pub end : KeepsMapEnd image now (λ _. false)

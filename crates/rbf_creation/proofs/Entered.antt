@@ -36,7 +36,7 @@ use Rattle.rbf_access.specs.Reading.{IsFdOf}
 use Rattle.rbf_access.proofs.ReadFile.{room_for}
 use Rattle.rbf_create.specs.Made.{IsMade, MakingEnds}
 use Rattle.rbf_write.proofs.Steps.{few_segments, own_not_free}
-use Rattle.rbf_append.specs.NewEntry.{EntryWrite, MayEnter, IsEntryWritten, EntryStops, IsAfterMarks, sector_of_place}
+use Rattle.rbf_append.specs.NewEntry.{EntryWrite, MayEnter, IsEntryWritten, EntryStops, IsAfterMarks, StandsBehind, sector_of_place}
 use Rattle.rbf_append.specs.Entering.{Entering, StandsWhole, entry_calls, EnteringTook, IsEnteredOn, refusal_of}
 use Rattle.rbf_append.specs.Rooms.{place_clusters, HasRoom}
 use Rattle.rbf_append.proofs.Choice.{one_needed, choice_exists, one_passes}
@@ -184,7 +184,7 @@ module _ (m0 : Option (List ℕ)) (v : DiskVolume) (on : Represents m0 v) (d : �
       pub took : refusal_of v dir e ≡ None → (image image1 : List ℕ) (left : DiskVolume) (m1 : Option (List ℕ)) → m0 ≡ Some image → m1 ≡ Some image1 → Vol image1 left → MayLose v left (λ c. has_cluster (shape v) n file c || has gained c)
           → ((s : ℕ) → ¬ IsMapSector (image_geometry image) s → s ≢ n → s ≢ at → sector image1 s ≡ sector image s)
           → IsAfterMarks image image1 n left (λ c. has_cluster (shape v) n file c) → (sector image1 n ≡ sector image n) ⊎ (file_at (sector image1) n ≡ file)
-          → (sector image1 at ≡ sector image at) ⊎ StandsWhole v left image1 n file gained → KeepsMapEnd image image1 (λ _. false) → EnteringTook v dir e m0 m1
+          → (sector image1 at ≡ sector image at) ⊎ (StandsBehind image image1 dir at place entry × StandsWhole v left image1 n file gained) → KeepsMapEnd image image1 (λ _. false) → EnteringTook v dir e m0 m1
       took allowed image image1 left m1 was now_is vol lose others order described entered_last end = record {
         allowed = allowed;
         image = image;
@@ -200,7 +200,8 @@ module _ (m0 : Option (List ℕ)) (v : DiskVolume) (on : Represents m0 v) (d : �
             (λ same. differ (same ∙ ap (sector_of_place segments) absent.free_is));
         marks = λ s h. subst (λ t. IsAfterMarks image image1 t left (λ c. has_cluster (shape v) n file c)) (only_number s h) order;
         descriptor = described;
-        entry = subst (λ p. (sector image1 (sector_of_place segments p) ≡ sector image (sector_of_place segments p)) ⊎ StandsWhole v left image1 n file gained) absent.free_is entered_last;
+        entry = subst (λ p. (sector image1 (sector_of_place segments p) ≡ sector image (sector_of_place segments p)) ⊎ (StandsBehind image image1 dir (sector_of_place segments p) p entry × StandsWhole v left image1 n file gained))
+            absent.free_is entered_last;
         end = end;
       }
 
@@ -297,6 +298,7 @@ module _ (m0 : Option (List ℕ)) (v : DiskVolume) (on : Represents m0 v) (d : �
         let same : here.image ≡ made.now = same_Some here.image made.now (sym here.was ∙ made.is) in
         let choice_here : IsChoice k (free_then n file) dir.segments (size_then n file new) here.taken = subst (λ f. IsChoice k f dir.segments (size_then n file new) here.taken) free_is here.choice in
         let entry_sector = sector_of_place (with_clusters k dir.segments here.taken) place in
+        let entry_was : sector here.image entry_sector ≡ sector made.image entry_sector = ap (λ i. sector i entry_sector) same ∙ made.writes.others entry_sector (at_no_map n file new here.taken choice_here made.image made.was) (at_apart n file new here.taken choice_here) in
         let shown_then : file_at (sector here.now) n ≡ file = subst (λ m. file_at (sector here.now) m ≡ file_at (sector here.image) m) number here.named ∙ ap (λ i. file_at (sector i) n) same ∙ made.made.shown in
         took n file new here.taken choice_here allowed made.image here.now here.left m1 made.was here.is here.vol
         (record {
@@ -309,11 +311,14 @@ module _ (m0 : Option (List ℕ)) (v : DiskVolume) (on : Represents m0 v) (d : �
         (inr (λ c h. here.lose.still c (its_lost c h)))
         (inr shown_then)
         (⊎_elim
-        (λ still. inl (still ∙ ap (λ i. sector i entry_sector) same ∙ made.writes.others entry_sector (at_no_map n file new here.taken choice_here made.image made.was) (at_apart n file new here.taken choice_here)))
-        (λ marked. inr (record {
-          shown = shown_then;
-          marked = λ c h. ⊎_elim (λ own. here.lose.still c (its_lost c own)) (marked c) (or_cases (its c) (has here.taken c) h);
-        }))
+        (λ still. inl (still ∙ entry_was))
+        (λ behind. inr (
+          record { end = behind.0.end; filled = behind.0.filled ∙ ap (λ b. put_at b (32 * (place % 8)) (new_entry name n)) entry_was },
+          record {
+            shown = shown_then;
+            marked = λ c h. ⊎_elim (λ own. here.lose.still c (its_lost c own)) (behind.1 c) (or_cases (its c) (has here.taken c) h);
+          },
+        ))
         here.order)
         (λ c behind.
         let there = subst (λ i. KeepsMapEnd i here.now (λ _. false)) same here.end in

@@ -34,7 +34,7 @@ use Rattle.os9_outer.specs.Drive.{sector_at}
 use Rattle.rbf_access.proofs.ReadFile.{room_for}
 use Rattle.rbf_model.proofs.Owners.{owns_own}
 use Rattle.rbf_model.proofs.Space.{cluster_from_owns}
-use Rattle.rbf_append.specs.NewEntry.{MayEnter, IsEntryWritten, EntryStops, IsAfterMarks, sector_of_place}
+use Rattle.rbf_append.specs.NewEntry.{MayEnter, IsEntryWritten, EntryStops, IsAfterMarks, StandsBehind, sector_of_place}
 use Rattle.rbf_append.specs.Entering.{Entering, refusal_of, written_sectors, IsEnteredOn, StandsWhole, EnteringStops, took, entry_calls}
 use Rattle.rbf_append.specs.Rooms.{place_clusters, HasRoom, HasNoSegment}
 use Rattle.rbf_append.proofs.Needs.{needs_entry}
@@ -317,7 +317,7 @@ module _ (media : Option (List ℕ)) (v : DiskVolume) (on : Represents media v) 
               (λ first. subst (λ t. IsAfterMarks ends.image ends.now t ends.left (has_cluster (shape v) ends.number ends.file)) first ends.order)
               (written_two ends.number ends.file ends.chosen ends.takes s h);
           descriptor = inl ends.undescribed;
-          entry = subst (λ p. (sector ends.now (sector_of_place (with_clusters k dir.segments c.0) p) ≡ sector ends.image (sector_of_place (with_clusters k dir.segments c.0) p)) ⊎ StandsWhole v ends.left ends.now ends.number ends.file c.0) (sym place_is)
+          entry = subst (λ p. (sector ends.now (sector_of_place (with_clusters k dir.segments c.0) p) ≡ sector ends.image (sector_of_place (with_clusters k dir.segments c.0) p)) ⊎ (StandsBehind ends.image ends.now dir (sector_of_place (with_clusters k dir.segments c.0) p) p (new_entry name ends.number) × StandsWhole v ends.left ends.now ends.number ends.file c.0)) (sym place_is)
               (inl (ends.others (sector_of_place (with_clusters k dir.segments c.0) place) (entry_not_map ends.number ends.file ends.chosen ends.takes c.0 c.1 ends.image ends.was)
               (entry_away ends.number ends.file ends.chosen ends.takes c.0 c.1 (first_sector ends.file) (first_own ends.number ends.file ends.chosen ends.takes))));
           end = ends.end;
@@ -434,9 +434,17 @@ module _ (media : Option (List ℕ)) (v : DiskVolume) (on : Represents media v) 
         abbrev entry_sector : ℕ
         entry_sector = sector_of_place (with_clusters k dir.segments stops.taken) place
 
-        stops_order : IsAfterMarks made.now stops.now entry_sector stops.left (has stops.taken)
-        stops_order = subst (λ i. IsAfterMarks i stops.now entry_sector stops.left (has stops.taken)) stops_image
-            (subst (λ x. IsAfterMarks stops.image stops.now (sector_of_place (with_clusters (cluster_size x) dir.segments stops.taken) place) stops.left (has stops.taken)) left_is stops.order)
+        abbrev Ordered : List ℕ → ℕ → Type 0
+        Ordered i s = (sector stops.now s ≡ sector i s) ⊎ (StandsBehind i stops.now dir s place (new_entry name n) × ((c : ℕ) → has stops.taken c ≡ true → stops.left.lost c ≡ true))
+
+        stops_order : Ordered made.now entry_sector
+        stops_order = subst (λ i. Ordered i entry_sector) stops_image
+            (subst (λ x. Ordered stops.image (sector_of_place (with_clusters (cluster_size x) dir.segments stops.taken) place)) left_is stops.order)
+
+        entry_was : sector made.now entry_sector ≡ sector made.image entry_sector
+        entry_was = made.writes.others entry_sector (entry_not_map n file made.made.made made.takes stops.taken stops_choice made.image made.was)
+            (entry_away n file made.made.made made.takes stops.taken stops_choice n (number_own n file made.made.made made.takes))
+            (entry_away n file made.made.made made.takes stops.taken stops_choice (first_sector file) (first_own n file made.made.made made.takes))
 
         its_lost : (c : ℕ) → has_cluster (shape v) n file c ≡ true → stops.left.lost c ≡ true
         its_lost c h = stops.lose.still c (ap (λ (y : DiskVolume). y.lost c) left_is ∙ or_right (v.lost c) (has_cluster (shape v) n file c) h)
@@ -465,12 +473,13 @@ module _ (media : Option (List ℕ)) (v : DiskVolume) (on : Represents media v) 
               ∙ made.writes.others s none apart_from.0 apart_from.1;
           marks = λ s h. inr its_lost;
           descriptor = inr shown_then;
-          entry = subst (λ p. (sector stops.now (sector_of_place (with_clusters k dir.segments stops.taken) p) ≡ sector made.image (sector_of_place (with_clusters k dir.segments stops.taken) p)) ⊎ StandsWhole v stops.left stops.now n file stops.taken) (sym place_is)
+          entry = subst (λ p. (sector stops.now (sector_of_place (with_clusters k dir.segments stops.taken) p) ≡ sector made.image (sector_of_place (with_clusters k dir.segments stops.taken) p)) ⊎ (StandsBehind made.image stops.now dir (sector_of_place (with_clusters k dir.segments stops.taken) p) p (new_entry name n) × StandsWhole v stops.left stops.now n file stops.taken)) (sym place_is)
               (⊎_elim
-              (λ still. inl (still ∙ made.writes.others entry_sector (entry_not_map n file made.made.made made.takes stops.taken stops_choice made.image made.was)
-              (entry_away n file made.made.made made.takes stops.taken stops_choice n (number_own n file made.made.made made.takes))
-              (entry_away n file made.made.made made.takes stops.taken stops_choice (first_sector file) (first_own n file made.made.made made.takes))))
-              (λ marked. inr (record { shown = shown_then; marked = λ c h. ⊎_elim (its_lost c) (marked c) (or_cases (has_cluster (shape v) n file c) (has stops.taken c) h) }))
+              (λ still. inl (still ∙ entry_was))
+              (λ behind. inr (
+                record { end = behind.0.end; filled = behind.0.filled ∙ ap (λ b. put_at b (32 * (place % 8)) (new_entry name n)) entry_was },
+                record { shown = shown_then; marked = λ c h. ⊎_elim (its_lost c) (behind.1 c) (or_cases (has_cluster (shape v) n file c) (has stops.taken c) h) },
+              ))
               stops_order);
           end = keeps_then made.image made.now stops.now shape_made made.writes.end (subst (λ i. KeepsMapEnd i stops.now (λ _. false)) stops_image stops.end);
         })
