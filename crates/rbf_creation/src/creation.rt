@@ -26,7 +26,8 @@ use rbf_walk::DirError;
 /// if the user may not search or may not write the directory; `Exists` if the name is there;
 /// `NoCluster` if fewer clusters are free than the file and its entry need; `TooManyRuns` if the
 /// directory needs a cluster and has all its segments already. Then nothing has changed. `Device` if
-/// an access of the drive fails: then the tree is as it was, and clusters may be lost.
+/// an access of the drive fails: then the tree is as it was, and clusters may be lost. In a call that
+/// was to be refused for any of these causes it changes nothing.
 pub fn create(
     v: &mut Volume,
     d: &mut dyn BlockDriver,

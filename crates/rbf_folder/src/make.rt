@@ -31,7 +31,7 @@ use rbf_walk::DirError;
 /// there; `NoCluster` if fewer clusters are free than the directory and its entry need;
 /// `TooManyRuns` if the parent needs a cluster and has all its segments already. Then nothing has
 /// changed. `Device` if an access of the drive fails: then the tree is as it was, and clusters may
-/// be lost.
+/// be lost. In a call that was to be refused for any of these causes it changes nothing.
 pub fn make_dir(
     v: &mut Volume,
     d: &mut dyn BlockDriver,
