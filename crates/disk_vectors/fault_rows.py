@@ -3,6 +3,7 @@
 fault_rows.py rows > ROWS; fault_rows.py expected > EXPECTED. What a row prints is worked out here from
 the order of each operation's sector writes (docs/disk.md), by a model of trees that knows no sectors.
 In the table of faults each of thirteen operations is tried on volumes with 1, 4 and 64 sectors per cluster.
+Calls that are refused leave one state at every fault, and marks in two sectors of the map three.
 """
 import copy
 import sys
@@ -74,17 +75,18 @@ class File:
 
 
 class Volume:
-    """A volume: LSN 0, the map, the root's descriptor at 2 and its entries at 3."""
+    """A volume: LSN 0, the map, the root's descriptor behind it and then the root's entries."""
 
     def __init__(self, k, clusters=CLUSTERS):
         self.k = k
         self.clusters = clusters
         self.total = clusters * k
         self.sectors = {}
-        self.used = {sector // k for sector in range(4)}
+        self.maps = -(-self.map_bytes() // 256)
+        self.used = {sector // k for sector in range(3 + self.maps)}
         self.root = File(0xBF, 0, b"")
         self.root.entries = []
-        self.next = 4 if k == 1 else 1
+        self.next = 3 + self.maps if k == 1 else 1
 
     def take(self, clusters):
         first = self.next * self.k
@@ -110,19 +112,21 @@ class Volume:
         self.root.entries.append((name, file, lsn))
 
     def lay_entries(self, free):
-        entries = [("..", None, 2), (".", None, 2), *self.root.entries] + [None] * free
+        root = 1 + self.maps
+        entries = [("..", None, root), (".", None, root), *self.root.entries] + [None] * free
         data = b"".join(
             name_field(e[0]) + e[2].to_bytes(3, "big") if e else b"\0" * 32 for e in entries
         )
-        self.sectors[2] = self.descriptor(self.root, len(data), [(3, 1)])
-        self.sectors[3] = data
+        self.sectors[root] = self.descriptor(self.root, len(data), [(root + 1, 1)])
+        self.sectors[root + 1] = data
         self.root.entries = [e and e[:2] for e in entries[2:]]
         self.sectors[0] = (
             self.total.to_bytes(3, "big")
             + b"\0"
             + self.map_bytes().to_bytes(2, "big")
             + self.k.to_bytes(2, "big")
-            + b"\0\0\2"
+            + b"\0"
+            + root.to_bytes(2, "big")
         )
         self.mark()
 
@@ -132,7 +136,9 @@ class Volume:
     def mark(self, lost=()):
         top = 8 * self.map_bytes() - 1
         bits = sum(1 << (top - cluster) for cluster in self.used | set(lost))
-        self.sectors[1] = bits.to_bytes(self.map_bytes(), "big")
+        marks = bits.to_bytes(self.map_bytes(), "big")
+        for place in range(self.maps):
+            self.sectors[1 + place] = marks[256 * place : 256 * (place + 1)]
 
     def field(self):
         parts = [str(256 * self.total)]
@@ -147,7 +153,7 @@ class Volume:
 
     def outside(self):
         first = self.sectors[0].ljust(256, b"\0")
-        return f"outside {crc24(first):06x} {crc24(bytes(256)):06x} {crc24(b''):06x}\n"
+        return f"outside {crc24(first):06x} {crc24(bytes(256 * self.maps)):06x} {crc24(b''):06x}\n"
 
     def block(self, answers, root, free, lost, head="outcome"):
         files, directories = root.counts()
@@ -179,9 +185,9 @@ def volume_for_faults(k, free, others):
 class Fault:
     """An operation: its call, what it leaves as the old tree stands, and the tree when it is done."""
 
-    def __init__(self, name, k, call, free=4, others=0):
+    def __init__(self, name, k, call, free=4, others=0, volume=None):
         self.name, self.call = name, call
-        self.volume = volume_for_faults(k, free, others)
+        self.volume = volume or volume_for_faults(k, free, others)
         self.old = self.volume.root
         self.new = copy.deepcopy(self.old)
         self.blocks = []
@@ -298,6 +304,71 @@ def grown(fault, gained):
     fault.stops(fault.old, 0)
     fault.stops(fault.old, gained)
     return fault.ends(gained)
+
+
+def refusals():
+    """Calls that are refused: a fault at any of their accesses changes nothing."""
+    closed = volume_for_faults(1, 4, 0)
+    closed.root.attr = 0xAF
+    closed.sectors[2] = bytes([0xAF]) + closed.sectors[2][1:]
+    for call, error, volume in (
+        ("delete /A 7 r", 214, None),
+        ("delete /X 0 r", 216, None),
+        ("delete /B 7 r", 214, closed),
+        ("create /B 0b 7 r", 218, None),
+        ("create /N 0b 7 r", 214, closed),
+        ("mkdir /A bf 7", 218, None),
+        ("mkdir /N bf 7", 214, closed),
+        ("attr /A 1f 7", 214, None),
+        ("write /A 600 5120*3", 248, None),
+        ("size /A 5720", 248, None),
+    ):
+        fault = Fault(f"a refused {call.split()[0]}", 1, call, volume=volume)
+        fault.stops(fault.old, 0)
+        free = fault.volume.free()
+        fault.blocks.append(fault.volume.block(["ok", f"error {error}"], fault.old, free, 0))
+        yield fault
+    for call, free in (("create /N 0b 7 r", 0), ("mkdir /N bf 7", 1)):
+        fault = Fault(f"a {call.split()[0]} without room", 1, call)
+        lost = fault.volume.free() - free
+        fault.volume.mark(range(CLUSTERS - lost, CLUSTERS))
+        for answer in ("device 245", "error 248"):
+            fault.blocks.append(fault.volume.block(["ok", answer], fault.old, free, lost))
+        yield fault
+
+
+def two_map_sectors():
+    """Clusters of one file on both sides of 2,048: each sector of the map has two or four of those that change."""
+
+    def volume(first, sectors):
+        it = Volume(1, 2112)
+        it.next = first
+        it.add("A", 0x03, 0, pattern(256 * sectors, 5), sectors)
+        it.lay_entries(0)
+        return it
+
+    title = "in two sectors of the map"
+    fault = Fault(f"an append {title}", 1, "write /A 1280 1024*17", volume=volume(2040, 5))
+    fault.new.at("A").data += pattern(1024, 17)
+    fault.new.at("A").date = minute(2)
+    for lost in (0, 2, 4):
+        fault.stops(fault.old, lost)
+    yield fault.ends(4)
+
+    fault = Fault(f"a size downwards {title}", 1, "size /A 1280", volume=volume(2040, 9))
+    fault.new.at("A").data = fault.old.at("A").data[:1280]
+    fault.new.at("A").date = minute(2)
+    fault.stops(fault.old, 0)
+    fault.stops(fault.new, 4, 0)
+    fault.stops(fault.new, 2, -2)
+    yield fault.ends(-4)
+
+    fault = Fault(f"a deletion {title}", 1, "delete /A 0 r", volume=volume(2044, 7))
+    fault.new.entries[0] = None
+    fault.stops(fault.old, 0)
+    fault.stops(fault.new, 8, 0)
+    fault.stops(fault.new, 4, -4)
+    yield fault.ends(-8)
 
 
 def file_growth():
@@ -450,6 +521,11 @@ def all_rows():
         for fault in fault_table(k):
             title = f"{fault.name}, {k} to a cluster"
             yield title, [str(number), fault.volume.field(), "2 245", "mount", fault.call], fault.blocks
+            number += 1
+    for faults in (refusals(), two_map_sectors()):
+        for fault in faults:
+            fields = [str(number), fault.volume.field(), "2 245", "mount", fault.call]
+            yield fault.name, fields, fault.blocks
             number += 1
 
 
