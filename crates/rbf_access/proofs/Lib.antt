@@ -3,3 +3,4 @@ pub mod Mounting
 pub mod Reading
 pub mod ReadPieces
 pub mod ReadFile
+pub mod MapMarks

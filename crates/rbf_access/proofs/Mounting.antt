@@ -1,5 +1,5 @@
 -- What is read of a volume when it is mounted.
-use Rattle.std.proofs.Common.{◌≡◌, ℕ, ◌+◌, ◌-◌, ◌*◌, ◌/◌, ◌<◌, ◌≤◌, ◌==◌, min, Option, Some, None, IsSome, List, [], ◌++◌, length, take, drop, get_or, refl, ap, sym, subst, ◌∙◌, arith, length-take, length-drop, drop-drop, ⊎_elim}
+use Rattle.std.proofs.Common.{◌≡◌, ℕ, ◌+◌, ◌-◌, ◌*◌, ◌/◌, ◌<◌, ◌≤◌, ◌==◌, min, Option, Some, None, List, [], ◌++◌, length, take, drop, get_or, refl, ap, sym, subst, ◌∙◌, arith, length-take, length-drop, drop-drop, ⊎_elim}
 use Rattle.std.proofs.Math.Seq.{take-add}
 use Rattle.std.specs.Int.{div_ceil}
 use Rattle.std.proofs.Math.Nat.{mul-le-mul_left}

@@ -2,3 +2,4 @@ pub mod Drive
 pub mod Faults
 pub mod Mounted
 pub mod Reading
+pub mod MapMarks

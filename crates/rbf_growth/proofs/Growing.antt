@@ -1,12 +1,14 @@
 -- Clusters that have been gained in the kept map, and what the media has of them.
-use Rattle.std.proofs.Common.{◌≡◌, ◌↔◌, ℕ, ◌+◌, ◌-◌, ◌*◌, ◌/◌, ◌<◌, ◌≤◌, Bool, true, false, not, ◌==◌, ◌&&◌, ◌||◌, Option, Some, None, IfSome, Ok, List, length, refl, sym, ap, ◌∙◌, subst, ⊎_elim, arith}
+use Rattle.std.proofs.Common.{◌≡◌, ◌↔◌, ℕ, ◌+◌, ◌-◌, ◌*◌, ◌/◌, ◌<◌, ◌≤◌, Bool, true, false, not, ◌==◌, ◌&&◌, ◌||◌, Option, Some, None, IfSome, Ok, List, length, get_or, min, eq-eqb, slice_index_or, refl, sym, ap, ◌∙◌, subst, ⊎_elim, arith}
 use Rattle.std.specs.Prelude.{if◌then◌else◌, IsErrOf, replicate}
 use mathlib.Core.Path.{fun_ext}
 use Rattle.std.proofs.Math.Nat.{mul-le-mul_left, mul-le-mul_right, le-div_iff_mul-le}
-use Rattle.std.proofs.lemmas.Bool.{both_ways, false_from_ne_true, cases_Bool, or_left, or_right, or_cases, and_parts, cases_lt}
+use Rattle.std.proofs.lemmas.Bool.{both_ways, false_from_ne_true, cases_Bool, or_left, or_right, or_cases, and_parts, and_from, cases_lt}
 use Rattle.std.proofs.lemmas.Bool.Decides.{same_from_decides}
+use Rattle.std.proofs.lemmas.List.Folds.{list_any_at}
+use Rattle.std.proofs.lemmas.List.FromFn.{get_or-map-range_with_len}
 use Rattle.rbf_model.specs.Geometry.{Geometry, image_geometry, sector, map_sectors}
-use Rattle.rbf_model.specs.Segments.{has}
+use Rattle.rbf_model.specs.Segments.{sectors_of, has}
 use Rattle.rbf_model.specs.Space.{is_marked, cluster_count}
 use Rattle.rbf_model.specs.Volume.{DiskVolume, Vol, is_free}
 use Rattle.rbf_model.specs.Writes.{with_lost}
@@ -14,19 +16,23 @@ use Rattle.rbf_model.proofs.Owners.{cluster_positive, mark_sector}
 use Rattle.rbf_map.specs.Map.{ClusterMap, mark}
 use Rattle.rbf_map.proofs.Volume.{free_in_map, free_on_volume}
 use Rattle.rbf_change.specs.Agrees.{KeptVolume, Agrees}
-use Rattle.rbf_change.specs.Calls.{cluster_size, is_free_in}
+use Rattle.rbf_change.specs.Calls.{shape, cluster_size, is_free_in}
 use Rattle.rbf_change.specs.Growth.{uses, with_clusters}
 use Rattle.rbf_change.proofs.LawfulWrites.{shape-image}
 use Rattle.rbf_access.specs.declared.faults.FileFault.{FileFault}
 use Rattle.rbf_access.specs.declared.volume.Volume.{Volume}
+use Rattle.rbf_access.specs.Drive.{DriveCounts, MovesCounts}
+use Rattle.rbf_access.specs.MapMarks.{has_mark_of}
 use Rattle.rbf_access.specs.Mounted.{kept, Represents, IsMounted}
-use Rattle.rbf_growth.specs.Gained.{is_clear, AreSizes, AreApart, SameMap, IsGain, IsTooMany, clusters_from, is_written, IsGivenBack}
-use Rattle.rbf_growth.specs.Marked.{is_new_mark, IsAhead, IsMarkedTo, IsMarkedOn, AllWritten}
-use Rattle.rbf_growth.specs.Grown.{ChangesMap, IsChosen, IsGrown, GrowthEnds}
+use Rattle.rbf_access.proofs.Counting.{counts_most}
+use Rattle.rbf_access.proofs.MapMarks.{below, below_of, below_all, mark_there}
+use Rattle.rbf_growth.specs.Gained.{is_clear, AreSizes, AreApart, SameMap, IsGain, IsTooMany, ArePlaces, cluster_at, clusters_from, is_written, IsGivenBack}
+use Rattle.rbf_growth.specs.Marked.{is_new_mark, IsAhead, IsMarkedTo, IsMarkedOn, AllWritten, AreWanted, unwritten}
+use Rattle.rbf_growth.specs.Grown.{ChangesMap, IsChosen, IsGrown, GrowthEnds, is_gained}
 use Rattle.rbf_growth.proofs.Clear.{clear_is, free_is}
-use Rattle.rbf_growth.proofs.Chosen.{has_free}
+use Rattle.rbf_growth.proofs.Chosen.{has_free, gained_free}
 use Rattle.rbf_growth.proofs.Gaining.{none_written}
-use Rattle.rbf_growth.proofs.Marking.{shape_kept}
+use Rattle.rbf_growth.proofs.Marking.{shape_kept, mark_within}
 
 -- a mounted volume is that of the media, whichever image is named
 pub agrees_on : (volume : Volume) (media : Option (List ℕ)) (v : DiskVolume) → IsMounted volume media → (on : Represents media v) → Agrees (kept volume) on.image
@@ -195,6 +201,50 @@ module _ (volume : Volume) (image : List ℕ) (v : DiskVolume) (vol : Vol image 
         } in
         subst (λ n. IsChosen n count (is_free_in v) before taken) k_is (subst (λ free. IsChosen k count free before taken) free_is_clear one)
 
+    -- the marks of the clusters of these places are in the map, and the places are new ones
+    module _ (first : ℕ) (places : ArePlaces k map1 after first count) (those : clusters_from k after first count ≡ taken) where
+      abbrev cluster_of_place : ℕ → ℕ
+      cluster_of_place i = cluster_at k after (first + i * k)
+
+      place_taken : (i : ℕ) → i < count → cluster_of_place i ≡ get_or taken i 0
+      place_taken i low =
+          sym (ap (λ xs. get_or xs i 0) (sym those) ∙ get_or-map-range_with_len (λ j. cluster_at k after (first + j * k)) 0 count i i 0 low (omega arith))
+
+      place_free : (i : ℕ) → i < count → is_free_in v (cluster_of_place i) ≡ true
+      place_free i low =
+          let counted = gain.counted in
+          let clear = gained_free k (is_clear volume.map) before taken i gain.gained (omega arith) in
+          subst (λ (free : ℕ → Bool). free (cluster_of_place i) ≡ true) free_is_clear (ap (is_clear volume.map) (place_taken i low) ∙ clear)
+
+      in_map_sectors : (i : ℕ) → i < count → cluster_of_place i / 2048 < map_sectors (shape v)
+      in_map_sectors i low =
+          let there = mark_within v image kept1 (cluster_of_place i) ahead (places.in_map i low) in
+          let same : map_sectors (shape v) ≡ map_sectors g = ap map_sectors (shape-image image v vol) in
+          omega arith
+
+      pub wanted_all : AreWanted k after first count (λ p. true) (map_sectors (shape v))
+      wanted_all i low = (in_map_sectors i low, refl)
+
+      pub wanted_gained : ((c : ℕ) → uses (cluster_size v) before c ≡ true → is_free_in v c ≡ false) → AreWanted k after first count (has_mark_of (shape v) (is_gained (cluster_size v) before after)) (map_sectors (shape v))
+      wanted_gained apart i low =
+          let c = cluster_of_place i in
+          let there = places.in_map i low in
+          let sizes = sizes_are in
+          let whole_ones = sizes.whole_ones in
+          let whole = gain.marks.whole in
+          let clusters = gain.marks.clusters in
+          let ahead_clusters = ahead.clusters_are in
+          let same : cluster_count (shape v) ≡ cluster_count g = ap cluster_count (shape-image image v vol) in
+          let fits : (i + 1) * k ≤ count * k = mul-le-mul_right k (omega arith) in
+          let within = places.within in
+          let some = sizes.some in
+          let used : uses k after c ≡ true = list_any_at (λ s. s / k == c) (sectors_of after) (first + i * k) 0 (omega arith) (eq-eqb c c refl) in
+          let new : uses (cluster_size v) before c ≡ false = false_from_ne_true (uses (cluster_size v) before c) (λ h. both_ways (is_free_in v c) (apart c h) (place_free i low)) in (
+            in_map_sectors i low,
+            mark_there (shape v) (is_gained (cluster_size v) before after) c (c / 2048) (omega arith)
+                (and_from (uses (cluster_size v) after c) (not (uses (cluster_size v) before c)) (subst (λ n. uses n after c ≡ true) k_is used) (ap not new)) refl,
+          )
+
     module _ (media now_media : Option (List ℕ)) (is_image : media ≡ Some image) (written : List Bool) (on : IsMarkedOn v image now_media kept1 written) where
       abbrev now : List ℕ
       now = on.now
@@ -317,6 +367,23 @@ module _ (volume : Volume) (image : List ℕ) (v : DiskVolume) (vol : Vol image 
               ∙ sym (ap (λ t. if t then mark map1.bytes c == 1 else is_marked (sector image) c) unwritten ∙ agrees.map.marks c (omega arith)))
               (cases_Bool (has taken c)))
               (cases_Bool (is_written written c))
+
+-- how many calls write wanted marks, of which none has been written
+pub wanted_calls : (f : Option ℕ) (count : ℕ) (wanted : ℕ → Bool) (written : List Bool) (n : ℕ) (s t : DriveCounts) → MovesCounts f (min count (unwritten wanted written n)) s t → MovesCounts f (min count (below wanted n)) s t
+wanted_calls f count wanted written n s t calls =
+    let few = below_of (λ p. wanted p && not (slice_index_or written p false)) wanted n (λ p low h. (and_parts (wanted p) (not (slice_index_or written p false)) h).0) in
+    counts_most f (min count (unwritten wanted written n)) (min count (below wanted n)) s t (omega arith) calls
+
+pub at_most_all : (f : Option ℕ) (count n : ℕ) (s t : DriveCounts) → MovesCounts f (min count (below (λ p. true) n)) s t → MovesCounts f (min count n) s t
+at_most_all f count n s t calls =
+    let few = below_all (λ p. true) n in
+    counts_most f (min count (below (λ p. true) n)) (min count n) s t (omega arith) calls
+
+pub at_most_count : (f : Option ℕ) (count n : ℕ) (s t : DriveCounts) → MovesCounts f (min count n) s t → MovesCounts f count s t
+at_most_count f count n s t calls = counts_most f (min count n) count s t (omega arith) calls
+
+pub at_most_wanted : (f : Option ℕ) (count n : ℕ) (s t : DriveCounts) → MovesCounts f (min count n) s t → MovesCounts f n s t
+at_most_wanted f count n s t calls = counts_most f (min count n) n s t (omega arith) calls
 
 -- a volume is mounted that agrees with the media
 pub mounted_where : (volume : Volume) (media : Option (List ℕ)) (v : DiskVolume) (image : List ℕ) (kv : KeptVolume) → media ≡ Some image → Vol image v → Agrees kv image → kept volume ≡ kv → IsMounted volume media

@@ -156,7 +156,7 @@ module _ (v : DiskVolume) (old now : List ℕ) (kept : KeptVolume) (written : Li
   }
 
 -- the mark of a whole cluster is in the map
-mark_within : (v : DiskVolume) (old : List ℕ) (kept : KeptVolume) (cluster : ℕ) → IsAhead v old kept → cluster < kept.map.whole → 1 + cluster / 2048 ≤ map_sectors (image_geometry old)
+pub mark_within : (v : DiskVolume) (old : List ℕ) (kept : KeptVolume) (cluster : ℕ) → IsAhead v old kept → cluster < kept.map.whole → 1 + cluster / 2048 ≤ map_sectors (image_geometry old)
 mark_within v old kept cluster ahead low =
     let whole = ahead.whole_are in
     let positive = cluster_positive (image_geometry old).cluster ahead.vol.sound.shape.header.clusters in

@@ -1,17 +1,19 @@
 -- A file's clusters that have been taken on the media.
-use Rattle.std.specs.Prelude.{◌≡◌, ◌↔◌, ℕ, ◌<◌, ◌≤◌, ◌||◌, Bool, false, List, length, Option, Some, Result, IfOk, IfSome, IsErrOf}
-use Rattle.rbf_model.specs.Geometry.{image_geometry, sector}
+use Rattle.std.specs.Prelude.{◌≡◌, ◌↔◌, ℕ, ◌<◌, ◌≤◌, ◌&&◌, ◌||◌, min, not, Bool, true, false, List, length, Option, Some, Result, Ok, Err, IfOk, IfSome, IsErrOf, IsNone}
+use Rattle.rbf_model.specs.Geometry.{image_geometry, sector, map_sectors}
 use Rattle.rbf_model.specs.Segments.{has}
 use Rattle.rbf_model.specs.Volume.{DiskVolume, Vol}
 use Rattle.rbf_model.specs.Writes.{with_lost}
 use Rattle.rbf_model.specs.Laws.{IsMapSector}
-use Rattle.rbf_change.specs.Growth.{with_clusters, Gains}
-use Rattle.rbf_change.specs.Calls.{cluster_size, free_total, is_free_in}
+use Rattle.rbf_change.specs.Growth.{uses, with_clusters, Gains}
+use Rattle.rbf_change.specs.Calls.{shape, cluster_size, free_total, is_free_in}
 use Rattle.rbf_change.specs.Faults.{MayLose}
 use Rattle.rbf_change.specs.Tidy.{KeepsMapEnd}
 use Rattle.rbf_access.specs.Faults.{file_fault}
 use Rattle.rbf_access.specs.declared.faults.FileFault.{FileFault}
 use Rattle.rbf_access.specs.declared.faults.FileFault.TheVariants as fault
+use Rattle.rbf_access.specs.MapMarks.{marking_sectors}
+use Rattle.rbf_access.specs.Mounted.{Represents}
 use Rattle.rbf_growth.specs.Gained.{IsTooMany}
 
 -- no sector has changed but those of the map, and no mark past the clusters
@@ -61,3 +63,26 @@ pub record Grows (v : DiskVolume) (count : ℕ) (before : List (ℕ × ℕ)) (ol
   pub runs : IsErrOf result fault.TooManyRuns → IsTooMany (cluster_size v) count (is_free_in v) before
   -- a write of the drive has failed
   pub ends : IfSome (file_fault result) (λ _. GrowthEnds v count old new before)
+
+-- what holds of the volume that the media represents
+abbrev pub OnVolume : Option (List ℕ) → (DiskVolume → Type 0) → Type 0
+OnVolume media fact = (v : DiskVolume) → Represents media v → fact v
+
+-- no free cluster has a sector of the segments
+abbrev pub AreTaken : Option (List ℕ) → List (ℕ × ℕ) → Type 0
+AreTaken media segments =
+    OnVolume media (λ v. (c : ℕ) → uses (cluster_size v) segments c ≡ true → is_free_in v c ≡ false)
+
+-- an error that is no fault of the drive
+abbrev pub IsRefused : Result (List (ℕ × ℕ)) FileFault → Type 0
+IsRefused result = IsNone (file_fault result)
+
+-- a cluster that the second list has, and the first has not
+abbrev pub is_gained : ℕ → List (ℕ × ℕ) → List (ℕ × ℕ) → ℕ → Bool
+is_gained k before after c = uses k after c && not (uses k before c)
+
+-- how many calls of the drive it makes at most: one for each sector of the map that has a mark of a gained cluster;
+-- after a fault no more than there are clusters, and sectors of the map
+abbrev pub growth_calls : DiskVolume → ℕ → List (ℕ × ℕ) → Result (List (ℕ × ℕ)) FileFault → ℕ
+growth_calls v count before (Ok after) = marking_sectors (shape v) (is_gained (cluster_size v) before after)
+growth_calls v count before (Err fault) = min count (map_sectors (shape v))

@@ -1,5 +1,6 @@
 -- How the marks of clusters that have been gained come to the media.
-use Rattle.std.specs.Prelude.{◌≡◌, ℕ, ◌+◌, ◌*◌, ◌/◌, ◌<◌, ◌==◌, ◌&&◌, ◌||◌, Bool, true, List, length, Option, Some, if◌then◌else◌}
+use Rattle.std.specs.Prelude.{◌≡◌, ℕ, ◌+◌, ◌*◌, ◌/◌, ◌<◌, ◌==◌, ◌&&◌, ◌||◌, Bool, true, false, not, List, length, slice_index_or, count_by, Option, Some, if◌then◌else◌}
+use Rattle.std.specs.List.{range_with_len}
 use Rattle.os9_outer.specs.Drive.{with_sector}
 use Rattle.rbf_model.specs.Geometry.{image_geometry, sector, map_sectors}
 use Rattle.rbf_model.specs.Segments.{has}
@@ -10,7 +11,7 @@ use Rattle.rbf_model.specs.Laws.{IsMapSector}
 use Rattle.rbf_map.specs.Map.{ClusterMap, mark, IsSectorOf}
 use Rattle.rbf_change.specs.Agrees.{KeptVolume}
 use Rattle.rbf_change.specs.Calls.{is_free_in}
-use Rattle.rbf_growth.specs.Gained.{is_written}
+use Rattle.rbf_growth.specs.Gained.{is_written, cluster_at}
 
 -- a cluster that is free in the volume and marked in the map
 abbrev pub is_new_mark : DiskVolume → ClusterMap → ℕ → Bool
@@ -48,6 +49,11 @@ pub record IsMarking (kept : KeptVolume) (media : Option (List ℕ)) (written : 
   pub old : List ℕ
   pub on : IsMarkedOn volume old media kept written
 
+-- what holds of the media so still holds of it now, with more of the map's sectors written
+abbrev pub MarksMore : Option (List ℕ) → Option (List ℕ) → KeptVolume → List Bool → List Bool → Type 0
+MarksMore media now kept written written_now =
+    (v : DiskVolume) (old : List ℕ) → IsMarkedOn v old media kept written → IsMarkedOn v old now kept written_now
+
 -- a sector of the map has been written
 pub record WritesMapSector (map : ClusterMap) (n : ℕ) (old new : Option (List ℕ)) : Type 0 where
   pub bytes : List ℕ
@@ -57,3 +63,13 @@ pub record WritesMapSector (map : ClusterMap) (n : ℕ) (old new : Option (List 
 -- the marks of all of these clusters are in sectors that were written
 abbrev pub AllWritten : List ℕ → List Bool → Type 0
 AllWritten clusters written = (c : ℕ) → has clusters c ≡ true → is_written written c ≡ true
+
+-- the marks of the clusters of these places are in wanted ones of the first n sectors of the map
+abbrev pub AreWanted : ℕ → List (ℕ × ℕ) → ℕ → ℕ → (ℕ → Bool) → ℕ → Type 0
+AreWanted k segments first count wanted n =
+    (i : ℕ) → i < count → (cluster_at k segments (first + i * k) / 2048 < n)
+    × (wanted (cluster_at k segments (first + i * k) / 2048) ≡ true)
+
+-- how many of the wanted ones have not been written
+abbrev pub unwritten : (ℕ → Bool) → List Bool → ℕ → ℕ
+unwritten wanted written n = count_by (λ p. wanted p && not (slice_index_or written p false)) (range_with_len 0 n)

@@ -1,11 +1,9 @@
 ghost use Rattle.std.specs.Prelude.{◌≡◌, ◌↔◌, ℕ, ◌<◌, ◌≤◌, true, false, length, None, IfOk, IfSome, OnErr, IsErrOf, IsNone};
 ghost use Rattle.rbf_model.specs.Volume.{DiskVolume};
-ghost use Rattle.rbf_change.specs.Calls.{cluster_size, free_total, is_free_in};
-ghost use Rattle.rbf_change.specs.Growth.{uses};
 ghost use Rattle.rbf_access.specs.Drive.{Counts};
 ghost use Rattle.rbf_access.specs.Faults.{file_fault};
 ghost use Rattle.rbf_access.specs.Mounted.{IsMounted, Represents};
-ghost use Rattle.rbf_growth.specs.Grown.{Grows};
+ghost use Rattle.rbf_growth.specs.Grown.{Grows, OnVolume, AreTaken, IsRefused, growth_calls};
 
 use crate::marks::write_marks;
 use crate::returned::give_back;
@@ -32,16 +30,16 @@ pub fn grow(
 ) -> Result<Segs, FileFault>
     requires mounted { IsMounted volume.old (media d.old) }
     requires few { length segs.now ≤ 48 }
-    requires apart { (v : DiskVolume) → Represents (media d.old) v → (c : ℕ)
-        → uses (cluster_size v) segs.now c ≡ true → is_free_in v c ≡ false }
+    requires apart { AreTaken (media d.old) segs.now }
     ensures grows { (v : DiskVolume) → Represents (media d.old) v
         → Grows v count segs.now (media d.old) (media d.new) result }
     ensures refused { OnErr result (IsNone (file_fault result) → media d.new ≡ media d.old) }
-    ensures refused_calls { OnErr result (IsNone (file_fault result)
-        → drive_calls d.new ≡ drive_calls d.old) }
+    ensures refused_calls { OnErr result (IsRefused result → drive_calls d.new ≡ drive_calls d.old) }
     ensures mounted { IsMounted volume.new (media d.new) }
     ensures counts { Counts ⟦<dyn BlockDriver as BlockDriver>⟧
         (file_fault result) count d.old d.new }
+    ensures marks { OnVolume (media d.old) (λ v. Counts ⟦<dyn BlockDriver as BlockDriver>⟧
+        (file_fault result) (growth_calls v count segs.now result) d.old d.new) }
 {
     let k = volume.ident.cluster;
     let longer = gain(&mut volume.map, k, segs, count)?;

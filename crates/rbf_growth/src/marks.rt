@@ -1,11 +1,10 @@
-ghost use Rattle.std.specs.Prelude.{◌≡◌, ℕ, ◌+◌, ◌*◌, ◌/◌, ◌<◌, ◌≤◌, List, true, false, length, replicate, OnOk, OnErr, IsSome};
+ghost use Rattle.std.specs.Prelude.{◌≡◌, ℕ, ◌+◌, ◌*◌, ◌/◌, ◌<◌, ◌≤◌, min, set, Bool, true, length, if◌then◌else◌, OnOk, OnErr, IsSome};
 ghost use Rattle.os9_outer.specs.Drive.{sector_count};
-ghost use Rattle.rbf_model.specs.Volume.{DiskVolume};
 ghost use Rattle.rbf_access.specs.Drive.{Counts};
 ghost use Rattle.rbf_access.specs.Faults.{file_fault};
 ghost use Rattle.rbf_access.specs.Mounted.{kept};
 ghost use Rattle.rbf_growth.specs.Gained.{ArePlaces, AreSizes, is_written, clusters_from};
-ghost use Rattle.rbf_growth.specs.Marked.{WritesMapSector, IsMarkedOn, IsMarking, AllWritten};
+ghost use Rattle.rbf_growth.specs.Marked.{WritesMapSector, MarksMore, IsMarking, AllWritten, AreWanted, unwritten};
 
 use crate::returned::cluster_of;
 use os9_outer::drive::BlockDriver;
@@ -23,15 +22,15 @@ pub fn write_marks(
 ) -> Result<(), FileFault>
     requires marking { IsMarking (kept volume.old) (media d.old) written.old }
     requires places { ArePlaces volume.old.ident.cluster volume.old.map segs.now first count }
-    ensures on { (v : DiskVolume) (old : List ℕ)
-        → IsMarkedOn v old (media d.old) (kept volume.old) written.old
-        → IsMarkedOn v old (media d.new) (kept volume.old) written.new }
+    ensures on { MarksMore (media d.old) (media d.new) (kept volume.old) written.old written.new }
     ensures all { OnOk result
         (AllWritten (clusters_from volume.old.ident.cluster segs.now first count) written.new) }
     ensures device { OnErr result (IsSome (file_fault result)) }
     ensures volume_kept { kept volume.new ≡ kept volume.old }
-    ensures counts { Counts ⟦<dyn BlockDriver as BlockDriver>⟧
-        (file_fault result) count d.old d.new }
+    ensures counts { (wanted : ℕ → Bool) (n : ℕ)
+        → AreWanted volume.old.ident.cluster segs.now first count wanted n
+        → Counts ⟦<dyn BlockDriver as BlockDriver>⟧ (file_fault result)
+        (min count (unwritten wanted written.old n)) d.old d.new }
 {
     let k = volume.ident.cluster;
     for i in 0..count {
@@ -50,14 +49,13 @@ fn write_mark(
 ) -> Result<(), FileFault>
     requires marking { IsMarking (kept volume.old) (media d.old) written.old }
     requires in_map { cluster < volume.old.map.whole }
-    ensures on { (v : DiskVolume) (old : List ℕ)
-        → IsMarkedOn v old (media d.old) (kept volume.old) written.old
-        → IsMarkedOn v old (media d.new) (kept volume.old) written.new }
+    ensures on { MarksMore (media d.old) (media d.new) (kept volume.old) written.old written.new }
     ensures there { OnOk result (is_written written.new cluster ≡ true) }
-    ensures still { (c : ℕ) → is_written written.old c ≡ true → is_written written.new c ≡ true }
+    ensures marked { OnOk result (written.new ≡ set written.old (cluster / 2048) true) }
     ensures device { OnErr result (IsSome (file_fault result)) }
     ensures volume_kept { kept volume.new ≡ kept volume.old }
-    ensures counts { Counts ⟦<dyn BlockDriver as BlockDriver>⟧ (file_fault result) 1 d.old d.new }
+    ensures counts { Counts ⟦<dyn BlockDriver as BlockDriver>⟧ (file_fault result)
+        (if is_written written.old cluster then 0 else 1) d.old d.new }
 {
     let place = cluster / 2048;
     if written[place as usize] {

@@ -1,5 +1,5 @@
 -- A file that is made longer: what the call answers is what the laying of no bytes at its new end answers.
-use Rattle.std.proofs.Common.{◌≡◌, ℕ, ◌+◌, ◌-◌, ◌*◌, ◌/◌, ◌<◌, ◌≤◌, max, min, Bool, true, false, not, ◌==◌, ◌&&◌, Option, Some, None, IsSome, Result, Ok, Err, List, [], length, take, refl, sym, ap, ◌∙◌, subst, inl, inr, arith, eqb-true}
+use Rattle.std.proofs.Common.{◌≡◌, ℕ, ◌+◌, ◌-◌, ◌<◌, ◌≤◌, max, Bool, true, false, not, ◌==◌, ◌&&◌, Option, Some, None, IsSome, Result, Ok, Err, List, [], length, refl, sym, ap, ◌∙◌, subst, inr, arith, eqb-true}
 use Rattle.std.specs.Prelude.{if◌then◌else◌, nat_lt}
 use Rattle.std.proofs.lemmas.Bool.{both_ways, cond-true, cond-false, false_from_ne_true, ltb-true, lt-ltb}
 use Rattle.std.proofs.lemmas.List.{take_all}
@@ -26,7 +26,7 @@ use Rattle.rbf_access.proofs.ReadFile.{room_for}
 use Rattle.rbf_files.proofs.FilledFile.{put_same_file}
 use Rattle.rbf_write.specs.Laying.{Laying, laid_contents, laid_file, laying_needs, IsTidyChange, AnswersLaying}
 use Rattle.rbf_write.specs.Outcomes.{laying_calls}
-use Rattle.rbf_write.specs.Sizes.{Sizing, size_needs, giving_up, given_up, IsTidySize, IsSized, SizeIsEnded, AnswersSize, size_calls}
+use Rattle.rbf_write.specs.Sizes.{Sizing, size_needs, giving_up, given_up, IsTidySize, IsSized, AnswersSize, size_calls}
 use Rattle.rbf_write.proofs.Contents.{put_none, length-extended}
 use Rattle.rbf_write.proofs.Laid.{same_volume, no_clusters}
 use Rattle.rbf_write.proofs.Whole.{nothing_changed}

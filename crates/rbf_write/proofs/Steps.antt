@@ -1,6 +1,6 @@
 -- The steps of a call that lays bytes over a file, each with what the call answers there.
 use Rattle.std.proofs.Common.{◌≡◌, ℕ, ◌+◌, ◌*◌, ◌<◌, ◌≤◌, min, Bool, true, false, ◌==◌, Option, Some, None, IsSome, Ok, Err, List, [], length, refl, sym, ap, ◌∙◌, subst, ⊎_elim, arith}
-use Rattle.std.specs.Prelude.{IsNone, map}
+use Rattle.std.specs.Prelude.{IsNone, map, nat_lt, if◌then◌else◌}
 use Rattle.std.specs.List.{range_with_len}
 use Rattle.std.proofs.Math.Nat.{mul-le-mul_left, mul-le-mul_right}
 use Rattle.std.proofs.lemmas.Bool.{both_ways, false_from_ne_true, cases_lt}
@@ -11,7 +11,7 @@ use Rattle.std.proofs.lemmas.List.Sums.{length-filter, count_by-le-length, prefi
 use Rattle.os9_base.specs.declared.registers.TimePacket.{TimePacket}
 use Rattle.os9_outer.specs.Drive.{sector_at}
 use Rattle.rbf_model.specs.Fields.{segments_field, segment_field, has_sectors}
-use Rattle.rbf_model.specs.Geometry.{Geometry, image_geometry, sector}
+use Rattle.rbf_model.specs.Geometry.{Geometry, image_geometry, sector, map_sectors}
 use Rattle.rbf_model.specs.Segments.{sectors_of}
 use Rattle.rbf_model.specs.File.{DiskFile, is_directory, segment_bytes}
 use Rattle.rbf_model.specs.Space.{has_cluster}
@@ -32,10 +32,11 @@ use Rattle.rbf_access.specs.Drive.{DriveCounts, MovesCounts}
 use Rattle.rbf_access.specs.Faults.{file_fault}
 use Rattle.rbf_access.specs.Mounted.{kept, Represents, IsMounted, HasFile}
 use Rattle.rbf_access.specs.Reading.{IsFdOf}
-use Rattle.rbf_access.proofs.Counting.{counts_most, counts_then}
+use Rattle.rbf_access.proofs.Counting.{counts_most, counts_then, counts_within}
+use Rattle.rbf_access.proofs.MapMarks.{marking_most}
 use Rattle.rbf_access.proofs.Mounting.{free_total_is}
 use Rattle.rbf_access.proofs.Reading.{mounted_still}
-use Rattle.rbf_growth.specs.Grown.{IsGrown, Grows}
+use Rattle.rbf_growth.specs.Grown.{IsGrown, Grows, is_gained, growth_calls}
 use Rattle.rbf_growth.proofs.Chosen.{length-with}
 use Rattle.rbf_growth.proofs.Growing.{agrees_on, sizes_are, k_is, enough_free}
 use Rattle.rbf_files.specs.Laid.{IsDataOf, IsLaid, IsPartLaid, MayLay, Fills, laid_bytes}
@@ -171,22 +172,39 @@ module _ (before : Option (List ℕ)) (loaded : Loaded) (at : ℕ) (from : List 
           growth_fault v old laying count before after fault needs_on count_on on is (subst (λ xs. Grows v count xs before after (Err fault)) fd.segments_are grows) refused
 
       -- how many calls of the drive have been made
-      calls_are : count + 2 * sector_span (min loaded.file.size at) end + 1 ≡ laying_calls v old at end
-      calls_are = ap (λ m. m + 2 * sector_span (min loaded.file.size at) end + 1) count_on ∙ ap (λ s. clusters_needed (cluster_size v) old.segments end + 2 * sector_span (min s at) end + 1) fd.size_is
+      abbrev marks : ℕ
+      marks = min count (map_sectors (shape v))
 
-      pub calls_growth : (f : Option ℕ) (s t : DriveCounts) → MovesCounts f count s t → MovesCounts f (laying_calls v old at end) s t
-      calls_growth f s t one = let all = calls_are in counts_most f count (laying_calls v old at end) s t (omega arith) one
+      abbrev last_calls : ℕ
+      last_calls = if nat_lt loaded.file.size end then 1 else 0
 
-      pub calls_fill : (f : Option ℕ) (s t u : DriveCounts) → MovesCounts None count s t → MovesCounts f (2 * sector_span (min loaded.file.size at) end) t u → MovesCounts f (laying_calls v old at end) s u
-      calls_fill f s t u one other =
+      calls_are : marks + 2 * sector_span (min loaded.file.size at) end + last_calls ≡ laying_calls v old at end
+      calls_are = ap (λ m. min m (map_sectors (shape v)) + 2 * sector_span (min loaded.file.size at) end + last_calls) count_on
+          ∙ ap (λ s. min (clusters_needed (cluster_size v) old.segments end) (map_sectors (shape v)) + 2 * sector_span (min s at) end + (if nat_lt s end then 1 else 0)) fd.size_is
+
+      pub calls_growth : (f : Option ℕ) (s t : DriveCounts) → MovesCounts f marks s t → MovesCounts f (laying_calls v old at end) s t
+      calls_growth f s t one = let all = calls_are in counts_most f marks (laying_calls v old at end) s t (omega arith) one
+
+      -- the growth has written each sector of the map once
+      grown_calls : (longer : List (ℕ × ℕ)) (s t : DriveCounts) → MovesCounts None count s t → MovesCounts None (growth_calls v count loaded.file.segs (Ok longer)) s t → MovesCounts None marks s t
+      grown_calls longer s t one marked =
+          let few = one.calls_made in
+          let sectors = marked.calls_made in
+          let most = marking_most (shape v) (is_gained (cluster_size v) loaded.file.segs longer) in
+          counts_within None count marks s t (omega arith) one
+
+      pub calls_fill : (longer : List (ℕ × ℕ)) (f : Option ℕ) (s t u : DriveCounts) → MovesCounts None count s t → MovesCounts None (growth_calls v count loaded.file.segs (Ok longer)) s t
+          → MovesCounts f (2 * sector_span (min loaded.file.size at) end) t u → MovesCounts f (laying_calls v old at end) s u
+      calls_fill longer f s t u one marked other =
           let all = calls_are in
           let span = 2 * sector_span (min loaded.file.size at) end in
-          counts_most f (count + span) (laying_calls v old at end) s u (omega arith) (counts_then f count span s t u one other)
+          counts_most f (marks + span) (laying_calls v old at end) s u (omega arith) (counts_then f marks span s t u (grown_calls longer s t one marked) other)
 
-      pub calls_finish : (f : Option ℕ) (s t u w : DriveCounts) → MovesCounts None count s t → MovesCounts None (2 * sector_span (min loaded.file.size at) end) t u → MovesCounts f 1 u w → MovesCounts f (laying_calls v old at end) s w
-      calls_finish f s t u w one other last =
+      pub calls_finish : (longer : List (ℕ × ℕ)) (f : Option ℕ) (s t u w : DriveCounts) → MovesCounts None count s t → MovesCounts None (growth_calls v count loaded.file.segs (Ok longer)) s t
+          → MovesCounts None (2 * sector_span (min loaded.file.size at) end) t u → MovesCounts f last_calls u w → MovesCounts f (laying_calls v old at end) s w
+      calls_finish longer f s t u w one marked other last =
           let span = 2 * sector_span (min loaded.file.size at) end in
-          subst (λ m. MovesCounts f m s w) calls_are (counts_then f (count + span) 1 s u w (counts_then None count span s t u one other) last)
+          subst (λ m. MovesCounts f m s w) calls_are (counts_then f (marks + span) last_calls s u w (counts_then None marks span s t u (grown_calls longer s t one marked) other) last)
 
     -- the clusters have been taken
     module _ (mid : Option (List ℕ)) (longer : List (ℕ × ℕ)) (grows : (v : DiskVolume) → Represents before v → Grows v count loaded.file.segs before mid (Ok longer)) where

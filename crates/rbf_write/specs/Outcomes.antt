@@ -1,10 +1,11 @@
 -- What a write answers, and what it leaves then.
-use Rattle.std.specs.Prelude.{◌≡◌, ℕ, ◌+◌, ◌*◌, ◌<◌, ◌≤◌, ◌==◌, min, Option, List, [], length, Result, Ok, Err, if◌then◌else◌, IsNone}
+use Rattle.std.specs.Prelude.{◌≡◌, ℕ, ◌+◌, ◌*◌, ◌<◌, ◌≤◌, ◌==◌, nat_lt, min, Option, List, [], length, Result, Ok, Err, if◌then◌else◌, IsNone}
+use Rattle.rbf_model.specs.Geometry.{map_sectors}
 use Rattle.rbf_model.specs.File.{DiskFile}
 use Rattle.rbf_model.specs.Volume.{DiskVolume}
 use Rattle.rbf_change.specs.Contents.{written, sector_span}
 use Rattle.rbf_change.specs.Growth.{with_clusters, clusters_needed, IsOneTooMany}
-use Rattle.rbf_change.specs.Calls.{cluster_size, is_free_in, free_total, Writes}
+use Rattle.rbf_change.specs.Calls.{shape, cluster_size, is_free_in, free_total, Writes}
 use Rattle.rbf_change.specs.Faults.{WriteEnds}
 use Rattle.rbf_access.specs.declared.faults.FileFault.{FileFault}
 use Rattle.rbf_access.specs.declared.faults.FileFault.TheVariants.{Device, NoCluster, TooManyRuns}
@@ -63,10 +64,12 @@ abbrev pub IsRefusal : Result (Unit {0}) FileFault → Type 0
 IsRefusal result = IsNone (file_fault result)
 
 -- how many calls of the drive a write of bytes up to an end makes at most behind that of the descriptor: one for each
--- sector of the map that gains a mark, two for each sector of bytes, and one for the descriptor
+-- sector of the map, but no more than clusters are needed; two for each sector of bytes; and one for the descriptor, if
+-- the file's size changes
 abbrev pub laying_calls : DiskVolume → DiskFile → ℕ → ℕ → ℕ
 laying_calls v file at end =
-    clusters_needed (cluster_size v) file.segments end + 2 * sector_span (min (length file.contents) at) end + 1
+    min (clusters_needed (cluster_size v) file.segments end) (map_sectors (shape v))
+    + 2 * sector_span (min (length file.contents) at) end + (if nat_lt (length file.contents) end then 1 else 0)
 
 -- and a whole write: one more, and none if there are no bytes
 abbrev pub write_calls : DiskVolume → DiskFile → ℕ → ℕ → ℕ

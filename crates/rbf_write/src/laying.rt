@@ -1,4 +1,4 @@
-ghost use Rattle.std.specs.Prelude.{◌≡◌, ℕ, ◌+◌, ◌*◌, ◌^◌, ◌<◌, ◌≤◌, length, min, OnOk, OnErr, IsSome};
+ghost use Rattle.std.specs.Prelude.{◌≡◌, ℕ, ◌+◌, ◌*◌, ◌^◌, ◌<◌, ◌≤◌, nat_lt, length, min, if◌then◌else◌, OnOk, OnErr, IsSome};
 ghost use Rattle.os9_outer.specs.Drive.{sector_count};
 ghost use Rattle.rbf_model.specs.Fields.{segments_field};
 ghost use Rattle.rbf_model.specs.Segments.{sectors_of};
@@ -78,7 +78,8 @@ fn finish(
     ensures later { OnErr result (loaded.now.file.size < end) }
     ensures device { OnErr result (IsSome (file_fault result)) }
     ensures volume_kept { kept volume.new ≡ kept volume.old }
-    ensures counts { Counts ⟦<dyn BlockDriver as BlockDriver>⟧ (file_fault result) 1 d.old d.new }
+    ensures counts { Counts ⟦<dyn BlockDriver as BlockDriver>⟧ (file_fault result)
+        (if nat_lt loaded.now.file.size end then 1 else 0) d.old d.new }
 {
     if end <= loaded.file.size {
         return Ok(());

@@ -1,13 +1,17 @@
-use Rattle.std.proofs.Common.{◌≡◌, false, refl, ap, sym, subst, arith, rules}
+use Rattle.std.proofs.Common.{◌≡◌, true, false, replicate, refl, ap, sym, subst, arith, rules}
 use Rattle.std.proofs.lemmas.Bool.{both_ways}
 use Rattle.std.proofs.lemmas.Result.{err_from_is_err_and}
 use Rattle.rbf_change.specs.Agrees.{KeptVolume}
 use Rattle.rbf_access.specs.declared.faults.FileFault.TheVariants as file
+use Rattle.rbf_model.specs.Geometry.{map_sectors}
+use Rattle.rbf_change.specs.Calls.{shape, cluster_size}
+use Rattle.rbf_access.specs.MapMarks.{has_mark_of}
 use Rattle.rbf_access.proofs.Mounting.{free_total_is}
+use Rattle.rbf_growth.specs.Grown.{is_gained}
 use Rattle.rbf_growth.specs.Gained.{ArePlaces, AreSizes, IsGivenBack}
 use Rattle.rbf_growth.specs.Marked.{AllWritten}
 use Rattle.rbf_growth.proofs.Gaining.{places_gained, those_gained}
-use Rattle.rbf_growth.proofs.Growing.{agrees_on, mounted_same, sizes_are, apart_is, too_many_is, marked_fresh, grown, grown_agrees, ended, back_agrees, mounted_where, full_is, if_some, sizes_after, enough_free}
+use Rattle.rbf_growth.proofs.Growing.{agrees_on, mounted_same, sizes_are, apart_is, too_many_is, marked_fresh, grown, grown_agrees, ended, back_agrees, mounted_where, full_is, if_some, sizes_after, enough_free, wanted_all, wanted_gained, wanted_calls, at_most_all, at_most_count, at_most_wanted}
 use Rattle.rbf_growth.proofs.growth.grow.Goals as goal
 
 pub gain-requires-clause-sizes : goal.gain-requires-clause-sizes
@@ -120,3 +124,45 @@ returns-in-Err-clause-mounted g c =
     c.give_back.new.map c.sectors-first.result those
     (subst (λ n. IsGivenBack c.args.volume.now.ident.cluster c.in_ok-longer.longer c.sectors-first.result c.args.count c.write_marks.new.written n c.give_back.new.map) same c.give_back.ensures))
     (ap (λ s. record { sizes = s; map = c.give_back.new.map }) sizes_same)
+
+pub returns-in-Ok-clause-counts : goal.returns-in-Ok-clause-counts
+returns-in-Ok-clause-counts g c =
+    let m = c.requires.mounted in
+    let agrees = m.agrees in
+    let sizes = sizes_are c.args.volume.now m.on.image m.content m.on.vol agrees in
+    let places = places_gained c.args.volume.now.ident.cluster c.args.count c.args.volume.now.map c.gain.new.map c.args.segs.now c.in_ok-longer.longer c.in_ok-longer.ensures.ok sizes.some sizes.sectors
+    (enough_free _ _ _ _ c.in_ok-longer.ensures.full) c.sectors-first.result c.sectors-first.ensures.count c.sectors-first.ensures.few in
+    let those = those_gained c.args.volume.now.ident.cluster c.args.count c.args.volume.now.map c.gain.new.map c.args.segs.now c.in_ok-longer.longer c.in_ok-longer.ensures.ok sizes.some c.sectors-first.result c.sectors-first.ensures.count in
+    at_most_count _ _ _ _ _ (wanted_calls _ c.args.count (λ p. true) (replicate 256 false) (map_sectors (shape m.content)) _ _
+    (c.in-Ok.ensures.counts (λ p. true) (map_sectors (shape m.content)) (wanted_all c.args.volume.now m.on.image m.content m.on.vol agrees c.gain.new.map c.args.count c.args.segs.now c.in_ok-longer.longer c.in_ok-longer.ensures.ok c.sectors-first.result places those)))
+
+pub returns-in-Ok-clause-marks : goal.returns-in-Ok-clause-marks
+returns-in-Ok-clause-marks g c v on =
+    let agrees = agrees_on c.args.volume.now _ v c.requires.mounted on in
+    let sizes = sizes_are c.args.volume.now on.image v on.vol agrees in
+    let places = places_gained c.args.volume.now.ident.cluster c.args.count c.args.volume.now.map c.gain.new.map c.args.segs.now c.in_ok-longer.longer c.in_ok-longer.ensures.ok sizes.some sizes.sectors
+    (enough_free _ _ _ _ c.in_ok-longer.ensures.full) c.sectors-first.result c.sectors-first.ensures.count c.sectors-first.ensures.few in
+    let those = those_gained c.args.volume.now.ident.cluster c.args.count c.args.volume.now.map c.gain.new.map c.args.segs.now c.in_ok-longer.longer c.in_ok-longer.ensures.ok sizes.some c.sectors-first.result c.sectors-first.ensures.count in
+    at_most_wanted _ c.args.count _ _ _ (wanted_calls _ c.args.count (has_mark_of (shape v) (is_gained (cluster_size v) c.args.segs.now c.in_ok-longer.longer)) (replicate 256 false) (map_sectors (shape v)) _ _
+    (c.in-Ok.ensures.counts (has_mark_of (shape v) (is_gained (cluster_size v) c.args.segs.now c.in_ok-longer.longer)) (map_sectors (shape v)) (wanted_gained c.args.volume.now on.image v on.vol agrees c.gain.new.map c.args.count c.args.segs.now c.in_ok-longer.longer c.in_ok-longer.ensures.ok c.sectors-first.result places those (c.requires.apart v on))))
+
+pub returns-in-Err-clause-counts : goal.returns-in-Err-clause-counts
+returns-in-Err-clause-counts g c =
+    let m = c.requires.mounted in
+    let agrees = m.agrees in
+    let sizes = sizes_are c.args.volume.now m.on.image m.content m.on.vol agrees in
+    let places = places_gained c.args.volume.now.ident.cluster c.args.count c.args.volume.now.map c.gain.new.map c.args.segs.now c.in_ok-longer.longer c.in_ok-longer.ensures.ok sizes.some sizes.sectors
+    (enough_free _ _ _ _ c.in_ok-longer.ensures.full) c.sectors-first.result c.sectors-first.ensures.count c.sectors-first.ensures.few in
+    let those = those_gained c.args.volume.now.ident.cluster c.args.count c.args.volume.now.map c.gain.new.map c.args.segs.now c.in_ok-longer.longer c.in_ok-longer.ensures.ok sizes.some c.sectors-first.result c.sectors-first.ensures.count in
+    at_most_count _ _ _ _ _ (wanted_calls _ c.args.count (λ p. true) (replicate 256 false) (map_sectors (shape m.content)) _ _
+    (c.in-Err.ensures.counts (λ p. true) (map_sectors (shape m.content)) (wanted_all c.args.volume.now m.on.image m.content m.on.vol agrees c.gain.new.map c.args.count c.args.segs.now c.in_ok-longer.longer c.in_ok-longer.ensures.ok c.sectors-first.result places those)))
+
+pub returns-in-Err-clause-marks : goal.returns-in-Err-clause-marks
+returns-in-Err-clause-marks g c v on =
+    let agrees = agrees_on c.args.volume.now _ v c.requires.mounted on in
+    let sizes = sizes_are c.args.volume.now on.image v on.vol agrees in
+    let places = places_gained c.args.volume.now.ident.cluster c.args.count c.args.volume.now.map c.gain.new.map c.args.segs.now c.in_ok-longer.longer c.in_ok-longer.ensures.ok sizes.some sizes.sectors
+    (enough_free _ _ _ _ c.in_ok-longer.ensures.full) c.sectors-first.result c.sectors-first.ensures.count c.sectors-first.ensures.few in
+    let those = those_gained c.args.volume.now.ident.cluster c.args.count c.args.volume.now.map c.gain.new.map c.args.segs.now c.in_ok-longer.longer c.in_ok-longer.ensures.ok sizes.some c.sectors-first.result c.sectors-first.ensures.count in
+    at_most_all _ _ _ _ _ (wanted_calls _ c.args.count (λ p. true) (replicate 256 false) (map_sectors (shape v)) _ _
+    (c.in-Err.ensures.counts (λ p. true) (map_sectors (shape v)) (wanted_all c.args.volume.now on.image v on.vol agrees c.gain.new.map c.args.count c.args.segs.now c.in_ok-longer.longer c.in_ok-longer.ensures.ok c.sectors-first.result places those)))

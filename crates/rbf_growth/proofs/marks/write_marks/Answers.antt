@@ -1,9 +1,10 @@
 use Rattle.std.proofs.Common.{◌≡◌, ◌+◌, ◌*◌, ◌≤◌, ap, ◌∙◌, subst, arith}
 use Rattle.std.proofs.Math.Nat.{mul-le-mul_right}
+use Rattle.std.proofs.lemmas.Result.{err_from_is_err_and}
 use Rattle.rbf_change.specs.Agrees.{KeptVolume}
 use Rattle.rbf_growth.specs.Gained.{cluster_at, clusters_from}
 use Rattle.rbf_growth.specs.Marked.{AllWritten}
-use Rattle.rbf_growth.proofs.Written.{none_marked, still_marking, on_at_fault, marked_more}
+use Rattle.rbf_growth.proofs.Written.{none_marked, still_marking, on_at_fault, marked_more, calls_at_fault, calls_of_all}
 use Rattle.rbf_growth.proofs.marks.write_marks.Goals as goal
 
 pub overflow_mul-i : goal.overflow_mul-i
@@ -39,10 +40,20 @@ returns-in_err-write_mark-clause-on g c = on_at_fault _ _ _ _ _ _ _ _ _ _ _ _ c.
 pub loop-i-preserved : goal.loop-i-preserved
 loop-i-preserved g c =
     let step = c.in_ok-write_mark.ensures in
-    marked_more _ _ _ _ _ _ _ _ _ _ _ _ c.loop-i.invariant c.cluster_of-cluster.result _ _ _ _ step.on step.there step.still
+    marked_more _ _ _ _ _ _ _ _ _ _ _ _ c.loop-i.invariant c.cluster_of-cluster.result _ _ _ _ step.on step.there step.marked
     (c.cluster_of-cluster.ensures ∙ ap (λ k. cluster_at c.args.volume.now.ident.cluster c.args.segs.now (c.args.first + c.loop-i.i * k)) c.from.ensures) step.volume_kept step.counts
 
 pub returns-clause-all : goal.returns-clause-all
 returns-clause-all g c =
     let end : c.loop-i.i ≡ c.args.count = omega arith in
     subst (λ n. AllWritten (clusters_from c.args.volume.now.ident.cluster c.args.segs.now c.args.first n) c.loop-i.written) end c.loop-i.invariant.all
+
+pub returns-in_err-write_mark-clause-counts : goal.returns-in_err-write_mark-clause-counts
+returns-in_err-write_mark-clause-counts g c =
+    let p = err_from_is_err_and c.from_residual.result c.from_residual.ensures.1 in
+    rw (p.1, p.2)
+    (calls_at_fault _ _ _ _ _ _ _ _ _ _ _ _ c.loop-i.invariant _ c.cluster_of-cluster.result c.args.count _ (omega arith)
+    (c.cluster_of-cluster.ensures ∙ ap (λ k. cluster_at c.args.volume.now.ident.cluster c.args.segs.now (c.args.first + c.loop-i.i * k)) c.from.ensures) c.in_err-write_mark.ensures.counts)
+
+pub returns-clause-counts : goal.returns-clause-counts
+returns-clause-counts g c = calls_of_all _ _ _ _ _ _ _ _ _ _ _ _ c.loop-i.invariant c.args.count (omega arith)

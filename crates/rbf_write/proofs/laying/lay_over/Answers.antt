@@ -21,7 +21,7 @@ returns-in_err-longer-clause-answer g c v file on is =
 pub returns-in_err-longer-clause-counts : goal.returns-in_err-longer-clause-counts
 returns-in_err-longer-clause-counts g c v file on is =
     let p = err_from_is_err_and c.from_residual.result c.from_residual.ensures.1 in
-    rw (p.1, p.2) (calls_growth _ c.args.loaded.now c.args.at c.args.from.now c.args.now c.requires.loaded c.requires.file c.args.volume.now c.requires.mounted c.in-Some.count c.in-Some.ensures v file on is _ _ _ c.in_err-longer.ensures.counts)
+    rw (p.1, p.2) (calls_growth _ c.args.loaded.now c.args.at c.args.from.now c.args.now c.requires.loaded c.requires.file c.args.volume.now c.requires.mounted c.in-Some.count c.in-Some.ensures v file on is _ _ _ (c.in_err-longer.ensures.marks v on))
 
 pub fill-requires-clause-may : goal.fill-requires-clause-may
 fill-requires-clause-may g c = may_lay _ c.args.loaded.now c.args.at c.args.from.now c.args.now c.requires.loaded c.requires.file c.args.volume.now c.requires.mounted c.in-Some.count c.in-Some.ensures _ c.in_ok-longer.longer c.in_ok-longer.ensures.grows c.requires.some
@@ -34,7 +34,7 @@ returns-in_err-fill-clause-answer g c v file on is =
 pub returns-in_err-fill-clause-counts : goal.returns-in_err-fill-clause-counts
 returns-in_err-fill-clause-counts g c v file on is =
     let p = err_from_is_err_and c.from_residual-in_err-fill.result c.from_residual-in_err-fill.ensures.1 in
-    rw (p.1, p.2) (calls_fill _ c.args.loaded.now c.args.at c.args.from.now c.args.now c.requires.loaded c.requires.file c.args.volume.now c.requires.mounted c.in-Some.count c.in-Some.ensures v file on is _ _ _ _ c.in_ok-longer.ensures.counts c.in_err-fill.ensures.counts)
+    rw (p.1, p.2) (calls_fill _ c.args.loaded.now c.args.at c.args.from.now c.args.now c.requires.loaded c.requires.file c.args.volume.now c.requires.mounted c.in-Some.count c.in-Some.ensures v file on is c.in_ok-longer.longer _ _ _ _ c.in_ok-longer.ensures.counts (c.in_ok-longer.ensures.marks v on) c.in_err-fill.ensures.counts)
 
 pub finish-requires-clause-number : goal.finish-requires-clause-number
 finish-requires-clause-number g c = number_on _ c.args.loaded.now.number (file_after _ c.args.loaded.now c.args.at c.args.from.now c.args.now c.requires.loaded c.requires.file c.args.volume.now c.requires.mounted c.in-Some.count c.in-Some.ensures _ c.in_ok-longer.longer c.in_ok-longer.ensures.grows _ c.in_ok-fill.ensures.fills)
@@ -53,7 +53,7 @@ returns-in_err-finish-clause-mounted g c = mounted_still _ _ _ _ c.in_err-finish
 pub returns-in_err-finish-clause-counts : goal.returns-in_err-finish-clause-counts
 returns-in_err-finish-clause-counts g c v file on is =
     let p = err_from_is_err_and c.from_residual-in_err-finish.result c.from_residual-in_err-finish.ensures.1 in
-    rw (p.1, p.2) (calls_finish _ c.args.loaded.now c.args.at c.args.from.now c.args.now c.requires.loaded c.requires.file c.args.volume.now c.requires.mounted c.in-Some.count c.in-Some.ensures v file on is _ _ _ _ _ c.in_ok-longer.ensures.counts c.in_ok-fill.ensures.counts c.in_err-finish.ensures.counts)
+    rw (p.1, p.2) (calls_finish _ c.args.loaded.now c.args.at c.args.from.now c.args.now c.requires.loaded c.requires.file c.args.volume.now c.requires.mounted c.in-Some.count c.in-Some.ensures v file on is c.in_ok-longer.longer _ _ _ _ _ c.in_ok-longer.ensures.counts (c.in_ok-longer.ensures.marks v on) c.in_ok-fill.ensures.counts c.in_err-finish.ensures.counts)
 
 pub returns-clause-answer : goal.returns-clause-answer
 returns-clause-answer g c v file on is = done_answers _ c.args.loaded.now c.args.at c.args.from.now c.args.now c.requires.loaded c.requires.file c.args.volume.now c.requires.mounted c.in-Some.count c.in-Some.ensures _ c.in_ok-longer.longer c.in_ok-longer.ensures.grows _ c.in_ok-fill.ensures.fills _ c.in_ok-finish.ensures.done v file on is
@@ -62,7 +62,7 @@ pub returns-clause-mounted : goal.returns-clause-mounted
 returns-clause-mounted g c = done_mounted _ c.args.loaded.now c.args.at c.args.from.now c.args.now c.requires.loaded c.requires.file c.args.volume.now c.requires.mounted c.in-Some.count c.in-Some.ensures _ c.in_ok-longer.longer c.in_ok-longer.ensures.grows _ c.in_ok-fill.ensures.fills _ c.in_ok-finish.ensures.done _ _ c.in_ok-fill.ensures.mounted c.in_ok-finish.ensures.volume_kept
 
 pub returns-clause-counts : goal.returns-clause-counts
-returns-clause-counts g c v file on is = calls_finish _ c.args.loaded.now c.args.at c.args.from.now c.args.now c.requires.loaded c.requires.file c.args.volume.now c.requires.mounted c.in-Some.count c.in-Some.ensures v file on is _ _ _ _ _ c.in_ok-longer.ensures.counts c.in_ok-fill.ensures.counts c.in_ok-finish.ensures.counts
+returns-clause-counts g c v file on is = calls_finish _ c.args.loaded.now c.args.at c.args.from.now c.args.now c.requires.loaded c.requires.file c.args.volume.now c.requires.mounted c.in-Some.count c.in-Some.ensures v file on is c.in_ok-longer.longer _ _ _ _ _ c.in_ok-longer.ensures.counts (c.in_ok-longer.ensures.marks v on) c.in_ok-fill.ensures.counts c.in_ok-finish.ensures.counts
 
 pub returns-in_err-longer-clause-calls_kept : goal.returns-in_err-longer-clause-calls_kept
 returns-in_err-longer-clause-calls_kept g c =
