@@ -13,10 +13,13 @@ use Rattle.rbf_change.specs.Agrees.{KeptVolume, Agrees}
 use Rattle.rbf_change.specs.Calls.{shape}
 use Rattle.rbf_change.proofs.LawfulWrites.{shape-image}
 use Rattle.rbf_access.specs.Drive.{DriveCounts, MovesCounts}
-use Rattle.rbf_access.proofs.Counting.{no_calls, counts_then, counts_most}
-use Rattle.rbf_drop.specs.Own.{here}
+use Rattle.rbf_access.specs.MapMarks.{has_mark_of}
+use Rattle.rbf_access.proofs.Counting.{no_calls}
+use Rattle.rbf_access.proofs.MapMarks.{below}
+use Rattle.rbf_drop.specs.Own.{here, NoneHere}
 use Rattle.rbf_drop.specs.Cleared.{MayClear, IsCleared, IsClearing, MayGoOn, ClearsNext, IsStopped, before}
 use Rattle.rbf_drop.proofs.Dropping.{none_before, not_yet, one_before}
+use Rattle.rbf_drop.proofs.MarkCalls.{moves_more}
 use Rattle.rbf_cut.specs.declared.rest.CutSectors.{CutSectors}
 use Rattle.rbf_cut.specs.Rest.{in_rest}
 use Rattle.rbf_cut.specs.Release.{MayRelease, IsReleasing, ReleaseEnds}
@@ -29,7 +32,7 @@ and_true false = refl
 pub record IsReleaseSoFar (gone : ℕ → Bool) (place : ℕ) (kept kept_now : KeptVolume) (media mid : Option (List ℕ)) (first half : DriveCounts) : Type 0 where
   pub cleared : (v : DiskVolume) (old : List ℕ) → media ≡ Some old → Vol old v → MayClear v old gone → Agrees kept old → IsCleared v old (before gone place) mid kept_now
   pub sizes : kept_now.sizes ≡ kept.sizes
-  pub moved : MovesCounts None place first half
+  pub moved : MovesCounts None (below (has_mark_of kept.sizes gone) place) first half
 
 pub release_begins : (gone : ℕ → Bool) (kept : KeptVolume) (media : Option (List ℕ)) (first : DriveCounts) → IsReleaseSoFar gone 0 kept kept media media first first
 release_begins gone kept media first = record {
@@ -49,14 +52,15 @@ module _ (gone : ℕ → Bool) (place : ℕ) (kept kept_now : KeptVolume) (media
   clearing : (v : DiskVolume) (old : List ℕ) → media ≡ Some old → Vol old v → MayClear v old gone → Agrees kept old → place < map_sectors (image_geometry old) → IsClearing v old (before gone place) gone place mid kept_now
   clearing v old is vol may agrees within = record { vol = vol; may = may; far = far.cleared v old is vol may agrees; fresh = λ c there. not_yet gone place c there; within = within }
 
-  pub release_more : (now : Option (List ℕ)) (kept_then : KeptVolume) (after : DriveCounts) → place < map_sectors kept.sizes → ClearsNext gone place mid now kept_now kept_then → kept_then.sizes ≡ kept_now.sizes → MovesCounts None 1 half after
+  pub release_more : (now : Option (List ℕ)) (kept_then : KeptVolume) (after : DriveCounts) → place < map_sectors kept.sizes → ClearsNext gone place mid now kept_now kept_then → kept_then.sizes ≡ kept_now.sizes
+      → ((c : ℕ) → gone c ≡ true → c < cluster_count kept.sizes) → MovesCounts None 1 half after → (NoneHere gone place → MovesCounts None 0 half after)
       → IsReleaseSoFar gone (place + 1) kept kept_then media now first after
-  release_more now kept_then after within next sizes counts = record {
+  release_more now kept_then after within next sizes in_volume counts none = record {
     cleared = λ v old is vol may agrees.
         let low : place < map_sectors (image_geometry old) = subst (λ h. place < map_sectors h) agrees.sizes_are within in
         subst (λ t. IsCleared v old t now kept_then) (fun_ext (one_before gone place)) (next v old (before gone place) (clearing v old is vol may agrees low));
     sizes = sizes ∙ far.sizes;
-    moved = counts_then None place 1 first half after far.moved counts;
+    moved = moves_more kept.sizes gone in_volume place None first half after far.moved counts none;
   }
 
   module _ (v : DiskVolume) (old : List ℕ) (is : media ≡ Some old) (vol : Vol old v) (agrees : Agrees kept old) (may : MayClear v old gone) where
@@ -100,6 +104,15 @@ module _ (gone : ℕ → Bool) (place : ℕ) (kept kept_now : KeptVolume) (media
 pub on_err : {A E : Type 0} (r : Result A E) (P : Type 0) → P → OnErr r P
 on_err (Ok a) P p = tt
 on_err (Err e) P p = p
+
+-- what is given up is in the volume
+pub rest_in_volume : (k : ℕ) (cut : CutSectors) (media : Option (List ℕ)) (kv : KeptVolume) → MayRelease k cut media kv → (c : ℕ) → in_rest k cut c ≡ true → c < cluster_count kv.sizes
+rest_in_volume k cut media kv may c h =
+    let is = may.is in
+    subst (λ g. c < cluster_count g) (shape-image may.old may.volume is.vol ∙ sym is.agrees.sizes_are) (is.may.in_volume c h)
+
+pub none_as : (k other : ℕ) (cut : CutSectors) (place : ℕ) (P : Type 0) → other ≡ k → (NoneHere (in_rest other cut) place → P) → NoneHere (in_rest k cut) place → P
+none_as k other cut place P same rest none = rest (subst (λ x. NoneHere (in_rest x cut) place) (sym same) none)
 
 -- the same where the sizes have come from the call before
 pub go_as : (k other : ℕ) (cut : CutSectors) (place : ℕ) (media : Option (List ℕ)) (kv : KeptVolume) → other ≡ k → MayGoOn (in_rest k cut) place media kv → MayGoOn (in_rest other cut) place media kv

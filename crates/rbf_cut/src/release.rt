@@ -1,9 +1,10 @@
 ghost use Rattle.std.specs.Prelude.{◌≡◌, ℕ, List, OnOk, OnErr, IsSome};
-ghost use Rattle.rbf_model.specs.Geometry.{map_sectors};
 ghost use Rattle.rbf_model.specs.Volume.{DiskVolume};
 ghost use Rattle.rbf_access.specs.Drive.{Counts};
 ghost use Rattle.rbf_access.specs.Faults.{file_fault};
+ghost use Rattle.rbf_access.specs.MapMarks.{marking_sectors};
 ghost use Rattle.rbf_access.specs.Mounted.{kept};
+ghost use Rattle.rbf_drop.specs.Own.{NoneHere};
 ghost use Rattle.rbf_drop.specs.Cleared.{ClearsNext, IsStopped, MayGoOn, IsCleared};
 ghost use Rattle.rbf_cut.specs.Rest.{in_rest};
 ghost use Rattle.rbf_cut.specs.Release.{MayRelease, IsReleasing, ReleaseEnds};
@@ -38,7 +39,8 @@ pub fn release_rest(
         (media d.new) (kept volume.new)) }
     ensures device { OnErr result (IsSome (file_fault result)) }
     ensures counts { Counts ⟦<dyn BlockDriver as BlockDriver>⟧ (file_fault result)
-        (map_sectors (kept volume.old).sizes) d.old d.new }
+        (marking_sectors (kept volume.old).sizes (in_rest volume.old.ident.cluster cut.now))
+        d.old d.new }
 {
     let end = system_sectors(&volume.ident) - 1;
     for place in 0..end {
@@ -64,6 +66,8 @@ fn release_in(
     ensures device { OnErr result (IsSome (file_fault result)) }
     ensures sizes { (kept volume.new).sizes ≡ (kept volume.old).sizes }
     ensures counts { Counts ⟦<dyn BlockDriver as BlockDriver>⟧ (file_fault result) 1 d.old d.new }
+    ensures none { NoneHere (in_rest volume.old.ident.cluster cut.now) place
+        → Counts ⟦<dyn BlockDriver as BlockDriver>⟧ (file_fault result) 0 d.old d.new }
 {
     let k = volume.ident.cluster;
     if cut.first_in(k, place).is_none() {

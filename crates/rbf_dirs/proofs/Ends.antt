@@ -2,19 +2,12 @@
 use Rattle.std.proofs.Common.{◌≡◌, ℕ, ◌+◌, ◌≤◌, Option, None, IsSome, List, Result, Ok, Err, refl, sym, ap, ◌∙◌, subst, arith}
 use Rattle.std.specs.Prelude.{OnErr, IsNone}
 use Rattle.std.proofs.lemmas.Bool.{false≢true}
-use Rattle.rbf_model.specs.Geometry.{map_sectors}
-use Rattle.rbf_model.specs.Volume.{DiskVolume}
 use Rattle.rbf_model.specs.Walk.{WalkEnd, arrives, not_allowed, not_found}
-use Rattle.rbf_change.specs.Calls.{shape}
-use Rattle.rbf_change.proofs.LawfulWrites.{shape-image}
 use Rattle.rbf_access.specs.Drive.{DriveCounts, MovesCounts}
 use Rattle.rbf_access.specs.Faults.{file_fault}
-use Rattle.rbf_access.specs.Mounted.{kept, Represents, IsMounted}
 use Rattle.rbf_access.specs.declared.faults.FileFault.{FileFault}
 use Rattle.rbf_access.specs.declared.faults.FileFault.TheVariants.{Device, NoCluster, TooManyRuns}
-use Rattle.rbf_access.specs.declared.volume.Volume.{Volume}
 use Rattle.rbf_access.proofs.Counting.{counts_then, counts_most}
-use Rattle.rbf_drop.proofs.Dropping.{agrees_on}
 use Rattle.rbf_walk.specs.Walk.{AnswersWalk, calls_on, directory_fault}
 use Rattle.rbf_update.specs.declared.deletion.Deletable.{Deletable}
 use Rattle.rbf_walk.specs.declared.error.DirError.{DirError}
@@ -52,22 +45,18 @@ no_refusal fault r P is device none = by_fault fault device (subst (λ x. IsNone
     by_fault NoCluster some h = absurd (false≢true some)
     by_fault TooManyRuns some h = absurd (false≢true some)
 
--- the sectors of the map of a mounted volume
-pub map_is : (volume : Volume) (media : Option (List ℕ)) (u : DiskVolume) → IsMounted volume media → Represents media u → map_sectors (kept volume).sizes ≡ map_sectors (shape u)
-map_is volume media u mounted on = ap map_sectors ((agrees_on volume media u mounted on).sizes_are ∙ sym (shape-image on.image u on.vol))
-
 -- the calls behind those that look for the entry
-least : (end : WalkEnd) (m : ℕ) → calls_on end (λ i. 2) ≤ calls_on end (λ i. 2 + m)
+least : (end : WalkEnd) (m : ℕ → ℕ) → calls_on end (λ i. 2) ≤ calls_on end (λ i. 2 + m i)
 least (arrives n) m = omega arith
 least not_allowed m = omega arith
 least not_found m = omega arith
 
-pub kept_calls : (n m : ℕ) (end : WalkEnd) (e : DirError) (r : Result (Unit {0}) DirError) (s t : DriveCounts) → r ≡ Err e → MovesCounts (directory_fault {A = Deletable} (Err e)) (n + calls_on end (λ i. 2)) s t
-    → MovesCounts (directory_fault r) (n + calls_on end (λ i. 2 + m)) s t
+pub kept_calls : (n : ℕ) (m : ℕ → ℕ) (end : WalkEnd) (e : DirError) (r : Result (Unit {0}) DirError) (s t : DriveCounts) → r ≡ Err e → MovesCounts (directory_fault {A = Deletable} (Err e)) (n + calls_on end (λ i. 2)) s t
+    → MovesCounts (directory_fault r) (n + calls_on end (λ i. 2 + m i)) s t
 kept_calls n m end e r s t is moved =
     let few = least end m in
-    subst (λ f. MovesCounts f (n + calls_on end (λ i. 2 + m)) s t) (sym (ap directory_fault is ∙ same e))
-    (counts_most (directory_fault {A = Deletable} (Err e)) (n + calls_on end (λ i. 2)) (n + calls_on end (λ i. 2 + m)) s t (omega arith) moved)
+    subst (λ f. MovesCounts f (n + calls_on end (λ i. 2 + m i)) s t) (sym (ap directory_fault is ∙ same e))
+    (counts_most (directory_fault {A = Deletable} (Err e)) (n + calls_on end (λ i. 2)) (n + calls_on end (λ i. 2 + m i)) s t (omega arith) moved)
   where
     same : (x : DirError) → directory_fault {A = Unit {0}} (Err x) ≡ directory_fault {A = Deletable} (Err x)
     same NotAllowed = refl
@@ -78,17 +67,17 @@ kept_calls n m end e r s t is moved =
     same (File NoCluster) = refl
     same (File TooManyRuns) = refl
 
-pub all_calls : (n m : ℕ) (end : WalkEnd) (k : ℕ) → end ≡ arrives k → (most : ℕ) (f : Option ℕ) (s t w : DriveCounts) → most ≡ m → MovesCounts None (n + calls_on end (λ i. 2)) s t → MovesCounts f most t w
-    → MovesCounts f (n + calls_on end (λ i. 2 + m)) s w
+pub all_calls : (n : ℕ) (m : ℕ → ℕ) (end : WalkEnd) (k : ℕ) → end ≡ arrives k → (most : ℕ) (f : Option ℕ) (s t w : DriveCounts) → most ≡ m k → MovesCounts None (n + calls_on end (λ i. 2)) s t → MovesCounts f most t w
+    → MovesCounts f (n + calls_on end (λ i. 2 + m i)) s w
 all_calls n m end k goes most f s t w same one other =
-    subst (λ x. MovesCounts f (n + calls_on x (λ i. 2 + m)) s w) (sym goes)
-    (counts_most f (n + 2 + most) (n + (2 + m)) s w (omega arith)
+    subst (λ x. MovesCounts f (n + calls_on x (λ i. 2 + m i)) s w) (sym goes)
+    (counts_most f (n + 2 + most) (n + (2 + m k)) s w (omega arith)
     (counts_then f (n + 2) most s t w (subst (λ x. MovesCounts None (n + calls_on x (λ i. 2)) s t) goes one) other))
 
-pub fault_calls : (n m : ℕ) (end : WalkEnd) (k : ℕ) → end ≡ arrives k → (most : ℕ) (fault : FileFault) (r : Result (Unit {0}) DirError) (s t w : DriveCounts) → most ≡ m → r ≡ Err (File fault)
-    → MovesCounts None (n + calls_on end (λ i. 2)) s t → MovesCounts (file_fault {A = Unit {0}} (Err fault)) most t w → MovesCounts (directory_fault r) (n + calls_on end (λ i. 2 + m)) s w
+pub fault_calls : (n : ℕ) (m : ℕ → ℕ) (end : WalkEnd) (k : ℕ) → end ≡ arrives k → (most : ℕ) (fault : FileFault) (r : Result (Unit {0}) DirError) (s t w : DriveCounts) → most ≡ m k → r ≡ Err (File fault)
+    → MovesCounts None (n + calls_on end (λ i. 2)) s t → MovesCounts (file_fault {A = Unit {0}} (Err fault)) most t w → MovesCounts (directory_fault r) (n + calls_on end (λ i. 2 + m i)) s w
 fault_calls n m end k goes most fault r s t w same is one other =
-    subst (λ f. MovesCounts f (n + calls_on end (λ i. 2 + m)) s w) (sym (ap directory_fault is ∙ by_fault fault))
+    subst (λ f. MovesCounts f (n + calls_on end (λ i. 2 + m i)) s w) (sym (ap directory_fault is ∙ by_fault fault))
     (all_calls n m end k goes most (file_fault {A = Unit {0}} (Err fault)) s t w same one other)
   where
     by_fault : (f : FileFault) → directory_fault {A = Unit {0}} (Err (File f)) ≡ file_fault {A = Unit {0}} (Err f)

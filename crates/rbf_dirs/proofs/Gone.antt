@@ -27,6 +27,8 @@ use Rattle.rbf_change.specs.Names.{freed_entry, deletion_end}
 use Rattle.rbf_change.specs.NewFiles.{Deletes}
 use Rattle.rbf_change.specs.Tidy.{IsMapEnd, KeepsMapEnd, MayKeepMapEnd}
 use Rattle.rbf_change.proofs.LawfulWrites.{shape-image}
+use Rattle.rbf_access.specs.Drive.{DriveCounts, MovesCounts}
+use Rattle.rbf_access.specs.MapMarks.{marking_sectors}
 use Rattle.rbf_access.specs.Mounted.{Represents}
 use Rattle.rbf_access.proofs.ReadFile.{room_for}
 use Rattle.rbf_drop.specs.Dropped.{IsGone, HasGone, OnlyMap, freed, IsDropped, DropEnds}
@@ -37,7 +39,7 @@ use Rattle.rbf_update.specs.Entries.{sector_of_entry}
 use Rattle.rbf_update.proofs.Puts.{free_stored, without}
 use Rattle.rbf_update.proofs.Stored.{becomes_now}
 use Rattle.rbf_walk.proofs.Stepping.{same_content}
-use Rattle.rbf_dirs.specs.Deleted.{ClearsEntry, IsDeleted, IsDeletedBy, LeavesLost, DeletionStops, lost_now}
+use Rattle.rbf_dirs.specs.Deleted.{clusters_of, ClearsEntry, IsDeleted, IsDeletedBy, LeavesLost, DeletionStops, lost_now}
 
 module _ (media mid : Option (List ℕ)) (d : ℕ) (name : List ℕ) (found : Deletable) (frees : FreesOn media mid d name found) where
   abbrev n : ℕ
@@ -296,7 +298,20 @@ module _ (media mid : Option (List ℕ)) (d : ℕ) (name : List ℕ) (found : De
             (end c (end_half c behind));
       }
 
+  -- how many sectors of the map have a mark of its clusters
+  pub calls_of_file : (f : Option ℕ) (s t : DriveCounts) → MovesCounts f (marking_sectors (shape w) (has_cluster (shape w) n file)) s t
+      → MovesCounts f (marking_sectors (shape v) (clusters_of (shape v) n (v.files n))) s t
+  calls_of_file f s t moves = subst (λ o. MovesCounts f (marking_sectors (shape v) (clusters_of (shape v) n o)) s t) (sym file_there) moves
+
 -- of whichever volume the media represents
+pub calls_on_file : (media mid : Option (List ℕ)) (d : ℕ) (name : List ℕ) (found : Deletable) (frees : FreesOn media mid d name found) (u : DiskVolume) → Represents media u → (f : Option ℕ) (s t : DriveCounts)
+    → ((x : DiskVolume) (g : DiskFile) → IsGone mid x found.descriptor g → MovesCounts f (marking_sectors (shape x) (has_cluster (shape x) found.descriptor g)) s t)
+    → MovesCounts f (marking_sectors (shape u) (clusters_of (shape u) found.descriptor (u.files found.descriptor))) s t
+calls_on_file media mid d name found frees u on f s t moves =
+    subst (λ x. MovesCounts f (marking_sectors (shape x) (clusters_of (shape x) found.descriptor (x.files found.descriptor))) s t)
+    (same_content media (v media mid d name found frees) u (on_before media mid d name found frees) on)
+    (calls_of_file media mid d name found frees f s t (moves (w media mid d name found frees) (file media mid d name found frees) (gone media mid d name found frees)))
+
 pub has_gone : (media mid : Option (List ℕ)) (d : ℕ) (name : List ℕ) (found : Deletable) → FreesOn media mid d name found → HasGone mid found.descriptor
 has_gone media mid d name found frees = record { content = w media mid d name found frees; file = file media mid d name found frees; gone = gone media mid d name found frees }
 

@@ -1,7 +1,7 @@
 -- A deletion as a whole.
-use Rattle.std.specs.Prelude.{◌≡◌, ◌≢◌, ℕ, ◌+◌, ◌*◌, ◌%◌, ◌&&◌, Bool, Option, Some, List, [], ◌∷◌, Result, Ok, Err}
+use Rattle.std.specs.Prelude.{◌≡◌, ◌≢◌, ℕ, ◌+◌, ◌*◌, ◌%◌, ◌&&◌, Bool, false, Option, Some, None, List, [], ◌∷◌, Result, Ok, Err}
 use Rattle.rbf_model.specs.File.{DiskFile}
-use Rattle.rbf_model.specs.Geometry.{image_geometry, sector, map_sectors}
+use Rattle.rbf_model.specs.Geometry.{Geometry, image_geometry, sector}
 use Rattle.rbf_model.specs.Laws.{IsMapSector}
 use Rattle.rbf_model.specs.Space.{is_whole, has_cluster}
 use Rattle.rbf_model.specs.Volume.{DiskVolume, Vol}
@@ -12,6 +12,7 @@ use Rattle.rbf_change.specs.Faults.{MayLose, OneIsMarked}
 use Rattle.rbf_change.specs.Names.{deletion_end}
 use Rattle.rbf_change.specs.NewFiles.{Deletes}
 use Rattle.rbf_change.specs.Tidy.{KeepsMapEnd, MayKeepMapEnd}
+use Rattle.rbf_access.specs.MapMarks.{marking_sectors}
 use Rattle.rbf_access.specs.declared.faults.FileFault.TheVariants.{Device, NoCluster, TooManyRuns}
 use Rattle.rbf_update.specs.Deletions.{deletion_calls}
 use Rattle.rbf_update.specs.Entries.{sector_of_entry}
@@ -82,9 +83,15 @@ AnswersDeletion end (Err (File (Device n))) = Unit
 AnswersDeletion end (Err (File NoCluster)) = ⊥
 AnswersDeletion end (Err (File TooManyRuns)) = ⊥
 
+-- the clusters of file n, if there is one
+abbrev pub clusters_of : Geometry → ℕ → Option DiskFile → ℕ → Bool
+clusters_of g n None c = false
+clusters_of g n (Some file) c = has_cluster g n file c
+
 -- how many calls of the drive a deletion makes at most: those that look for the entry, and if the file goes a read and
--- a write of the entry's sector, and one for each sector of the map
+-- a write of the entry's sector, and one for each sector of the map that has a mark of the file's clusters
 abbrev pub deletion_total : DiskVolume → DiskFile → List ℕ → ℕ → Bool → ℕ
 deletion_total v dir name user execute =
     deletion_calls dir name user execute
-    + calls_on (deletion_end v.files dir name user execute) (λ n. 2 + map_sectors (shape v))
+    + calls_on (deletion_end v.files dir name user execute)
+    (λ n. 2 + marking_sectors (shape v) (clusters_of (shape v) n (v.files n)))

@@ -17,7 +17,7 @@ use rbf_walk::DirError;
 /// Deletes a file by its name in a directory, for a user (OS-9 Technical Reference, I$Delete): its
 /// entry is made free, and then its clusters are. The calls of the drive are at most those of the
 /// search up to the name, one for the descriptor that is found, a read and a write of the entry's
-/// sector, and one for each sector of the map.
+/// sector, and one for each sector of the map that has a mark of the file's clusters.
 ///
 /// # Errors
 ///

@@ -20,12 +20,15 @@ use Rattle.rbf_change.proofs.LawfulWrites.{shape-image}
 use Rattle.rbf_access.specs.declared.volume.Volume.{Volume}
 use Rattle.rbf_access.specs.Drive.{DriveCounts, MovesCounts}
 use Rattle.rbf_access.specs.Mounted.{kept, Represents, IsMounted}
+use Rattle.rbf_access.specs.MapMarks.{has_mark_of, marking_sectors}
 use Rattle.rbf_access.proofs.Counting.{no_calls, counts_then}
+use Rattle.rbf_access.proofs.MapMarks.{below}
 use Rattle.rbf_access.proofs.Reading.{below_total}
 use Rattle.rbf_drop.specs.declared.own.OwnSectors.{OwnSectors}
-use Rattle.rbf_drop.specs.Own.{in_own, here}
+use Rattle.rbf_drop.specs.Own.{in_own, here, NoneHere}
 use Rattle.rbf_drop.specs.Cleared.{MayClear, IsCleared, IsClearing, MayGoOn, ClearsNext, IsStopped, before}
 use Rattle.rbf_drop.specs.Dropped.{IsGone, HasGone, IsDropped, DropEnds}
+use Rattle.rbf_drop.proofs.MarkCalls.{moves_more, moves_to_fault, moves_all}
 use Rattle.rbf_drop.proofs.FileClusters.{own_is, fields_some, AreSome}
 
 and_true : (t : Bool) → (t && true) ≡ t
@@ -82,7 +85,7 @@ one_before gone place c = either (gone c) (nat_lt (c / 2048) place) (c / 2048 ==
 pub record IsDropSoFar (gone : ℕ → Bool) (place : ℕ) (kept kept_now : KeptVolume) (media mid : Option (List ℕ)) (first half : DriveCounts) : Type 0 where
   pub cleared : (v : DiskVolume) (old : List ℕ) → media ≡ Some old → Vol old v → MayClear v old gone → Agrees kept old → IsCleared v old (before gone place) mid kept_now
   pub sizes : kept_now.sizes ≡ kept.sizes
-  pub moved : MovesCounts None place first half
+  pub moved : MovesCounts None (below (has_mark_of kept.sizes gone) place) first half
 
 -- none has been
 pub drop_begins : (gone : ℕ → Bool) (kept kept_now : KeptVolume) (media mid : Option (List ℕ)) (first : DriveCounts) → mid ≡ media → kept_now ≡ kept
@@ -107,14 +110,15 @@ module _ (gone : ℕ → Bool) (place : ℕ) (kept kept_now : KeptVolume) (media
   pub drop_goes_on : (v : DiskVolume) (old : List ℕ) → media ≡ Some old → Vol old v → MayClear v old gone → Agrees kept old → place < map_sectors (image_geometry old) → MayGoOn gone place mid kept_now
   drop_goes_on v old is vol may agrees within = record { volume = v; old = old; cleared = before gone place; is = clearing v old is vol may agrees within }
 
-  pub drop_more : (now : Option (List ℕ)) (kept_then : KeptVolume) (after : DriveCounts) → place < map_sectors kept.sizes → ClearsNext gone place mid now kept_now kept_then → kept_then.sizes ≡ kept_now.sizes → MovesCounts None 1 half after
+  pub drop_more : (now : Option (List ℕ)) (kept_then : KeptVolume) (after : DriveCounts) → place < map_sectors kept.sizes → ClearsNext gone place mid now kept_now kept_then → kept_then.sizes ≡ kept_now.sizes
+      → ((c : ℕ) → gone c ≡ true → c < cluster_count kept.sizes) → MovesCounts None 1 half after → (NoneHere gone place → MovesCounts None 0 half after)
       → IsDropSoFar gone (place + 1) kept kept_then media now first after
-  drop_more now kept_then after within next sizes counts = record {
+  drop_more now kept_then after within next sizes in_volume counts none = record {
     cleared = λ v old is vol may agrees.
         let low : place < map_sectors (image_geometry old) = subst (λ h. place < map_sectors h) agrees.sizes_are within in
         subst (λ t. IsCleared v old t now kept_then) (fun_ext (one_before gone place)) (next v old (before gone place) (clearing v old is vol may agrees low));
     sizes = sizes ∙ far.sizes;
-    moved = counts_then None place 1 first half after far.moved counts;
+    moved = moves_more kept.sizes gone in_volume place None first half after far.moved counts none;
   }
 
 module _ (media : Option (List ℕ)) (n : ℕ) (segs : List (ℕ × ℕ)) (segs_are : segs ≡ segments_field (sector_at media n)) (v : DiskVolume) (file : DiskFile) (gone : IsGone media v n file) where
@@ -192,6 +196,19 @@ module _ (media : Option (List ℕ)) (n : ℕ) (segs : List (ℕ × ℕ)) (segs_
 
     abbrev state : IsCleared v image (before (in_own k owner) place) mid kv_now
     state = far.cleared v image gone.on.is gone.on.vol may agrees
+
+    pub own_in_volume : (c : ℕ) → in_own k owner c ≡ true → c < cluster_count kv.sizes
+    own_in_volume c h = subst (λ s. c < cluster_count s) (shaped ∙ sym agrees.sizes_are) (may.in_volume c h)
+
+    same_sectors : marking_sectors kv.sizes (in_own k owner) ≡ marking_sectors (shape v) has_it
+    same_sectors = ap (λ s. marking_sectors s (in_own k owner)) (agrees.sizes_are ∙ sym shaped) ∙ ap (marking_sectors (shape v)) (same_k ∙ fun_ext own_cluster)
+
+    pub calls_stopped : place < map_sectors kv.sizes → (f : Option ℕ) (then : DriveCounts) → MovesCounts f 1 half then → (NoneHere (in_own k owner) place → MovesCounts f 0 half then)
+        → MovesCounts f (marking_sectors (shape v) has_it) first then
+    calls_stopped low f then one none = subst (λ n. MovesCounts f n first then) same_sectors (moves_to_fault kv.sizes (in_own k owner) own_in_volume place low f first half then far.moved one none)
+
+    pub calls_done : place ≡ map_sectors kv.sizes → MovesCounts None (marking_sectors (shape v) has_it) first half
+    calls_done end = subst (λ n. MovesCounts None n first half) same_sectors (moves_all kv.sizes (in_own k owner) own_in_volume place end first half far.moved)
 
     pub goes_on : place < map_sectors kv.sizes → MayGoOn (in_own k owner) place mid kv_now
     goes_on within =
@@ -317,6 +334,16 @@ dropped_before media mid now n v file same done = subst (λ m. IsDropped v n fil
 
 pub ended_before : (media mid now : Option (List ℕ)) (n : ℕ) (v : DiskVolume) (file : DiskFile) → mid ≡ media → DropEnds v n file mid now → DropEnds v n file media now
 ended_before media mid now n v file same ends = subst (λ m. DropEnds v n file m now) same ends
+
+-- one call has been made before
+pub calls_before : (media mid : Option (List ℕ)) (n : ℕ) (v : DiskVolume) (file : DiskFile) → mid ≡ media → (f : Option ℕ) (s t u : DriveCounts) → MovesCounts None 1 s t
+    → ((w : DiskVolume) (other : DiskFile) → IsGone mid w n other → MovesCounts f (marking_sectors (shape w) (has_cluster (shape w) n other)) t u)
+    → IsGone media v n file → MovesCounts f (1 + marking_sectors (shape v) (has_cluster (shape v) n file)) s u
+calls_before media mid n v file same f s t u one other gone =
+    counts_then f 1 (marking_sectors (shape v) (has_cluster (shape v) n file)) s t u one (other v file (still_gone media mid n v file same gone))
+
+pub none_as : (k other : ℕ) (own : OwnSectors) (place : ℕ) (P : Type 0) → other ≡ k → (NoneHere (in_own other own) place → P) → NoneHere (in_own k own) place → P
+none_as k other own place P same rest none = rest (subst (λ x. NoneHere (in_own x own) place) (sym same) none)
 
 -- the same where the sizes have come from the call before
 pub go_as : (k other : ℕ) (own : OwnSectors) (place : ℕ) (media : Option (List ℕ)) (kv : KeptVolume) → other ≡ k → MayGoOn (in_own k own) place media kv → MayGoOn (in_own other own) place media kv

@@ -3,4 +3,5 @@ pub mod ClearedMarks
 pub mod OwnParts
 pub mod Releasing
 pub mod FileClusters
+pub mod MarkCalls
 pub mod Dropping

@@ -2,11 +2,13 @@ ghost use Rattle.std.specs.Prelude.{◌≡◌, ℕ, ◌+◌, List, OnOk, OnErr, 
 ghost use Rattle.os9_outer.specs.Drive.{sector_at};
 ghost use Rattle.rbf_model.specs.Fields.{segments_field};
 ghost use Rattle.rbf_model.specs.File.{DiskFile};
-ghost use Rattle.rbf_model.specs.Geometry.{map_sectors};
+ghost use Rattle.rbf_model.specs.Space.{has_cluster};
 ghost use Rattle.rbf_model.specs.Volume.{DiskVolume};
 ghost use Rattle.rbf_access.specs.Drive.{Counts};
 ghost use Rattle.rbf_access.specs.Faults.{file_fault};
-ghost use Rattle.rbf_access.specs.Mounted.{IsMounted, kept};
+ghost use Rattle.rbf_access.specs.MapMarks.{marking_sectors};
+ghost use Rattle.rbf_access.specs.Mounted.{IsMounted};
+ghost use Rattle.rbf_change.specs.Calls.{shape};
 ghost use Rattle.rbf_drop.specs.Dropped.{DropEnds, HasGone, IsDropped, IsGone};
 
 use crate::own::OwnSectors;
@@ -31,8 +33,9 @@ pub fn drop_fd(volume: &mut Volume, d: &mut dyn BlockDriver, fd: u32) -> Result<
         → OnErr result (DropEnds v fd file (media d.old) (media d.new)) }
     ensures device { OnErr result (IsSome (file_fault result)) }
     ensures mounted { IsMounted volume.new (media d.new) }
-    ensures counts { Counts ⟦<dyn BlockDriver as BlockDriver>⟧ (file_fault result)
-        (1 + map_sectors (kept volume.old).sizes) d.old d.new }
+    ensures counts { (v : DiskVolume) (file : DiskFile) → IsGone (media d.old) v fd file
+        → Counts ⟦<dyn BlockDriver as BlockDriver>⟧ (file_fault result)
+        (1 + marking_sectors (shape v) (has_cluster (shape v) fd file)) d.old d.new }
 {
     let bytes = volume.load(d, fd)?;
     let own = OwnSectors {
@@ -63,8 +66,9 @@ pub fn drop_own(
         → OnErr result (DropEnds v own.now.fd file (media d.old) (media d.new)) }
     ensures device { OnErr result (IsSome (file_fault result)) }
     ensures mounted { IsMounted volume.new (media d.new) }
-    ensures counts { Counts ⟦<dyn BlockDriver as BlockDriver>⟧ (file_fault result)
-        (map_sectors (kept volume.old).sizes) d.old d.new }
+    ensures counts { (v : DiskVolume) (file : DiskFile) → IsGone (media d.old) v own.now.fd file
+        → Counts ⟦<dyn BlockDriver as BlockDriver>⟧ (file_fault result)
+        (marking_sectors (shape v) (has_cluster (shape v) own.now.fd file)) d.old d.new }
 {
     let end = system_sectors(&volume.ident) - 1;
     for place in 0..end {

@@ -2,7 +2,7 @@ ghost use Rattle.std.specs.Prelude.{◌≡◌, OnOk, OnErr, IsSome};
 ghost use Rattle.rbf_access.specs.Drive.{Counts};
 ghost use Rattle.rbf_access.specs.Faults.{file_fault};
 ghost use Rattle.rbf_access.specs.Mounted.{kept};
-ghost use Rattle.rbf_drop.specs.Own.{in_own};
+ghost use Rattle.rbf_drop.specs.Own.{in_own, NoneHere};
 ghost use Rattle.rbf_drop.specs.Cleared.{ClearsNext, IsStopped, MayGoOn};
 
 use crate::bits::clear_own;
@@ -28,6 +28,8 @@ pub fn release_in(
     ensures device { OnErr result (IsSome (file_fault result)) }
     ensures sizes { (kept volume.new).sizes ≡ (kept volume.old).sizes }
     ensures counts { Counts ⟦<dyn BlockDriver as BlockDriver>⟧ (file_fault result) 1 d.old d.new }
+    ensures none { NoneHere (in_own volume.old.ident.cluster own.now) place
+        → Counts ⟦<dyn BlockDriver as BlockDriver>⟧ (file_fault result) 0 d.old d.new }
 {
     let k = volume.ident.cluster;
     if own.first_in(k, place).is_none() {

@@ -25,6 +25,7 @@ use Rattle.rbf_change.proofs.LawfulWrites.{shape-image}
 use Rattle.rbf_access.specs.declared.volume.Volume.{Volume}
 use Rattle.rbf_access.specs.declared.faults.FileFault.{FileFault}
 use Rattle.rbf_access.specs.declared.faults.FileFault.TheVariants.{Device, NoCluster, TooManyRuns}
+use Rattle.rbf_access.specs.MapMarks.{marking_sectors}
 use Rattle.rbf_access.specs.Drive.{DriveCounts, MovesCounts}
 use Rattle.rbf_access.specs.Faults.{file_fault}
 use Rattle.rbf_access.specs.Mounted.{kept, Represents, IsMounted}
@@ -41,7 +42,7 @@ use Rattle.rbf_cut.specs.Rest.{in_rest}
 use Rattle.rbf_cut.specs.Release.{MayRelease, IsReleasing, ReleaseEnds}
 use Rattle.rbf_write.specs.declared.loaded.Loaded.{Loaded}
 use Rattle.rbf_write.specs.Files.{HasDataFile, IsLoaded}
-use Rattle.rbf_write.specs.Sizes.{Sizing, size_needs, giving_up, given_up, IsSized, SizeIsEnded, AnswersSize}
+use Rattle.rbf_write.specs.Sizes.{Sizing, size_needs, giving_up, given_up, giving_calls, IsSized, SizeIsEnded, AnswersSize}
 use Rattle.rbf_write.proofs.Laid.{no_clusters}
 use Rattle.rbf_write.proofs.Steps.{data_in}
 use Rattle.rbf_size.specs.Kept.{kept_sectors, IsStored}
@@ -79,9 +80,6 @@ cut_same media loaded m segs is_loaded segs_are same =
     let shorter = ap length (sectors_of-shortened m loaded.file.segs) in
     let taken = length-take m (sectors_of loaded.file.segs) in
     segs_are ∙ shortened_whole m loaded.file.segs some.some (omega arith)
-
-pub cut_calls : (f : Option ℕ) (m most : ℕ) (s t u : DriveCounts) → most ≡ m → MovesCounts None 1 s t → MovesCounts f most t u → MovesCounts f (1 + m) s u
-cut_calls f m most s t u same one more = subst (λ x. MovesCounts f (1 + x) s u) same (counts_then f 1 most s t u one more)
 
 module _ (media mid : Option (List ℕ)) (loaded : Loaded) (size : ℕ) (now : TimePacket) (is_loaded : IsLoaded media loaded.number loaded) (has_file : HasDataFile media loaded.number) (volume half : Volume) (mounted : IsMounted volume media)
     (volume_kept : kept half ≡ kept volume) (shorter : size < loaded.file.size) (segs : List (ℕ × ℕ)) (segs_are : segs ≡ shortened_segments (kept_sectors volume.ident.cluster loaded.number loaded.file.segs size) loaded.file.segs)
@@ -176,6 +174,16 @@ module _ (media mid : Option (List ℕ)) (loaded : Loaded) (size : ℕ) (now : T
   giving_is c =
       cond-true (nat_lt size (length old.contents)) (given_up v old sizing c) false (lt-ltb size (length old.contents) less)
       ∙ ap (λ h. has_cluster h n old c && not (has_cluster h n new c)) shaped ∙ sym (rest c)
+
+  same_sectors : marking_sectors (kept half).sizes (in_rest half.ident.cluster sectors) ≡ giving_calls v old sizing
+  same_sectors =
+      ap (λ (kv : KeptVolume). marking_sectors kv.sizes (in_rest half.ident.cluster sectors)) volume_kept
+      ∙ ap (λ s. marking_sectors s (in_rest half.ident.cluster sectors)) (agrees.sizes_are ∙ sym shaped)
+      ∙ ap (marking_sectors (shape v)) (gone_is ∙ fun_ext (λ c. rest c ∙ sym (ap (λ h. has_cluster h n old c && not (has_cluster h n new c)) shaped)))
+
+  pub cut_calls : (f : Option ℕ) (s t u : DriveCounts) → MovesCounts None 1 s t → MovesCounts f (marking_sectors (kept half).sizes (in_rest half.ident.cluster sectors)) t u → MovesCounts f (1 + giving_calls v old sizing) s u
+  cut_calls f s t u one more =
+      subst (λ x. MovesCounts f (1 + x) s u) same_sectors (counts_then f 1 (marking_sectors (kept half).sizes (in_rest half.ident.cluster sectors)) s t u one more)
 
   behind : map_sectors g < n
   behind = behind_map image v on.vol n old is bytes stored.says.whole

@@ -19,7 +19,7 @@ use Rattle.rbf_access.proofs.Counting.{counts_then}
 use Rattle.rbf_growth.proofs.Growing.{agrees_on}
 use Rattle.rbf_write.specs.Laying.{AnswersLaying}
 use Rattle.rbf_write.specs.Outcomes.{laying_calls}
-use Rattle.rbf_write.specs.Sizes.{AnswersSize, size_calls}
+use Rattle.rbf_write.specs.Sizes.{Sizing, AnswersSize, giving_calls, size_calls}
 use Rattle.rbf_write.proofs.Sized.{sized_answers, sized_calls}
 
 -- where every error is a fault of the drive, none is a refusal
@@ -44,17 +44,22 @@ module _ (before mid : Option (List ℕ)) (n m size : ℕ) (now : TimePacket) (s
       subst (λ i. AnswersSize v file (record { number = i; size = size; now = now }) before after result) number
       (subst (λ b. AnswersSize v file (record { number = m; size = size; now = now }) b after result) same cut)
 
-  pub cut_counts : (f : Option ℕ) (s t u : DriveCounts) (volume half : Volume) → IsMounted volume before → kept half ≡ kept volume → size < length file.contents → MovesCounts None 1 s t
-      → MovesCounts f (1 + map_sectors (kept half).sizes) t u → MovesCounts f (size_calls v file size) s u
-  cut_counts f s t u volume half mounted volume_kept shorter one calls =
-      let sectors : map_sectors (kept half).sizes ≡ map_sectors (shape v) =
-      ap (λ (kv : KeptVolume). map_sectors kv.sizes) volume_kept ∙ ap map_sectors ((agrees_on volume before v mounted on).sizes_are ∙ sym (shape-image on.image v on.vol)) in
+  abbrev sizing : Sizing
+  sizing = record { number = n; size = size; now = now }
+
+  pub cut_counts : (f : Option ℕ) (s t u : DriveCounts) → size < length file.contents → MovesCounts None 1 s t
+      → ((w : DiskVolume) (g : DiskFile) → Represents mid w → w.files m ≡ Some g → MovesCounts f (1 + giving_calls w g (record { number = m; size = size; now = now })) t u)
+      → MovesCounts f (size_calls v file sizing) s u
+  cut_counts f s t u shorter one calls =
+      let there : v.files m ≡ Some file = subst (λ i. v.files i ≡ Some file) (sym number) is in
+      let cut : MovesCounts f (1 + giving_calls v file sizing) t u =
+      subst (λ i. MovesCounts f (1 + giving_calls v file (record { number = i; size = size; now = now })) t u) number (calls v file (record { image = on.image; is = same ∙ on.is; vol = on.vol }) there) in
       let long : nat_lt (length file.contents) size ≡ false = false_from_ne_true (nat_lt (length file.contents) size) (λ h. let low = ltb-true (length file.contents) size h in absurd (omega arith)) in
-      let all : size_calls v file size ≡ 2 + map_sectors (shape v) =
-      cond-false (nat_lt (length file.contents) size) (1 + laying_calls v file size size) (if nat_lt size (length file.contents) then 2 + map_sectors (shape v) else 1) long
-      ∙ cond-true (nat_lt size (length file.contents)) (2 + map_sectors (shape v)) 1 (lt-ltb size (length file.contents) shorter) in
-      let plain : 1 + (1 + map_sectors (kept half).sizes) ≡ 2 + map_sectors (shape v) = let same_map = sectors in omega arith in
-      subst (λ c. MovesCounts f c s u) (plain ∙ sym all) (counts_then f 1 (1 + map_sectors (kept half).sizes) s t u one calls)
+      let all : size_calls v file sizing ≡ 2 + giving_calls v file sizing =
+      cond-false (nat_lt (length file.contents) size) (1 + laying_calls v file size size) (if nat_lt size (length file.contents) then 2 + giving_calls v file sizing else 1) long
+      ∙ cond-true (nat_lt size (length file.contents)) (2 + giving_calls v file sizing) 1 (lt-ltb size (length file.contents) shorter) in
+      let plain : 1 + (1 + giving_calls v file sizing) ≡ 2 + giving_calls v file sizing = omega arith in
+      subst (λ c. MovesCounts f c s u) (plain ∙ sym all) (counts_then f 1 (1 + giving_calls v file sizing) s t u one cut)
 
   pub longer_answers : (after : Option (List ℕ)) (result : Result (Unit {0}) FileFault) → length file.contents < size
       → ((w : DiskVolume) (f : DiskFile) → Represents mid w → w.files m ≡ Some f → AnswersLaying w f (record { number = m; at = size; bytes = []; now = now }) mid after result)
@@ -65,7 +70,7 @@ module _ (before mid : Option (List ℕ)) (n m size : ℕ) (now : TimePacket) (s
       (sized_answers before mid n m size now same number after result v file on is longer answers)
 
   pub longer_counts : (f : Option ℕ) (s t u : DriveCounts) → length file.contents < size → MovesCounts None 1 s t
-      → ((w : DiskVolume) (g : DiskFile) → Represents mid w → w.files m ≡ Some g → MovesCounts f (laying_calls w g size (size + 0)) t u) → MovesCounts f (size_calls v file size) s u
+      → ((w : DiskVolume) (g : DiskFile) → Represents mid w → w.files m ≡ Some g → MovesCounts f (laying_calls w g size (size + 0)) t u) → MovesCounts f (size_calls v file sizing) s u
   longer_counts f s t u longer one calls =
       let most : max size (length file.contents) ≡ size = omega arith in
-      subst (λ z. MovesCounts f (size_calls v file z) s u) most (sized_calls before mid n m size now same number f s t u v file on is longer one calls)
+      subst (λ z. MovesCounts f (size_calls v file (record { number = n; size = z; now = now })) s u) most (sized_calls before mid n m size now same number f s t u v file on is longer one calls)

@@ -1,13 +1,12 @@
 ghost use Rattle.std.specs.Prelude.{◌≡◌, ◌+◌, ◌<◌, length, OnOk, OnErr, IsSome};
 ghost use Rattle.os9_outer.specs.Drive.{sector_count};
 ghost use Rattle.rbf_model.specs.Fields.{segments_field};
-ghost use Rattle.rbf_model.specs.Geometry.{map_sectors};
 ghost use Rattle.rbf_model.specs.Segments.{sectors_of};
 ghost use Rattle.rbf_access.specs.Drive.{Counts};
 ghost use Rattle.rbf_access.specs.Faults.{file_fault};
 ghost use Rattle.rbf_access.specs.Mounted.{IsMounted, kept};
 ghost use Rattle.rbf_write.specs.Files.{HasDataFile, IsLoaded, OnVolumeFile};
-ghost use Rattle.rbf_write.specs.Sizes.{AnswersSize};
+ghost use Rattle.rbf_write.specs.Sizes.{AnswersSize, giving_calls};
 ghost use Rattle.rbf_size.specs.Kept.{IsStored};
 
 use crate::kept::kept_segments;
@@ -44,8 +43,9 @@ pub fn cut(
         (media d.old) (media d.new) result) }
     ensures device { OnErr result (IsSome (file_fault result)) }
     ensures mounted { IsMounted volume.new (media d.new) }
-    ensures counts { Counts ⟦<dyn BlockDriver as BlockDriver>⟧ (file_fault result)
-        (1 + map_sectors (kept volume.old).sizes) d.old d.new }
+    ensures counts { OnVolumeFile (media d.old) loaded.now.number (λ v file.
+        Counts ⟦<dyn BlockDriver as BlockDriver>⟧ (file_fault result) (1 + giving_calls v file
+        (record { number = loaded.now.number; size = size; now = now })) d.old d.new) }
 {
     let segs = kept_segments(volume.ident.cluster, loaded, size);
     store_cut(volume, d, loaded, &segs, size, now)?;

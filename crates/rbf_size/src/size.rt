@@ -38,7 +38,7 @@ pub fn set_size(
     ensures mounted { IsMounted volume.new (media d.new) }
     ensures counts { OnVolumeFile (media d.old) fd (λ v file.
         Counts ⟦<dyn BlockDriver as BlockDriver>⟧ (file_fault result)
-        (size_calls v file size) d.old d.new) }
+        (size_calls v file (record { number = fd; size = size; now = now })) d.old d.new) }
 {
     let loaded = load_file(volume, d, fd)?;
     if size == loaded.file.size {

@@ -1,7 +1,7 @@
 -- What a change of a file's size answers, and what it leaves then.
 use Rattle.std.specs.Prelude.{◌≡◌, ◌≢◌, ℕ, ◌+◌, ◌<◌, ◌≤◌, nat_lt, Option, Some, List, length, Bool, false, Result, Ok, Err, if◌then◌else◌}
 use Rattle.os9_base.specs.declared.registers.TimePacket.{TimePacket}
-use Rattle.rbf_model.specs.Geometry.{image_geometry, sector, map_sectors}
+use Rattle.rbf_model.specs.Geometry.{image_geometry, sector}
 use Rattle.rbf_model.specs.Segments.{sectors_of, has}
 use Rattle.rbf_model.specs.File.{DiskFile}
 use Rattle.rbf_model.specs.Volume.{DiskVolume}
@@ -12,6 +12,7 @@ use Rattle.rbf_change.specs.Calls.{shape, cluster_size, is_free_in, free_total, 
 use Rattle.rbf_change.specs.Faults as ends
 use Rattle.rbf_change.specs.Faults.{SizeEnds}
 use Rattle.rbf_change.specs.Tidy.{KeepsMapEnd, MayKeepMapEnd, KeepsListEnd}
+use Rattle.rbf_access.specs.MapMarks.{marking_sectors}
 use Rattle.rbf_access.specs.declared.faults.FileFault.{FileFault}
 use Rattle.rbf_access.specs.declared.faults.FileFault.TheVariants.{Device, NoCluster, TooManyRuns}
 use Rattle.rbf_access.specs.Mounted.{Represents}
@@ -112,9 +113,13 @@ AnswersSize v old sizing before after (Err (Device n)) = SizeIsEnded v old sizin
 AnswersSize v old sizing before after (Err NoCluster) = SizeIsFull v old sizing before after
 AnswersSize v old sizing before after (Err TooManyRuns) = SizeIsTooLong v old sizing before after
 
+-- how many sectors of the map have a mark of a cluster that is given up
+abbrev pub giving_calls : DiskVolume → DiskFile → Sizing → ℕ
+giving_calls v file sizing = marking_sectors (shape v) (given_up v file sizing)
+
 -- how many calls of the drive it makes at most: that of the descriptor alone where the size stays, those of a write up
--- to the new end, or two and one for each sector of the map
-abbrev pub size_calls : DiskVolume → DiskFile → ℕ → ℕ
-size_calls v file size =
-    if nat_lt (length file.contents) size then 1 + laying_calls v file size size
-    else (if nat_lt size (length file.contents) then 2 + map_sectors (shape v) else 1)
+-- to the new end, or two and one for each sector of the map that has a mark of the clusters that are given up
+abbrev pub size_calls : DiskVolume → DiskFile → Sizing → ℕ
+size_calls v file sizing =
+    if nat_lt (length file.contents) sizing.size then 1 + laying_calls v file sizing.size sizing.size
+    else (if nat_lt sizing.size (length file.contents) then 2 + giving_calls v file sizing else 1)

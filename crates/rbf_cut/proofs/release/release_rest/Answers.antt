@@ -4,8 +4,9 @@ use Rattle.rbf_model.specs.Geometry.{Geometry, map_sectors}
 use Rattle.rbf_access.specs.Mounted.{kept}
 use Rattle.rbf_access.proofs.Counting.{counts_then, counts_most}
 use Rattle.rbf_drop.specs.Cleared.{MayGoOn, IsStopped, ClearsNext}
+use Rattle.rbf_drop.proofs.MarkCalls.{moves_to_fault, moves_all}
 use Rattle.rbf_cut.specs.Rest.{in_rest}
-use Rattle.rbf_cut.proofs.Released.{release_begins, release_more, release_goes_on, release_done, release_ends, on_err, go_as, stopped_as, next_as}
+use Rattle.rbf_cut.proofs.Released.{release_begins, release_more, release_goes_on, release_done, release_ends, on_err, go_as, stopped_as, next_as, none_as, rest_in_volume}
 use Rattle.rbf_cut.proofs.release.release_rest.Goals as goal
 
 pub loop-place-init : goal.loop-place-init
@@ -31,7 +32,10 @@ pub returns-in_err-release_in-clause-counts : goal.returns-in_err-release_in-cla
 returns-in_err-release_in-clause-counts g c =
     let p = err_from_is_err_and c.from_residual.result c.from_residual.ensures.1 in
     let low : c.loop-place.place < map_sectors (kept c.args.volume.now).sizes = omega arith in
-    rw (p.1, p.2) (counts_most _ (c.loop-place.place + 1) _ _ _ (omega arith) (counts_then _ c.loop-place.place 1 _ _ _ c.loop-place.invariant.moved c.in_err-release_in.ensures.counts))
+    let same = ap (λ (h : Geometry). h.cluster) c.loop-place.invariant.sizes in
+    rw (p.1, p.2)
+    (moves_to_fault (kept c.args.volume.now).sizes (in_rest c.args.volume.now.ident.cluster c.args.cut.now) (rest_in_volume _ _ _ _ c.requires) c.loop-place.place low _ _ _ _ c.loop-place.invariant.moved c.in_err-release_in.ensures.counts
+    (none_as c.args.volume.now.ident.cluster c.loop-place.volume.ident.cluster c.args.cut.now c.loop-place.place _ same c.in_err-release_in.ensures.none))
 
 pub loop-place-preserved : goal.loop-place-preserved
 loop-place-preserved g c =
@@ -39,7 +43,8 @@ loop-place-preserved g c =
     let low : c.loop-place.place < map_sectors (kept c.args.volume.now).sizes = omega arith in
     release_more _ c.loop-place.place (kept c.args.volume.now) (kept c.loop-place.volume) _ _ _ _ c.loop-place.invariant _ (kept c.release_in.new.volume) _ low
     (next_as c.args.volume.now.ident.cluster c.loop-place.volume.ident.cluster c.args.cut.now c.loop-place.place _ _ (kept c.loop-place.volume) (kept c.release_in.new.volume) same c.in_ok-release_in.ensures.ok)
-    c.in_ok-release_in.ensures.sizes c.in_ok-release_in.ensures.counts
+    c.in_ok-release_in.ensures.sizes (rest_in_volume _ _ _ _ c.requires) c.in_ok-release_in.ensures.counts
+    (none_as c.args.volume.now.ident.cluster c.loop-place.volume.ident.cluster c.args.cut.now c.loop-place.place _ same c.in_ok-release_in.ensures.none)
 
 pub returns-clause-ok : goal.returns-clause-ok
 returns-clause-ok g c v old is =
@@ -48,4 +53,5 @@ returns-clause-ok g c v old is =
 
 pub returns-clause-counts : goal.returns-clause-counts
 returns-clause-counts g c =
-    counts_most _ c.loop-place.place _ _ _ (omega arith) c.loop-place.invariant.moved
+    let end : c.loop-place.place ≡ map_sectors (kept c.args.volume.now).sizes = omega arith in
+    moves_all (kept c.args.volume.now).sizes (in_rest c.args.volume.now.ident.cluster c.args.cut.now) (rest_in_volume _ _ _ _ c.requires) c.loop-place.place end _ _ c.loop-place.invariant.moved

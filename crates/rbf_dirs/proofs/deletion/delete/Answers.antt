@@ -1,11 +1,9 @@
-use Rattle.std.proofs.Common.{Err, ap, ◌∙◌}
+use Rattle.std.proofs.Common.{Err, ap, refl, ◌∙◌}
 use Rattle.std.proofs.lemmas.Result.{err_from_is_err_and}
-use Rattle.rbf_change.specs.Agrees.{KeptVolume}
-use Rattle.rbf_model.specs.Geometry.{map_sectors}
 use Rattle.rbf_drop.proofs.Dropping.{on_err}
 use Rattle.rbf_dirs.specs.Deleted.{as_before}
-use Rattle.rbf_dirs.proofs.Ends.{kept_answer, fault_answer, no_refusal, map_is, kept_calls, all_calls, fault_calls, refused_still}
-use Rattle.rbf_dirs.proofs.Gone.{has_gone, list_there, deleted_on, stops_on}
+use Rattle.rbf_dirs.proofs.Ends.{kept_answer, fault_answer, no_refusal, kept_calls, all_calls, fault_calls, refused_still}
+use Rattle.rbf_dirs.proofs.Gone.{has_gone, list_there, deleted_on, stops_on, calls_on_file}
 use Rattle.rbf_dirs.proofs.deletion.delete.Goals as goal
 
 pub returns-in_err-gone-clause-answer : goal.returns-in_err-gone-clause-answer
@@ -47,8 +45,9 @@ returns-in_err-drop_own-clause-refused g c =
 pub returns-in_err-drop_own-clause-counts : goal.returns-in_err-drop_own-clause-counts
 returns-in_err-drop_own-clause-counts g c v file on is =
     let p = err_from_is_err_and c.from_residual-in_err-drop_own.result c.from_residual-in_err-drop_own.ensures.1 in
-    fault_calls _ _ _ c.in_ok-gone.gone.descriptor (c.in_ok-gone.ensures.answer v file on is) _ c.in_err-drop_own.field-0.0 _ _ _ _ (ap (λ (kv : KeptVolume). map_sectors kv.sizes) c.in_ok-gone.ensures.volume_kept ∙ map_is c.args.v.now _ v c.requires.mounted on) (p.1 ∙ ap Err p.2)
-    (c.in_ok-gone.ensures.counts v file on is) c.in_err-drop_own.ensures.counts
+    fault_calls _ _ _ c.in_ok-gone.gone.descriptor (c.in_ok-gone.ensures.answer v file on is) _ c.in_err-drop_own.field-0.0 _ _ _ _ refl (p.1 ∙ ap Err p.2)
+    (c.in_ok-gone.ensures.counts v file on is)
+    (calls_on_file _ _ c.args.dir c.args.name.now c.in_ok-gone.gone c.in_ok-gone.ensures.written v on _ _ _ c.in_err-drop_own.ensures.counts)
 
 pub returns-clause-answer : goal.returns-clause-answer
 returns-clause-answer g c v file on is = (c.in_ok-gone.gone.descriptor, c.in_ok-gone.ensures.answer v file on is)
@@ -58,4 +57,5 @@ returns-clause-ok g c u on = deleted_on _ _ _ c.args.dir c.args.name.now c.in_ok
 
 pub returns-clause-counts : goal.returns-clause-counts
 returns-clause-counts g c v file on is =
-    all_calls _ _ _ c.in_ok-gone.gone.descriptor (c.in_ok-gone.ensures.answer v file on is) _ _ _ _ _ (ap (λ (kv : KeptVolume). map_sectors kv.sizes) c.in_ok-gone.ensures.volume_kept ∙ map_is c.args.v.now _ v c.requires.mounted on) (c.in_ok-gone.ensures.counts v file on is) c.in_ok-drop_own.ensures.counts
+    all_calls _ _ _ c.in_ok-gone.gone.descriptor (c.in_ok-gone.ensures.answer v file on is) _ _ _ _ _ refl (c.in_ok-gone.ensures.counts v file on is)
+    (calls_on_file _ _ c.args.dir c.args.name.now c.in_ok-gone.gone c.in_ok-gone.ensures.written v on _ _ _ c.in_ok-drop_own.ensures.counts)

@@ -1,10 +1,8 @@
-use Rattle.std.proofs.Common.{◌≡◌, ◌<◌, ap, ◌∙◌, refl, arith}
-use Rattle.rbf_model.specs.Fields.{segments_field}
+use Rattle.std.proofs.Common.{◌≡◌, ◌<◌, ap, refl, arith}
+use Rattle.std.proofs.lemmas.Result.{err_from_is_err_and}
 use Rattle.rbf_model.specs.Geometry.{Geometry, map_sectors}
-use Rattle.rbf_change.specs.Agrees.{KeptVolume}
 use Rattle.rbf_access.specs.Mounted.{kept}
-use Rattle.rbf_access.proofs.Reading.{mounted_still}
-use Rattle.rbf_drop.proofs.Dropping.{agrees_on, drop_begins, drop_more, goes_on, mounted_so_far, mounted_stopped, drop_done, drop_stopped, drop_unread, on_err, go_as, stopped_as, next_as}
+use Rattle.rbf_drop.proofs.Dropping.{agrees_on, drop_begins, drop_more, goes_on, mounted_so_far, mounted_stopped, drop_done, drop_stopped, on_err, go_as, stopped_as, next_as, none_as, own_in_volume, calls_stopped, calls_done}
 use Rattle.rbf_drop.proofs.dropped.drop_own.Goals as goal
 
 pub loop-place-init : goal.loop-place-init
@@ -39,12 +37,16 @@ returns-in_err-release_in-clause-mounted g c =
 
 pub loop-place-preserved : goal.loop-place-preserved
 loop-place-preserved g c =
+    let has = c.requires.gone in
     let same = ap (λ (h : Geometry). h.cluster) c.loop-place.invariant.sizes in
     let low : c.loop-place.place < map_sectors (kept c.args.volume.now).sizes = omega arith in
     drop_more _ c.loop-place.place (kept c.args.volume.now) (kept c.loop-place.volume) _ _ _ _ c.loop-place.invariant _ (kept c.release_in.new.volume) _ low
     (next_as c.args.volume.now.ident.cluster c.loop-place.volume.ident.cluster c.args.own.now c.loop-place.place _ _ (kept c.loop-place.volume) (kept c.release_in.new.volume) same
     c.in_ok-release_in.ensures.ok)
-    c.in_ok-release_in.ensures.sizes c.in_ok-release_in.ensures.counts
+    c.in_ok-release_in.ensures.sizes
+    (own_in_volume _ c.args.own.now.fd c.args.own.now.segs c.requires.list has.content has.file has.gone c.args.volume.now.ident.cluster (kept c.args.volume.now) (kept c.loop-place.volume) refl
+    (agrees_on c.args.volume.now _ has.content c.requires.mounted has.gone.on) c.loop-place.place _ _ _ c.loop-place.invariant)
+    c.in_ok-release_in.ensures.counts (none_as c.args.volume.now.ident.cluster c.loop-place.volume.ident.cluster c.args.own.now c.loop-place.place _ same c.in_ok-release_in.ensures.none)
 
 pub returns-clause-ok : goal.returns-clause-ok
 returns-clause-ok g c v file gone =
@@ -57,3 +59,19 @@ returns-clause-mounted g c =
     let has = c.requires.gone in
     mounted_so_far _ c.args.own.now.fd c.args.own.now.segs c.requires.list has.content has.file has.gone c.args.volume.now.ident.cluster (kept c.args.volume.now) (kept c.loop-place.volume) refl
     (agrees_on c.args.volume.now _ has.content c.requires.mounted has.gone.on) c.loop-place.place _ _ _ c.loop-place.invariant c.loop-place.volume refl
+
+pub returns-in_err-release_in-clause-counts : goal.returns-in_err-release_in-clause-counts
+returns-in_err-release_in-clause-counts g c v file gone =
+    let same = ap (λ (h : Geometry). h.cluster) c.loop-place.invariant.sizes in
+    let low : c.loop-place.place < map_sectors (kept c.args.volume.now).sizes = omega arith in
+    let p = err_from_is_err_and c.from_residual.result c.from_residual.ensures.1 in
+    rw (p.1, p.2)
+    (calls_stopped _ c.args.own.now.fd c.args.own.now.segs c.requires.list v file gone c.args.volume.now.ident.cluster (kept c.args.volume.now) (kept c.loop-place.volume) refl
+    (agrees_on c.args.volume.now _ v c.requires.mounted gone.on) c.loop-place.place _ _ _ c.loop-place.invariant low _ _ c.in_err-release_in.ensures.counts
+    (none_as c.args.volume.now.ident.cluster c.loop-place.volume.ident.cluster c.args.own.now c.loop-place.place _ same c.in_err-release_in.ensures.none))
+
+pub returns-clause-counts : goal.returns-clause-counts
+returns-clause-counts g c v file gone =
+    let end : c.loop-place.place ≡ map_sectors (kept c.args.volume.now).sizes = omega arith in
+    calls_done _ c.args.own.now.fd c.args.own.now.segs c.requires.list v file gone c.args.volume.now.ident.cluster (kept c.args.volume.now) (kept c.loop-place.volume) refl
+    (agrees_on c.args.volume.now _ v c.requires.mounted gone.on) c.loop-place.place _ _ _ c.loop-place.invariant end

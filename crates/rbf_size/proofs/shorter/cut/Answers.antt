@@ -1,8 +1,5 @@
 use Rattle.std.proofs.Common.{ap, refl, arith}
 use Rattle.std.proofs.lemmas.Result.{err_from_is_err_and}
-use Rattle.rbf_model.specs.Geometry.{map_sectors}
-use Rattle.rbf_change.specs.Agrees.{KeptVolume}
-use Rattle.rbf_access.specs.Mounted.{kept}
 use Rattle.rbf_access.proofs.Counting.{counts_most}
 use Rattle.rbf_access.proofs.Reading.{number_on, mounted_still}
 use Rattle.rbf_write.proofs.Sized.{unread_ends}
@@ -28,7 +25,7 @@ pub returns-in_err-store_cut-clause-mounted : goal.returns-in_err-store_cut-clau
 returns-in_err-store_cut-clause-mounted g c = mounted_still _ _ _ _ c.in_err-store_cut.ensures.volume_kept c.in_err-store_cut.ensures.media_kept c.requires.mounted
 
 pub returns-in_err-store_cut-clause-counts : goal.returns-in_err-store_cut-clause-counts
-returns-in_err-store_cut-clause-counts g c =
+returns-in_err-store_cut-clause-counts g c v file on is =
     let p = err_from_is_err_and c.from_residual.result c.from_residual.ensures.1 in
     rw (p.1, p.2) (counts_most _ 1 _ _ _ (omega arith) c.in_err-store_cut.ensures.counts)
 
@@ -54,10 +51,11 @@ returns-in_err-release_rest-clause-mounted g c =
     c.requires.file.content c.requires.file.file c.requires.file.on c.requires.file.is)) c.release_rest.new.volume refl
 
 pub returns-in_err-release_rest-clause-counts : goal.returns-in_err-release_rest-clause-counts
-returns-in_err-release_rest-clause-counts g c =
+returns-in_err-release_rest-clause-counts g c v file on is =
     let p = err_from_is_err_and c.from_residual-in_err-release_rest.result c.from_residual-in_err-release_rest.ensures.1 in
     rw (p.1, p.2)
-    (cut_calls _ (map_sectors (kept c.args.volume.now).sizes) _ _ _ _ (ap (λ (kv : KeptVolume). map_sectors kv.sizes) c.in_ok-store_cut.ensures.volume_kept) c.in_ok-store_cut.ensures.counts c.in_err-release_rest.ensures.counts)
+    (cut_calls _ _ c.args.loaded.now c.args.size c.args.now c.requires.loaded c.requires.file c.args.volume.now c.store_cut.new.volume c.requires.mounted c.in_ok-store_cut.ensures.volume_kept c.requires.shorter c.kept_segments-segs.result c.kept_segments-segs.ensures c.in_ok-store_cut.ensures.stored
+    v file on is _ _ _ _ c.in_ok-store_cut.ensures.counts c.in_err-release_rest.ensures.counts)
 
 pub returns-clause-answer : goal.returns-clause-answer
 returns-clause-answer g c v file on is =
@@ -74,5 +72,6 @@ returns-clause-mounted g c =
     c.requires.file.content c.requires.file.file c.requires.file.on c.requires.file.is)) c.release_rest.new.volume refl
 
 pub returns-clause-counts : goal.returns-clause-counts
-returns-clause-counts g c =
-    cut_calls _ (map_sectors (kept c.args.volume.now).sizes) _ _ _ _ (ap (λ (kv : KeptVolume). map_sectors kv.sizes) c.in_ok-store_cut.ensures.volume_kept) c.in_ok-store_cut.ensures.counts c.in_ok-release_rest.ensures.counts
+returns-clause-counts g c v file on is =
+    cut_calls _ _ c.args.loaded.now c.args.size c.args.now c.requires.loaded c.requires.file c.args.volume.now c.store_cut.new.volume c.requires.mounted c.in_ok-store_cut.ensures.volume_kept c.requires.shorter c.kept_segments-segs.result c.kept_segments-segs.ensures c.in_ok-store_cut.ensures.stored
+    v file on is _ _ _ _ c.in_ok-store_cut.ensures.counts c.in_ok-release_rest.ensures.counts

@@ -17,7 +17,7 @@ returns-in_err-loaded-clause-mounted g c = mounted_still _ _ _ _ c.in_err-loaded
 pub returns-in_err-loaded-clause-counts : goal.returns-in_err-loaded-clause-counts
 returns-in_err-loaded-clause-counts g c v file on is =
     let p = err_from_is_err_and c.from_residual.result c.from_residual.ensures.1 in
-    rw (p.1, p.2) (counts_most _ 1 _ _ _ (stays_calls v file c.args.size) c.in_err-loaded.ensures.counts)
+    rw (p.1, p.2) (counts_most _ 1 _ _ _ (stays_calls v file (record { number = c.args.fd; size = c.args.size; now = c.args.now })) c.in_err-loaded.ensures.counts)
 
 pub returns-then-size-loaded-clause-answer : goal.returns-then-size-loaded-clause-answer
 returns-then-size-loaded-clause-answer g c v file on is =
@@ -30,7 +30,7 @@ returns-then-size-loaded-clause-mounted g c = mounted_still _ _ _ _ c.in_ok-load
 
 pub returns-then-size-loaded-clause-counts : goal.returns-then-size-loaded-clause-counts
 returns-then-size-loaded-clause-counts g c v file on is =
-    counts_most _ 1 _ _ _ (stays_calls v file c.args.size) c.in_ok-loaded.ensures.counts
+    counts_most _ 1 _ _ _ (stays_calls v file (record { number = c.args.fd; size = c.args.size; now = c.args.now })) c.in_ok-loaded.ensures.counts
 
 pub cut-requires-clause-mounted : goal.cut-requires-clause-mounted
 cut-requires-clause-mounted g c = mounted_still _ _ _ _ c.in_ok-loaded.ensures.volume_kept c.in_ok-loaded.ensures.media_kept c.requires.mounted
@@ -44,7 +44,7 @@ pub returns-then-size-loaded-2-clause-counts : goal.returns-then-size-loaded-2-c
 returns-then-size-loaded-2-clause-counts g c v file on is =
     let size = (c.in_ok-loaded.ensures.ok.says v file on is).size_is in
     cut_counts _ _ c.args.fd c.in_ok-loaded.loaded.number c.args.size c.args.now c.in_ok-loaded.ensures.media_kept c.in_ok-loaded.ensures.ok.number_is v file on is
-    _ _ _ _ c.args.volume.now c.load_file.new.volume c.requires.mounted c.in_ok-loaded.ensures.volume_kept (omega arith) c.in_ok-loaded.ensures.counts c.cut.ensures.counts
+    _ _ _ _ (omega arith) c.in_ok-loaded.ensures.counts c.cut.ensures.counts
 
 pub lay_over-requires-clause-mounted : goal.lay_over-requires-clause-mounted
 lay_over-requires-clause-mounted g c = mounted_still _ _ _ _ c.in_ok-loaded.ensures.volume_kept c.in_ok-loaded.ensures.media_kept c.requires.mounted
