@@ -21,8 +21,9 @@ pub enum Searched {
     Absent { free: u32 },
 }
 
-/// Searches a directory, whose descriptor is given, for a name; the case of letters is ignored. No
-/// sector is read twice, and none after the one that has the name.
+/// Searches a directory, whose descriptor is given, for a name; the case of letters is ignored. It
+/// makes at most as many calls of the drive as the directory has sectors up to the one that has the
+/// name.
 ///
 /// # Errors
 ///
