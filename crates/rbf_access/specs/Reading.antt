@@ -23,6 +23,11 @@ abbrev pub OnFile : Option (List ℕ) → ℕ → (DiskFile → Type 0) → Type
 OnFile media n fact =
     (v : DiskVolume) (file : DiskFile) → Represents media v → v.files n ≡ Some file → fact file
 
+-- what holds of that volume and of its file of number n
+abbrev pub OnVolumeFile : Option (List ℕ) → ℕ → (DiskVolume → DiskFile → Type 0) → Type 0
+OnVolumeFile media n fact =
+    (v : DiskVolume) (file : DiskFile) → Represents media v → v.files n ≡ Some file → fact v file
+
 -- a buffer into which bytes have been read: what they do not fill is as it was
 abbrev pub filled_buffer : List ℕ → List ℕ → List ℕ
 filled_buffer bytes buffer = bytes ++ drop (length bytes) buffer

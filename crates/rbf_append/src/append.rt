@@ -2,7 +2,8 @@ ghost use Rattle.std.specs.Prelude.{◌≡◌, ◌+◌, OnErr, IsSome};
 ghost use Rattle.rbf_access.specs.Drive.{Counts};
 ghost use Rattle.rbf_access.specs.Faults.{file_fault};
 ghost use Rattle.rbf_access.specs.Mounted.{IsMounted};
-ghost use Rattle.rbf_write.specs.Files.{IsLoaded, OnVolumeFile};
+ghost use Rattle.rbf_access.specs.Reading.{OnVolumeFile};
+ghost use Rattle.rbf_write.specs.Files.{IsLoaded};
 ghost use Rattle.rbf_append.specs.NewEntry.{MayAppend, AnswersEntry};
 ghost use Rattle.rbf_append.specs.Rooms.{place_clusters};
 

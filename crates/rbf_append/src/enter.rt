@@ -3,8 +3,9 @@ ghost use Rattle.os9_base.specs.declared.registers.TimePacket.{TimePacket};
 ghost use Rattle.rbf_access.specs.Drive.{Counts};
 ghost use Rattle.rbf_access.specs.Faults.{file_fault};
 ghost use Rattle.rbf_access.specs.Mounted.{IsMounted};
+ghost use Rattle.rbf_access.specs.Reading.{OnVolumeFile};
 ghost use Rattle.rbf_update.specs.Entries.{MayFill};
-ghost use Rattle.rbf_write.specs.Files.{IsLoaded, OnVolumeFile};
+ghost use Rattle.rbf_write.specs.Files.{IsLoaded};
 ghost use Rattle.rbf_append.specs.Entering.{entry_calls};
 ghost use Rattle.rbf_append.specs.NewEntry.{MayEnter, AnswersEntry};
 

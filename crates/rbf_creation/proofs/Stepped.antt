@@ -14,7 +14,7 @@ use Rattle.rbf_change.specs.NewFiles.{file_plan}
 use Rattle.rbf_access.specs.Drive.{DriveCounts, MovesCounts}
 use Rattle.rbf_access.specs.Faults.{file_fault}
 use Rattle.rbf_access.specs.Mounted.{kept, Represents, HasFile, IsMounted}
-use Rattle.rbf_access.specs.Reading.{IsFdOf, OnFile}
+use Rattle.rbf_access.specs.Reading.{IsFdOf, OnFile, OnVolumeFile}
 use Rattle.rbf_access.specs.declared.faults.FileFault.{FileFault}
 use Rattle.rbf_access.specs.declared.faults.FileFault.TheVariants.{Device, NoCluster, TooManyRuns}
 use Rattle.rbf_access.specs.declared.volume.Volume.{Volume}
@@ -24,7 +24,7 @@ use Rattle.rbf_walk.specs.declared.error.DirError.{DirError}
 use Rattle.rbf_walk.specs.declared.error.DirError.TheVariants.{NotAllowed, BadPath, NotFound, Exists, File}
 use Rattle.rbf_walk.proofs.Stepping.{same_content}
 use Rattle.rbf_write.specs.declared.loaded.Loaded.{Loaded}
-use Rattle.rbf_write.specs.Files.{IsLoaded, OnVolumeFile}
+use Rattle.rbf_write.specs.Files.{IsLoaded}
 use Rattle.rbf_append.specs.NewEntry.{MayEnter, AnswersEntry}
 use Rattle.rbf_append.specs.Entering.{AnswersEntering, unchanged, took as stops_after, entry_calls, entering_calls, refusal_of, widened}
 use Rattle.rbf_append.specs.Rooms.{AnswersRoom, HasRoom}

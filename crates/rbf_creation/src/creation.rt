@@ -1,8 +1,8 @@
 ghost use Rattle.std.specs.Prelude.{◌≡◌, ◌+◌, ◌<◌};
 ghost use Rattle.rbf_access.specs.Drive.{Counts};
 ghost use Rattle.rbf_access.specs.Mounted.{HasFile, IsMounted};
+ghost use Rattle.rbf_access.specs.Reading.{OnVolumeFile};
 ghost use Rattle.rbf_walk.specs.Walk.{directory_fault};
-ghost use Rattle.rbf_update.specs.Deletions.{OnNumbered};
 ghost use Rattle.rbf_append.specs.Entering.{AnswersEntering, entering_calls};
 ghost use Rattle.rbf_make.specs.Places.{place_calls};
 ghost use Rattle.rbf_creation.specs.Creating.{request};
@@ -41,10 +41,10 @@ pub fn create(
     requires mounted { IsMounted v.old (media d.old) }
     requires file { HasFile (media d.old) dir }
     requires attributes { attr < 128 }
-    ensures answer { OnNumbered (media d.old) dir (λ on file. AnswersEntering on file
+    ensures answer { OnVolumeFile (media d.old) dir (λ on file. AnswersEntering on file
         (request dir name.now attr user execute now) (media d.old) (media d.new) result) }
     ensures mounted { IsMounted v.new (media d.new) }
-    ensures counts { OnNumbered (media d.old) dir (λ on file.
+    ensures counts { OnVolumeFile (media d.old) dir (λ on file.
         Counts ⟦<dyn BlockDriver as BlockDriver>⟧ (directory_fault result)
         (place_calls file name.now user execute + entering_calls on file 2 result)
         d.old d.new) }

@@ -2,7 +2,7 @@ ghost use Rattle.std.specs.Prelude.{◌≡◌, ◌<◌};
 ghost use Rattle.rbf_access.specs.Drive.{Counts};
 ghost use Rattle.rbf_access.specs.Faults.{file_fault};
 ghost use Rattle.rbf_access.specs.Mounted.{IsMounted};
-ghost use Rattle.rbf_update.specs.Deletions.{OnNumbered};
+ghost use Rattle.rbf_access.specs.Reading.{OnVolumeFile};
 ghost use Rattle.rbf_append.specs.Entering.{AnswersEntering, entering_calls, widened};
 ghost use Rattle.rbf_make.specs.Places.{IsPlaceFor};
 ghost use Rattle.rbf_creation.specs.Creating.{request};
@@ -37,11 +37,11 @@ pub fn create_at(
     requires mounted { IsMounted v.old (media d.old) }
     requires place { IsPlaceFor (media d.old) name.now found.now }
     requires attributes { attr < 128 }
-    ensures answer { OnNumbered (media d.old) found.now.dir.number (λ on file. AnswersEntering on
+    ensures answer { OnVolumeFile (media d.old) found.now.dir.number (λ on file. AnswersEntering on
         file (request found.now.dir.number name.now attr found.now.user found.now.execute now)
         (media d.old) (media d.new) (widened result)) }
     ensures mounted { IsMounted v.new (media d.new) }
-    ensures counts { OnNumbered (media d.old) found.now.dir.number (λ on file.
+    ensures counts { OnVolumeFile (media d.old) found.now.dir.number (λ on file.
         Counts ⟦<dyn BlockDriver as BlockDriver>⟧ (file_fault result)
         (entering_calls on file 2 (widened result)) d.old d.new) }
 {

@@ -2,8 +2,8 @@ ghost use Rattle.std.specs.Prelude.{◌≡◌, ◌+◌, false};
 ghost use Rattle.rbf_access.specs.Drive.{Counts};
 ghost use Rattle.rbf_access.specs.Faults.{file_fault};
 ghost use Rattle.rbf_access.specs.Mounted.{HasFile, IsMounted};
+ghost use Rattle.rbf_access.specs.Reading.{OnVolumeFile};
 ghost use Rattle.rbf_walk.specs.Walk.{directory_fault};
-ghost use Rattle.rbf_update.specs.Deletions.{OnNumbered};
 ghost use Rattle.rbf_append.specs.Entering.{AnswersEntering, entering_calls, widened};
 ghost use Rattle.rbf_make.specs.Places.{IsPlaceFor, place_calls};
 ghost use Rattle.rbf_folder.specs.Asked.{folder_request};
@@ -43,10 +43,10 @@ pub fn make_dir(
 ) -> Result<u32, DirError>
     requires mounted { IsMounted v.old (media d.old) }
     requires file { HasFile (media d.old) dir }
-    ensures answer { OnNumbered (media d.old) dir (λ on file. AnswersEntering on file
+    ensures answer { OnVolumeFile (media d.old) dir (λ on file. AnswersEntering on file
         (folder_request dir name.now attr user now) (media d.old) (media d.new) result) }
     ensures mounted { IsMounted v.new (media d.new) }
-    ensures counts { OnNumbered (media d.old) dir (λ on file.
+    ensures counts { OnVolumeFile (media d.old) dir (λ on file.
         Counts ⟦<dyn BlockDriver as BlockDriver>⟧ (directory_fault result)
         (place_calls file name.now user false + entering_calls on file (folder_calls on) result)
         d.old d.new) }
@@ -74,11 +74,11 @@ pub fn make_dir_at(
     requires mounted { IsMounted v.old (media d.old) }
     requires place { IsPlaceFor (media d.old) name.now found.now }
     requires reading { found.now.execute ≡ false }
-    ensures answer { OnNumbered (media d.old) found.now.dir.number (λ on file. AnswersEntering on
+    ensures answer { OnVolumeFile (media d.old) found.now.dir.number (λ on file. AnswersEntering on
         file (folder_request found.now.dir.number name.now attr found.now.user now)
         (media d.old) (media d.new) (widened result)) }
     ensures mounted { IsMounted v.new (media d.new) }
-    ensures counts { OnNumbered (media d.old) found.now.dir.number (λ on file.
+    ensures counts { OnVolumeFile (media d.old) found.now.dir.number (λ on file.
         Counts ⟦<dyn BlockDriver as BlockDriver>⟧ (file_fault result)
         (entering_calls on file (folder_calls on) (widened result)) d.old d.new) }
 {

@@ -6,17 +6,13 @@ use Rattle.rbf_model.specs.Volume.{DiskVolume}
 use Rattle.rbf_model.specs.Walk.{look_up}
 use Rattle.rbf_change.specs.Names.{place_of, may_change, deletion_end}
 use Rattle.rbf_change.specs.Parts.{EntryIsFreed}
-use Rattle.rbf_access.specs.Mounted.{Represents}
 use Rattle.rbf_access.specs.Reading.{IsFdOf}
+pub use Rattle.rbf_access.specs.Reading.{OnVolumeFile as OnNumbered}
 use Rattle.rbf_walk.specs.Search.{sectors_searched}
 use Rattle.rbf_walk.specs.Walk.{calls_on}
 use Rattle.rbf_walk.specs.declared.error.DirError.{DirError}
 use Rattle.rbf_update.specs.Entries.{MayFree, sector_of_entry, with_entry_bytes}
 use Rattle.rbf_update.specs.declared.deletion.Deletable.{Deletable}
-
--- what holds of the volume that the media represents and of its file n
-abbrev pub OnNumbered : Option (List ℕ) → ℕ → (DiskVolume → DiskFile → Type 0) → Type 0
-OnNumbered media n fact = (v : DiskVolume) (file : DiskFile) → Represents media v → v.files n ≡ Some file → fact v file
 
 -- the entry of directory d that has a name, and that may be made free: its sector, and what its file's descriptor says
 pub record IsDeletable (media : Option (List ℕ)) (d : ℕ) (name : List ℕ) (found : Deletable) : Type 0 where

@@ -3,10 +3,10 @@ ghost use Rattle.rbf_model.specs.File.{DiskFile};
 ghost use Rattle.rbf_change.specs.Names.{deletion_end, may_change as may_change_lem, may_delete as may_delete_lem};
 ghost use Rattle.rbf_access.specs.Drive.{Counts};
 ghost use Rattle.rbf_access.specs.Mounted.{kept, HasFile, IsMounted};
-ghost use Rattle.rbf_access.specs.Reading.{IsFdOf, OnFile};
+ghost use Rattle.rbf_access.specs.Reading.{IsFdOf, OnFile, OnVolumeFile};
 ghost use Rattle.rbf_walk.specs.Walk.{AnswersWalk, directory_fault};
 ghost use Rattle.rbf_update.specs.Becomes.{Becomes};
-ghost use Rattle.rbf_update.specs.Deletions.{FreesName, FreesOn, IsDeletable, OnNumbered, deletion_calls, freeing_calls, descriptor_found};
+ghost use Rattle.rbf_update.specs.Deletions.{FreesName, FreesOn, IsDeletable, deletion_calls, freeing_calls, descriptor_found};
 
 use crate::entry::free_entry;
 use os9_base::name::Name;
@@ -46,7 +46,7 @@ pub fn delete_name(
 ) -> Result<Deletable, DirError>
     requires mounted { IsMounted v.old (media d.old) }
     requires file { HasFile (media d.old) dir }
-    ensures answer { OnNumbered (media d.old) dir (λ on file. AnswersWalk
+    ensures answer { OnVolumeFile (media d.old) dir (λ on file. AnswersWalk
         (deletion_end on.files file name.now user execute)
         (descriptor_found result)) }
     ensures ok { OnOk result (Becomes (media d.old) (media d.new) (λ old new.
@@ -55,7 +55,7 @@ pub fn delete_name(
     ensures media_kept { OnErr result (media d.new ≡ media d.old) }
     ensures mounted { IsMounted v.new (media d.new) }
     ensures volume_kept { kept v.new ≡ kept v.old }
-    ensures counts { OnNumbered (media d.old) dir (λ on f. Counts ⟦<dyn BlockDriver as BlockDriver>⟧
+    ensures counts { OnVolumeFile (media d.old) dir (λ on f. Counts ⟦<dyn BlockDriver as BlockDriver>⟧
         (directory_fault result) (freeing_calls on f name.now user execute) d.old d.new) }
 {
     let found = find_deletable(v, d, dir, name, user, execute)?;
@@ -83,7 +83,7 @@ pub fn find_deletable(
 ) -> Result<Deletable, DirError>
     requires mounted { IsMounted v.old (media d.old) }
     requires file { HasFile (media d.old) dir }
-    ensures answer { OnNumbered (media d.old) dir (λ on file. AnswersWalk
+    ensures answer { OnVolumeFile (media d.old) dir (λ on file. AnswersWalk
         (deletion_end on.files file name.now user execute)
         (descriptor_found result)) }
     ensures ok { IfOk result (IsDeletable (media d.old) dir name.now) }

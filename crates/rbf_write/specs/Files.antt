@@ -7,6 +7,7 @@ use Rattle.rbf_model.specs.Volume.{DiskVolume}
 use Rattle.rbf_change.specs.Growth.{clusters_needed}
 use Rattle.rbf_access.specs.Mounted.{Represents}
 use Rattle.rbf_access.specs.Reading.{IsFdOf, OnFile}
+pub use Rattle.rbf_access.specs.Reading.{OnVolumeFile}
 use Rattle.rbf_write.specs.declared.loaded.Loaded.{Loaded}
 
 -- the media represents a volume with a file of this number that is no directory
@@ -16,11 +17,6 @@ pub record HasDataFile (media : Option (List ℕ)) (n : ℕ) : Type 0 where
   pub file : DiskFile
   pub is : content.files n ≡ Some file
   pub not_directory : is_directory file ≡ false
-
--- what holds of the volume that the media represents and of its file of number n
-abbrev pub OnVolumeFile : Option (List ℕ) → ℕ → (DiskVolume → DiskFile → Type 0) → Type 0
-OnVolumeFile media n fact =
-    (v : DiskVolume) (file : DiskFile) → Represents media v → v.files n ≡ Some file → fact v file
 
 -- the descriptor of file n has been read
 pub record IsLoaded (media : Option (List ℕ)) (n : ℕ) (loaded : Loaded) : Type 0 where
