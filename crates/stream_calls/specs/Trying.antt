@@ -1,5 +1,5 @@
 -- What an attempt of a read or a write leaves, and what it leaves where memory is wanting.
-use Rattle.std.specs.Prelude.{◌≡◌, ℕ, ◌<◌, ⊥, Option, Some, None, List, length}
+use Rattle.std.specs.Prelude.{◌≡◌, ℕ, ◌<◌, Option, Some, None, List, length}
 use Rattle.os9_base.specs.declared.call.CallEnd.{CallEnd}
 use Rattle.os9_base.specs.declared.call.CallEnd.TheVariants.{Done, Error, Wait, Ended, NoMemory}
 use Rattle.os9_outer.specs.TerminalState.{TerminalState, fault_counts}
