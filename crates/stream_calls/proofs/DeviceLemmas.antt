@@ -1,7 +1,6 @@
 -- What an attempt on a terminal comes to.
-use Rattle.std.proofs.Common.{◌≡◌, ◌≢◌, ◌∙◌, ℕ, zero, suc, Option, Some, None, List, [], ◌∷◌, slice_get, slice_set, ap, sym, refl, subst}
+use Rattle.std.proofs.Common.{◌≡◌, ◌∙◌, ℕ, zero, suc, Option, Some, List, [], ◌∷◌, slice_get, slice_set, ap, sym, refl, subst}
 use Rattle.os9_base.specs.declared.call.CallEnd.{CallEnd}
-use Rattle.os9_base.specs.declared.call.CallEnd.TheVariants as CallEnd
 use Rattle.os9_base.specs.declared.registers.Regs.{Regs}
 use Rattle.os9_outer.specs.TerminalState.{TerminalState, ChangesOneTerminal, fault_counts}
 use Rattle.call_rules.specs.Inner.{Inner, regs_at}

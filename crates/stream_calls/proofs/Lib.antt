@@ -1,5 +1,7 @@
 pub mod DeviceLemmas
 pub mod EchoLemmas
+pub mod LineLemmas
 pub mod MovingLemmas
+pub mod SendingLemmas
 pub mod StepLemmas
 pub mod TryingLemmas

@@ -1,36 +1,32 @@
 -- What is known of a read or a write once its path is found.
-use Rattle.std.proofs.Common.{◌≡◌, ◌≢◌, ℕ, zero, suc, ◌<◌, Bool, true, false, ◌||◌, Option, Some, None, IsSome, is_some, is_none, option_map, option_and_then, unwrap_or, List, [], ◌∷◌, get_or, sym, ap, refl, ◌∙◌, subst, arith, eq-eqb}
-use Rattle.std.specs.Prelude.{IfSome, IsSomeAnd, not}
-use Rattle.std.specs.List.{list_any}
-use Rattle.std.proofs.lemmas.Bool.{false≢true, or_left, or_right}
-use Rattle.os9_base.specs.Cells.{Cells, FitsIn}
+use Rattle.std.proofs.Common.{◌≡◌, ◌≢◌, ℕ, Bool, true, false, Option, Some, None, is_some, is_none, option_map, option_and_then, unwrap_or, sym, ap, refl, ◌∙◌, subst, arith}
+use Rattle.std.specs.Prelude.{IfSome}
+use Rattle.std.proofs.lemmas.Bool.{false≢true}
 use Rattle.os9_base.specs.declared.registers.Regs.{Regs}
 use Rattle.call_rules.specs.Inner.{Inner, regs_at}
-use Rattle.io_model.specs.Path.{PathTable, slot_of, desc_of, numbers_of, is_image, holds_path}
+use Rattle.io_model.specs.Path.{slot_of, desc_of}
 use Rattle.io_model.specs.declared.kept.Kept.{Kept}
 use Rattle.io_model.specs.declared.path.Desc.{Desc}
 use Rattle.io_model.specs.declared.path.SysPath.{SysPath}
 use Rattle.io_model.specs.declared.path.Target.{Target}
-use Rattle.io_model.specs.declared.path.Target.TheVariants.{File, Folder, Term, Pipe}
+use Rattle.io_model.specs.declared.path.Target.TheVariants.{Term}
 use Rattle.io_model.specs.declared.terminal.ReadKind.{ReadKind}
 use Rattle.io_model.specs.declared.terminal.ReadKind.TheVariants.{Bytes, WholeLine}
-use Rattle.io_rules.specs.Codes.{io_call_of, direction_of, direction_of_call}
+use Rattle.io_rules.specs.Codes.{direction_of}
 use Rattle.io_rules.specs.Io.{Io, OpenPath, open_path, kept_at}
-use Rattle.io_rules.specs.Modes.{can_read}
 use Rattle.io_rules.specs.Transfer.{first_call}
 use Rattle.io_rules.specs.declared.io_call.Direction.{Direction}
 use Rattle.io_rules.specs.declared.io_call.Direction.TheVariants as Way
 use Rattle.io_rules.specs.declared.io_call.IoCall.{IoCall}
-use Rattle.io_rules.specs.declared.io_call.IoCall.TheVariants as Call
 use Rattle.io_rules.specs.Again.{IsAgain, IsKept, KeepsCount, path_number}
 use Rattle.io_state.proofs.HeldLemmas.{slot-held}
 use Rattle.io_state.proofs.WaitLemmas.{none-some, some-same}
-use Rattle.io_state.specs.Sound.{IsIo, IsNoRead, MayWait, read_kind, read_kind_of, target_at}
+use Rattle.io_state.specs.Sound.{IsIo, IsNoRead, read_kind, read_kind_of, target_at}
 use Rattle.pipe_calls.specs.Leaving.{ReadsNoTerminal}
 use Rattle.proc_state.specs.Tie.{Represents}
 use Rattle.proc_state.specs.declared.state.ProcState.{ProcState}
 use Rattle.proc_rules.specs.Records.{record_at}
-use Rattle.stream_calls.specs.Moving.{MayMove, StaysRead, StaysIfKept, read_call, read_code}
+use Rattle.stream_calls.specs.Moving.{MayMove, read_call, read_code}
 
 -- the registers of the processes are those of the machine
 pub regs-tied : (s : ProcState) (m : Inner) (p : ℕ) → Represents s m → (record_at s.table p).regs ≡ regs_at m p

@@ -1,12 +1,14 @@
 //! How attempts begin and end.
 
 ghost use Rattle.std.specs.Prelude.{◌≡◌, ◌<◌, None, unwrap_or};
-ghost use Rattle.io_rules.specs.Io.{kept_at, with_call};
+ghost use Rattle.io_rules.specs.Attempts.{result_by};
+ghost use Rattle.io_rules.specs.Io.{Io, kept_at, with_call};
+ghost use Rattle.io_rules.specs.Step.{IoEnd, leaves};
 ghost use Rattle.io_state.specs.Sound.{IsIo};
 ghost use Rattle.proc_rules.specs.Records.{IsLiving};
 ghost use Rattle.call_rules.specs.Inner.{Inner, with_regs_of};
-ghost use Rattle.pipe_calls.specs.Leaving.{ReadsNoTerminal};
-ghost use Rattle.proc_state.specs.Tie.{Represents};
+ghost use Rattle.pipe_calls.specs.Leaving.{IsTold, ReadsNoTerminal};
+ghost use Rattle.proc_state.specs.Tie.{Comes, Represents};
 
 use io_model::kept::Kept;
 use io_model::path::SysPath;
@@ -55,4 +57,28 @@ pub(crate) fn answer(s: &mut ProcState, io: &mut IoState, p: Pid, regs: Regs) ->
     s.set_regs(p, regs);
     io.keep(p, None);
     CallEnd::Done
+}
+
+/// The call is done. Nothing is kept of it.
+pub(crate) fn finish(io: &mut IoState, p: Pid) -> CallEnd
+    requires process { p.0 < 33 }
+    requires no_read { ReadsNoTerminal io.old p.0 }
+    ensures end { result ≡ CallEnd.Done }
+    ensures io { io.new ≡ with_call io.old p.0 None }
+{
+    io.keep(p, None);
+    CallEnd::Done
+}
+
+/// The process of an attempt that stored nothing is told how it ended: it has these registers where
+/// the call is done.
+pub(crate) fn tell(s: &mut ProcState, p: Pid, end: CallEnd, regs: Regs)
+    requires lives { IsLiving s.old.table p.0 }
+    ensures told { (m : Inner) (it : IoEnd) (io : Io) → Represents s.old m → IsTold it regs end
+        → Comes m p.0 (result_by it m p.0 (leaves it io)) end s.new }
+    ensures lives { IsLiving s.new.table p.0 }
+{
+    if end == CallEnd::Done {
+        s.set_regs(p, regs);
+    }
 }

@@ -1,7 +1,9 @@
-//! I$Read and I$ReadLn on terminals and pipes.
+//! I$Read, I$ReadLn, I$Write, I$WritLn and F$PErr on terminals and pipes.
 #![tactic(auto)]
 
 mod ends;
 mod modes;
 pub mod reads;
+mod sending;
 mod terminals;
+pub mod writes;

@@ -1,4 +1,4 @@
-use Rattle.std.proofs.Common.{◌≡◌, ◌∙◌, Bool, is_none, is_some, sym, subst}
+use Rattle.std.proofs.Common.{◌≡◌, ◌∙◌, is_none, is_some, sym, subst}
 use Rattle.std.proofs.lemmas.Bool.{false≢true}
 use Rattle.os9_base.specs.declared.errors.TheConstants.{E_BPADDR}
 use Rattle.os9_base.specs.declared.registers.Regs.{Regs}

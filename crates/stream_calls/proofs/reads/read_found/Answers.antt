@@ -1,4 +1,4 @@
-use Rattle.std.proofs.Common.{◌≡◌, ◌∙◌, Bool, true, false, not, ap, sym}
+use Rattle.std.proofs.Common.{◌∙◌, Bool, not, ap, sym}
 use Rattle.os9_base.specs.declared.errors.TheConstants.{E_BMODE}
 use Rattle.io_rules.specs.Attempts.{caller_of}
 use Rattle.io_rules.specs.Io.{OpenPath}

@@ -1,17 +1,15 @@
-use Rattle.std.proofs.Common.{◌≡◌, ◌==◌, ◌∙◌, ℕ, unwrap_or, ap, sym, subst, eq-eqb, arith}
+use Rattle.std.proofs.Common.{◌≡◌, ◌==◌, ◌∙◌, ℕ, unwrap_or, ap, subst, eq-eqb}
 use Rattle.std.proofs.lemmas.Bool.{ne_eqb}
 use Rattle.os9_base.specs.declared.registers.Regs.{Regs}
 use Rattle.call_rules.specs.Inner.{regs_at}
 use Rattle.io_model.specs.declared.kept.Kept.{Kept}
-use Rattle.io_rules.specs.Again.{IsKept}
 use Rattle.io_rules.specs.Attempts.{caller_of}
 use Rattle.io_rules.specs.Io.{OpenPath, kept_at}
 use Rattle.io_rules.specs.Step.{done}
 use Rattle.io_rules.specs.Transfer.{call_now, first_call}
-use Rattle.io_state.specs.Sound.{IsNoRead}
-use Rattle.stream_calls.proofs.MovingLemmas.{kept-none, kept-count, read-call}
+use Rattle.stream_calls.proofs.MovingLemmas.{read-call}
 use Rattle.stream_calls.proofs.TryingLemmas.{tries-done, tries-if-true, tries-if-false, tries-same}
-use Rattle.stream_calls.specs.Moving.{read_call, read_code, read_open, read_on}
+use Rattle.stream_calls.specs.Moving.{read_code, read_open, read_on}
 use Rattle.stream_calls.proofs.reads.read_open.Goals as goal
 
 pub read_on-requires-clause-may : goal.read_on-requires-clause-may

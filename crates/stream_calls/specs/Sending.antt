@@ -1,0 +1,140 @@
+-- Writes as a process may attempt them, and what they do on a path that they found.
+use Rattle.std.specs.Prelude.{◌≡◌, ℕ, ◌==◌, ⊤, IfSome, Some, None, List, length, if◌then◌else◌}
+use Rattle.os9_base.specs.Cells.{Cells}
+use Rattle.os9_base.specs.declared.call.CallEnd.{CallEnd}
+use Rattle.os9_base.specs.declared.call.CallEnd.TheVariants as End
+use Rattle.os9_base.specs.declared.calls.TheConstants.{I_WRITE, I_WRITLN, F_PERR}
+use Rattle.os9_base.specs.declared.errors.TheConstants.{E_WRITE}
+use Rattle.os9_base.specs.declared.registers.Pid.{Pid}
+use Rattle.os9_base.specs.declared.registers.Regs.{Regs}
+use Rattle.os9_outer.specs.TerminalState.{TerminalState}
+use Rattle.io_model.specs.Line.{line_length, line_put}
+use Rattle.io_model.specs.declared.kept.Kept.{Kept}
+use Rattle.io_model.specs.declared.path.Target.{Target}
+use Rattle.io_model.specs.declared.path.Target.TheVariants.{Pipe}
+use Rattle.io_model.specs.declared.terminal.Progress.{Progress}
+use Rattle.io_rules.specs.Again.{IsAgain, path_number}
+use Rattle.io_rules.specs.Attempts.{Does, kept_in}
+use Rattle.io_rules.specs.Io.{Io, OpenPath, kept_at, with_call}
+use Rattle.io_rules.specs.Modes.{can_write}
+use Rattle.io_rules.specs.Step.{Caller, IoEnd, IoStep, done, leaves}
+use Rattle.io_rules.specs.Transfer.{call_now, on_path}
+use Rattle.io_rules.specs.Write.{Sending, sent_bytes, sent_line, writes_target}
+use Rattle.io_rules.specs.declared.io_call.IoCall.{IoCall}
+use Rattle.io_rules.specs.declared.io_call.IoCall.TheVariants as Call
+use Rattle.io_state.specs.Sound.{MayWait, target_at}
+use Rattle.pipe_calls.specs.Leaving.{IsTold}
+use Rattle.stream_calls.specs.Trying.{WantsMemory}
+use Rattle.stream_calls.specs.declared.sending.WriteKind.{WriteKind}
+use Rattle.stream_calls.specs.declared.sending.WriteKind.TheVariants.{Bytes, Line, ErrorLine}
+
+-- the call that writes so, and its code
+abbrev pub write_call : WriteKind → IoCall
+write_call Bytes = Call.Write
+write_call Line = Call.WritLn
+write_call ErrorLine = Call.PErr
+
+abbrev pub write_code : WriteKind → ℕ
+write_code Bytes = I_WRITE
+write_code Line = I_WRITLN
+write_code ErrorLine = F_PERR
+
+-- what it sends of these bytes
+abbrev pub sent : WriteKind → Caller → List ℕ → Sending
+sent Bytes caller bytes = sent_bytes caller bytes
+sent Line caller bytes = sent_line caller bytes
+sent ErrorLine caller bytes = record { bytes = bytes; put = line_put bytes; regs = caller.regs }
+
+-- what a terminal puts of them
+abbrev pub put_of : WriteKind → List ℕ → List ℕ
+put_of Bytes bytes = bytes
+put_of Line bytes = line_put bytes
+put_of ErrorLine bytes = line_put bytes
+
+-- how many of them a terminal takes: no byte behind the first carriage return of a line
+abbrev pub put_count : WriteKind → List ℕ → ℕ
+put_count Bytes bytes = length bytes
+put_count Line bytes = line_length bytes
+put_count ErrorLine bytes = line_length bytes
+
+-- the registers where it is done with so many of them
+abbrev pub regs_done : WriteKind → Regs → ℕ → Regs
+regs_done Bytes regs count = record regs { y = count }
+regs_done Line regs count = record regs { y = count }
+regs_done ErrorLine regs count = regs
+
+-- the bytes are a line where a line is written: a terminal takes all of them
+abbrev pub IsLineOf : WriteKind → List ℕ → Type 0
+IsLineOf kind bytes = put_count kind bytes ≡ length bytes
+
+-- the first attempt of a line write moves a line
+abbrev pub IsLineFirst : WriteKind → Io → ℕ → List ℕ → Type 0
+IsLineFirst kind io p bytes = kept_at io p ≡ None → IsLineOf kind bytes
+
+-- a process may attempt such a write of so many bytes: where a call of it waits, it is this one
+pub record MaySend (kind : WriteKind) (regs : Regs) (io : Io) (p count : ℕ) : Type 0 where
+  pub again : IsAgain (write_call kind) regs io p
+  pub same : IfSome (kept_at io p) (λ kept. kept.count ≡ count)
+
+-- a process may attempt a write in this call, whose path is on this: on a pipe it may wait in it
+pub record MayWrite (io : Io) (p : ℕ) (target : Target) (call : Kept) : Type 0 where
+  pub on : target_at io.paths call.path.0 ≡ Some target
+  pub may : (pipe : ℕ) → target ≡ Pipe pipe → MayWait io.paths p call
+
+-- ---- steps
+
+-- a caller with these registers, that sees these bytes
+abbrev pub sender : Pid → Regs → Cells → Caller
+sender p regs cells = record { process = p; regs = regs; cells = cells }
+
+-- an attempt on what its path was opened on
+unfoldable pub write_on : WriteKind → Caller → Io → List ℕ → Kept → Target → IoStep
+write_on kind caller io bytes call target = writes_target (sent kind caller bytes) caller io call target
+
+-- an attempt on a path that may be written
+unfoldable pub write_open : WriteKind → Caller → Io → List ℕ → OpenPath → IoStep
+write_open kind caller io bytes opened =
+    if length bytes == 0 then done (sent kind caller bytes).regs io
+    else write_on kind caller io bytes (call_now caller io (write_code kind) opened (length bytes)) opened.desc.target
+
+-- an attempt whose bytes are there
+unfoldable pub write_named : WriteKind → Caller → Io → List ℕ → IoStep
+write_named kind caller io bytes =
+    on_path caller io (path_number (write_call kind) caller.regs) can_write (write_open kind caller io bytes)
+
+-- ---- what an attempt comes to before its process is told
+
+-- an attempt does this, and stores nothing: how its process is told of it, where it has these registers if it is done,
+-- and the state and the terminals then
+pub record Tells (step : IoStep) (caller : Caller) (io : Io) (regs : Regs) (end : CallEnd) (new : Io)
+    (before after : List TerminalState) : Type 0 where
+  pub it : IoEnd
+  pub between : Io
+  pub does : Does step caller io (leaves it between) before after
+  pub told : IsTold it regs end
+  pub state : new ≡ with_call between caller.process.0 (kept_in it)
+
+-- an attempt ends so, or memory is wanting
+abbrev pub Sends : IoStep → Caller → Io → Regs → CallEnd → Io → List TerminalState → List TerminalState → Type 0
+Sends step caller io regs End.Done new before after = Tells step caller io regs End.Done new before after
+Sends step caller io regs (End.Error number) new before after =
+    Tells step caller io regs (End.Error number) new before after
+Sends step caller io regs End.Wait new before after = Tells step caller io regs End.Wait new before after
+Sends step caller io regs End.Ended new before after = Tells step caller io regs End.Ended new before after
+Sends step caller io regs End.NoMemory new before after = WantsMemory step caller io before after
+
+-- a write of a terminal that answers so ends so; it never waits, and finds no end of the file
+abbrev pub PutEnds : Progress → CallEnd → Type 0
+PutEnds (Progress.Done count) end = end ≡ End.Done
+PutEnds Progress.Wait end = ⊥
+PutEnds Progress.End end = ⊥
+PutEnds Progress.Fault end = end ≡ End.Error E_WRITE
+PutEnds Progress.NoMemory end = end ≡ End.NoMemory
+
+-- a write of a terminal may answer so
+abbrev pub IsPutAnswer : Progress → Type 0
+IsPutAnswer (Progress.Done count) = ⊤
+IsPutAnswer Progress.Wait = ⊥
+IsPutAnswer Progress.End = ⊥
+IsPutAnswer Progress.Fault = ⊤
+IsPutAnswer Progress.NoMemory = ⊤

@@ -1,0 +1,177 @@
+//! I$Write, I$WritLn and F$PErr (System Programmer's Manual, I$Write, I$WritLn and F$PErr).
+
+ghost use Rattle.std.specs.Prelude.{◌≡◌, ◌≢◌, ℕ, ◌<◌, IfSome, option_map, take, vec_len};
+ghost use Rattle.os9_outer.specs.TerminalState.{terminal_states};
+ghost use Rattle.proc_rules.specs.Records.{IsLiving, record_at};
+ghost use Rattle.call_rules.specs.Inner.{Inner};
+ghost use Rattle.io_rules.specs.Attempts.{caller_of};
+ghost use Rattle.io_rules.specs.Io.{kept_at};
+ghost use Rattle.io_rules.specs.Write.{error_line as error_line_lem, f_perr as f_perr_lem, i_write as i_write_lem, i_writln as i_writln_lem, line_bytes};
+ghost use Rattle.io_rules.specs.declared.io_call.IoCall.TheVariants as Call;
+ghost use Rattle.io_state.specs.Again.{IsAgain};
+ghost use Rattle.io_state.specs.Attempt.{Attempts};
+ghost use Rattle.proc_state.specs.Tie.{IsSame, Represents};
+ghost use Rattle.stream_calls.specs.Moving.{AreTerminals};
+ghost use Rattle.stream_calls.specs.Trying.{WantsMemory};
+
+use crate::ends::{refuse, tell};
+use crate::sending::{WriteKind, send};
+use device_table::devices::Devices;
+use io_state::state::IoState;
+use os9_base::call::CallEnd;
+use os9_base::errors::E_BPADDR;
+use os9_base::registers::{Pid, Regs};
+use os9_outer::terminal::CharDriver;
+use proc_state::state::ProcState;
+
+/// I$Write: writes bytes (System Programmer's Manual, I$Write). Takes the path in A, the address of
+/// the bytes in X and their count in Y; answers the count in Y. A write of a terminal never waits;
+/// one of a pipe waits while the pipe is full.
+///
+/// # Errors
+///
+/// E$BPAddr exactly if one of the bytes is in no named slot or past `FFFF`, else E$BPNum exactly
+/// if the number names no path, else E$BMode exactly if the path may not be written; then E$Write
+/// where a terminal failed, or a pipe is full that no other process could read. What is out stays
+/// out, and the registers stay.
+pub fn i_write(s: &mut ProcState, io: &mut IoState, devices: &mut Devices, p: Pid) -> CallEnd
+    requires lives { IsLiving s.old.table p.0 }
+    requires again { IsAgain Call.Write (record_at s.old.table p.0).regs io.old p.0 }
+    requires terminals { AreTerminals io.old.paths (vec_len devices.old.terms) }
+    ensures call { (m : Inner) (drives : ℕ) → Represents s.old m → result ≢ CallEnd.NoMemory
+        → Attempts Call.Write m io.old drives p.0 result s.new io.new
+        (terminal_states ⟦<dyn CharDriver as CharDriver>⟧ devices.old.terms.items)
+        (terminal_states ⟦<dyn CharDriver as CharDriver>⟧ devices.new.terms.items) }
+    ensures memory { (m : Inner) → Represents s.old m → result ≡ CallEnd.NoMemory
+        → WantsMemory (i_write_lem (caller_of m p.0) io.old) (caller_of m p.0) io.old
+        (terminal_states ⟦<dyn CharDriver as CharDriver>⟧ devices.old.terms.items)
+        (terminal_states ⟦<dyn CharDriver as CharDriver>⟧ devices.new.terms.items) }
+    ensures lives { IsLiving s.new.table p.0 }
+    ensures drives { devices.new.drives ≡ devices.old.drives }
+    ensures count { vec_len devices.new.terms ≡ vec_len devices.old.terms }
+{
+    let regs = s.table.regs(p);
+    if !s.read_bytes(p, regs.x, regs.y) {
+        return refuse(io, p, E_BPADDR);
+    }
+    let bytes = &s.buffer[..regs.y as usize];
+    let end = send(io, devices, p, regs, WriteKind::Bytes, bytes);
+    tell(s, p, end, regs);
+    end
+}
+
+/// I$WritLn: writes a line (System Programmer's Manual, I$WritLn). Takes the path in A, the address
+/// of the line in X and its most bytes in Y. The line goes up to and with its first carriage
+/// return, behind which a terminal puts a line feed; answers the count in Y. A write of a terminal
+/// never waits; one of a pipe waits while the pipe is full.
+///
+/// # Errors
+///
+/// E$BPAddr exactly if a byte of the line is in no named slot or past `FFFF`, else E$BPNum exactly
+/// if the number names no path, else E$BMode exactly if the path may not be written; then E$Write
+/// where a terminal failed, or a pipe is full that no other process could read. What is out stays
+/// out, and the registers stay.
+pub fn i_writln(s: &mut ProcState, io: &mut IoState, devices: &mut Devices, p: Pid) -> CallEnd
+    requires lives { IsLiving s.old.table p.0 }
+    requires again { IsAgain Call.WritLn (record_at s.old.table p.0).regs io.old p.0 }
+    requires terminals { AreTerminals io.old.paths (vec_len devices.old.terms) }
+    ensures call { (m : Inner) (drives : ℕ) → Represents s.old m → result ≢ CallEnd.NoMemory
+        → Attempts Call.WritLn m io.old drives p.0 result s.new io.new
+        (terminal_states ⟦<dyn CharDriver as CharDriver>⟧ devices.old.terms.items)
+        (terminal_states ⟦<dyn CharDriver as CharDriver>⟧ devices.new.terms.items) }
+    ensures memory { (m : Inner) → Represents s.old m → result ≡ CallEnd.NoMemory
+        → WantsMemory (i_writln_lem (caller_of m p.0) io.old) (caller_of m p.0) io.old
+        (terminal_states ⟦<dyn CharDriver as CharDriver>⟧ devices.old.terms.items)
+        (terminal_states ⟦<dyn CharDriver as CharDriver>⟧ devices.new.terms.items) }
+    ensures lives { IsLiving s.new.table p.0 }
+    ensures drives { devices.new.drives ≡ devices.old.drives }
+    ensures count { vec_len devices.new.terms ≡ vec_len devices.old.terms }
+{
+    let regs = s.table.regs(p);
+    match read_line_now(s, io, p, regs) {
+        None => refuse(io, p, E_BPADDR),
+        Some(y) => {
+            let line = &s.buffer[..y as usize];
+            let end = send(io, devices, p, regs, WriteKind::Line, line);
+            tell(s, p, end, Regs { y, ..regs });
+            end
+        }
+    }
+}
+
+/// F$PErr: writes the number of an error as a line to standard error (System Programmer's Manual,
+/// F$PErr). Takes the number in B. It waits as I$WritLn does. The registers stay.
+///
+/// # Errors
+///
+/// E$BPNum exactly if standard error names no path, else E$BMode exactly if it may not be written;
+/// then E$Write where a terminal failed, or a pipe is full that no other process could read. What
+/// is out stays out.
+pub fn f_perr(s: &mut ProcState, io: &mut IoState, devices: &mut Devices, p: Pid) -> CallEnd
+    requires lives { IsLiving s.old.table p.0 }
+    requires again { IsAgain Call.PErr (record_at s.old.table p.0).regs io.old p.0 }
+    requires terminals { AreTerminals io.old.paths (vec_len devices.old.terms) }
+    ensures call { (m : Inner) (drives : ℕ) → Represents s.old m → result ≢ CallEnd.NoMemory
+        → Attempts Call.PErr m io.old drives p.0 result s.new io.new
+        (terminal_states ⟦<dyn CharDriver as CharDriver>⟧ devices.old.terms.items)
+        (terminal_states ⟦<dyn CharDriver as CharDriver>⟧ devices.new.terms.items) }
+    ensures memory { (m : Inner) → Represents s.old m → result ≡ CallEnd.NoMemory
+        → WantsMemory (f_perr_lem (caller_of m p.0) io.old) (caller_of m p.0) io.old
+        (terminal_states ⟦<dyn CharDriver as CharDriver>⟧ devices.old.terms.items)
+        (terminal_states ⟦<dyn CharDriver as CharDriver>⟧ devices.new.terms.items) }
+    ensures lives { IsLiving s.new.table p.0 }
+    ensures drives { devices.new.drives ≡ devices.old.drives }
+    ensures count { vec_len devices.new.terms ≡ vec_len devices.old.terms }
+{
+    let regs = s.table.regs(p);
+    let line = error_line(regs.b);
+    let end = send(io, devices, p, regs, WriteKind::ErrorLine, &line);
+    tell(s, p, end, regs);
+    end
+}
+
+/// Reads the line that an I$WritLn moves into the front of the buffer, and answers its length: a
+/// further attempt moves as many bytes as the first one found. None where one of them is in no
+/// named slot or past `FFFF`.
+fn read_line_now(s: &mut ProcState, io: &IoState, p: Pid, regs: Regs) -> Option<u16>
+    requires { p.0 < 33 }
+    ensures line { (m : Inner) → Represents s.old m → regs ≡ (caller_of m p.0).regs
+        → line_bytes (caller_of m p.0) (kept_at io.now p.0)
+        ≡ option_map (λ count. take count s.new.buffer.items) result }
+    ensures kept { IfSome result
+        (λ count. IfSome (kept_at io.now p.0) (λ kept. kept.count ≡ count)) }
+    ensures same { IsSame s.old s.new }
+{
+    match io.kept(p) {
+        None => match s.read_line(p, regs.x, regs.y) {
+            None => None,
+            Some(count) => Some(count as u16),
+        },
+        Some(kept) => {
+            if s.read_bytes(p, regs.x, kept.count) {
+                Some(kept.count)
+            } else {
+                None
+            }
+        }
+    }
+}
+
+/// The line of the number of an error.
+fn error_line(number: u8) -> [u8; 11]
+    ensures { result ≡ error_line_lem number }
+{
+    [
+        b'E',
+        b'R',
+        b'R',
+        b'O',
+        b'R',
+        b' ',
+        b'#',
+        b'0' + number / 100,
+        b'0' + number / 10 % 10,
+        b'0' + number % 10,
+        0x0D,
+    ]
+}
