@@ -1,5 +1,5 @@
 -- A file that has gained clusters and over which bytes are laid: what the media represents at each answer.
-use Rattle.std.proofs.Common.{◌≡◌, ◌≢◌, ℕ, ◌+◌, ◌-◌, ◌*◌, ◌/◌, ◌%◌, ◌<◌, ◌≤◌, min, max, Bool, true, false, ◌==◌, ◌||◌, Option, Some, List, [], length, take, get_or, refl, sym, ap, ◌∙◌, subst, inl, inr, arith, slice_index, eq-eqb, eqb-true, le-leb, length-take, length-append}
+use Rattle.std.proofs.Common.{◌≡◌, ◌≢◌, ℕ, ◌+◌, ◌-◌, ◌*◌, ◌/◌, ◌%◌, ◌<◌, ◌≤◌, min, max, Bool, true, false, ◌==◌, ◌||◌, Option, Some, List, [], length, take, get_or, refl, sym, ap, ◌∙◌, subst, inl, inr, ◌⊎◌, ⊎_elim, arith, slice_index, eq-eqb, eqb-true, le-leb, length-take, length-append}
 use Rattle.std.specs.Prelude.{if◌then◌else◌, flat_map}
 use Rattle.std.specs.Int.{bit_at}
 use mathlib.Core.Path.{fun_ext}
@@ -17,7 +17,9 @@ use Rattle.rbf_model.specs.Volume.{DiskVolume, Vol, is_free}
 use Rattle.rbf_model.specs.Writes.{put_at, put_file, put_sector, with_lost, with_file_in_place}
 use Rattle.rbf_model.specs.Laws.{IsMapSector}
 use Rattle.rbf_model.proofs.Free.{free_parts}
-use Rattle.rbf_model.proofs.Owners.{cluster_positive, own_after}
+use Rattle.rbf_model.proofs.Owners.{cluster_positive, own_after, owns_own}
+use Rattle.rbf_model.proofs.Segments.{has_cases}
+use Rattle.rbf_model.proofs.Space.{cluster_from_owns}
 use Rattle.rbf_change.specs.Agrees.{Agrees}
 use Rattle.rbf_change.specs.Calls.{shape, free_total, cluster_size, is_free_in, replaced, minute_of}
 use Rattle.rbf_change.specs.Growth.{clusters_needed, with_clusters, Gains, IsChoice}
@@ -39,7 +41,7 @@ use Rattle.rbf_files.proofs.Redated.{same_file, beside_put, here_put, agrees_put
 use Rattle.rbf_files.proofs.LaidBytes.{front_byte, rest_byte, length-front, length-target, target_byte, laid_after}
 use Rattle.rbf_write.specs.declared.loaded.Loaded.{Loaded}
 use Rattle.rbf_write.specs.Finished.{IsResized}
-use Rattle.rbf_write.specs.Laying.{Laying, laid_contents, laid_file, laying_needs, IsTidyChange, IsTidyStop, IsLaidOver, LayingEnds}
+use Rattle.rbf_write.specs.Laying.{Laying, laid_contents, laid_file, laying_needs, AllAreMarked, IsTidyChange, IsTidyStop, IsLaidOver, LayingEnds}
 use Rattle.rbf_write.proofs.Contents.{put_none, laid_all, laid_part, length-laid, front_of_sectors, front_of_all}
 use Rattle.rbf_write.proofs.Gained.{data_gained, descriptor_apart}
 
@@ -73,13 +75,14 @@ tidy_of before after image mid now n segments was is changes map_same beside lis
 -- and where a fault came before the descriptor was written
 pub stop_of : (before after : Option (List ℕ)) (image mid now : List ℕ) (n : ℕ) (segments : List (ℕ × ℕ)) → before ≡ Some image → after ≡ Some now → ChangesMap image mid
     → ((s : ℕ) → s ≤ map_sectors (image_geometry image) → sector now s ≡ sector mid s) → ((s : ℕ) → has (sectors_of segments) s ≡ false → sector now s ≡ sector mid s)
-    → sector now n ≡ sector image n → IsTidyStop before after n segments
-stop_of before after image mid now n segments was is changes map_same beside here = record {
+    → sector now n ≡ sector image n → ((s : ℕ) → ¬ IsMapSector (image_geometry image) s → (sector now s ≡ sector image s) ⊎ AllAreMarked now segments) → IsTidyStop before after n segments
+stop_of before after image mid now n segments was is changes map_same beside here marks = record {
   image = image;
   now = now;
   was = was;
   is = is;
   descriptor = here;
+  marks = marks;
   others = λ s not_map none. beside s none ∙ changes.others s not_map;
   map_end = λ c past. same_mark (sector now) (sector mid) c (map_same (1 + c / 8 / 256) (let low = past.in_map in omega arith)) ∙ changes.end c past;
 }
@@ -149,7 +152,7 @@ module _ (before : Option (List ℕ)) (v : DiskVolume) (on : Represents before v
     lose = subst (λ x. MayLose x ends.left (has ends.taken)) (sym same_volume) ends.lose;
     order = inl refl;
     tidy = stop_of before after ends.image ends.now ends.now n (with_clusters k old.segments ends.taken) ends.was ends.is ends.changes (λ s low. refl) (λ s out. refl)
-        (ends.changes.others n (not_map ends.image ends.was));
+        (ends.changes.others n (not_map ends.image ends.was)) (λ s not_map_sector. inl (ends.changes.others s not_map_sector));
   }
 
   -- the clusters have been taken
@@ -243,8 +246,21 @@ module _ (before : Option (List ℕ)) (v : DiskVolume) (on : Represents before v
       tidy_laid = tidy_of before after grown.image grown.now laid.now n segments grown.was laid.is grown.changes
           (λ s low. beside s (map_apart s low)) (λ s map differ out. beside_segments s out) (same_end (sector grown.image n) (sector laid.now n) here)
 
+      -- all clusters are marked
+      all_marked : AllAreMarked laid.now segments
+      all_marked s h =
+          let there : DiskFile = record old { contents = take size bytes } in
+          let now_shape = image_geometry laid.now in
+          let same_k : k ≡ now_shape.cluster = ap (λ (g : Geometry). g.cluster) (shape-image laid.now (with_file_in_place volume_grown n there) laid.vol) in
+          ⊎_elim
+          (λ own.
+          laid.vol.sound.mapped.marks n there (s / now_shape.cluster) (put_here v.files n (Some there))
+          (cluster_from_owns now_shape n there s (owns_own now_shape n there s (or_right (n == s) (has (sectors_of old.segments) s) own))))
+          (λ new. ((laid.vol.sound.mapped.lost_are (s / now_shape.cluster)).0 (subst (λ m. lost (s / m) ≡ true) same_k (known.behind s new))).marked_in)
+          (has_cases (sectors_of old.segments) known.more s (subst (λ xs. has xs s ≡ true) (ap sectors_of (sym grown.segments) ∙ known.sectors_are) h))
+
       stop_laid : IsTidyStop before after n segments
-      stop_laid = stop_of before after grown.image grown.now laid.now n segments grown.was laid.is grown.changes (λ s low. beside s (map_apart s low)) (λ s out. beside_segments s out) here
+      stop_laid = stop_of before after grown.image grown.now laid.now n segments grown.was laid.is grown.changes (λ s low. beside s (map_apart s low)) (λ s out. beside_segments s out) here (λ s not_map_sector. inr all_marked)
 
       -- and then a fault
       pub laid_ends : (so_far : ℕ) → IsFront size laying.at laying.bytes so_far → take size bytes ≡ put_at old.contents laying.at (take so_far laying.bytes) → LayingEnds v old laying before after

@@ -4,13 +4,13 @@ use Rattle.std.specs.Prelude.{if◌then◌else◌, nat_lt}
 use Rattle.std.proofs.lemmas.Bool.{both_ways, cond-true, cond-false, false_from_ne_true, ltb-true, lt-ltb}
 use Rattle.std.proofs.lemmas.List.{take_all}
 use Rattle.os9_base.specs.declared.registers.TimePacket.{TimePacket}
-use Rattle.rbf_model.specs.Geometry.{Geometry, image_geometry, sector, map_sectors}
+use Rattle.rbf_model.specs.Geometry.{Geometry, image_geometry, sector}
 use Rattle.rbf_model.specs.Segments.{sectors_of, has}
 use Rattle.rbf_model.specs.File.{DiskFile}
 use Rattle.rbf_model.specs.Space.{is_marked}
 use Rattle.rbf_model.specs.Volume.{DiskVolume}
 use Rattle.rbf_model.proofs.Owners.{cluster_positive}
-use Rattle.rbf_change.specs.Calls.{shape, cluster_size, is_free_in, free_total, replaced, minute_of, lengthened_file, stays, lengthens}
+use Rattle.rbf_change.specs.Calls.{cluster_size, is_free_in, free_total, replaced, minute_of, lengthened_file, stays, lengthens}
 use Rattle.rbf_change.specs.Contents.{extended, resized, sector_count}
 use Rattle.rbf_change.specs.Growth.{with_clusters, clusters_needed, IsChoice, IsOneTooMany}
 use Rattle.rbf_change.specs.Faults.{MayLose, IsFront, none, sector as front_sector, end as front_end, with_front, SizeEnds}

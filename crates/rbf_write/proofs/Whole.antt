@@ -44,7 +44,7 @@ nothing_changed before after v on same n segments =
 -- nor has it where the descriptor could not be read
 pub nothing_stopped : (before after : Option (List ℕ)) (v : DiskVolume) → Represents before v → after ≡ before → (n : ℕ) (segments : List (ℕ × ℕ)) → IsTidyStop before after n segments
 nothing_stopped before after v on same n segments =
-    stop_of before after on.image on.image on.image n segments on.is (same ∙ on.is) (same_map on.image) (λ s low. refl) (λ s out. refl) refl
+    stop_of before after on.image on.image on.image n segments on.is (same ∙ on.is) (same_map on.image) (λ s low. refl) (λ s out. refl) refl (λ s out. inl refl)
 
 pub laid_is_written : (contents : List ℕ) (at : ℕ) (bytes : List ℕ) → 1 ≤ length bytes → put_at (extended contents at) at bytes ≡ written contents at bytes
 laid_is_written contents at [] some = absurd (omega arith)

@@ -1,9 +1,10 @@
 -- Bytes that are laid over those of a file from a place on, with zeros between its end and that place.
-use Rattle.std.specs.Prelude.{◌≡◌, ◌≢◌, ◌⊎◌, ℕ, ◌<◌, ◌≤◌, ◌==◌, true, false, Option, Some, List, length, Result, Ok, Err, if◌then◌else◌}
+use Rattle.std.specs.Prelude.{◌≡◌, ◌≢◌, ◌⊎◌, ℕ, ◌/◌, ◌<◌, ◌≤◌, ◌==◌, true, false, Option, Some, List, length, Result, Ok, Err, if◌then◌else◌}
 use Rattle.os9_base.specs.declared.registers.TimePacket.{TimePacket}
 use Rattle.rbf_model.specs.Geometry.{image_geometry, sector}
 use Rattle.rbf_model.specs.Segments.{sectors_of, has}
 use Rattle.rbf_model.specs.File.{DiskFile}
+use Rattle.rbf_model.specs.Space.{is_marked}
 use Rattle.rbf_model.specs.Volume.{DiskVolume}
 use Rattle.rbf_model.specs.Writes.{put_at}
 use Rattle.rbf_model.specs.Laws.{IsMapSector}
@@ -57,6 +58,12 @@ pub record IsTidyChange (before after : Option (List ℕ)) (n : ℕ) (segments :
   -- the end of the list of segments and the bytes behind it
   pub list : KeepsListEnd (sector image n) (sector now n)
 
+-- the clusters of all sectors of the segments are marked
+abbrev pub AllAreMarked : List ℕ → List (ℕ × ℕ) → Type 0
+AllAreMarked image segments =
+    (s : ℕ) → has (sectors_of segments) s ≡ true
+    → is_marked (sector image) (s / (image_geometry image).cluster) ≡ true
+
 -- what a fault has left as it was, where file n was to be given these segments: its descriptor, and all sectors but
 -- those of the segments and of the map
 pub record IsTidyStop (before after : Option (List ℕ)) (n : ℕ) (segments : List (ℕ × ℕ)) : Type 0 where
@@ -67,6 +74,9 @@ pub record IsTidyStop (before after : Option (List ℕ)) (n : ℕ) (segments : L
   pub descriptor : sector now n ≡ sector image n
   pub others : (s : ℕ) → ¬ IsMapSector (image_geometry image) s → has (sectors_of segments) s ≡ false
       → sector now s ≡ sector image s
+  -- a sector beside the map is as it was until all clusters of the segments are marked
+  pub marks : (s : ℕ) → ¬ IsMapSector (image_geometry image) s
+      → (sector now s ≡ sector image s) ⊎ AllAreMarked now segments
   pub map_end : KeepsMapEnd image now (λ _. false)
 
 -- all is done
