@@ -30,10 +30,11 @@ use Rattle.rbf_change.proofs.LawfulWrites.{shape-image}
 use Rattle.rbf_access.specs.Drive.{DriveCounts, MovesCounts}
 use Rattle.rbf_access.specs.MapMarks.{marking_sectors}
 use Rattle.rbf_access.specs.Mounted.{Represents}
+use Rattle.rbf_access.specs.Reading.{OnVolumeFile}
 use Rattle.rbf_access.proofs.ReadFile.{room_for}
 use Rattle.rbf_drop.specs.Dropped.{IsGone, HasGone, OnlyMap, freed, IsDropped, DropEnds}
 use Rattle.rbf_update.specs.Becomes.{RepresentsOne}
-use Rattle.rbf_update.specs.Deletions.{OnNumbered, FreesOn}
+use Rattle.rbf_update.specs.Deletions.{FreesOn}
 use Rattle.rbf_update.specs.declared.deletion.Deletable.{Deletable}
 use Rattle.rbf_update.specs.Entries.{sector_of_entry}
 use Rattle.rbf_update.proofs.Puts.{free_stored, without}
@@ -322,7 +323,7 @@ deleted_on media mid new d name found frees u on drops =
     (record { number = found.descriptor; is = deleted media mid d name found frees new (drops (w media mid d name found frees) (file media mid d name found frees) (gone media mid d name found frees)) })
 
 pub stops_on : (media mid new : Option (List ℕ)) (d : ℕ) (name : List ℕ) (user : ℕ) (execute : Bool) (found : Deletable) (frees : FreesOn media mid d name found)
-    → OnNumbered media d (λ x f. deletion_end x.files f name user execute ≡ arrives found.descriptor) → (u : DiskVolume) → Represents media u
+    → OnVolumeFile media d (λ x f. deletion_end x.files f name user execute ≡ arrives found.descriptor) → (u : DiskVolume) → Represents media u
     → ((x : DiskVolume) (f : DiskFile) → IsGone mid x found.descriptor f → DropEnds x found.descriptor f mid new) → DeletionStops u d name user execute media new
 stops_on media mid new d name user execute found frees allowed u on drops =
     let its = frees.at.free.place in

@@ -3,8 +3,8 @@ ghost use Rattle.rbf_model.specs.Volume.{DiskVolume};
 ghost use Rattle.rbf_change.specs.Names.{deletion_end};
 ghost use Rattle.rbf_access.specs.Drive.{Counts};
 ghost use Rattle.rbf_access.specs.Mounted.{HasFile, IsMounted, Represents};
+ghost use Rattle.rbf_access.specs.Reading.{OnVolumeFile};
 ghost use Rattle.rbf_walk.specs.Walk.{directory_fault};
-ghost use Rattle.rbf_update.specs.Deletions.{OnNumbered};
 ghost use Rattle.rbf_dirs.specs.Deleted.{AnswersDeletion, DeletionStops, IsDeletedBy, deletion_total};
 
 use os9_base::name::Name;
@@ -35,7 +35,7 @@ pub fn delete(
 ) -> Result<(), DirError>
     requires mounted { IsMounted v.old (media d.old) }
     requires file { HasFile (media d.old) dir }
-    ensures answer { OnNumbered (media d.old) dir (λ on file.
+    ensures answer { OnVolumeFile (media d.old) dir (λ on file.
         AnswersDeletion (deletion_end on.files file name.now user execute) result) }
     ensures ok { (on : DiskVolume) → Represents (media d.old) on
         → OnOk result (IsDeletedBy on dir name.now (media d.old) (media d.new)) }
@@ -43,10 +43,10 @@ pub fn delete(
         → OnErr result (DeletionStops on dir name.now user execute (media d.old) (media d.new)) }
     ensures refused { OnErr result (IsNone (directory_fault result) → media d.new ≡ media d.old) }
     ensures mounted { IsMounted v.new (media d.new) }
-    ensures counts { OnNumbered (media d.old) dir (λ on f. Counts ⟦<dyn BlockDriver as BlockDriver>⟧
+    ensures counts { OnVolumeFile (media d.old) dir (λ on f. Counts ⟦<dyn BlockDriver as BlockDriver>⟧
         (directory_fault result) (deletion_total on f name.now user execute) d.old d.new) }
 {
-    // Neither descriptor is read twice: `gone` has what was read of the file.
+    // `gone` has what was read of the file, so that its descriptor is not read again.
     let gone = delete_name(v, d, dir, name, user, execute)?;
     let own = OwnSectors {
         fd: gone.descriptor,

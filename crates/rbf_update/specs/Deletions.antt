@@ -7,7 +7,6 @@ use Rattle.rbf_model.specs.Walk.{look_up}
 use Rattle.rbf_change.specs.Names.{place_of, may_change, deletion_end}
 use Rattle.rbf_change.specs.Parts.{EntryIsFreed}
 use Rattle.rbf_access.specs.Reading.{IsFdOf}
-pub use Rattle.rbf_access.specs.Reading.{OnVolumeFile as OnNumbered}
 use Rattle.rbf_walk.specs.Search.{sectors_searched}
 use Rattle.rbf_walk.specs.Walk.{calls_on}
 use Rattle.rbf_walk.specs.declared.error.DirError.{DirError}
