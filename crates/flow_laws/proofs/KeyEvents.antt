@@ -1,6 +1,6 @@
 -- What becomes of the keys of a terminal in a tick, and in an event.
 use Rattle.std.proofs.Common.{◌≡◌, ◌≢◌, ◌⊎◌, ℕ, zero, suc, ◌+◌, ◌<◌, ◌≤◌, ◌==◌, Bool, true, false, Option, Some, None, Result, Ok, Err, List, [], ◌∷◌, ◌++◌, length, slice_get, slice_set, refl, sym, ap, ◌∙◌, subst, inl, inr, arith, append_assoc}
-use Rattle.std.specs.Prelude.{MatchBool, MatchOption, option_and_then, slice_index_or, if◌then◌else◌}
+use Rattle.std.specs.Prelude.{MatchBool, MatchOption, slice_index_or, if◌then◌else◌}
 use Rattle.std.specs.Option.{option_map_or}
 use Rattle.std.proofs.lemmas.Bool.{cases_eq, cases_lt}
 use Rattle.std.proofs.lemmas.List.{get_or-set_same, get_or-set_other, get_or_past, get_or-map, length-append, length-map, length-set}
@@ -30,22 +30,23 @@ use Rattle.io_model.specs.declared.path.Target.{Target}
 use Rattle.io_model.specs.declared.path.Target.TheVariants.{File, Folder, Term, Pipe}
 use Rattle.io_model.specs.declared.path.TheConstants.{PROCESS_PATHS}
 use Rattle.io_model.specs.declared.terminal.Progress.{Progress}
+use Rattle.io_model.specs.declared.terminal.ReadKind.{ReadKind}
 use Rattle.io_model.specs.declared.terminal.Reading.{Reading}
 use Rattle.io_rules.specs.Attempts.{Does, IoAttempts, caller_of, step_of}
 use Rattle.io_rules.specs.Close.{after_close, without_path, without_target}
-use Rattle.io_rules.specs.Codes.{direction_of_call, io_call_of}
-use Rattle.io_rules.specs.Io.{Io, terminal_at, with_paths, with_terminal}
+use Rattle.io_rules.specs.Codes.{io_call_of}
+use Rattle.io_rules.specs.Io.{Io, OpenPath, open_path, terminal_at, with_paths, with_terminal}
 use Rattle.io_rules.specs.Processes.{closed_below, closed_if_open, io_ended, io_started, without_user}
 use Rattle.io_rules.specs.Step.{Caller, IoEffect, IoEnd, IoStep, refused, comes, reads, writes, TerminalRead, TerminalWrite}
 use Rattle.io_rules.specs.Terminals.{ReadsTerminal, request_of, write_ends}
 use Rattle.io_rules.specs.Waiting.{io_interrupted, pid, wait_target, without_unfinished}
-use Rattle.io_rules.specs.declared.io_call.Direction.TheVariants as Way
 use Rattle.io_rules.specs.declared.io_call.IoCall.{IoCall}
 use Rattle.io_machine.specs.declared.ends.EventEnd.{EventEnd}
 use Rattle.io_machine.specs.Event.{Acts, Event, before_delivery, io_after_call, io_after_delivery, io_after_instruction, next_instruction}
 use Rattle.io_machine.specs.State.{State}
 use Rattle.io_isolation.proofs.StepWalk.{StepGives, step-gives}
-use Rattle.flow_laws.specs.Keys.{EventKeys, HasAhead, KeyMove, ahead_at, keys_to_come, stay, use_up}
+use Rattle.flow_laws.specs.Keys.{EventKeys, HasAhead, KeyMove, ahead_at, keys_to_come, read_call, reading_of, stay, use_up}
+use Rattle.flow_laws.proofs.KeyReads.{IsReadOn, StepReads, step-reads}
 
 -- ---- one terminal of many
 
@@ -231,7 +232,7 @@ come-one change m n before after same (old, new, found, is, changed) =
 abbrev Moved : IoCall → Caller → Io → ℕ → Io → Type 0
 Moved call caller io n new =
     AheadLeft n io new
-    ⊎ ((request : Reading) × (request.process ≡ caller.process) × (direction_of_call call ≡ Some Way.Reading) × (length new.terminals ≡ length io.terminals) × ((keys : List ℕ) × Uses request (terminal_at io n) (terminal_at new n) keys))
+    ⊎ ((kind : ReadKind) × (call ≡ read_call kind) × ((opened : OpenPath) × (open_path io caller.process.0 caller.regs.a ≡ Some opened) × (opened.desc.target ≡ Term n)) × (length new.terminals ≡ length io.terminals) × ((keys : List ℕ) × Uses (reading_of kind io caller.process.0 caller.regs) (terminal_at io n) (terminal_at new n) keys))
 
 write-ahead : (write : TerminalWrite) (end : IoEnd) (process : Pid) (answer : Progress) (old new : Terminal) (before now : TerminalState) → write_ends write answer ≡ Some end → Writes process write.put write.count answer old new before now → new.ahead ≡ old.ahead
 write-ahead write end process (Progress.Done count) old new before now is it =
@@ -243,8 +244,8 @@ write-ahead write end process Progress.Fault old new before now is it =
 write-ahead write end process Progress.NoMemory old new before now is it = absurd (none-some end is)
 
 module _ (call : IoCall) (caller : Caller) (io : Io) (n : ℕ) (within : n < length io.terminals) (before after : List TerminalState) where
-  read-moves : (read : TerminalRead) (effect : IoEffect) → direction_of_call call ≡ Some Way.Reading → ReadsTerminal caller io read effect before after → Moved call caller io n effect.io
-  read-moves read effect way it =
+  read-moves : (read : TerminalRead) (effect : IoEffect) (kind : ReadKind) → call ≡ read_call kind → IsReadOn kind caller io read → ReadsTerminal caller io read effect before after → Moved call caller io n effect.io
+  read-moves read effect kind call_is on it =
       subst (λ (effect : IoEffect). Moved call caller io n effect.io) (sym it.effect_is) (by_uses (read-uses (request_of caller read) it.answer (terminal_at io read.terminal) it.new it.device.0 it.device.1 it.device.4))
     where
       put : n ≡ read.terminal → terminal_at (with_terminal io read.terminal it.new) n ≡ it.new
@@ -253,7 +254,7 @@ module _ (call : IoCall) (caller : Caller) (io : Io) (n : ℕ) (within : n < len
 
       by_place : (keys : List ℕ) → Uses (request_of caller read) (terminal_at io read.terminal) it.new keys → (n ≡ read.terminal) ⊎ (n ≢ read.terminal) → Moved call caller io n (with_terminal io read.terminal it.new)
       by_place keys uses (inl same) =
-          inr (request_of caller read, refl, way, length-set io.terminals read.terminal it.new, (keys, subst (λ (t : Terminal). Uses (request_of caller read) (terminal_at io n) t keys) (sym (put same)) (subst (λ (m : ℕ). Uses (request_of caller read) (terminal_at io m) it.new keys) (sym same) uses)))
+          inr (kind, call_is, (on.path.0, on.path.1, on.path.2 ∙ ap Term (sym same)), length-set io.terminals read.terminal it.new, (keys, subst (λ (request : Reading). Uses request (terminal_at io n) (terminal_at (with_terminal io read.terminal it.new) n) keys) on.request (subst (λ (t : Terminal). Uses (request_of caller read) (terminal_at io n) t keys) (sym (put same)) (subst (λ (m : ℕ). Uses (request_of caller read) (terminal_at io m) it.new keys) (sym same) uses))))
       by_place keys uses (inr apart) = inl (record {
         ahead =
             ap (λ (t : Terminal). t.ahead) (get_or-set_other io.terminals read.terminal n it.new new_terminal apart);
@@ -264,13 +265,13 @@ module _ (call : IoCall) (caller : Caller) (io : Io) (n : ℕ) (within : n < len
       by_uses (inl same) = inl (left-set n io read.terminal it.new same)
       by_uses (inr (keys, uses)) = by_place keys uses (cases_eq n read.terminal)
 
-  does-moves : (step : IoStep) (effect : IoEffect) → StepGives call (λ (new : Io). new.terminals ≡ io.terminals) caller io step → Does step caller io effect before after → Moved call caller io n effect.io
-  does-moves (refused number) effect gives (is, same) =
+  does-moves : (step : IoStep) (effect : IoEffect) → StepGives call (λ (new : Io). new.terminals ≡ io.terminals) caller io step → StepReads call caller io step → Does step caller io effect before after → Moved call caller io n effect.io
+  does-moves (refused number) effect gives facts (is, same) =
       inl (left-same n io effect.io (ap (λ (effect : IoEffect). effect.io.terminals) is))
-  does-moves (comes it) effect gives (is, same) =
+  does-moves (comes it) effect gives facts (is, same) =
       inl (left-same n io effect.io (ap (λ (effect : IoEffect). effect.io.terminals) is ∙ gives))
-  does-moves (reads read) effect gives does = read-moves read effect gives.0 does
-  does-moves (writes write) effect gives it =
+  does-moves (reads read) effect gives (kind, call_is, on) does = read-moves read effect kind call_is on does
+  does-moves (writes write) effect gives facts it =
       inl (subst (λ (effect : IoEffect). AheadLeft n io effect.io) (sym it.effect_is) (left-set n io write.terminal it.new (write-ahead write it.end caller.process it.answer (terminal_at io write.terminal) it.new it.device.0 it.device.1 it.ends it.device.4)))
 
   -- no key to come is taken
@@ -320,19 +321,17 @@ module _ (s : State) (p n : ℕ) (chosen : s.chosen ≡ Some p) (has : HasAhead 
       ahead = ap (λ (t : Terminal). t.ahead) terminal-then ∙ it.ahead;
       places = ap (length {A = Terminal}) terminals-then ∙ it.places;
     }) come-then
-    by_moved (inr (request, process, way, places, (keys, uses))) =
-        let who : request.process.0 ≡ p = ap (λ (process : Pid). process.0) process in
+    by_moved (inr (kind, call_is, path, places, (keys, uses))) =
         let front : ahead_at s n ≡ keys ++ ahead_at last n = uses.front ∙ ap (λ (t : Terminal). keys ++ t.ahead) (sym terminal-then) in
         let fewer : length (ahead_at s n) ≡ length keys + length (ahead_at last n) = ap (length {A = ℕ}) front ∙ length-append keys (ahead_at last n) in (
           use_up keys,
           record {
-            request = request;
-            chosen = chosen ∙ ap Some (sym who);
-            attempted = (
-              code,
-              ap (act_of s.inner) who ∙ next,
-              ap (option_and_then direction_of_call) coded ∙ way,
-            );
+            process = p;
+            chosen = chosen;
+            kind = kind;
+            attempt = record { attempted = (code, next, coded ∙ ap Some call_is); path = path };
+            request = reading_of kind s.io p (regs_at s.inner p);
+            request_is = refl;
             alone = uses.alone;
             front = front;
             line = by_line uses.line;
@@ -341,15 +340,21 @@ module _ (s : State) (p n : ℕ) (chosen : s.chosen ≡ Some p) (has : HasAhead 
           has-then last (ap (length {A = Terminal}) terminals-then ∙ places) (omega (arith, fewer)),
         )
       where
+        request : Reading
+        request = reading_of kind s.io p (regs_at s.inner p)
+
         by_line : ((terminal_at attempt.effect.io n).line ≡ (typed request (terminal_at s.io n).line keys).line) ⊎ ((terminal_at attempt.effect.io n).line ≡ cleared (typed request (terminal_at s.io n).line keys).line) → ((terminal_at io n).line ≡ (typed request (terminal_at s.io n).line keys).line) ⊎ ((terminal_at io n).line ≡ cleared (typed request (terminal_at s.io n).line keys).line)
         by_line (inl is) = inl (ap (λ (t : Terminal). t.line) terminal-then ∙ is)
         by_line (inr is) = inr (ap (λ (t : Terminal). t.line) terminal-then ∙ is)
 
     io-comes : Comes last
     io-comes =
-        by_moved (does-moves call (caller_of s.inner p) s.io n has.within s.terms terms (step_of call s.inner p s.io s.drives s.terms) attempt.effect
-        (step-gives call (λ (new : Io). new.terminals ≡ s.io.terminals) (caller_of s.inner p) s.io s.drives (length s.terms) (record { same = refl; pipes = λ pipes. refl; dup = refl; close = closed-terminals s.io p (regs_at s.inner p).a; on_terminal = λ terminal there. refl; on_pipe = λ pipe free. refl }))
-        attempt.does)
+        by_moved (does-moves call (caller_of s.inner p) s.io n has.within s.terms terms (step_of call s.inner p s.io s.drives s.terms) attempt.effect gives
+        (step-reads call (λ (new : Io). new.terminals ≡ s.io.terminals) (caller_of s.inner p) s.io s.drives (length s.terms) gives) attempt.does)
+      where
+        gives : StepGives call (λ (new : Io). new.terminals ≡ s.io.terminals) (caller_of s.inner p) s.io (step_of call s.inner p s.io s.drives s.terms)
+        gives =
+            step-gives call (λ (new : Io). new.terminals ≡ s.io.terminals) (caller_of s.inner p) s.io s.drives (length s.terms) (record { same = refl; pipes = λ pipes. refl; dup = refl; close = closed-terminals s.io p (regs_at s.inner p).a; on_terminal = λ terminal there. refl; on_pipe = λ pipe free. refl })
 
   after-call : (code : ℕ) (result : CallResult) → AheadLeft n s.io (io_after_call code s.io p result)
   after-call code (CallResult.refused number) = record { ahead = refl; places = refl }

@@ -1,4 +1,5 @@
 pub mod KeyEvents
+pub mod KeyReads
 pub mod KeyRuns
 pub mod PipeEvents
 pub mod PipeRuns

@@ -26,6 +26,7 @@ use Rattle.io_model.specs.declared.pipe.PipeAns.{PipeAns}
 use Rattle.io_model.specs.declared.pipe.PipeAns.TheVariants as Ans
 use Rattle.io_model.specs.declared.terminal.ReadKind.{ReadKind}
 use Rattle.io_model.specs.declared.terminal.ReadKind.TheVariants.{Bytes, WholeLine}
+use Rattle.io_rules.specs.Again.{path_number}
 use Rattle.io_rules.specs.Alone.{is_alone}
 use Rattle.io_rules.specs.Attempts.{io_step}
 use Rattle.io_rules.specs.Close.{after_close, without_path, without_target}
@@ -163,7 +164,7 @@ IsStoring (keeps kept) = Unit {0}
 module _ (call : IoCall) (caller : Caller) (io : Io) (n : ℕ) where
   abbrev pub OnPipe : Type 0
   OnPipe =
-      (number : ℕ) × (opened : OpenPath) × (open_path io caller.process.0 number ≡ Some opened) × (opened.desc.target ≡ Pipe n)
+      (opened : OpenPath) × (open_path io caller.process.0 (path_number call caller.regs) ≡ Some opened) × (opened.desc.target ≡ Pipe n)
 
   abbrev pub CountsTo : IoEnd → ℕ → Type 0
   CountsTo end count =
@@ -344,7 +345,7 @@ module _ (call : IoCall) (caller : Caller) (io : Io) (n : ℕ) where
   -- the process has a path on what it reads or writes
   abbrev HasPath : Target → Type 0
   HasPath target =
-      (number : ℕ) × (opened : OpenPath) × (open_path io caller.process.0 number ≡ Some opened) × (opened.desc.target ≡ target)
+      (opened : OpenPath) × (open_path io caller.process.0 (path_number call caller.regs) ≡ Some opened) × (opened.desc.target ≡ target)
 
   takes-here : (kind : ReadKind) → direction_of_call call ≡ Some Reading → ((moved : ℕ) → stored_from call caller.regs moved ≡ stored_by kind caller.regs.x moved) → (now : Kept) → now.moved ≡ moved_before io caller.process.0 → HasPath (Pipe n) → IsPipe io.pipes n → Takes call caller io n (pipe_read kind caller io n now)
   takes-here Bytes way at now moved path lives =
@@ -406,22 +407,22 @@ module _ (call : IoCall) (caller : Caller) (io : Io) (n : ℕ) where
   nothing-moves true next moves = λ lives still. inl refl
   nothing-moves false next moves = moves
 
-  read-through : (kind : ReadKind) (code : ℕ) → direction_of_call call ≡ Some Reading → ((moved : ℕ) → stored_from call caller.regs moved ≡ stored_by kind caller.regs.x moved) → (is_missing : Bool) → Through (refuses is_missing E_BPADDR (on_path caller io caller.regs.a can_read (λ opened. unless_nothing caller io (reads_target kind caller io (call_now caller io code opened caller.regs.y) opened.desc.target))))
-  read-through kind code way at true = tt
-  read-through kind code way at false =
+  read-through : (kind : ReadKind) (code : ℕ) → caller.regs.a ≡ path_number call caller.regs → direction_of_call call ≡ Some Reading → ((moved : ℕ) → stored_from call caller.regs moved ≡ stored_by kind caller.regs.x moved) → (is_missing : Bool) → Through (refuses is_missing E_BPADDR (on_path caller io caller.regs.a can_read (λ opened. unless_nothing caller io (reads_target kind caller io (call_now caller io code opened caller.regs.y) opened.desc.target))))
+  read-through kind code named way at true = tt
+  read-through kind code named way at false =
       path-moves caller.regs.a can_read (λ opened. unless_nothing caller io (reads_target kind caller io (call_now caller io code opened caller.regs.y) opened.desc.target))
-      (λ opened is. nothing-moves (caller.regs.y == 0) (reads_target kind caller io (call_now caller io code opened caller.regs.y) opened.desc.target) (read-moves kind way at (call_now caller io code opened caller.regs.y) (now-moved caller io code caller.regs.y opened) opened.desc.target (caller.regs.a, opened, is, refl)))
+      (λ opened is. nothing-moves (caller.regs.y == 0) (reads_target kind caller io (call_now caller io code opened caller.regs.y) opened.desc.target) (read-moves kind way at (call_now caller io code opened caller.regs.y) (now-moved caller io code caller.regs.y opened) opened.desc.target (opened, ap (open_path io caller.process.0) (sym named) ∙ is, refl)))
 
-  send-through : (sending : List ℕ → Sending) (code : ℕ) → direction_of_call call ≡ Some Writing → ((bytes : List ℕ) → (sending bytes).bytes ≡ bytes) → (bytes : Option (List ℕ)) → sent_by call caller io ≡ bytes → Through (needs bytes E_BPADDR (λ bytes. on_path caller io caller.regs.a can_write (λ opened. unless_nothing caller io (sends_on (sending bytes) code caller io opened))))
-  send-through sending code way same None sends = tt
-  send-through sending code way same (Some bytes) sends =
+  send-through : (sending : List ℕ → Sending) (code : ℕ) → caller.regs.a ≡ path_number call caller.regs → direction_of_call call ≡ Some Writing → ((bytes : List ℕ) → (sending bytes).bytes ≡ bytes) → (bytes : Option (List ℕ)) → sent_by call caller io ≡ bytes → Through (needs bytes E_BPADDR (λ bytes. on_path caller io caller.regs.a can_write (λ opened. unless_nothing caller io (sends_on (sending bytes) code caller io opened))))
+  send-through sending code named way same None sends = tt
+  send-through sending code named way same (Some bytes) sends =
       path-moves caller.regs.a can_write (λ opened. unless_nothing caller io (sends_on (sending bytes) code caller io opened))
-      (λ opened is. nothing-moves (caller.regs.y == 0) (sends_on (sending bytes) code caller io opened) (write-moves (sending bytes) bytes way sends (same bytes) (call_now caller io code opened (length (sending bytes).bytes)) (now-moved caller io code (length (sending bytes).bytes) opened) opened.desc.target (caller.regs.a, opened, is, refl)))
+      (λ opened is. nothing-moves (caller.regs.y == 0) (sends_on (sending bytes) code caller io opened) (write-moves (sending bytes) bytes way sends (same bytes) (call_now caller io code opened (length (sending bytes).bytes)) (now-moved caller io code (length (sending bytes).bytes) opened) opened.desc.target (opened, ap (open_path io caller.process.0) (sym named) ∙ is, refl)))
 
-  error-through : direction_of_call call ≡ Some Writing → sent_by call caller io ≡ Some (error_line caller.regs.b) → Through (f_perr caller io)
-  error-through way sends =
+  error-through : STANDARD_ERROR ≡ path_number call caller.regs → direction_of_call call ≡ Some Writing → sent_by call caller io ≡ Some (error_line caller.regs.b) → Through (f_perr caller io)
+  error-through named way sends =
       path-moves STANDARD_ERROR can_write (λ opened. sends_on (sent_error caller) F_PERR caller io opened)
-      (λ opened is. write-moves (sent_error caller) (error_line caller.regs.b) way sends refl (call_now caller io F_PERR opened (length (sent_error caller).bytes)) (now-moved caller io F_PERR (length (sent_error caller).bytes) opened) opened.desc.target (STANDARD_ERROR, opened, is, refl))
+      (λ opened is. write-moves (sent_error caller) (error_line caller.regs.b) way sends refl (call_now caller io F_PERR opened (length (sent_error caller).bytes)) (now-moved caller io F_PERR (length (sent_error caller).bytes) opened) opened.desc.target (opened, ap (open_path io caller.process.0) (sym named) ∙ is, refl))
 
   -- ---- calls that move no byte
 
@@ -491,15 +492,15 @@ step-moves Call.Open caller io n drives terms =
 step-moves Call.Close caller io n drives terms =
     close-through Call.Close caller io n (slot_of io.paths caller.process.0 caller.regs.a)
 step-moves Call.Read caller io n drives terms =
-    read-through Call.Read caller io n Bytes I_READ refl (λ moved. refl) (is_none (user_bytes caller.cells caller.regs.x caller.regs.y))
+    read-through Call.Read caller io n Bytes I_READ refl refl (λ moved. refl) (is_none (user_bytes caller.cells caller.regs.x caller.regs.y))
 step-moves Call.ReadLn caller io n drives terms =
-    read-through Call.ReadLn caller io n WholeLine I_READLN refl (λ moved. refl) (is_none (user_bytes caller.cells caller.regs.x caller.regs.y))
+    read-through Call.ReadLn caller io n WholeLine I_READLN refl refl (λ moved. refl) (is_none (user_bytes caller.cells caller.regs.x caller.regs.y))
 step-moves Call.Write caller io n drives terms =
-    send-through Call.Write caller io n (sent_bytes caller) I_WRITE refl (λ bytes. refl) (user_bytes caller.cells caller.regs.x caller.regs.y) refl
+    send-through Call.Write caller io n (sent_bytes caller) I_WRITE refl refl (λ bytes. refl) (user_bytes caller.cells caller.regs.x caller.regs.y) refl
 step-moves Call.WritLn caller io n drives terms =
-    send-through Call.WritLn caller io n (sent_line caller) I_WRITLN refl (λ bytes. refl) (line_bytes caller (kept_at io caller.process.0)) refl
+    send-through Call.WritLn caller io n (sent_line caller) I_WRITLN refl refl (λ bytes. refl) (line_bytes caller (kept_at io caller.process.0)) refl
 step-moves Call.GetStt caller io n drives terms =
     get-through Call.GetStt caller io n (open_path io caller.process.0 caller.regs.a)
 step-moves Call.SetStt caller io n drives terms =
     set-through Call.SetStt caller io n (open_path io caller.process.0 caller.regs.a)
-step-moves Call.PErr caller io n drives terms = error-through Call.PErr caller io n refl refl
+step-moves Call.PErr caller io n drives terms = error-through Call.PErr caller io n refl refl refl

@@ -10,6 +10,7 @@ use Rattle.call_rules.specs.UserBytes.{user_bytes}
 use Rattle.io_model.specs.Pipe.{Flows, IsPipe, Movement, In, Out, came_in, went_out}
 use Rattle.io_model.specs.declared.kept.Kept.{Kept}
 use Rattle.io_model.specs.declared.path.Target.TheVariants.{Pipe}
+use Rattle.io_rules.specs.Again.{path_number}
 use Rattle.io_rules.specs.Attempts.{caller_of}
 use Rattle.io_rules.specs.Codes.{direction_of_call, io_call_of}
 use Rattle.io_rules.specs.Io.{Io, OpenPath, kept_at, open_path, pipe_bytes}
@@ -41,11 +42,11 @@ sent_by Call.WritLn caller io = line_bytes caller (kept_at io caller.process.0)
 sent_by Call.PErr caller io = Some (error_line caller.regs.b)
 sent_by call caller io = None
 
--- a process attempts a call that moves bytes this way, on a path that was opened on this pipe
+-- a process attempts a call that moves bytes this way, whose path was opened on this pipe
 pub record AttemptsOn (s : State) (p n : ℕ) (call : IoCall) (way : Direction) : Type 0 where
   pub attempted : (code : ℕ) × (act_of s.inner p ≡ attempts code) × (io_call_of code ≡ Some call)
   pub way_is : direction_of_call call ≡ Some way
-  pub path : (number : ℕ) × (opened : OpenPath) × (open_path s.io p number ≡ Some opened)
+  pub path : (opened : OpenPath) × (open_path s.io p (path_number call (regs_at s.inner p)) ≡ Some opened)
       × (opened.desc.target ≡ Pipe n)
 
 -- where a call of a process waits then, it has moved so many bytes more

@@ -1,17 +1,24 @@
 -- What becomes of the keys of a terminal (Level Two manual, SCF).
-use Rattle.std.specs.Prelude.{◌≡◌, ◌⊎◌, ℕ, ◌-◌, ◌<◌, ◌≤◌, false, Option, Some, None, List, [], ◌++◌, length, slice_get, take}
+use Rattle.std.specs.Prelude.{◌≡◌, ◌⊎◌, ℕ, ◌-◌, ◌<◌, ◌≤◌, min, false, Option, Some, None, List, [], ◌++◌, length, slice_get, take}
 use Rattle.std.specs.List.{AllByRecursion, filter_map, flat_map}
 use Rattle.std.specs.Option.{option_map_or}
+use Rattle.os9_base.specs.declared.registers.Regs.{Regs}
 use Rattle.os9_outer.specs.declared.terminal.Key.{Key}
+use Rattle.call_rules.specs.Inner.{regs_at}
 use Rattle.call_rules.specs.Ready.{attempts, act_of}
 use Rattle.io_model.specs.Edit.{cleared}
 use Rattle.io_model.specs.Pipe.{Flows, In, Movement, Out, came_in, went_out}
 use Rattle.io_model.specs.Terminal.{is_taken, key_bytes, typed, typed_bytes}
+use Rattle.io_model.specs.declared.path.Target.TheVariants.{Term}
+use Rattle.io_model.specs.declared.terminal.ReadKind.{ReadKind}
+use Rattle.io_model.specs.declared.terminal.ReadKind.TheVariants.{Bytes, WholeLine}
 use Rattle.io_model.specs.declared.terminal.Reading.{Reading}
 use Rattle.io_model.specs.declared.terminal.TheConstants.{TYPE_AHEAD}
-use Rattle.io_rules.specs.Codes.{direction_of}
-use Rattle.io_rules.specs.Io.{terminal_at}
-use Rattle.io_rules.specs.declared.io_call.Direction.TheVariants as Way
+use Rattle.io_rules.specs.Codes.{io_call_of}
+use Rattle.io_rules.specs.Io.{Io, OpenPath, kept_at, open_path, terminal_at}
+use Rattle.io_rules.specs.Waiting.{pid}
+use Rattle.io_rules.specs.declared.io_call.IoCall.{IoCall}
+use Rattle.io_rules.specs.declared.io_call.IoCall.TheVariants as Call
 use Rattle.io_machine.specs.declared.ends.EventEnd.{EventEnd}
 use Rattle.io_machine.specs.Event.{Event}
 use Rattle.io_machine.specs.Run.{Tick}
@@ -39,13 +46,36 @@ pub record KeysArrive (n : ℕ) (s : State) (keys : List Key) (t : State) : Type
   pub come : keys_to_come s n ≡ keys ++ keys_to_come t n
   pub kept : ahead_at t n ≡ ahead_at s n ++ gained s n keys
 
+-- the call that reads so
+abbrev pub read_call : ReadKind → IoCall
+read_call Bytes = Call.Read
+read_call WholeLine = Call.ReadLn
+
+-- how many bytes a read of a process with these registers asks for: what is kept of it says it, or Y at its first
+-- attempt
+abbrev pub asked_by : Io → ℕ → Regs → ℕ
+asked_by io p regs = option_map_or (λ kept. kept.count) (kept_at io p) regs.y
+
+-- its read of this kind, as a terminal has it: it asks for 256 bytes at most
+abbrev pub reading_of : ReadKind → Io → ℕ → Regs → Reading
+reading_of kind io p regs =
+    record { process = pid p; kind = kind; most = min (asked_by io p regs) TYPE_AHEAD }
+
+-- a process attempts a read of this kind, whose path was opened on this terminal
+pub record ReadsFrom (s : State) (p n : ℕ) (kind : ReadKind) : Type 0 where
+  pub attempted : (code : ℕ) × (act_of s.inner p ≡ attempts code) × (io_call_of code ≡ Some (read_call kind))
+  pub path : (opened : OpenPath) × (open_path s.io p (regs_at s.inner p).a ≡ Some opened)
+      × (opened.desc.target ≡ Term n)
+
 -- a read of the chosen process uses these keys, the next ones of the type-ahead: its line is what they make of it, and
 -- is cleared where the read is over or is broken off
 pub record UsesKeys (n : ℕ) (s : State) (keys : List ℕ) (t : State) : Type 0 where
+  pub process : ℕ
+  pub chosen : s.chosen ≡ Some process
+  pub kind : ReadKind
+  pub attempt : ReadsFrom s process n kind
   pub request : Reading
-  pub chosen : s.chosen ≡ Some request.process.0
-  pub attempted : (code : ℕ) × (act_of s.inner request.process.0 ≡ attempts code)
-      × (direction_of code ≡ Some Way.Reading)
+  pub request_is : request ≡ reading_of kind s.io process (regs_at s.inner process)
   pub alone : is_taken request.process (terminal_at s.io n) ≡ false
   pub front : ahead_at s n ≡ keys ++ ahead_at t n
   pub line : ((terminal_at t.io n).line ≡ (typed request (terminal_at s.io n).line keys).line)
