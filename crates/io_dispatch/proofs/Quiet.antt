@@ -1,0 +1,52 @@
+-- Calls that move no byte: none of them waits, and none wants memory.
+use Rattle.std.proofs.Common.{◌≡◌, ℕ, true, false, Option, Some, None, is_some, IfSome, option_and_then, List, refl, sym, ◌∙◌, ap, subst}
+use Rattle.os9_base.specs.declared.call.CallEnd.{CallEnd}
+use Rattle.os9_base.specs.declared.call.CallEnd.TheVariants.{Done, Error, Wait, Ended, NoMemory}
+use Rattle.os9_base.specs.declared.registers.Regs.{Regs}
+use Rattle.os9_outer.specs.TerminalState.{TerminalState}
+use Rattle.call_rules.specs.CallResult.{CallResult}
+use Rattle.call_rules.specs.CallResult as Result
+use Rattle.call_rules.specs.Inner.{Inner}
+use Rattle.io_model.specs.declared.kept.Kept.{Kept}
+use Rattle.io_rules.specs.Again.{IsAgain, IsKept}
+use Rattle.io_rules.specs.Codes.{io_call_of, direction_of_call}
+use Rattle.io_rules.specs.Io.{Io, kept_at}
+use Rattle.io_rules.specs.declared.io_call.IoCall.{IoCall}
+use Rattle.io_state.specs.Attempt.{Attempts}
+use Rattle.io_state.specs.Sound.{IsIo}
+use Rattle.proc_state.specs.Tie.{Comes}
+use Rattle.proc_state.specs.declared.state.ProcState.{ProcState}
+use Rattle.io_rules.specs.Attempts.{caller_of, step_of}
+use Rattle.stream_calls.specs.Trying.{WantsMemory}
+
+-- a call that waits moves bytes, so a call that moves none is at its first attempt
+pub is-first : (call : IoCall) (regs : Regs) (io : Io) (p : ℕ) → direction_of_call call ≡ None → IsIo io → IsAgain call regs io p → kept_at io p ≡ None
+is-first call regs io p quiet sound again = by (kept_at io p) refl again
+  where
+    by : (kept : Option Kept) → kept_at io p ≡ kept → IfSome kept (IsKept call regs io p) → kept ≡ None
+    by None is again = refl
+    by (Some kept) is again =
+        let moves = (sound.waits.calls p kept is).moves in
+        let none : option_and_then direction_of_call (io_call_of kept.code) ≡ None = ap (option_and_then direction_of_call) again.code ∙ quiet in
+        absurd (let e : false ≡ true = ap is_some (sym none) ∙ moves in cc)
+
+-- an attempt comes to something else than want of memory
+no-memory : (m : Inner) (p : ℕ) (result : CallResult) (processes : ProcState) → Comes m p result NoMemory processes → ⊥
+no-memory m p (Result.done after) processes comes = let e : NoMemory ≡ Done = comes.0 in cc
+no-memory m p (Result.refused number) processes comes = let e : NoMemory ≡ Error number = comes.0 in cc
+no-memory m p (Result.waits after) processes comes = let e : NoMemory ≡ Wait = comes.0 in cc
+no-memory m p (Result.ends status) processes comes = let e : NoMemory ≡ Ended = comes.0 in cc
+
+-- such a call does not want memory
+pub has-memory : (call : IoCall) (m : Inner) (io : Io) (drives p : ℕ) (end : CallEnd) (processes : ProcState) (new : Io) (before after : List TerminalState) → Attempts call m io drives p end processes new before after → end ≡ NoMemory → ⊥
+has-memory call m io drives p end processes new before after attempts is =
+    no-memory m p attempts.result processes (subst (λ (end : CallEnd). Comes m p attempts.result end processes) is attempts.comes)
+
+-- ---- a call by its name
+
+module _ (call other : IoCall) (m : Inner) (io : Io) (drives p : ℕ) (before after : List TerminalState) (is : call ≡ other) where
+  pub attempts-as : (end : CallEnd) (processes : ProcState) (new : Io) → Attempts other m io drives p end processes new before after → Attempts call m io drives p end processes new before after
+  attempts-as end processes new attempts = subst (λ (call : IoCall). Attempts call m io drives p end processes new before after) (sym is) attempts
+
+  pub wants-as : WantsMemory (step_of other m p io drives before) (caller_of m p) io before after → WantsMemory (step_of call m p io drives before) (caller_of m p) io before after
+  wants-as wants = subst (λ (call : IoCall). WantsMemory (step_of call m p io drives before) (caller_of m p) io before after) (sym is) wants

@@ -1,0 +1,96 @@
+-- In every state of a run the chosen process may attempt its call on paths.
+use Rattle.std.proofs.Common.{◌≡◌, ℕ, ◌<◌, Option, Some, None, IfSome, length, refl, sym, ap, ◌∙◌, subst}
+use Rattle.std.specs.Prelude.{option_map}
+use Rattle.std.proofs.lemmas.Option.{none-some, same_Some}
+use Rattle.os9_base.specs.Cells.{Cells}
+use Rattle.os9_base.specs.declared.registers.Regs.{Regs}
+use Rattle.guest_memory.specs.Tie.{cells_of}
+use Rattle.guest_memory.proofs.Seen.{cells_of-seen}
+use Rattle.proc_rules.specs.Records.{record_at}
+use Rattle.call_rules.specs.Inner.{Inner, cells_at, regs_at}
+use Rattle.call_rules.specs.Ready.{attempts, act_of}
+use Rattle.io_model.specs.Path.{PathTable, desc_of}
+use Rattle.io_model.specs.declared.kept.Kept.{Kept}
+use Rattle.io_model.specs.declared.path.Desc.{Desc}
+use Rattle.io_model.specs.declared.path.Target.TheVariants.{Term}
+use Rattle.io_rules.specs.Again.{IsAgain, IsKept}
+use Rattle.io_rules.specs.Codes.{io_call_of}
+use Rattle.io_rules.specs.Io.{Io, kept_at}
+use Rattle.io_rules.specs.declared.io_call.IoCall.{IoCall}
+use Rattle.io_rules.specs.declared.io_call.IoCall.TheVariants as Call
+use Rattle.io_machine.specs.State.{State}
+use Rattle.kept_laws.specs.Kept.{AreKept, StaysAllowed as IsAllowed, StaysRead as AllowedRead}
+use Rattle.kept_laws.specs.Running.{AreOnTerminals, IsRunning}
+use Rattle.kept_laws.proofs.KeptEvents.{attempts-code}
+use Rattle.proc_state.specs.Tie.{Represents}
+use Rattle.proc_state.specs.declared.state.ProcState.{ProcState}
+use Rattle.stream_calls.specs.Moving.{AreTerminals, StaysIfKept, StaysRead}
+use Rattle.io_dispatch.specs.Staying.{MayAttempt, StaysAllowed}
+
+-- each terminal that a path was opened on is there
+are-terminals : (paths : PathTable) (terms : ℕ) → AreOnTerminals terms paths → AreTerminals paths terms
+are-terminals paths terms on s n is = by_desc (desc_of paths s) refl is
+  where
+    by_desc : (place : Option Desc) → desc_of paths s ≡ place → option_map (λ (desc : Desc). desc.target) place ≡ Some (Term n) → n < terms
+    by_desc None at is = absurd (none-some (Term n) is)
+    by_desc (Some desc) at is = on s n desc at (same_Some desc.target (Term n) is)
+
+module _ (inner : Inner) (io : Io) (p code : ℕ) (call : IoCall) (kept_all : AreKept inner io) (next : act_of inner p ≡ attempts code) (coded : io_call_of code ≡ Some call) where
+  -- what is kept is of this call
+  kept-call : (kept : Kept) → kept_at io p ≡ Some kept → IsKept call (regs_at inner p) io p kept × IsAllowed call (cells_at inner p) (regs_at inner p) io p
+  kept-call kept is =
+      let it = kept_all p kept is in
+      let same : code ≡ kept.code = same_Some code kept.code (sym (attempts-code inner p code next) ∙ it.made) in
+      let one : it.call ≡ call = same_Some it.call call (sym it.again.code ∙ sym (ap io_call_of same) ∙ coded) in
+      subst (λ (call : IoCall). IsKept call (regs_at inner p) io p kept × IsAllowed call (cells_at inner p) (regs_at inner p) io p) one (it.again, it.stays)
+
+  again-of : IsAgain call (regs_at inner p) io p
+  again-of = by_kept (kept_at io p) refl
+    where
+      by_kept : (place : Option Kept) → kept_at io p ≡ place → IfSome place (IsKept call (regs_at inner p) io p)
+      by_kept None is = tt
+      by_kept (Some kept) is = (kept-call kept is).0
+
+  allowed-of : IfSome (kept_at io p) (λ kept. IsAllowed call (cells_at inner p) (regs_at inner p) io p)
+  allowed-of = by_kept (kept_at io p) refl
+    where
+      by_kept : (place : Option Kept) → kept_at io p ≡ place → IfSome place (λ kept. IsAllowed call (cells_at inner p) (regs_at inner p) io p)
+      by_kept None is = tt
+      by_kept (Some kept) is = (kept-call kept is).1
+
+-- a read that is allowed stays so
+stays-if : (call : IoCall) (cells : Cells) (regs : Regs) (io : Io) (p : ℕ) → (IsAllowed call cells regs io p → StaysRead cells regs io p) → IfSome (kept_at io p) (λ kept. IsAllowed call cells regs io p) → StaysIfKept cells regs io p
+stays-if call cells regs io p reads = by_kept (kept_at io p)
+  where
+    by_kept : (place : Option Kept) → IfSome place (λ kept. IsAllowed call cells regs io p) → IfSome place (λ kept. StaysRead cells regs io p)
+    by_kept None allowed = tt
+    by_kept (Some kept) allowed = reads allowed
+
+stays-read : (cells : Cells) (regs : Regs) (io : Io) (p : ℕ) → AllowedRead cells regs io p → StaysRead cells regs io p
+stays-read cells regs io p it = record { named = it.named; may = it.mode }
+
+stays-of : (call : IoCall) (cells : Cells) (regs : Regs) (io : Io) (p : ℕ) → IfSome (kept_at io p) (λ kept. IsAllowed call cells regs io p) → StaysAllowed call cells regs io p
+stays-of Call.Read cells regs io p allowed =
+    stays-if Call.Read cells regs io p (λ it. stays-read cells regs io p (it refl)) allowed
+stays-of Call.ReadLn cells regs io p allowed =
+    stays-if Call.ReadLn cells regs io p (λ it. stays-read cells regs io p (it refl)) allowed
+stays-of Call.Dup cells regs io p allowed = tt
+stays-of Call.Create cells regs io p allowed = tt
+stays-of Call.Open cells regs io p allowed = tt
+stays-of Call.Close cells regs io p allowed = tt
+stays-of Call.Write cells regs io p allowed = tt
+stays-of Call.WritLn cells regs io p allowed = tt
+stays-of Call.GetStt cells regs io p allowed = tt
+stays-of Call.SetStt cells regs io p allowed = tt
+stays-of Call.PErr cells regs io p allowed = tt
+
+pub may-attempt : (processes : ProcState) (s : State) (p code : ℕ) (call : IoCall) → p < 33 → Represents processes s.inner → IsRunning s → act_of s.inner p ≡ attempts code → io_call_of code ≡ Some call → MayAttempt call processes s.io p (length s.terms)
+may-attempt processes s p code call process tied running next coded =
+    let regs : regs_at s.inner p ≡ (record_at processes.table p).regs = ap (λ (inner : Inner). regs_at inner p) tied.is in
+    let cells : cells_of processes.memory p ≡ cells_at s.inner p = cells_of-seen processes.memory p process s.inner.memory tied.memory in
+    record {
+      again = subst (λ (regs : Regs). IsAgain call regs s.io p) regs (again-of s.inner s.io p code call running.kept next coded);
+      stays = subst (λ (cells : Cells). StaysAllowed call cells (record_at processes.table p).regs s.io p) (sym cells)
+          (subst (λ (regs : Regs). StaysAllowed call (cells_at s.inner p) regs s.io p) regs (stays-of call (cells_at s.inner p) (regs_at s.inner p) s.io p (allowed-of s.inner s.io p code call running.kept next coded)));
+      terminals = are-terminals s.io.paths (length s.terms) running.on;
+    }

@@ -1,0 +1,78 @@
+//! The calls on paths by their names.
+
+ghost use Rattle.std.specs.Prelude.{◌≡◌, ◌≢◌, vec_len};
+ghost use Rattle.guest_memory.specs.Tie.{cells_of};
+ghost use Rattle.os9_outer.specs.TerminalState.{terminal_states};
+ghost use Rattle.proc_rules.specs.Records.{IsLiving, record_at};
+ghost use Rattle.call_rules.specs.Inner.{Inner};
+ghost use Rattle.io_rules.specs.Again.{IsAgain};
+ghost use Rattle.io_rules.specs.Attempts.{caller_of, step_of};
+ghost use Rattle.io_state.specs.Attempt.{Attempts};
+ghost use Rattle.io_dispatch.specs.Staying.{StaysAllowed};
+ghost use Rattle.proc_state.specs.Tie.{Represents};
+ghost use Rattle.stream_calls.specs.Moving.{AreTerminals};
+ghost use Rattle.stream_calls.specs.Trying.{WantsMemory};
+
+use device_table::devices::Devices;
+use io_rules::io_call::IoCall;
+use io_state::state::IoState;
+use open_calls::open::{i_create, i_open};
+use os9_base::call::CallEnd;
+use os9_base::registers::Pid;
+use os9_outer::terminal::CharDriver;
+use path_calls::numbers::{i_close, i_dup};
+use path_calls::status::{i_getstt, i_setstt};
+use proc_state::state::ProcState;
+use stream_calls::reads::{i_read, i_readln};
+use stream_calls::writes::{f_perr, i_write, i_writln};
+
+/// An attempt of a call on paths by a process that lives (System Programmer's Manual, "I/O service
+/// requests"). Its process is not told yet what it comes to. Where a call of the process waits,
+/// this is a further attempt of it, with the registers that it was made with. `NoMemory` comes only
+/// where a byte was to be put on a terminal.
+///
+/// # Errors
+///
+/// Those of the calls, in the order of their definitions.
+pub fn attempt(
+    s: &mut ProcState,
+    io: &mut IoState,
+    p: Pid,
+    call: IoCall,
+    devices: &mut Devices,
+) -> CallEnd
+    requires lives { IsLiving s.old.table p.0 }
+    requires again { IsAgain call (record_at s.old.table p.0).regs io.old p.0 }
+    requires stays { StaysAllowed call (cells_of s.old.memory p.0)
+        (record_at s.old.table p.0).regs io.old p.0 }
+    requires terminals { AreTerminals io.old.paths (vec_len devices.old.terms) }
+    ensures call { (m : Inner) → Represents s.old m → result ≢ CallEnd.NoMemory
+        → Attempts call m io.old (vec_len devices.old.drives) p.0 result s.new io.new
+        (terminal_states ⟦<dyn CharDriver as CharDriver>⟧ devices.old.terms.items)
+        (terminal_states ⟦<dyn CharDriver as CharDriver>⟧ devices.new.terms.items) }
+    ensures memory { (m : Inner) → Represents s.old m → result ≡ CallEnd.NoMemory
+        → WantsMemory (step_of call m p.0 io.old (vec_len devices.old.drives)
+        (terminal_states ⟦<dyn CharDriver as CharDriver>⟧ devices.old.terms.items))
+        (caller_of m p.0) io.old
+        (terminal_states ⟦<dyn CharDriver as CharDriver>⟧ devices.old.terms.items)
+        (terminal_states ⟦<dyn CharDriver as CharDriver>⟧ devices.new.terms.items) }
+    ensures lives { IsLiving s.new.table p.0 }
+    ensures drives { devices.new.drives ≡ devices.old.drives }
+    ensures count { vec_len devices.new.terms ≡ vec_len devices.old.terms }
+{
+    // A call that moves no byte is at its first attempt.
+    prove!(io.kept(p).is_none() || call.direction().is_some());
+    match call {
+        IoCall::Dup => i_dup(s, io, p),
+        IoCall::Create => i_create(s, io, p, devices),
+        IoCall::Open => i_open(s, io, p, devices),
+        IoCall::Close => i_close(s, io, p),
+        IoCall::Read => i_read(s, io, devices, p),
+        IoCall::ReadLn => i_readln(s, io, devices, p),
+        IoCall::Write => i_write(s, io, devices, p),
+        IoCall::WritLn => i_writln(s, io, devices, p),
+        IoCall::GetStt => i_getstt(s, io, p),
+        IoCall::SetStt => i_setstt(s, io, p),
+        IoCall::PErr => f_perr(s, io, devices, p),
+    }
+}
