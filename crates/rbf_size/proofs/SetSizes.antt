@@ -18,7 +18,7 @@ use Rattle.rbf_access.specs.Mounted.{kept, Represents, IsMounted}
 use Rattle.rbf_access.proofs.Counting.{counts_then}
 use Rattle.rbf_growth.proofs.Growing.{agrees_on}
 use Rattle.rbf_write.specs.Laying.{AnswersLaying}
-use Rattle.rbf_write.specs.Outcomes.{laying_calls}
+use Rattle.rbf_write.specs.Outcomes.{AreMarked, laying_calls}
 use Rattle.rbf_write.specs.Sizes.{Sizing, AnswersSize, giving_calls, size_calls}
 use Rattle.rbf_write.proofs.Sized.{sized_answers, sized_calls}
 
@@ -47,16 +47,16 @@ module _ (before mid : Option (List ℕ)) (n m size : ℕ) (now : TimePacket) (s
   abbrev sizing : Sizing
   sizing = record { number = n; size = size; now = now }
 
-  pub cut_counts : (f : Option ℕ) (s t u : DriveCounts) → size < length file.contents → MovesCounts None 1 s t
+  pub cut_counts : (marks : ℕ) (f : Option ℕ) (s t u : DriveCounts) → size < length file.contents → MovesCounts None 1 s t
       → ((w : DiskVolume) (g : DiskFile) → Represents mid w → w.files m ≡ Some g → MovesCounts f (1 + giving_calls w g (record { number = m; size = size; now = now })) t u)
-      → MovesCounts f (size_calls v file sizing) s u
-  cut_counts f s t u shorter one calls =
+      → MovesCounts f (size_calls v file marks sizing) s u
+  cut_counts marks f s t u shorter one calls =
       let there : v.files m ≡ Some file = subst (λ i. v.files i ≡ Some file) (sym number) is in
       let cut : MovesCounts f (1 + giving_calls v file sizing) t u =
       subst (λ i. MovesCounts f (1 + giving_calls v file (record { number = i; size = size; now = now })) t u) number (calls v file (record { image = on.image; is = same ∙ on.is; vol = on.vol }) there) in
       let long : nat_lt (length file.contents) size ≡ false = false_from_ne_true (nat_lt (length file.contents) size) (λ h. let low = ltb-true (length file.contents) size h in absurd (omega arith)) in
-      let all : size_calls v file sizing ≡ 2 + giving_calls v file sizing =
-      cond-false (nat_lt (length file.contents) size) (1 + laying_calls v file size size) (if nat_lt size (length file.contents) then 2 + giving_calls v file sizing else 1) long
+      let all : size_calls v file marks sizing ≡ 2 + giving_calls v file sizing =
+      cond-false (nat_lt (length file.contents) size) (1 + laying_calls v file marks size size) (if nat_lt size (length file.contents) then 2 + giving_calls v file sizing else 1) long
       ∙ cond-true (nat_lt size (length file.contents)) (2 + giving_calls v file sizing) 1 (lt-ltb size (length file.contents) shorter) in
       let plain : 1 + (1 + giving_calls v file sizing) ≡ 2 + giving_calls v file sizing = omega arith in
       subst (λ c. MovesCounts f c s u) (plain ∙ sym all) (counts_then f 1 (1 + giving_calls v file sizing) s t u one cut)
@@ -69,8 +69,9 @@ module _ (before mid : Option (List ℕ)) (n m size : ℕ) (now : TimePacket) (s
       subst (λ s. AnswersSize v file (record { number = n; size = s; now = now }) before after result) most
       (sized_answers before mid n m size now same number after result v file on is longer answers)
 
-  pub longer_counts : (f : Option ℕ) (s t u : DriveCounts) → length file.contents < size → MovesCounts None 1 s t
-      → ((w : DiskVolume) (g : DiskFile) → Represents mid w → w.files m ≡ Some g → MovesCounts f (laying_calls w g size (size + 0)) t u) → MovesCounts f (size_calls v file sizing) s u
-  longer_counts f s t u longer one calls =
+  pub longer_counts : (after : Option (List ℕ)) (result : Result (Unit {0}) FileFault) (f : Option ℕ) (s t u : DriveCounts) → length file.contents < size → MovesCounts None 1 s t
+      → ((w : DiskVolume) (g : DiskFile) → Represents mid w → w.files m ≡ Some g → (marks : ℕ) → AreMarked w g m after result marks → MovesCounts f (laying_calls w g marks size (size + 0)) t u)
+      → (marks : ℕ) → AreMarked v file n after result marks → MovesCounts f (size_calls v file marks sizing) s u
+  longer_counts after result f s t u longer one calls marks are =
       let most : max size (length file.contents) ≡ size = omega arith in
-      subst (λ z. MovesCounts f (size_calls v file (record { number = n; size = z; now = now })) s u) most (sized_calls before mid n m size now same number f s t u v file on is longer one calls)
+      subst (λ z. MovesCounts f (size_calls v file marks (record { number = n; size = z; now = now })) s u) most (sized_calls before mid n m size now same number after result f s t u v file on is longer one calls marks are)

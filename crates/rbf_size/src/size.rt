@@ -3,6 +3,7 @@ ghost use Rattle.rbf_access.specs.Drive.{Counts};
 ghost use Rattle.rbf_access.specs.Faults.{file_fault};
 ghost use Rattle.rbf_access.specs.Mounted.{IsMounted};
 ghost use Rattle.rbf_write.specs.Files.{HasDataFile, OnVolumeFile};
+ghost use Rattle.rbf_write.specs.Outcomes.{OnMarked};
 ghost use Rattle.rbf_write.specs.Sizes.{AnswersSize, size_calls};
 
 use crate::shorter::cut;
@@ -36,9 +37,9 @@ pub fn set_size(
     ensures refused_calls { OnErr result (IsNone (file_fault result)
         → drive_calls d.new ≤ drive_calls d.old + 1) }
     ensures mounted { IsMounted volume.new (media d.new) }
-    ensures counts { OnVolumeFile (media d.old) fd (λ v file.
-        Counts ⟦<dyn BlockDriver as BlockDriver>⟧ (file_fault result)
-        (size_calls v file (record { number = fd; size = size; now = now })) d.old d.new) }
+    ensures counts { OnMarked (media d.old) (media d.new) fd result (λ v file marks.
+        Counts ⟦<dyn BlockDriver as BlockDriver>⟧ (file_fault result) (size_calls v file marks
+        (record { number = fd; size = size; now = now })) d.old d.new) }
 {
     let loaded = load_file(volume, d, fd)?;
     if size == loaded.file.size {

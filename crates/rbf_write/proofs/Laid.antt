@@ -20,6 +20,7 @@ use Rattle.rbf_model.proofs.Free.{free_parts}
 use Rattle.rbf_model.proofs.Owners.{cluster_positive, own_after, owns_own}
 use Rattle.rbf_model.proofs.Segments.{has_cases}
 use Rattle.rbf_model.proofs.Space.{cluster_from_owns}
+use Rattle.rbf_model.proofs.Unique.{vol_is_unique}
 use Rattle.rbf_change.specs.Agrees.{Agrees}
 use Rattle.rbf_change.specs.Calls.{shape, free_total, cluster_size, is_free_in, replaced, minute_of}
 use Rattle.rbf_change.specs.Growth.{clusters_needed, with_clusters, Gains, IsChoice}
@@ -56,6 +57,16 @@ same_end one other same = record {
   ended = inl (ap segments_field same);
   behind = λ i past. ap (λ b. slice_index b i) same;
 }
+
+-- the media has one file of a number
+file_of_volume : (media : Option (List ℕ)) (v w : DiskVolume) → Represents media v → Represents media w → (n : ℕ) (one other : DiskFile) → v.files n ≡ Some one → w.files n ≡ Some other → other.segments ≡ one.segments
+file_of_volume media v w first second n one other is at =
+    let images : Some first.image ≡ Some second.image = sym first.is ∙ second.is in
+    let image : first.image ≡ second.image = cc in
+    let same : v ≡ w = vol_is_unique second.image v w (subst (λ i. Vol i v) image first.vol) second.vol in
+    let both : Some other ≡ Some one = sym at ∙ ap (λ (x : DiskVolume). x.files n) (sym same) ∙ is in
+    let file : other ≡ one = cc in
+    ap (λ (x : DiskFile). x.segments) file
 
 -- what has stayed
 pub tidy_of : (before after : Option (List ℕ)) (image mid now : List ℕ) (n : ℕ) (segments : List (ℕ × ℕ)) → before ≡ Some image → after ≡ Some now → ChangesMap image mid
@@ -338,6 +349,15 @@ module _ (before : Option (List ℕ)) (v : DiskVolume) (on : Represents before v
           or_false true = refl
           or_false false = refl
 
+      pub list_inside : end ≤ size → (w : DiskVolume) (f : DiskFile) → Represents after w → w.files n ≡ Some f → f.segments ≡ longer
+      list_inside inside w f there at =
+          let none_missing : sector_count end - length (sectors_of old.segments) ≡ 0 = (let room_there = room in omega arith) in
+          let nothing : clusters_needed k old.segments end ≡ 0 = no_clusters k (sector_count end - length (sectors_of old.segments)) positive none_missing in
+          let none_taken : taken ≡ [] = nil_from_length taken (grown.chosen.counted ∙ counted ∙ nothing) in
+          let file_now : DiskFile = record old { contents = take size target } in
+          file_of_volume after (with_file_in_place volume_grown n file_now) w (record { image = laid.now; is = laid.is; vol = laid.vol }) there n file_now f (put_here v.files n (Some file_now)) at
+          ∙ sym (grown.segments ∙ ap (with_clusters k old.segments) none_taken)
+
       -- the descriptor is written
       module _ (loaded : Loaded) (says : IsFdOf old loaded.file) (descriptor : loaded.descriptor ≡ sector_at before n) (new : List ℕ) (resized : IsResized loaded longer end laying.now new) (later : size < end) (last : Option (List ℕ))
           (written : last ≡ with_sector after n new) where
@@ -396,6 +416,12 @@ module _ (before : Option (List ℕ)) (v : DiskVolume) (on : Represents before v
 
         last_is : last ≡ Some (put_sector now n new)
         last_is = written ∙ ap (λ m. with_sector m n new) laid.is
+
+        pub list_longer : (w : DiskVolume) (f : DiskFile) → Represents last w → w.files n ≡ Some f → f.segments ≡ longer
+        list_longer w f there at =
+            file_of_volume last (replaced v n (Some (laid_file old laying segments))) w (record { image = put_sector now n new; is = last_is; vol = vol_last }) there n (laid_file old laying segments) f
+            (put_here v.files n (Some (laid_file old laying segments))) at
+            ∙ sym grown.segments
 
         beside_last : (s : ℕ) → s ≢ n → sector (put_sector now n new) s ≡ sector now s
         beside_last s differ = beside_put now (with_lost volume_then lost) laid.vol n file_then is_then new resized.whole s differ

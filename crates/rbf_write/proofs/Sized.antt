@@ -25,7 +25,7 @@ use Rattle.rbf_access.proofs.Counting.{counts_then}
 use Rattle.rbf_access.proofs.ReadFile.{room_for}
 use Rattle.rbf_files.proofs.FilledFile.{put_same_file}
 use Rattle.rbf_write.specs.Laying.{Laying, laid_contents, laid_file, laying_needs, IsTidyChange, AnswersLaying}
-use Rattle.rbf_write.specs.Outcomes.{laying_calls}
+use Rattle.rbf_write.specs.Outcomes.{AreMarked, laying_calls}
 use Rattle.rbf_write.specs.Sizes.{Sizing, size_needs, giving_up, given_up, IsTidySize, IsSized, AnswersSize, giving_calls, size_calls}
 use Rattle.rbf_write.proofs.Contents.{put_none, length-extended}
 use Rattle.rbf_write.proofs.Laid.{same_volume, no_clusters}
@@ -180,23 +180,26 @@ module _ (before mid : Option (List ℕ)) (n m size : ℕ) (now : TimePacket) (s
       (subst (λ i. AnswersLaying v file (record { number = i; at = size; bytes = []; now = now }) before after result) number
       (subst (λ b. AnswersLaying v file (record { number = m; at = size; bytes = []; now = now }) b after result) same laid)))
 
-  pub sized_calls : (f : Option ℕ) (s t u : DriveCounts) (v : DiskVolume) (file : DiskFile) → Represents before v → v.files n ≡ Some file → length file.contents < size → MovesCounts None 1 s t
-      → ((w : DiskVolume) (g : DiskFile) → Represents mid w → w.files m ≡ Some g → MovesCounts f (laying_calls w g size (size + 0)) t u)
-      → MovesCounts f (size_calls v file (record { number = n; size = max size (length file.contents); now = now })) s u
-  sized_calls f s t u v file on is longer one calls =
+  pub sized_calls : (after : Option (List ℕ)) (result : Result (Unit {0}) FileFault) (f : Option ℕ) (s t u : DriveCounts) (v : DiskVolume) (file : DiskFile) → Represents before v → v.files n ≡ Some file → length file.contents < size
+      → MovesCounts None 1 s t
+      → ((w : DiskVolume) (g : DiskFile) → Represents mid w → w.files m ≡ Some g → (marks : ℕ) → AreMarked w g m after result marks → MovesCounts f (laying_calls w g marks size (size + 0)) t u)
+      → (marks : ℕ) → AreMarked v file n after result marks → MovesCounts f (size_calls v file marks (record { number = n; size = max size (length file.contents); now = now })) s u
+  sized_calls after result f s t u v file on is longer one calls marks are =
       let there : v.files m ≡ Some file = subst (λ i. v.files i ≡ Some file) (sym number) is in
       let end : size + 0 ≡ size = omega arith in
-      let laid : MovesCounts f (laying_calls v file size size) t u = subst (λ e. MovesCounts f (laying_calls v file size e) t u) end (calls v file (record { image = on.image; is = same ∙ on.is; vol = on.vol }) there) in
+      let laid : MovesCounts f (laying_calls v file marks size size) t u =
+      subst (λ e. MovesCounts f (laying_calls v file marks size e) t u) end
+      (calls v file (record { image = on.image; is = same ∙ on.is; vol = on.vol }) there marks (subst (λ i. AreMarked v file i after result marks) (sym number) are)) in
       let most : size ≡ max size (length file.contents) = omega arith in
       let sizing : Sizing = record { number = n; size = size; now = now } in
-      let all : size_calls v file sizing ≡ 1 + laying_calls v file size size =
-      cond-true (nat_lt (length file.contents) size) (1 + laying_calls v file size size) (if nat_lt size (length file.contents) then 2 + giving_calls v file sizing else 1) (lt-ltb (length file.contents) size longer) in
-      subst (λ z. MovesCounts f (size_calls v file (record { number = n; size = z; now = now })) s u) most (subst (λ c. MovesCounts f c s u) (sym all) (counts_then f 1 (laying_calls v file size size) s t u one laid))
+      let all : size_calls v file marks sizing ≡ 1 + laying_calls v file marks size size =
+      cond-true (nat_lt (length file.contents) size) (1 + laying_calls v file marks size size) (if nat_lt size (length file.contents) then 2 + giving_calls v file sizing else 1) (lt-ltb (length file.contents) size longer) in
+      subst (λ z. MovesCounts f (size_calls v file marks (record { number = n; size = z; now = now })) s u) most (subst (λ c. MovesCounts f c s u) (sym all) (counts_then f 1 (laying_calls v file marks size size) s t u one laid))
 
 -- where the size stays, one call has been made at most
-pub stays_calls : (v : DiskVolume) (file : DiskFile) (sizing : Sizing) → 1 ≤ size_calls v file sizing
-stays_calls v file sizing =
-    least (nat_lt (length file.contents) sizing.size) (nat_lt sizing.size (length file.contents)) (laying_calls v file sizing.size sizing.size) (giving_calls v file sizing)
+pub stays_calls : (v : DiskVolume) (file : DiskFile) (marks : ℕ) (sizing : Sizing) → 1 ≤ size_calls v file marks sizing
+stays_calls v file marks sizing =
+    least (nat_lt (length file.contents) sizing.size) (nat_lt sizing.size (length file.contents)) (laying_calls v file marks sizing.size sizing.size) (giving_calls v file sizing)
   where
     least : (a b : Bool) (x y : ℕ) → 1 ≤ (if a then 1 + x else (if b then 2 + y else 1))
     least true b x y = omega arith

@@ -1,5 +1,5 @@
 -- The steps of a call that lays bytes over a file, each with what the call answers there.
-use Rattle.std.proofs.Common.{◌≡◌, ℕ, ◌+◌, ◌*◌, ◌<◌, ◌≤◌, min, Bool, true, false, ◌==◌, Option, Some, None, IsSome, Ok, Err, List, [], length, refl, sym, ap, ◌∙◌, subst, ⊎_elim, arith}
+use Rattle.std.proofs.Common.{◌≡◌, ℕ, ◌+◌, ◌*◌, ◌<◌, ◌≤◌, min, Bool, true, false, ◌==◌, Option, Some, None, IsSome, Result, Ok, Err, List, [], length, refl, sym, ap, ◌∙◌, subst, ⊎_elim, arith}
 use Rattle.std.specs.Prelude.{IsNone, map, nat_lt, if◌then◌else◌}
 use Rattle.std.specs.List.{range_with_len}
 use Rattle.std.proofs.Math.Nat.{mul-le-mul_left, mul-le-mul_right}
@@ -21,7 +21,7 @@ use Rattle.rbf_model.proofs.Owners.{cluster_positive}
 use Rattle.rbf_model.proofs.Unique.{vol_is_unique}
 use Rattle.rbf_map.specs.Map.{mark, map_free_clusters}
 use Rattle.rbf_change.specs.Agrees.{Agrees}
-use Rattle.rbf_change.specs.Calls.{shape, cluster_size, is_free_in, free_total}
+use Rattle.rbf_change.specs.Calls.{shape, cluster_size, is_free_in, free_total, replaced}
 use Rattle.rbf_change.specs.Contents.{sector_span}
 use Rattle.rbf_change.specs.Growth.{uses, with_clusters, clusters_needed}
 use Rattle.rbf_change.proofs.LawfulWrites.{shape-image}
@@ -30,6 +30,7 @@ use Rattle.rbf_access.specs.declared.faults.FileFault.{FileFault}
 use Rattle.rbf_access.specs.declared.faults.FileFault.TheVariants.{Device, NoCluster, TooManyRuns}
 use Rattle.rbf_access.specs.Drive.{DriveCounts, MovesCounts}
 use Rattle.rbf_access.specs.Faults.{file_fault}
+use Rattle.rbf_access.specs.MapMarks.{marking_sectors}
 use Rattle.rbf_access.specs.Mounted.{kept, Represents, IsMounted, HasFile}
 use Rattle.rbf_access.specs.Reading.{IsFdOf}
 use Rattle.rbf_access.proofs.Counting.{counts_most, counts_then, counts_within}
@@ -45,9 +46,9 @@ use Rattle.rbf_files.proofs.FilledFile.{put_here}
 use Rattle.rbf_write.specs.declared.loaded.Loaded.{Loaded}
 use Rattle.rbf_write.specs.Files.{HasDataFile, IsLoaded, IsClusterCount, IsPastVolumes}
 use Rattle.rbf_write.specs.Finished.{IsFinished, stays, resized}
-use Rattle.rbf_write.specs.Laying.{Laying, laying_needs, IsLaidOver, LayingEnds, AnswersLaying}
-use Rattle.rbf_write.specs.Outcomes.{laying_calls}
-use Rattle.rbf_write.proofs.Laid.{needs_is, growth_ends, volume_grown, has_room_then, known, on_grown, part_ends, all_ends, done_inside, done_longer, mounted_last}
+use Rattle.rbf_write.specs.Laying.{Laying, laid_file, laying_needs, IsLaidOver, LayingEnds, AnswersLaying}
+use Rattle.rbf_write.specs.Outcomes.{AreMarked, laying_calls}
+use Rattle.rbf_write.proofs.Laid.{needs_is, growth_ends, volume_grown, has_room_then, known, on_grown, part_ends, all_ends, done_inside, done_longer, list_inside, list_longer, mounted_last}
 
 -- a file that is no directory, in whichever volume the media represents
 pub data_in : (media : Option (List ℕ)) (n : ℕ) → HasDataFile media n → (v : DiskVolume) (file : DiskFile) → Represents media v → v.files n ≡ Some file → is_directory file ≡ false
@@ -97,6 +98,10 @@ free_few volume image v vol agrees =
     let most : free_total v * volume.ident.cluster ≤ volume.map.whole * volume.ident.cluster = mul-le-mul_right volume.ident.cluster (omega (arith, total, few)) in
     let all = sizes.sectors in
     omega arith
+
+-- where the call has failed the number is that of all sectors of the map
+pub all_marks : (v : DiskVolume) (file : DiskFile) (n : ℕ) (after : Option (List ℕ)) (r : Result (Unit {0}) FileFault) (fault : FileFault) → r ≡ Err fault → (marks : ℕ) → AreMarked v file n after r marks → marks ≡ map_sectors (shape v)
+all_marks v file n after r fault is marks are = subst (λ x. AreMarked v file n after x marks) is are
 
 -- a fault of the drive is what the call answers
 pub answers_fault : (v : DiskVolume) (old : DiskFile) (laying : Laying) (before after : Option (List ℕ)) (fault : FileFault) → IsSome (file_fault {A = Unit {0}} (Err fault)) → LayingEnds v old laying before after
@@ -172,39 +177,41 @@ module _ (before : Option (List ℕ)) (loaded : Loaded) (at : ℕ) (from : List 
           growth_fault v old laying count before after fault needs_on count_on on is (subst (λ xs. Grows v count xs before after (Err fault)) fd.segments_are grows) refused
 
       -- how many calls of the drive have been made
-      abbrev marks : ℕ
-      marks = min count (map_sectors (shape v))
-
       abbrev last_calls : ℕ
       last_calls = if nat_lt loaded.file.size end then 1 else 0
 
-      calls_are : marks + 2 * sector_span (min loaded.file.size at) end + last_calls ≡ laying_calls v old at end
-      calls_are = ap (λ m. min m (map_sectors (shape v)) + 2 * sector_span (min loaded.file.size at) end + last_calls) count_on
-          ∙ ap (λ s. min (clusters_needed (cluster_size v) old.segments end) (map_sectors (shape v)) + 2 * sector_span (min s at) end + (if nat_lt s end then 1 else 0)) fd.size_is
+      calls_are : (marks : ℕ) → min count marks + 2 * sector_span (min loaded.file.size at) end + last_calls ≡ laying_calls v old marks at end
+      calls_are marks = ap (λ m. min m marks + 2 * sector_span (min loaded.file.size at) end + last_calls) count_on
+          ∙ ap (λ s. min (clusters_needed (cluster_size v) old.segments end) marks + 2 * sector_span (min s at) end + (if nat_lt s end then 1 else 0)) fd.size_is
 
-      pub calls_growth : (f : Option ℕ) (s t : DriveCounts) → MovesCounts f marks s t → MovesCounts f (laying_calls v old at end) s t
-      calls_growth f s t one = let all = calls_are in counts_most f marks (laying_calls v old at end) s t (omega arith) one
+      pub calls_growth : (marks : ℕ) → marks ≡ map_sectors (shape v) → (f : Option ℕ) (s t : DriveCounts) → MovesCounts f (min count (map_sectors (shape v))) s t → MovesCounts f (laying_calls v old marks at end) s t
+      calls_growth marks all_marks f s t one =
+          let all = calls_are marks in counts_most f (min count (map_sectors (shape v))) (laying_calls v old marks at end) s t (omega arith) one
 
       -- the growth has written each sector of the map once
-      grown_calls : (longer : List (ℕ × ℕ)) (s t : DriveCounts) → MovesCounts None count s t → MovesCounts None (growth_calls v count loaded.file.segs (Ok longer)) s t → MovesCounts None marks s t
-      grown_calls longer s t one marked =
+      pub most_marks : (longer : List (ℕ × ℕ)) (marks : ℕ) → marks ≡ map_sectors (shape v) → marking_sectors (shape v) (is_gained (cluster_size v) loaded.file.segs longer) ≤ marks
+      most_marks longer marks all_marks = let most = marking_most (shape v) (is_gained (cluster_size v) loaded.file.segs longer) in omega arith
+
+      grown_calls : (longer : List (ℕ × ℕ)) (marks : ℕ) → marking_sectors (shape v) (is_gained (cluster_size v) loaded.file.segs longer) ≤ marks → (s t : DriveCounts) → MovesCounts None count s t
+          → MovesCounts None (growth_calls v count loaded.file.segs (Ok longer)) s t → MovesCounts None (min count marks) s t
+      grown_calls longer marks enough s t one marked =
           let few = one.calls_made in
           let sectors = marked.calls_made in
-          let most = marking_most (shape v) (is_gained (cluster_size v) loaded.file.segs longer) in
-          counts_within None count marks s t (omega arith) one
+          counts_within None count (min count marks) s t (omega arith) one
 
-      pub calls_fill : (longer : List (ℕ × ℕ)) (f : Option ℕ) (s t u : DriveCounts) → MovesCounts None count s t → MovesCounts None (growth_calls v count loaded.file.segs (Ok longer)) s t
-          → MovesCounts f (2 * sector_span (min loaded.file.size at) end) t u → MovesCounts f (laying_calls v old at end) s u
-      calls_fill longer f s t u one marked other =
-          let all = calls_are in
+      pub calls_fill : (longer : List (ℕ × ℕ)) (marks : ℕ) → marking_sectors (shape v) (is_gained (cluster_size v) loaded.file.segs longer) ≤ marks → (f : Option ℕ) (s t u : DriveCounts) → MovesCounts None count s t
+          → MovesCounts None (growth_calls v count loaded.file.segs (Ok longer)) s t → MovesCounts f (2 * sector_span (min loaded.file.size at) end) t u → MovesCounts f (laying_calls v old marks at end) s u
+      calls_fill longer marks enough f s t u one marked other =
+          let all = calls_are marks in
           let span = 2 * sector_span (min loaded.file.size at) end in
-          counts_most f (marks + span) (laying_calls v old at end) s u (omega arith) (counts_then f marks span s t u (grown_calls longer s t one marked) other)
+          counts_most f (min count marks + span) (laying_calls v old marks at end) s u (omega arith) (counts_then f (min count marks) span s t u (grown_calls longer marks enough s t one marked) other)
 
-      pub calls_finish : (longer : List (ℕ × ℕ)) (f : Option ℕ) (s t u w : DriveCounts) → MovesCounts None count s t → MovesCounts None (growth_calls v count loaded.file.segs (Ok longer)) s t
-          → MovesCounts None (2 * sector_span (min loaded.file.size at) end) t u → MovesCounts f last_calls u w → MovesCounts f (laying_calls v old at end) s w
-      calls_finish longer f s t u w one marked other last =
+      pub calls_finish : (longer : List (ℕ × ℕ)) (marks : ℕ) → marking_sectors (shape v) (is_gained (cluster_size v) loaded.file.segs longer) ≤ marks → (f : Option ℕ) (s t u w : DriveCounts) → MovesCounts None count s t
+          → MovesCounts None (growth_calls v count loaded.file.segs (Ok longer)) s t → MovesCounts None (2 * sector_span (min loaded.file.size at) end) t u → MovesCounts f last_calls u w
+          → MovesCounts f (laying_calls v old marks at end) s w
+      calls_finish longer marks enough f s t u w one marked other last =
           let span = 2 * sector_span (min loaded.file.size at) end in
-          subst (λ m. MovesCounts f m s w) calls_are (counts_then f (marks + span) last_calls s u w (counts_then None marks span s t u (grown_calls longer s t one marked) other) last)
+          subst (λ m. MovesCounts f m s w) (calls_are marks) (counts_then f (min count marks + span) last_calls s u w (counts_then None (min count marks) span s t u (grown_calls longer marks enough s t one marked) other) last)
 
     -- the clusters have been taken
     module _ (mid : Option (List ℕ)) (longer : List (ℕ × ℕ)) (grows : (v : DiskVolume) → Represents before v → Grows v count loaded.file.segs before mid (Ok longer)) where
@@ -297,6 +304,31 @@ module _ (before : Option (List ℕ)) (loaded : Loaded) (at : ℕ) (from : List 
         done_answers last (resized {bytes = new} later is_new written) v old on is =
             done_longer before v on laying old is count (count_on v old on is) mid longer (grown v old on is) (not_directory v old on is) after (laid_then v old on is) loaded (says v old on is) is_loaded.bytes_are new is_new
             (subst (λ s. s < end) (says v old on is).size_is later) last written (enough v old on is)
+
+        -- the file that is there then has these segments
+        pub list_then : (last : Option (List ℕ)) → IsFinished loaded longer end now after last → (v : DiskVolume) (old : DiskFile) (on : Represents before v) (is : v.files n ≡ Some old)
+            → (w : DiskVolume) (new : DiskFile) → Represents last w → w.files n ≡ Some new → new.segments ≡ longer
+        list_then last (stays inside same) v old on is w new there at =
+            list_inside before v on laying old is count (count_on v old on is) mid longer (grown v old on is) (not_directory v old on is) after (laid_then v old on is)
+            (subst (λ s. end ≤ s) (says v old on is).size_is inside) w new (subst (λ m. Represents m w) same there) at
+        list_then last (resized {bytes = bytes} later is_new written) v old on is w new there at =
+            list_longer before v on laying old is count (count_on v old on is) mid longer (grown v old on is) (not_directory v old on is) after (laid_then v old on is) loaded (says v old on is) is_loaded.bytes_are bytes is_new
+            (subst (λ s. s < end) (says v old on is).size_is later) last written w new there at
+
+        -- the file that it has made
+        file_made : (last : Option (List ℕ)) (v : DiskVolume) (old : DiskFile) → IsLaidOver v old laying before last → (w : DiskVolume) × (new : DiskFile) × Represents last w × (w.files n ≡ Some new)
+        file_made last v old done =
+            let new = laid_file old laying (with_clusters (cluster_size v) old.segments done.gained) in
+            (replaced v n (Some new), new, done.on, put_here v.files n (Some new))
+
+        pub marks_then : (last : Option (List ℕ)) → IsFinished loaded longer end now after last → (v : DiskVolume) (old : DiskFile) (on : Represents before v) (is : v.files n ≡ Some old)
+            → (marks : ℕ) → AreMarked v old n last (Ok tt) marks → marking_sectors (shape v) (is_gained (cluster_size v) loaded.file.segs longer) ≤ marks
+        marks_then last finished v old on is marks are =
+            let m = file_made last v old (done_answers last finished v old on is) in
+            let list = list_then last finished v old on is m.0 m.1 m.2 m.3 in
+            let counted : marks ≡ marking_sectors (shape v) (is_gained (cluster_size v) loaded.file.segs longer) =
+            are m.0 m.1 m.2 m.3 ∙ ap (λ xs. marking_sectors (shape v) (is_gained (cluster_size v) old.segments xs)) list ∙ ap (λ xs. marking_sectors (shape v) (is_gained (cluster_size v) xs longer)) (sym (says v old on is).segments_are) in
+            omega arith
 
         pub done_mounted : (last : Option (List ℕ)) → IsFinished loaded longer end now after last → (one other : Volume) → IsMounted one after → kept other ≡ kept one → IsMounted other last
         done_mounted last (stays inside same) one other is_mounted kept_same = mounted_still one other after last kept_same same is_mounted

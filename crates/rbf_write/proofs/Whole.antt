@@ -25,7 +25,7 @@ use Rattle.rbf_access.proofs.ReadFile.{room_for}
 use Rattle.rbf_growth.specs.Grown.{ChangesMap}
 use Rattle.rbf_files.proofs.FilledFile.{put_same_file}
 use Rattle.rbf_write.specs.Laying.{Laying, laid_contents, laid_file, laying_needs, IsTidyChange, IsTidyStop, AnswersLaying}
-use Rattle.rbf_write.specs.Outcomes.{contents_written, write_needs, IsWritten, AnswersWrite, laying_calls, write_calls}
+use Rattle.rbf_write.specs.Outcomes.{contents_written, write_needs, IsWritten, AnswersWrite, AreMarked, laying_calls, write_calls}
 use Rattle.rbf_write.proofs.Laid.{tidy_of, stop_of, same_end, same_volume, no_clusters}
 use Rattle.rbf_write.proofs.Steps.{few_segments}
 
@@ -177,13 +177,13 @@ module _ (before mid : Option (List ℕ)) (n m at : ℕ) (from : List ℕ) (now 
       (subst (λ i. AnswersLaying v file (record { number = i; at = at; bytes = from; now = now }) before after result) number
       (subst (λ b. AnswersLaying v file (record { number = m; at = at; bytes = from; now = now }) b after result) same laid))
 
-  pub whole_calls : (f : Option ℕ) (s t u : DriveCounts) → MovesCounts None 1 s t
-      → ((v : DiskVolume) (file : DiskFile) → Represents mid v → v.files m ≡ Some file → MovesCounts f (laying_calls v file at (at + length from)) t u)
-      → (v : DiskVolume) (file : DiskFile) → Represents before v → v.files n ≡ Some file → MovesCounts f (write_calls v file at (length from)) s u
-  whole_calls f s t u one calls v file on is =
+  pub whole_calls : (after : Option (List ℕ)) (result : Result (Unit {0}) FileFault) (f : Option ℕ) (s t u : DriveCounts) → MovesCounts None 1 s t
+      → ((v : DiskVolume) (file : DiskFile) → Represents mid v → v.files m ≡ Some file → (marks : ℕ) → AreMarked v file m after result marks → MovesCounts f (laying_calls v file marks at (at + length from)) t u)
+      → (v : DiskVolume) (file : DiskFile) → Represents before v → v.files n ≡ Some file → (marks : ℕ) → AreMarked v file n after result marks → MovesCounts f (write_calls v file marks at (length from)) s u
+  whole_calls after result f s t u one calls v file on is marks are =
       let there : v.files m ≡ Some file = subst (λ i. v.files i ≡ Some file) (sym number) is in
-      let laid = calls v file (record { image = on.image; is = same ∙ on.is; vol = on.vol }) there in
-      let all : write_calls v file at (length from) ≡ 1 + laying_calls v file at (at + length from) =
-      cond-false (length from == 0) 0 (1 + laying_calls v file at (at + length from))
+      let laid = calls v file (record { image = on.image; is = same ∙ on.is; vol = on.vol }) there marks (subst (λ i. AreMarked v file i after result marks) (sym number) are) in
+      let all : write_calls v file marks at (length from) ≡ 1 + laying_calls v file marks at (at + length from) =
+      cond-false (length from == 0) 0 (1 + laying_calls v file marks at (at + length from))
       (false_from_ne_true (length from == 0) (λ h. let none_there = eqb-true (length from) 0 h in absurd (omega arith))) in
-      subst (λ most. MovesCounts f most s u) (sym all) (counts_then f 1 (laying_calls v file at (at + length from)) s t u one laid)
+      subst (λ most. MovesCounts f most s u) (sym all) (counts_then f 1 (laying_calls v file marks at (at + length from)) s t u one laid)

@@ -10,7 +10,10 @@ use Rattle.rbf_change.specs.Faults.{WriteEnds}
 use Rattle.rbf_access.specs.declared.faults.FileFault.{FileFault}
 use Rattle.rbf_access.specs.declared.faults.FileFault.TheVariants.{Device, NoCluster, TooManyRuns}
 use Rattle.rbf_access.specs.Faults.{file_fault}
+use Rattle.rbf_access.specs.MapMarks.{marking_sectors}
 use Rattle.rbf_access.specs.Mounted.{Represents}
+use Rattle.rbf_growth.specs.Grown.{is_gained}
+use Rattle.rbf_write.specs.Files.{OnVolumeFile}
 use Rattle.rbf_write.specs.Laying.{Laying, IsTidyChange, IsTidyStop}
 
 -- the contents of a file that is written to
@@ -63,14 +66,28 @@ AnswersWrite v old write before after (Err TooManyRuns) = WriteIsTooLong v old w
 abbrev pub IsRefusal : Result (Unit {0}) FileFault → Type 0
 IsRefusal result = IsNone (file_fault result)
 
+-- so many sectors of the map have a mark of a cluster that file n has gained in what a call has made of it; where the
+-- call has failed, so many sectors has the map
+abbrev pub AreMarked : DiskVolume → DiskFile → ℕ → Option (List ℕ) → Result (Unit {0}) FileFault → ℕ → Type 0
+AreMarked v file n after (Ok done) marks =
+    OnVolumeFile after n (λ w new.
+    marks ≡ marking_sectors (shape v) (is_gained (cluster_size v) file.segments new.segments))
+AreMarked v file n after (Err fault) marks = marks ≡ map_sectors (shape v)
+
+-- what holds of a file of the volume before such a call, and of that number
+abbrev pub OnMarked : Option (List ℕ) → Option (List ℕ) → ℕ → Result (Unit {0}) FileFault
+    → (DiskVolume → DiskFile → ℕ → Type 0) → Type 0
+OnMarked before after n result fact =
+    OnVolumeFile before n (λ v file. (marks : ℕ) → AreMarked v file n after result marks → fact v file marks)
+
 -- how many calls of the drive a write of bytes up to an end makes at most behind that of the descriptor: one for each
--- sector of the map, but no more than clusters are needed; two for each sector of bytes; and one for the descriptor, if
--- the file's size changes
-abbrev pub laying_calls : DiskVolume → DiskFile → ℕ → ℕ → ℕ
-laying_calls v file at end =
-    min (clusters_needed (cluster_size v) file.segments end) (map_sectors (shape v))
-    + 2 * sector_span (min (length file.contents) at) end + (if nat_lt (length file.contents) end then 1 else 0)
+-- sector of the map that gains a mark, and no more than clusters are needed; two for each sector of bytes; and one for
+-- the descriptor, if the file's size changes
+abbrev pub laying_calls : DiskVolume → DiskFile → ℕ → ℕ → ℕ → ℕ
+laying_calls v file marks at end =
+    min (clusters_needed (cluster_size v) file.segments end) marks + 2 * sector_span (min (length file.contents) at) end
+    + (if nat_lt (length file.contents) end then 1 else 0)
 
 -- and a whole write: one more, and none if there are no bytes
-abbrev pub write_calls : DiskVolume → DiskFile → ℕ → ℕ → ℕ
-write_calls v file at count = if count == 0 then 0 else 1 + laying_calls v file at (at + count)
+abbrev pub write_calls : DiskVolume → DiskFile → ℕ → ℕ → ℕ → ℕ
+write_calls v file marks at count = if count == 0 then 0 else 1 + laying_calls v file marks at (at + count)

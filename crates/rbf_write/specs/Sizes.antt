@@ -119,7 +119,7 @@ giving_calls v file sizing = marking_sectors (shape v) (given_up v file sizing)
 
 -- how many calls of the drive it makes at most: that of the descriptor alone where the size stays, those of a write up
 -- to the new end, or two and one for each sector of the map that has a mark of the clusters that are given up
-abbrev pub size_calls : DiskVolume → DiskFile → Sizing → ℕ
-size_calls v file sizing =
-    if nat_lt (length file.contents) sizing.size then 1 + laying_calls v file sizing.size sizing.size
+abbrev pub size_calls : DiskVolume → DiskFile → ℕ → Sizing → ℕ
+size_calls v file marks sizing =
+    if nat_lt (length file.contents) sizing.size then 1 + laying_calls v file marks sizing.size sizing.size
     else (if nat_lt sizing.size (length file.contents) then 2 + giving_calls v file sizing else 1)

@@ -8,7 +8,7 @@ ghost use Rattle.rbf_access.specs.Mounted.{IsMounted, kept};
 ghost use Rattle.rbf_write.specs.Files.{HasDataFile, IsLoaded, OnVolumeFile};
 ghost use Rattle.rbf_write.specs.Finished.{IsFinished};
 ghost use Rattle.rbf_write.specs.Laying.{AnswersLaying};
-ghost use Rattle.rbf_write.specs.Outcomes.{IsRefusal, laying_calls};
+ghost use Rattle.rbf_write.specs.Outcomes.{IsRefusal, OnMarked, laying_calls};
 
 use crate::clusters::clusters_for;
 use crate::loaded::Loaded;
@@ -44,9 +44,9 @@ pub fn lay_over(
         (media d.old) (media d.new) result) }
     ensures calls_kept { OnErr result (IsRefusal result → drive_calls d.new ≡ drive_calls d.old) }
     ensures mounted { IsMounted volume.new (media d.new) }
-    ensures counts { OnVolumeFile (media d.old) loaded.now.number (λ v file.
+    ensures counts { OnMarked (media d.old) (media d.new) loaded.now.number result (λ v file marks.
         Counts ⟦<dyn BlockDriver as BlockDriver>⟧ (file_fault result)
-        (laying_calls v file at (at + length from.now)) d.old d.new) }
+        (laying_calls v file marks at (at + length from.now)) d.old d.new) }
 {
     let end = at as usize + from.len();
     let Some(count) = clusters_for(volume.ident.cluster, &loaded.file.segs, end) else {

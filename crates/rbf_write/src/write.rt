@@ -3,7 +3,7 @@ ghost use Rattle.rbf_access.specs.Drive.{Counts};
 ghost use Rattle.rbf_access.specs.Faults.{file_fault};
 ghost use Rattle.rbf_access.specs.Mounted.{IsMounted};
 ghost use Rattle.rbf_write.specs.Files.{HasDataFile, OnVolumeFile};
-ghost use Rattle.rbf_write.specs.Outcomes.{AnswersWrite, IsRefusal, write_calls};
+ghost use Rattle.rbf_write.specs.Outcomes.{AnswersWrite, IsRefusal, OnMarked, write_calls};
 
 use crate::laying::lay_over;
 use crate::loaded::load_file;
@@ -37,9 +37,9 @@ pub fn write_at(
     ensures refused_calls { OnErr result (IsRefusal result
         → drive_calls d.new ≤ drive_calls d.old + 1) }
     ensures mounted { IsMounted volume.new (media d.new) }
-    ensures counts { OnVolumeFile (media d.old) fd (λ v file.
+    ensures counts { OnMarked (media d.old) (media d.new) fd result (λ v file marks.
         Counts ⟦<dyn BlockDriver as BlockDriver>⟧ (file_fault result)
-        (write_calls v file at (length from.now)) d.old d.new) }
+        (write_calls v file marks at (length from.now)) d.old d.new) }
 {
     if from.is_empty() {
         return Ok(());

@@ -15,9 +15,9 @@ pub returns-in_err-loaded-clause-mounted : goal.returns-in_err-loaded-clause-mou
 returns-in_err-loaded-clause-mounted g c = mounted_still _ _ _ _ c.in_err-loaded.ensures.volume_kept c.in_err-loaded.ensures.media_kept c.requires.mounted
 
 pub returns-in_err-loaded-clause-counts : goal.returns-in_err-loaded-clause-counts
-returns-in_err-loaded-clause-counts g c v file on is =
+returns-in_err-loaded-clause-counts g c v file on is marks are =
     let p = err_from_is_err_and c.from_residual.result c.from_residual.ensures.1 in
-    rw (p.1, p.2) (counts_most _ 1 _ _ _ (stays_calls v file (record { number = c.args.fd; size = c.args.size; now = c.args.now })) c.in_err-loaded.ensures.counts)
+    rw (p.1, p.2) (counts_most _ 1 _ _ _ (stays_calls v file marks (record { number = c.args.fd; size = c.args.size; now = c.args.now })) c.in_err-loaded.ensures.counts)
 
 pub returns-then-size-loaded-clause-answer : goal.returns-then-size-loaded-clause-answer
 returns-then-size-loaded-clause-answer g c v file on is =
@@ -29,8 +29,8 @@ pub returns-then-size-loaded-clause-mounted : goal.returns-then-size-loaded-clau
 returns-then-size-loaded-clause-mounted g c = mounted_still _ _ _ _ c.in_ok-loaded.ensures.volume_kept c.in_ok-loaded.ensures.media_kept c.requires.mounted
 
 pub returns-then-size-loaded-clause-counts : goal.returns-then-size-loaded-clause-counts
-returns-then-size-loaded-clause-counts g c v file on is =
-    counts_most _ 1 _ _ _ (stays_calls v file (record { number = c.args.fd; size = c.args.size; now = c.args.now })) c.in_ok-loaded.ensures.counts
+returns-then-size-loaded-clause-counts g c v file on is marks are =
+    counts_most _ 1 _ _ _ (stays_calls v file marks (record { number = c.args.fd; size = c.args.size; now = c.args.now })) c.in_ok-loaded.ensures.counts
 
 pub cut-requires-clause-mounted : goal.cut-requires-clause-mounted
 cut-requires-clause-mounted g c = mounted_still _ _ _ _ c.in_ok-loaded.ensures.volume_kept c.in_ok-loaded.ensures.media_kept c.requires.mounted
@@ -41,10 +41,10 @@ returns-then-size-loaded-2-clause-answer g c v file on is =
     ((goal.BlockDriver-dyn g (c.args.d.now.0, c.cut.new.d)).media c.cut.new.d) c.cut.result c.cut.ensures.answer
 
 pub returns-then-size-loaded-2-clause-counts : goal.returns-then-size-loaded-2-clause-counts
-returns-then-size-loaded-2-clause-counts g c v file on is =
+returns-then-size-loaded-2-clause-counts g c v file on is marks are =
     let size = (c.in_ok-loaded.ensures.ok.says v file on is).size_is in
     cut_counts _ _ c.args.fd c.in_ok-loaded.loaded.number c.args.size c.args.now c.in_ok-loaded.ensures.media_kept c.in_ok-loaded.ensures.ok.number_is v file on is
-    _ _ _ _ (omega arith) c.in_ok-loaded.ensures.counts c.cut.ensures.counts
+    marks _ _ _ _ (omega arith) c.in_ok-loaded.ensures.counts c.cut.ensures.counts
 
 pub lay_over-requires-clause-mounted : goal.lay_over-requires-clause-mounted
 lay_over-requires-clause-mounted g c = mounted_still _ _ _ _ c.in_ok-loaded.ensures.volume_kept c.in_ok-loaded.ensures.media_kept c.requires.mounted
@@ -56,10 +56,10 @@ returns-clause-answer g c v file on is =
     ((goal.BlockDriver-dyn g (c.args.d.now.0, c.lay_over.new.d)).media c.lay_over.new.d) c.lay_over.result (omega arith) c.lay_over.ensures.answer
 
 pub returns-clause-counts : goal.returns-clause-counts
-returns-clause-counts g c v file on is =
+returns-clause-counts g c v file on is marks are =
     let size = (c.in_ok-loaded.ensures.ok.says v file on is).size_is in
     longer_counts _ _ c.args.fd c.in_ok-loaded.loaded.number c.args.size c.args.now c.in_ok-loaded.ensures.media_kept c.in_ok-loaded.ensures.ok.number_is v file on is
-    _ _ _ _ (omega arith) c.in_ok-loaded.ensures.counts c.lay_over.ensures.counts
+    ((goal.BlockDriver-dyn g (c.args.d.now.0, c.lay_over.new.d)).media c.lay_over.new.d) c.lay_over.result _ _ _ _ (omega arith) c.in_ok-loaded.ensures.counts c.lay_over.ensures.counts marks are
 
 pub returns-then-size-loaded-2-clause-refused_calls : goal.returns-then-size-loaded-2-clause-refused_calls
 returns-then-size-loaded-2-clause-refused_calls g c = never_refused c.cut.result _ c.cut.ensures.device
