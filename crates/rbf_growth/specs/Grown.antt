@@ -74,8 +74,8 @@ AreTaken media segments =
     OnVolume media (λ v. (c : ℕ) → uses (cluster_size v) segments c ≡ true → is_free_in v c ≡ false)
 
 -- an error that is no fault of the drive
-abbrev pub IsRefused : Result (List (ℕ × ℕ)) FileFault → Type 0
-IsRefused result = IsNone (file_fault result)
+abbrev pub NoFault : Result (List (ℕ × ℕ)) FileFault → Type 0
+NoFault result = IsNone (file_fault result)
 
 -- a cluster that the second list has, and the first has not
 abbrev pub is_gained : ℕ → List (ℕ × ℕ) → List (ℕ × ℕ) → ℕ → Bool

@@ -3,7 +3,7 @@ ghost use Rattle.rbf_model.specs.Volume.{DiskVolume};
 ghost use Rattle.rbf_access.specs.Drive.{Counts};
 ghost use Rattle.rbf_access.specs.Faults.{file_fault};
 ghost use Rattle.rbf_access.specs.Mounted.{IsMounted, Represents};
-ghost use Rattle.rbf_growth.specs.Grown.{Grows, OnVolume, AreTaken, IsRefused, growth_calls};
+ghost use Rattle.rbf_growth.specs.Grown.{Grows, OnVolume, AreTaken, NoFault, growth_calls};
 
 use crate::marks::write_marks;
 use crate::returned::give_back;
@@ -34,7 +34,7 @@ pub fn grow(
     ensures grows { (v : DiskVolume) → Represents (media d.old) v
         → Grows v count segs.now (media d.old) (media d.new) result }
     ensures refused { OnErr result (IsNone (file_fault result) → media d.new ≡ media d.old) }
-    ensures refused_calls { OnErr result (IsRefused result → drive_calls d.new ≡ drive_calls d.old) }
+    ensures refused_calls { OnErr result (NoFault result → drive_calls d.new ≡ drive_calls d.old) }
     ensures mounted { IsMounted volume.new (media d.new) }
     ensures counts { Counts ⟦<dyn BlockDriver as BlockDriver>⟧
         (file_fault result) count d.old d.new }
