@@ -1,9 +1,6 @@
 -- What each event moves through a pipe.
-use Rattle.std.proofs.Common.{◌≡◌, ◌⊎◌, ℕ, zero, suc, ◌+◌, ◌==◌, Bool, true, false, Option, Some, None, Result, Ok, Err, List, [], ◌++◌, length, refl, sym, ap, ◌∙◌, subst, inl, inr}
+use Rattle.std.proofs.Common.{◌≡◌, ◌⊎◌, ℕ, zero, suc, ◌==◌, Bool, true, false, Option, Some, None, Result, Ok, Err, List, [], ◌++◌, length, refl, sym, ap, ◌∙◌, subst, inl, inr}
 use Rattle.std.specs.Prelude.{MatchOption, if◌then◌else◌}
-use Rattle.std.proofs.lemmas.Bool.{cases_lt}
-use Rattle.std.proofs.lemmas.List.{get_or-set_same, get_or_past, length-set}
-use Rattle.std.proofs.lemmas.Option.{none-some, same_Some}
 use Rattle.os9_base.specs.declared.calls.TheConstants.{F_FORK}
 use Rattle.os9_base.specs.declared.errors.TheConstants.{E_UNKSVC}
 use Rattle.os9_outer.specs.TerminalState.{TerminalState}
@@ -18,14 +15,13 @@ use Rattle.call_rules.specs.Inner.{Inner, regs_at}
 use Rattle.call_rules.specs.Ready.{Act, attempts, delivers, executes, act_of}
 use Rattle.io_model.specs.Path.{slot_of}
 use Rattle.io_model.specs.Pipe.{IsPipe, In, Out}
-use Rattle.io_model.specs.declared.kept.Kept.{Kept}
 use Rattle.io_model.specs.declared.path.SysPath.{SysPath}
 use Rattle.io_model.specs.declared.path.Target.{Target}
 use Rattle.io_model.specs.declared.path.Target.TheVariants.{File, Folder, Term, Pipe}
 use Rattle.io_model.specs.declared.path.TheConstants.{PROCESS_PATHS}
-use Rattle.io_rules.specs.Attempts.{Does, IoAttempts, caller_of, kept_in, result_by, step_of}
+use Rattle.io_rules.specs.Attempts.{Does, IoAttempts, caller_of, result_by, step_of}
 use Rattle.io_rules.specs.Codes.{io_call_of}
-use Rattle.io_rules.specs.Io.{Io, kept_at, pipe_bytes, with_call}
+use Rattle.io_rules.specs.Io.{Io, pipe_bytes}
 use Rattle.io_rules.specs.Processes.{closed_below, closed_if_open, io_ended, io_started}
 use Rattle.io_rules.specs.Step.{Caller, IoEffect, IoEnd, IoStep, answers, fails, keeps, refused, comes, reads, writes}
 use Rattle.io_rules.specs.Waiting.{io_interrupted, wait_target, without_unfinished}
@@ -33,7 +29,7 @@ use Rattle.io_rules.specs.declared.io_call.IoCall.{IoCall}
 use Rattle.io_machine.specs.declared.ends.EventEnd.{EventEnd}
 use Rattle.io_machine.specs.Event.{Acts, Event, before_delivery, io_after_call, io_after_delivery, io_after_instruction, next_instruction}
 use Rattle.io_machine.specs.State.{State}
-use Rattle.flow_laws.specs.Flow.{CountsOn, Passes, moved_before, stored_from}
+use Rattle.flow_laws.specs.Flow.{EndsIn, Passes, ReadCounts, WriteCounts, moved_before, stored_from}
 use Rattle.flow_laws.proofs.PipeSteps.{IsStoring, Moved, PipeLeft, StepMoves, closed-left, left-held, left-then, step-moves}
 
 -- ---- what a process closes
@@ -73,19 +69,6 @@ does-moves call caller io n (reads read) effect before after moves does lives st
 does-moves call caller io n (writes write) effect before after moves does lives still =
     inl (ap (λ (effect : IoEffect). pipe_bytes effect.io n) does.effect_is)
 
--- what is kept is what was put there
-call-put : (io : Io) (p : ℕ) (place : Option Kept) (kept : Kept) → kept_at (with_call io p place) p ≡ Some kept → place ≡ Some kept
-call-put io p place kept is =
-    elim (cases_lt p (length io.calls)) [
-      | inl within ↦ sym (get_or-set_same io.calls p place None within) ∙ is
-      | inr past ↦ absurd (none-some kept (sym (get_or_past (with_call io p place).calls p None (rw length-set past)) ∙ is))
-    ]
-
-kept-end : (end : IoEnd) (kept : Kept) → kept_in end ≡ Some kept → end ≡ keeps kept
-kept-end (answers regs) kept is = absurd (none-some kept is)
-kept-end (fails number) kept is = absurd (none-some kept is)
-kept-end (keeps other) kept is = ap keeps (same_Some other kept is)
-
 -- bytes are stored where the process sees them
 stores-them : (m : Inner) (p : ℕ) (effect : IoEffect) (end : IoEnd) → IsStoring end → (after_attempt m p (result_by end m p effect)).memory ≡ stored m.memory p effect.at effect.bytes
 stores-them m p effect (answers regs) storing = refl
@@ -104,9 +87,13 @@ module _ (s : State) (p n : ℕ) (chosen : s.chosen ≡ Some p) (lives : IsPipe 
     held-then : pipe_bytes io n ≡ pipe_bytes attempt.effect.io n
     held-then = ap (λ (io : Io). pipe_bytes io n) attempt.state
 
-    counts-on : (count : ℕ) → ((kept : Kept) → attempt.effect.end ≡ keeps kept → kept.moved ≡ moved_before s.io p + count) → CountsOn s p count last
-    counts-on count counts kept is =
-        counts kept (kept-end attempt.effect.end kept (call-put attempt.effect.io p (kept_in attempt.effect.end) kept (sym (ap (λ (io : Io). kept_at io p) attempt.state) ∙ is)))
+    ends-in : (Counts : IoEnd → Type 0) → Counts attempt.effect.end → EndsIn s p Counts last
+    ends-in Counts counts = record {
+      effect = attempt.effect;
+      inner = ap (after_attempt s.inner p) attempt.result_is;
+      io = attempt.state;
+      counts = counts;
+    }
 
     memory-then : IsStoring attempt.effect.end → (after_attempt s.inner p result).memory ≡ stored s.inner.memory p attempt.effect.at attempt.effect.bytes
     memory-then storing =
@@ -123,7 +110,7 @@ module _ (s : State) (p n : ℕ) (chosen : s.chosen ≡ Some p) (lives : IsPipe 
         attempt = record { attempted = (code, next, coded); way_is = it.way; path = it.path };
         front = it.front ∙ ap (λ (held : List ℕ). it.bytes ++ held) (sym held-then);
         seen = by_seen it.seen;
-        counts = counts-on (length it.bytes) it.counts;
+        counts = ends-in (ReadCounts call (caller_of s.inner p) s.io (length it.bytes)) it.counts;
       },
     )
       where
@@ -142,7 +129,7 @@ module _ (s : State) (p n : ℕ) (chosen : s.chosen ≡ Some p) (lives : IsPipe 
         sent = it.sent;
         sends = it.sends;
         next = it.next;
-        counts = counts-on (length it.bytes) it.counts;
+        counts = ends-in (WriteCounts call (caller_of s.inner p) s.io it.sent (length it.bytes)) it.counts;
       },
     )
 

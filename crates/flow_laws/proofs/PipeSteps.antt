@@ -2,7 +2,7 @@
 use Rattle.std.proofs.Common.{◌≡◌, ◌≢◌, ◌⊎◌, ℕ, ◌+◌, ◌<◌, ◌≤◌, ◌==◌, not, Bool, true, false, Option, Some, None, IsSome, is_none, Result, Ok, Err, List, [], ◌++◌, length, take, drop, position, get_or, refl, sym, ap, ◌∙◌, subst, inl, inr, arith}
 use Rattle.std.specs.Prelude.{min, option_map, unwrap_or, ◌||◌, if◌then◌else◌}
 use Rattle.std.specs.Option.{option_map_or}
-use Rattle.std.proofs.lemmas.Bool.{cases_eq, cases_lt, false≢true}
+use Rattle.std.proofs.lemmas.Bool.{cases_eq, cases_lt, eqb-true, false≢true}
 use Rattle.std.proofs.lemmas.Grind.{get_or_after_one}
 use Rattle.std.proofs.lemmas.List.{get_or-set_same, get_or-set_other, get_or_past, length-set, length-take-le, take-append-drop}
 use Rattle.std.proofs.lemmas.List.Quantifiers.{position-Some}
@@ -47,7 +47,8 @@ use Rattle.io_rules.specs.declared.io_call.IoCall.{IoCall}
 use Rattle.io_rules.specs.declared.io_call.IoCall.TheVariants as Call
 use Rattle.io_rules.specs.declared.modes.TheConstants.{STANDARD_ERROR}
 use Rattle.io_rules.specs.declared.status.TheConstants.{SS_OPT, SS_READY, SS_EOF, OPTION_BYTES}
-use Rattle.flow_laws.specs.Flow.{moved_before, sent_by, stored_from}
+use Rattle.flow_laws.specs.Flow.{ReadCounts, WriteCounts, in_all, moved_before, read_answers, sent_by, stored_from, write_answers}
+use Rattle.flow_laws.specs.Keys.{read_call}
 
 -- ---- one pipe of many
 
@@ -148,6 +149,11 @@ read-few held most true true = omega arith
 read-few held most true false = omega arith
 read-few held most false alone = omega (arith, line-few held)
 
+bytes-few : (held : List ℕ) (most : ℕ) (empty alone : Bool) → moved_count (if empty then answer_unmoved alone Ans.End else Ans.Done (min most (length held))) ≤ length held
+bytes-few held most true true = omega arith
+bytes-few held most true false = omega arith
+bytes-few held most false alone = omega arith
+
 write-few : (held rest : List ℕ) (full alone : Bool) → moved_count (if full then answer_unmoved alone Ans.NoReader else Ans.Done (min (length rest) (pipe_room held))) ≤ length rest
 write-few held rest true true = omega arith
 write-few held rest true false = omega arith
@@ -166,17 +172,13 @@ module _ (call : IoCall) (caller : Caller) (io : Io) (n : ℕ) where
   OnPipe =
       (opened : OpenPath) × (open_path io caller.process.0 (path_number call caller.regs) ≡ Some opened) × (opened.desc.target ≡ Pipe n)
 
-  abbrev pub CountsTo : IoEnd → ℕ → Type 0
-  CountsTo end count =
-      (kept : Kept) → end ≡ keeps kept → kept.moved ≡ moved_before io caller.process.0 + count
-
   pub record Takes (effect : IoEffect) : Type 0 where
     pub way : direction_of_call call ≡ Some Reading
     pub path : OnPipe
     pub bytes : List ℕ
     pub front : pipe_bytes io n ≡ bytes ++ pipe_bytes effect.io n
     pub seen : (bytes ≡ []) ⊎ (effect.bytes ≡ bytes) × (effect.at ≡ stored_from call caller.regs (moved_before io caller.process.0)) × IsStoring effect.end
-    pub counts : CountsTo effect.end (length bytes)
+    pub counts : ReadCounts call caller io (length bytes) effect.end
 
   pub record Puts (effect : IoEffect) : Type 0 where
     pub way : direction_of_call call ≡ Some Writing
@@ -186,7 +188,7 @@ module _ (call : IoCall) (caller : Caller) (io : Io) (n : ℕ) where
     pub sent : List ℕ
     pub sends : sent_by call caller io ≡ Some sent
     pub next : bytes ≡ take (length bytes) (drop (moved_before io caller.process.0) sent)
-    pub counts : CountsTo effect.end (length bytes)
+    pub counts : WriteCounts call caller io sent (length bytes) effect.end
 
   abbrev pub Moved : IoEffect → Type 0
   Moved effect = (pipe_bytes effect.io n ≡ pipe_bytes io n) ⊎ Takes effect ⊎ Puts effect
@@ -206,8 +208,13 @@ now-moved caller io code count opened = by_kept (kept_at io caller.process.0)
     by_kept None = refl
     by_kept (Some kept) = refl
 
-keeps-one : (one other : Kept) → keeps one ≡ keeps other → one ≡ other
-keeps-one one other is = cc
+-- and moves what it moves in all
+now-count : (caller : Caller) (io : Io) (code : ℕ) (opened : OpenPath) (count : ℕ) → (call_now caller io code opened count).count ≡ in_all io caller.process.0 count
+now-count caller io code opened count = by_kept (kept_at io caller.process.0)
+  where
+    by_kept : (place : Option Kept) → (unwrap_or place (first_call code opened count)).count ≡ option_map_or (λ kept. kept.count) place count
+    by_kept None = refl
+    by_kept (Some kept) = refl
 
 -- where a read of this kind stores
 abbrev stored_by : ReadKind → ℕ → ℕ → ℕ
@@ -222,86 +229,85 @@ module _ (call : IoCall) (caller : Caller) (io : Io) (n : ℕ) where
     front-is answer =
         sym (take-append-drop (moved_count answer) (pipe_bytes io n)) ∙ ap (λ (rest : List ℕ). bytes_moved answer (pipe_bytes io n) ++ rest) (sym (held-put io.pipes n (drop (moved_count answer) (pipe_bytes io n)) lives))
 
-    none-more : (kept : Kept) → keeps now ≡ keeps kept → kept.moved ≡ moved_before io caller.process.0 + 0
-    none-more kept is =
-        let same : kept.moved ≡ now.moved = ap (λ (kept : Kept). kept.moved) (sym (keeps-one now kept is)) in
-        omega (arith, same, moved)
+    none-more : now.moved ≡ moved_before io caller.process.0 + 0
+    none-more = omega (arith, moved)
 
-    some-more : (count : ℕ) (kept : Kept) → keeps (moved_on now count) ≡ keeps kept → (some : ℕ) → some ≡ count → kept.moved ≡ moved_before io caller.process.0 + some
-    some-more count kept is some same_count =
-        let same : kept.moved ≡ now.moved + count = ap (λ (kept : Kept). kept.moved) (sym (keeps-one (moved_on now count) kept is)) in
-        omega (arith, same, moved, same_count)
+    some-more : (count some : ℕ) → some ≡ count → (moved_on now count).moved ≡ moved_before io caller.process.0 + some
+    some-more count some same_count = omega (arith, moved, same_count)
 
-    read-takes : direction_of_call call ≡ Some Reading → stored_from call caller.regs (moved_before io caller.process.0) ≡ caller.regs.x → (answer : PipeAns) → Takes call caller io n (read_leaves caller io n now answer)
-    read-takes way at (Ans.Done count) = record {
+    read-takes : direction_of_call call ≡ Some Reading → stored_from call caller.regs (moved_before io caller.process.0) ≡ caller.regs.x → ((count : ℕ) → read_answers call caller io count ≡ count_regs caller count) → (answer : PipeAns) → moved_count answer ≤ length (pipe_bytes io n) → Takes call caller io n (read_leaves caller io n now answer)
+    read-takes way at regs (Ans.Done count) few = record {
       way = way;
       path = path;
       bytes = bytes_moved (Ans.Done count) (pipe_bytes io n);
       front = front-is (Ans.Done count);
       seen = inr (refl, sym at, tt);
-      counts = λ kept is. absurd (let e : answers (count_regs caller count) ≡ keeps kept = is in cc);
+      counts =
+          ap (count_regs caller) (sym (length-take-le count (pipe_bytes io n) few)) ∙ sym (regs (length (take count (pipe_bytes io n))));
     }
-    read-takes way at Ans.Wait =
+    read-takes way at regs Ans.Wait few =
         record { way = way; path = path; bytes = []; front = front-is Ans.Wait; seen = inl refl; counts = none-more }
-    read-takes way at Ans.End = record {
+    read-takes way at regs Ans.End few = record {
       way = way;
       path = path;
       bytes = [];
       front = front-is Ans.End;
       seen = inl refl;
-      counts = λ kept is. absurd (let e : fails E_EOF ≡ keeps kept = is in cc);
+      counts = tt;
     }
-    read-takes way at Ans.NoReader = record {
+    read-takes way at regs Ans.NoReader few = record {
       way = way;
       path = path;
       bytes = [];
       front = front-is Ans.NoReader;
       seen = inl refl;
-      counts = λ kept is. absurd (let e : fails E_WRITE ≡ keeps kept = is in cc);
+      counts = tt;
     }
 
-    line-takes : direction_of_call call ≡ Some Reading → stored_from call caller.regs (moved_before io caller.process.0) ≡ caller.regs.x + now.moved → (alone : Bool) (answer : PipeAns) → moved_count answer ≤ length (pipe_bytes io n) → Takes call caller io n (read_line_leaves caller io n now alone answer)
-    line-takes way at alone (Ans.Done count) few = record {
+    line-takes : direction_of_call call ≡ Some Reading → stored_from call caller.regs (moved_before io caller.process.0) ≡ caller.regs.x + now.moved → ((count : ℕ) → read_answers call caller io count ≡ count_regs caller (moved_before io caller.process.0 + count)) → (alone : Bool) (answer : PipeAns) → moved_count answer ≤ length (pipe_bytes io n) → Takes call caller io n (read_line_leaves caller io n now alone answer)
+    line-takes way at regs alone (Ans.Done count) few = record {
       way = way;
       path = path;
       bytes = bytes_moved (Ans.Done count) (pipe_bytes io n);
       front = front-is (Ans.Done count);
       seen = inr (refl, sym at, storing (has_return (take count (pipe_bytes io n)) || (is_complete (moved_on now count) || alone)));
-      counts = λ kept is. counts kept (has_return (take count (pipe_bytes io n)) || (is_complete (moved_on now count) || alone)) is;
+      counts = counts (has_return (take count (pipe_bytes io n)) || (is_complete (moved_on now count) || alone));
     }
       where
         storing : (over : Bool) → IsStoring (if over then answers (count_regs caller (moved_on now count).moved) else keeps (moved_on now count))
         storing true = tt
         storing false = tt
 
-        counts : (kept : Kept) (over : Bool) → (if over then answers (count_regs caller (moved_on now count).moved) else keeps (moved_on now count)) ≡ keeps kept → kept.moved ≡ moved_before io caller.process.0 + length (take count (pipe_bytes io n))
-        counts kept true is =
-            absurd (let e : answers (count_regs caller (moved_on now count).moved) ≡ keeps kept = is in cc)
-        counts kept false is = some-more count kept is (length (take count (pipe_bytes io n))) (length-take-le count (pipe_bytes io n) few)
-    line-takes way at alone Ans.Wait few =
+        more : (moved_on now count).moved ≡ moved_before io caller.process.0 + length (take count (pipe_bytes io n))
+        more = some-more count (length (take count (pipe_bytes io n))) (length-take-le count (pipe_bytes io n) few)
+
+        counts : (over : Bool) → ReadCounts call caller io (length (take count (pipe_bytes io n))) (if over then answers (count_regs caller (moved_on now count).moved) else keeps (moved_on now count))
+        counts true = ap (count_regs caller) more ∙ sym (regs (length (take count (pipe_bytes io n))))
+        counts false = more
+    line-takes way at regs alone Ans.Wait few =
         record { way = way; path = path; bytes = []; front = front-is Ans.Wait; seen = inl refl; counts = none-more }
-    line-takes way at alone Ans.End few = record {
+    line-takes way at regs alone Ans.End few = record {
       way = way;
       path = path;
       bytes = [];
       front = front-is Ans.End;
       seen = inl refl;
-      counts = λ kept is. absurd (over kept (now.moved == 0) is);
+      counts = over (now.moved == 0);
     }
       where
-        over : (kept : Kept) (none : Bool) → (if none then fails E_EOF else answers (count_regs caller now.moved)) ≡ keeps kept → ⊥
-        over kept true is = let e : fails E_EOF ≡ keeps kept = is in cc
-        over kept false is = let e : answers (count_regs caller now.moved) ≡ keeps kept = is in cc
-    line-takes way at alone Ans.NoReader few = record {
+        over : (none : Bool) → ReadCounts call caller io 0 (if none then fails E_EOF else answers (count_regs caller now.moved))
+        over true = tt
+        over false = ap (count_regs caller) none-more ∙ sym (regs 0)
+    line-takes way at regs alone Ans.NoReader few = record {
       way = way;
       path = path;
       bytes = [];
       front = front-is Ans.NoReader;
       seen = inl refl;
-      counts = λ kept is. absurd (let e : fails E_WRITE ≡ keeps kept = is in cc);
+      counts = tt;
     }
 
-    module _ (way : direction_of_call call ≡ Some Writing) (sent : List ℕ) (sends : sent_by call caller io ≡ Some sent) (regs : Regs) where
+    module _ (way : direction_of_call call ≡ Some Writing) (sent : List ℕ) (sends : sent_by call caller io ≡ Some sent) (regs : Regs) (answered : regs ≡ write_answers call caller (length sent)) (all : now.count ≡ in_all io caller.process.0 (length sent)) where
       next-is : (count : ℕ) → count ≤ length (drop now.moved sent) → take count (drop now.moved sent) ≡ take (length (take count (drop now.moved sent))) (drop (moved_before io caller.process.0) sent)
       next-is count few =
           ap (λ (k : ℕ). take k (drop now.moved sent)) (sym (length-take-le count (drop now.moved sent) few))
@@ -320,19 +326,22 @@ module _ (call : IoCall) (caller : Caller) (io : Io) (n : ℕ) where
         sent = sent;
         sends = sends;
         next = next-is count few;
-        counts = λ kept is. counts kept (is_complete (moved_on now count)) alone is;
+        counts = counts (is_complete (moved_on now count)) alone refl;
       }
         where
-          counts : (kept : Kept) (complete single : Bool) → (if complete then answers regs else (if single then fails E_WRITE else keeps (moved_on now count))) ≡ keeps kept → kept.moved ≡ moved_before io caller.process.0 + length (take count (drop now.moved sent))
-          counts kept true single is = absurd (let e : answers regs ≡ keeps kept = is in cc)
-          counts kept false true is = absurd (let e : fails E_WRITE ≡ keeps kept = is in cc)
-          counts kept false false is = some-more count kept is (length (take count (drop now.moved sent))) (length-take-le count (drop now.moved sent) few)
+          more : (moved_on now count).moved ≡ moved_before io caller.process.0 + length (take count (drop now.moved sent))
+          more = some-more count (length (take count (drop now.moved sent))) (length-take-le count (drop now.moved sent) few)
+
+          counts : (complete single : Bool) → is_complete (moved_on now count) ≡ complete → WriteCounts call caller io sent (length (take count (drop now.moved sent))) (if complete then answers regs else (if single then fails E_WRITE else keeps (moved_on now count)))
+          counts true single is = (sym more ∙ eqb-true (now.moved + count) now.count is ∙ all, answered)
+          counts false true is = tt
+          counts false false is = more
       write-puts alone Ans.Wait few =
           record { way = way; path = path; bytes = []; behind = behind-is Ans.Wait; sent = sent; sends = sends; next = refl; counts = none-more }
       write-puts alone Ans.End few =
-          record { way = way; path = path; bytes = []; behind = behind-is Ans.End; sent = sent; sends = sends; next = refl; counts = λ kept is. absurd (let e : fails E_EOF ≡ keeps kept = is in cc) }
+          record { way = way; path = path; bytes = []; behind = behind-is Ans.End; sent = sent; sends = sends; next = refl; counts = tt }
       write-puts alone Ans.NoReader few =
-          record { way = way; path = path; bytes = []; behind = behind-is Ans.NoReader; sent = sent; sends = sends; next = refl; counts = λ kept is. absurd (let e : fails E_WRITE ≡ keeps kept = is in cc) }
+          record { way = way; path = path; bytes = []; behind = behind-is Ans.NoReader; sent = sent; sends = sends; next = refl; counts = tt }
 
 -- ---- on any pipe
 
@@ -347,18 +356,19 @@ module _ (call : IoCall) (caller : Caller) (io : Io) (n : ℕ) where
   HasPath target =
       (opened : OpenPath) × (open_path io caller.process.0 (path_number call caller.regs) ≡ Some opened) × (opened.desc.target ≡ target)
 
-  takes-here : (kind : ReadKind) → direction_of_call call ≡ Some Reading → ((moved : ℕ) → stored_from call caller.regs moved ≡ stored_by kind caller.regs.x moved) → (now : Kept) → now.moved ≡ moved_before io caller.process.0 → HasPath (Pipe n) → IsPipe io.pipes n → Takes call caller io n (pipe_read kind caller io n now)
-  takes-here Bytes way at now moved path lives =
-      read-takes call caller io n lives path now moved way (at (moved_before io caller.process.0)) (read_answer (pipe_bytes io n) (is_alone io caller.process.0 now.path.0 Reading) now.count)
-  takes-here WholeLine way at now moved path lives =
-      line-takes call caller io n lives path now moved way (at (moved_before io caller.process.0) ∙ ap (λ (k : ℕ). caller.regs.x + k) (sym moved)) (is_alone io caller.process.0 now.path.0 Reading) (read_line_answer (pipe_bytes io n) (is_alone io caller.process.0 now.path.0 Reading) (count_left now))
+  takes-here : (kind : ReadKind) → direction_of_call call ≡ Some Reading → ((moved : ℕ) → stored_from call caller.regs moved ≡ stored_by kind caller.regs.x moved) → call ≡ read_call kind → (now : Kept) → now.moved ≡ moved_before io caller.process.0 → HasPath (Pipe n) → IsPipe io.pipes n → Takes call caller io n (pipe_read kind caller io n now)
+  takes-here Bytes way at is now moved path lives =
+      read-takes call caller io n lives path now moved way (at (moved_before io caller.process.0)) (λ count. ap (λ (call : IoCall). read_answers call caller io count) is) (read_answer (pipe_bytes io n) (is_alone io caller.process.0 now.path.0 Reading) now.count)
+      (bytes-few (pipe_bytes io n) now.count (length (pipe_bytes io n) == 0) (is_alone io caller.process.0 now.path.0 Reading))
+  takes-here WholeLine way at is now moved path lives =
+      line-takes call caller io n lives path now moved way (at (moved_before io caller.process.0) ∙ ap (λ (k : ℕ). caller.regs.x + k) (sym moved)) (λ count. ap (λ (call : IoCall). read_answers call caller io count) is) (is_alone io caller.process.0 now.path.0 Reading) (read_line_answer (pipe_bytes io n) (is_alone io caller.process.0 now.path.0 Reading) (count_left now))
       (read-few (pipe_bytes io n) (count_left now) (length (pipe_bytes io n) == 0) (is_alone io caller.process.0 now.path.0 Reading))
 
-  read-moves : (kind : ReadKind) → direction_of_call call ≡ Some Reading → ((moved : ℕ) → stored_from call caller.regs moved ≡ stored_by kind caller.regs.x moved) → (now : Kept) → now.moved ≡ moved_before io caller.process.0 → (target : Target) → HasPath target → StepMoves call caller io n (reads_target kind caller io now target)
-  read-moves kind way at now moved (File drive sector) path = tt
-  read-moves kind way at now moved (Folder drive sector) path = tt
-  read-moves kind way at now moved (Term terminal) path = tt
-  read-moves kind way at now moved (Pipe pipe) path = λ lives still. by_place lives (cases_eq n pipe)
+  read-moves : (kind : ReadKind) → direction_of_call call ≡ Some Reading → ((moved : ℕ) → stored_from call caller.regs moved ≡ stored_by kind caller.regs.x moved) → call ≡ read_call kind → (now : Kept) → now.moved ≡ moved_before io caller.process.0 → (target : Target) → HasPath target → StepMoves call caller io n (reads_target kind caller io now target)
+  read-moves kind way at is now moved (File drive sector) path = tt
+  read-moves kind way at is now moved (Folder drive sector) path = tt
+  read-moves kind way at is now moved (Term terminal) path = tt
+  read-moves kind way at is now moved (Pipe pipe) path = λ lives still. by_place lives (cases_eq n pipe)
     where
       apart-held : (kind : ReadKind) → n ≢ pipe → pipe_bytes (pipe_read kind caller io pipe now).io n ≡ pipe_bytes io n
       apart-held Bytes apart = other-held pipe _ apart
@@ -366,25 +376,25 @@ module _ (call : IoCall) (caller : Caller) (io : Io) (n : ℕ) where
 
       by_place : IsPipe io.pipes n → (n ≡ pipe) ⊎ (n ≢ pipe) → Moved call caller io n (pipe_read kind caller io pipe now)
       by_place lives (inl same) =
-          inr (inl (subst (λ (m : ℕ). Takes call caller io n (pipe_read kind caller io m now)) same (takes-here kind way at now moved (subst (λ (m : ℕ). HasPath (Pipe m)) (sym same) path) lives)))
+          inr (inl (subst (λ (m : ℕ). Takes call caller io n (pipe_read kind caller io m now)) same (takes-here kind way at is now moved (subst (λ (m : ℕ). HasPath (Pipe m)) (sym same) path) lives)))
       by_place lives (inr apart) = inl (apart-held kind apart)
 
   -- what a write sends is what its call sends
-  puts-here : (sending : Sending) (sent : List ℕ) → direction_of_call call ≡ Some Writing → sent_by call caller io ≡ Some sent → sending.bytes ≡ sent → (now : Kept) → now.moved ≡ moved_before io caller.process.0 → HasPath (Pipe n) → IsPipe io.pipes n → Puts call caller io n (writes_pipe io n now (is_alone io caller.process.0 now.path.0 Writing) sending.bytes sending.regs)
-  puts-here sending sent way sends same now moved path lives =
+  puts-here : (sending : Sending) (sent : List ℕ) → direction_of_call call ≡ Some Writing → sent_by call caller io ≡ Some sent → sending.bytes ≡ sent → sending.regs ≡ write_answers call caller (length sent) → (now : Kept) → now.count ≡ in_all io caller.process.0 (length sent) → now.moved ≡ moved_before io caller.process.0 → HasPath (Pipe n) → IsPipe io.pipes n → Puts call caller io n (writes_pipe io n now (is_alone io caller.process.0 now.path.0 Writing) sending.bytes sending.regs)
+  puts-here sending sent way sends same answered now all moved path lives =
       subst (λ (bytes : List ℕ). Puts call caller io n (writes_pipe io n now (is_alone io caller.process.0 now.path.0 Writing) bytes sending.regs)) (sym same)
-      (write-puts call caller io n lives path now moved way sent sends sending.regs (is_alone io caller.process.0 now.path.0 Writing) (write_answer (pipe_bytes io n) (is_alone io caller.process.0 now.path.0 Writing) (length (drop now.moved sent)))
+      (write-puts call caller io n lives path now moved way sent sends sending.regs answered all (is_alone io caller.process.0 now.path.0 Writing) (write_answer (pipe_bytes io n) (is_alone io caller.process.0 now.path.0 Writing) (length (drop now.moved sent)))
       (write-few (pipe_bytes io n) (drop now.moved sent) (pipe_room (pipe_bytes io n) == 0) (is_alone io caller.process.0 now.path.0 Writing)))
 
-  write-moves : (sending : Sending) (sent : List ℕ) → direction_of_call call ≡ Some Writing → sent_by call caller io ≡ Some sent → sending.bytes ≡ sent → (now : Kept) → now.moved ≡ moved_before io caller.process.0 → (target : Target) → HasPath target → StepMoves call caller io n (writes_target sending caller io now target)
-  write-moves sending sent way sends bytes_are now moved (File drive sector) path = tt
-  write-moves sending sent way sends bytes_are now moved (Folder drive sector) path = tt
-  write-moves sending sent way sends bytes_are now moved (Term terminal) path = tt
-  write-moves sending sent way sends bytes_are now moved (Pipe pipe) path = λ lives still. by_place lives (cases_eq n pipe)
+  write-moves : (sending : Sending) (sent : List ℕ) → direction_of_call call ≡ Some Writing → sent_by call caller io ≡ Some sent → sending.bytes ≡ sent → sending.regs ≡ write_answers call caller (length sent) → (now : Kept) → now.count ≡ in_all io caller.process.0 (length sent) → now.moved ≡ moved_before io caller.process.0 → (target : Target) → HasPath target → StepMoves call caller io n (writes_target sending caller io now target)
+  write-moves sending sent way sends bytes_are answered now all moved (File drive sector) path = tt
+  write-moves sending sent way sends bytes_are answered now all moved (Folder drive sector) path = tt
+  write-moves sending sent way sends bytes_are answered now all moved (Term terminal) path = tt
+  write-moves sending sent way sends bytes_are answered now all moved (Pipe pipe) path = λ lives still. by_place lives (cases_eq n pipe)
     where
       by_place : IsPipe io.pipes n → (n ≡ pipe) ⊎ (n ≢ pipe) → Moved call caller io n (writes_pipe io pipe now (is_alone io caller.process.0 now.path.0 Writing) sending.bytes sending.regs)
       by_place lives (inl same) =
-          inr (inr (subst (λ (m : ℕ). Puts call caller io n (writes_pipe io m now (is_alone io caller.process.0 now.path.0 Writing) sending.bytes sending.regs)) same (puts-here sending sent way sends bytes_are now moved (subst (λ (m : ℕ). HasPath (Pipe m)) (sym same) path) lives)))
+          inr (inr (subst (λ (m : ℕ). Puts call caller io n (writes_pipe io m now (is_alone io caller.process.0 now.path.0 Writing) sending.bytes sending.regs)) same (puts-here sending sent way sends bytes_are answered now all moved (subst (λ (m : ℕ). HasPath (Pipe m)) (sym same) path) lives)))
       by_place lives (inr apart) = inl (other-held pipe _ apart)
 
   -- ---- reads and writes
@@ -407,22 +417,22 @@ module _ (call : IoCall) (caller : Caller) (io : Io) (n : ℕ) where
   nothing-moves true next moves = λ lives still. inl refl
   nothing-moves false next moves = moves
 
-  read-through : (kind : ReadKind) (code : ℕ) → caller.regs.a ≡ path_number call caller.regs → direction_of_call call ≡ Some Reading → ((moved : ℕ) → stored_from call caller.regs moved ≡ stored_by kind caller.regs.x moved) → (is_missing : Bool) → Through (refuses is_missing E_BPADDR (on_path caller io caller.regs.a can_read (λ opened. unless_nothing caller io (reads_target kind caller io (call_now caller io code opened caller.regs.y) opened.desc.target))))
-  read-through kind code named way at true = tt
-  read-through kind code named way at false =
+  read-through : (kind : ReadKind) (code : ℕ) → caller.regs.a ≡ path_number call caller.regs → direction_of_call call ≡ Some Reading → ((moved : ℕ) → stored_from call caller.regs moved ≡ stored_by kind caller.regs.x moved) → call ≡ read_call kind → (is_missing : Bool) → Through (refuses is_missing E_BPADDR (on_path caller io caller.regs.a can_read (λ opened. unless_nothing caller io (reads_target kind caller io (call_now caller io code opened caller.regs.y) opened.desc.target))))
+  read-through kind code named way at is true = tt
+  read-through kind code named way at one false =
       path-moves caller.regs.a can_read (λ opened. unless_nothing caller io (reads_target kind caller io (call_now caller io code opened caller.regs.y) opened.desc.target))
-      (λ opened is. nothing-moves (caller.regs.y == 0) (reads_target kind caller io (call_now caller io code opened caller.regs.y) opened.desc.target) (read-moves kind way at (call_now caller io code opened caller.regs.y) (now-moved caller io code caller.regs.y opened) opened.desc.target (opened, ap (open_path io caller.process.0) (sym named) ∙ is, refl)))
+      (λ opened is. nothing-moves (caller.regs.y == 0) (reads_target kind caller io (call_now caller io code opened caller.regs.y) opened.desc.target) (read-moves kind way at one (call_now caller io code opened caller.regs.y) (now-moved caller io code caller.regs.y opened) opened.desc.target (opened, ap (open_path io caller.process.0) (sym named) ∙ is, refl)))
 
-  send-through : (sending : List ℕ → Sending) (code : ℕ) → caller.regs.a ≡ path_number call caller.regs → direction_of_call call ≡ Some Writing → ((bytes : List ℕ) → (sending bytes).bytes ≡ bytes) → (bytes : Option (List ℕ)) → sent_by call caller io ≡ bytes → Through (needs bytes E_BPADDR (λ bytes. on_path caller io caller.regs.a can_write (λ opened. unless_nothing caller io (sends_on (sending bytes) code caller io opened))))
-  send-through sending code named way same None sends = tt
-  send-through sending code named way same (Some bytes) sends =
+  send-through : (sending : List ℕ → Sending) (code : ℕ) → caller.regs.a ≡ path_number call caller.regs → direction_of_call call ≡ Some Writing → ((bytes : List ℕ) → (sending bytes).bytes ≡ bytes) → ((bytes : List ℕ) → (sending bytes).regs ≡ write_answers call caller (length bytes)) → (bytes : Option (List ℕ)) → sent_by call caller io ≡ bytes → Through (needs bytes E_BPADDR (λ bytes. on_path caller io caller.regs.a can_write (λ opened. unless_nothing caller io (sends_on (sending bytes) code caller io opened))))
+  send-through sending code named way same regs None sends = tt
+  send-through sending code named way same regs (Some bytes) sends =
       path-moves caller.regs.a can_write (λ opened. unless_nothing caller io (sends_on (sending bytes) code caller io opened))
-      (λ opened is. nothing-moves (caller.regs.y == 0) (sends_on (sending bytes) code caller io opened) (write-moves (sending bytes) bytes way sends (same bytes) (call_now caller io code opened (length (sending bytes).bytes)) (now-moved caller io code (length (sending bytes).bytes) opened) opened.desc.target (opened, ap (open_path io caller.process.0) (sym named) ∙ is, refl)))
+      (λ opened is. nothing-moves (caller.regs.y == 0) (sends_on (sending bytes) code caller io opened) (write-moves (sending bytes) bytes way sends (same bytes) (regs bytes) (call_now caller io code opened (length (sending bytes).bytes)) (now-count caller io code opened (length (sending bytes).bytes) ∙ ap (λ (bytes : List ℕ). in_all io caller.process.0 (length bytes)) (same bytes)) (now-moved caller io code (length (sending bytes).bytes) opened) opened.desc.target (opened, ap (open_path io caller.process.0) (sym named) ∙ is, refl)))
 
-  error-through : STANDARD_ERROR ≡ path_number call caller.regs → direction_of_call call ≡ Some Writing → sent_by call caller io ≡ Some (error_line caller.regs.b) → Through (f_perr caller io)
-  error-through named way sends =
+  error-through : STANDARD_ERROR ≡ path_number call caller.regs → direction_of_call call ≡ Some Writing → sent_by call caller io ≡ Some (error_line caller.regs.b) → caller.regs ≡ write_answers call caller (length (error_line caller.regs.b)) → Through (f_perr caller io)
+  error-through named way sends regs =
       path-moves STANDARD_ERROR can_write (λ opened. sends_on (sent_error caller) F_PERR caller io opened)
-      (λ opened is. write-moves (sent_error caller) (error_line caller.regs.b) way sends refl (call_now caller io F_PERR opened (length (sent_error caller).bytes)) (now-moved caller io F_PERR (length (sent_error caller).bytes) opened) opened.desc.target (opened, ap (open_path io caller.process.0) (sym named) ∙ is, refl))
+      (λ opened is. write-moves (sent_error caller) (error_line caller.regs.b) way sends refl regs (call_now caller io F_PERR opened (length (sent_error caller).bytes)) (now-count caller io F_PERR opened (length (sent_error caller).bytes)) (now-moved caller io F_PERR (length (sent_error caller).bytes) opened) opened.desc.target (opened, ap (open_path io caller.process.0) (sym named) ∙ is, refl))
 
   -- ---- calls that move no byte
 
@@ -492,15 +502,15 @@ step-moves Call.Open caller io n drives terms =
 step-moves Call.Close caller io n drives terms =
     close-through Call.Close caller io n (slot_of io.paths caller.process.0 caller.regs.a)
 step-moves Call.Read caller io n drives terms =
-    read-through Call.Read caller io n Bytes I_READ refl refl (λ moved. refl) (is_none (user_bytes caller.cells caller.regs.x caller.regs.y))
+    read-through Call.Read caller io n Bytes I_READ refl refl (λ moved. refl) refl (is_none (user_bytes caller.cells caller.regs.x caller.regs.y))
 step-moves Call.ReadLn caller io n drives terms =
-    read-through Call.ReadLn caller io n WholeLine I_READLN refl refl (λ moved. refl) (is_none (user_bytes caller.cells caller.regs.x caller.regs.y))
+    read-through Call.ReadLn caller io n WholeLine I_READLN refl refl (λ moved. refl) refl (is_none (user_bytes caller.cells caller.regs.x caller.regs.y))
 step-moves Call.Write caller io n drives terms =
-    send-through Call.Write caller io n (sent_bytes caller) I_WRITE refl refl (λ bytes. refl) (user_bytes caller.cells caller.regs.x caller.regs.y) refl
+    send-through Call.Write caller io n (sent_bytes caller) I_WRITE refl refl (λ bytes. refl) (λ bytes. refl) (user_bytes caller.cells caller.regs.x caller.regs.y) refl
 step-moves Call.WritLn caller io n drives terms =
-    send-through Call.WritLn caller io n (sent_line caller) I_WRITLN refl refl (λ bytes. refl) (line_bytes caller (kept_at io caller.process.0)) refl
+    send-through Call.WritLn caller io n (sent_line caller) I_WRITLN refl refl (λ bytes. refl) (λ bytes. refl) (line_bytes caller (kept_at io caller.process.0)) refl
 step-moves Call.GetStt caller io n drives terms =
     get-through Call.GetStt caller io n (open_path io caller.process.0 caller.regs.a)
 step-moves Call.SetStt caller io n drives terms =
     set-through Call.SetStt caller io n (open_path io caller.process.0 caller.regs.a)
-step-moves Call.PErr caller io n drives terms = error-through Call.PErr caller io n refl refl refl
+step-moves Call.PErr caller io n drives terms = error-through Call.PErr caller io n refl refl refl refl

@@ -1,20 +1,21 @@
 -- What events move through a pipe (Level Two manual, "Pipes").
-use Rattle.std.specs.Prelude.{◌≡◌, ◌⊎◌, ℕ, ◌+◌, Option, Some, None, List, [], ◌++◌, length, map, take, drop}
+use Rattle.std.specs.Prelude.{◌≡◌, ◌⊎◌, ℕ, ◌+◌, ⊤, Option, Some, None, List, [], ◌++◌, length, map, take, drop}
 use Rattle.std.specs.List.{AllByRecursion, filter_map, flat_map}
 use Rattle.std.specs.Option.{option_map_or}
 use Rattle.os9_base.specs.declared.registers.Regs.{Regs}
 use Rattle.proc_model.specs.MemoryChanges.{stored}
+use Rattle.call_rules.specs.Attempts.{after_attempt}
 use Rattle.call_rules.specs.Inner.{regs_at}
 use Rattle.call_rules.specs.Ready.{attempts, act_of}
 use Rattle.call_rules.specs.UserBytes.{user_bytes}
 use Rattle.io_model.specs.Pipe.{Flows, IsPipe, Movement, In, Out, came_in, went_out}
-use Rattle.io_model.specs.declared.kept.Kept.{Kept}
 use Rattle.io_model.specs.declared.path.Target.TheVariants.{Pipe}
 use Rattle.io_rules.specs.Again.{path_number}
-use Rattle.io_rules.specs.Attempts.{caller_of}
+use Rattle.io_rules.specs.Attempts.{caller_of, io_after, result_of}
 use Rattle.io_rules.specs.Codes.{direction_of_call, io_call_of}
 use Rattle.io_rules.specs.Io.{Io, OpenPath, kept_at, open_path, pipe_bytes}
-use Rattle.io_rules.specs.Step.{Caller}
+use Rattle.io_rules.specs.Pipes.{count_regs}
+use Rattle.io_rules.specs.Step.{Caller, IoEffect, IoEnd, answers, fails, keeps}
 use Rattle.io_rules.specs.Write.{error_line, line_bytes}
 use Rattle.io_rules.specs.declared.io_call.Direction.{Direction}
 use Rattle.io_rules.specs.declared.io_call.Direction.TheVariants.{Reading, Writing}
@@ -49,10 +50,43 @@ pub record AttemptsOn (s : State) (p n : ℕ) (call : IoCall) (way : Direction) 
   pub path : (opened : OpenPath) × (open_path s.io p (path_number call (regs_at s.inner p)) ≡ Some opened)
       × (opened.desc.target ≡ Pipe n)
 
--- where a call of a process waits then, it has moved so many bytes more
-abbrev pub CountsOn : State → ℕ → ℕ → State → Type 0
-CountsOn s p count t =
-    (kept : Kept) → kept_at t.io p ≡ Some kept → kept.moved ≡ moved_before s.io p + count
+-- how many bytes a call moves in all: what is kept of it says it, or what its first attempt finds
+abbrev pub in_all : Io → ℕ → ℕ → ℕ
+in_all io p first = option_map_or (λ kept. kept.count) (kept_at io p) first
+
+-- the registers of the caller where a read is done that took so many bytes in this attempt: I$ReadLn answers those of
+-- the attempts before with them
+abbrev pub read_answers : IoCall → Caller → Io → ℕ → Regs
+read_answers Call.ReadLn caller io count = count_regs caller (moved_before io caller.process.0 + count)
+read_answers call caller io count = count_regs caller count
+
+-- the registers of the caller where a write is done that sends so many bytes in all: F$PErr answers no count
+abbrev pub write_answers : IoCall → Caller → ℕ → Regs
+write_answers Call.PErr caller count = caller.regs
+write_answers call caller count = count_regs caller count
+
+-- a read that took so many bytes ends so: where it waits it has moved so many more, and where it is done it answers
+-- them
+abbrev pub ReadCounts : IoCall → Caller → Io → ℕ → IoEnd → Type 0
+ReadCounts call caller io count (answers regs) = regs ≡ read_answers call caller io count
+ReadCounts call caller io count (fails number) = ⊤
+ReadCounts call caller io count (keeps kept) = kept.moved ≡ moved_before io caller.process.0 + count
+
+-- a write that sends these bytes and put in so many ends so: where it waits it has moved so many more, and where it is
+-- done it has moved all, and answers their count
+abbrev pub WriteCounts : IoCall → Caller → Io → List ℕ → ℕ → IoEnd → Type 0
+WriteCounts call caller io sent count (answers regs) =
+    (moved_before io caller.process.0 + count ≡ in_all io caller.process.0 (length sent))
+    × (regs ≡ write_answers call caller (length sent))
+WriteCounts call caller io sent count (fails number) = ⊤
+WriteCounts call caller io sent count (keeps kept) = kept.moved ≡ moved_before io caller.process.0 + count
+
+-- an attempt of a process that ends in this way leads to this state
+pub record EndsIn (s : State) (p : ℕ) (Counts : IoEnd → Type 0) (t : State) : Type 0 where
+  pub effect : IoEffect
+  pub inner : t.inner ≡ after_attempt s.inner p (result_of s.inner p effect)
+  pub io : t.io ≡ io_after p effect
+  pub counts : Counts effect.end
 
 -- a read takes bytes out of a pipe, from its front, and its process sees them then
 pub record TakesOut (n : ℕ) (s : State) (bytes : List ℕ) (t : State) : Type 0 where
@@ -63,7 +97,7 @@ pub record TakesOut (n : ℕ) (s : State) (bytes : List ℕ) (t : State) : Type 
   pub front : pipe_bytes s.io n ≡ bytes ++ pipe_bytes t.io n
   pub seen : (bytes ≡ []) ⊎ (t.inner.memory ≡ stored s.inner.memory process
       (stored_from call (regs_at s.inner process) (moved_before s.io process)) bytes)
-  pub counts : CountsOn s process (length bytes) t
+  pub counts : EndsIn s process (ReadCounts call (caller_of s.inner process) s.io (length bytes)) t
 
 -- a write puts bytes into a pipe, at its end: the next ones of those that its process sends
 pub record PutsIn (n : ℕ) (s : State) (bytes : List ℕ) (t : State) : Type 0 where
@@ -75,7 +109,7 @@ pub record PutsIn (n : ℕ) (s : State) (bytes : List ℕ) (t : State) : Type 0 
   pub sent : List ℕ
   pub sends : sent_by call (caller_of s.inner process) s.io ≡ Some sent
   pub next : bytes ≡ take (length bytes) (drop (moved_before s.io process) sent)
-  pub counts : CountsOn s process (length bytes) t
+  pub counts : EndsIn s process (WriteCounts call (caller_of s.inner process) s.io sent (length bytes)) t
 
 -- ---- events
 
