@@ -6,7 +6,7 @@ use Rattle.std.proofs.lemmas.Bool.{cond-true, lt-ltb, ltb-true, or_right}
 use Rattle.os9_base.specs.declared.errors.TheConstants.{E_MEMFUL}
 use Rattle.os9_base.specs.declared.registers.Pid.{Pid}
 use Rattle.os9_outer.specs.TerminalState.{TerminalState}
-use Rattle.machine_model.specs.declared.ends.BootFault.TheVariants.{TooLarge}
+use Rattle.io_machine.specs.declared.ends.BootFault.TheVariants.{TooLarge}
 use Rattle.guest_memory.specs.declared.memory.Memory.{Memory}
 use Rattle.guest_memory.specs.Tie.{Represents as RepresentsMemory, modules_of}
 use Rattle.proc_model.specs.declared.memory.MemoryFault.{MemoryFault}
@@ -22,8 +22,9 @@ use Rattle.fork_calls.specs.Loading.{loads_program}
 use Rattle.proc_state.specs.declared.state.ProcState.{ProcState}
 use Rattle.proc_state.specs.Beginning.{with_made}
 use Rattle.proc_state.specs.Tie.{Represents}
-use Rattle.machine_model.specs.Start.{Refuses, Starts, first_priority, first_process, first_start, first_started, no_parent, only_process, superuser}
-use Rattle.machine_model.specs.State.{State}
+use Rattle.io_rules.specs.Io.{first_io}
+use Rattle.io_machine.specs.Start.{Refuses, Starts, first_priority, first_process, first_start, first_started, no_parent, only_process, superuser}
+use Rattle.io_machine.specs.State.{State}
 use Rattle.process_start.specs.Beginning.{Begins, HasFirstIn, nobody_in, with_first}
 use Rattle.process_start.proofs.Seen.{entered-here}
 
@@ -110,10 +111,10 @@ first-made made is = λ i. record { 0 = is i }
 
 module _ (file : List ℕ) (blocks number : ℕ) (old new : ProcState) (found : HasFirstIn file blocks number old) where
   -- the machine starts the boot file
-  pub starts-so : Begins (first_started file blocks found.entries number found.entry) number found.entry (Ok tt) new → (terms : List TerminalState) → (s : State) × Starts file blocks terms s × Represents new s.inner
-  starts-so begins terms =
+  pub starts-so : Begins (first_started file blocks found.entries number found.entry) number found.entry (Ok tt) new → (drives : ℕ) (terms : List TerminalState) → (s : State) × Starts file blocks drives terms s × Represents new s.inner
+  starts-so begins drives terms =
       let (t, begun, stands) = begun-is (first_started file blocks found.entries number found.entry) number found.entry new begins in (
-        record { inner = only_process t (first_start number found.entry); chosen = None; terms = terms },
+        record { inner = only_process t (first_start number found.entry); io = first_io; chosen = None; drives = drives; terms = terms },
         record { entries = found.entries; number = number; entry = found.entry; memory = t; has = found.has; begins = begun; is = refl },
         stands,
       )

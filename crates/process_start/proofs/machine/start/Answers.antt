@@ -1,7 +1,7 @@
 use Rattle.std.proofs.Common.{[]}
 use Rattle.std.proofs.lemmas.Result.{err_from_is_err_and}
-use Rattle.machine_model.specs.Start.{boot_memory}
-use Rattle.machine_model.proofs.StartLaws.{never-both}
+use Rattle.io_machine.specs.Start.{boot_memory}
+use Rattle.io_machine.proofs.StartLaws.{never-both}
 use Rattle.process_start.proofs.Starting.{starts-so, starts-at, refuses-so}
 use Rattle.process_start.proofs.machine.start.Goals as goal
 
@@ -25,8 +25,8 @@ pub returns-in-Ok-clause-accepted : goal.returns-in-Ok-clause-accepted
 returns-in-Ok-clause-accepted c = λ fault refuses.
     let found = c.in_ok-first.ensures.found c.args.blocks c.in_ok-processes.ensures in
     let memory = boot_memory c.args.boot.now c.args.blocks found.entries in
-    let (s, starts, stands) = starts-so c.args.boot.now c.args.blocks c.in_ok-first.first.0 c.load_boot.new.processes c.begin.new.processes found (c.in-Ok.ensures.begun memory found.entry found.represents found.has.is) [] in
-    never-both c.args.boot.now c.args.blocks [] s fault starts refuses
+    let (s, starts, stands) = starts-so c.args.boot.now c.args.blocks c.in_ok-first.first.0 c.load_boot.new.processes c.begin.new.processes found (c.in-Ok.ensures.begun memory found.entry found.represents found.has.is) 0 [] in
+    never-both c.args.boot.now c.args.blocks 0 [] s fault starts refuses
 
 pub returns-in-Ok-clause-count : goal.returns-in-Ok-clause-count
 returns-in-Ok-clause-count c =
