@@ -16,10 +16,13 @@ use Rattle.call_rules.specs.Delivery.{delivered, after_delivery, interrupted, ro
 use Rattle.call_rules.specs.Inner.{Inner, no_own, own_at, regs_at, with_records}
 use Rattle.call_rules.specs.Ready.{next_act, delivers}
 use Rattle.proc_state.specs.Delivery.{delivery_end as call_end}
-use Rattle.machine_model.specs.declared.ends.EventEnd.TheVariants.{Ran, Ended}
-use Rattle.machine_model.specs.Event.{delivery_end}
+use Rattle.io_rules.specs.Io.{Io}
+use Rattle.io_rules.specs.Processes.{io_ended}
+use Rattle.io_rules.specs.Waiting.{io_interrupted}
+use Rattle.io_machine.specs.declared.ends.EventEnd.TheVariants.{Ran, Ended}
+use Rattle.io_machine.specs.Event.{broken_off, delivery_end, io_after_delivery}
 use Rattle.os9_kernel.proofs.Columns.{record-put}
-use Rattle.machine_model.proofs.Ticks.{ended-tick}
+use Rattle.io_machine.proofs.Ticks.{ended-tick}
 
 -- ---- how a delivery ends
 
@@ -34,6 +37,34 @@ goes-so (Err status) end is other = absurd (other is)
 pub done-so : (d : Result Inner ℕ) (end : CallEnd) → end ≡ call_end d → end ≢ CallEnd.Ended → (end ≡ CallEnd.Done) × ((t : Inner) × (d ≡ Ok t))
 done-so (Ok t) end is other = (is, (t, refl))
 done-so (Err status) end is other = absurd (other is)
+
+-- input and output where the process has ended
+pub io-ended-so : (d : Result Inner ℕ) (end : CallEnd) → end ≡ call_end d → end ≡ CallEnd.Ended → (io : Io) (p : ℕ) → io_ended io p ≡ io_after_delivery io p d
+io-ended-so (Ok t) end is ended io p = let no : CallEnd.Done ≡ CallEnd.Ended = sym is ∙ ended in cc
+io-ended-so (Err status) end is ended io p = refl
+
+-- and where its routine has begun
+pub io-goes-so : (d : Result Inner ℕ) (end : CallEnd) → end ≡ call_end d → end ≢ CallEnd.Ended → (io : Io) (p : ℕ) → io_interrupted io p ≡ io_after_delivery io p d
+io-goes-so (Ok t) end is other io p = refl
+io-goes-so (Err status) end is other io p = absurd (other is)
+
+-- ---- a call that is broken off
+
+module _ (m : Inner) (p : ℕ) where
+  pub broken-tick : (count : Option ℕ) → (broken_off m p count).tick ≡ m.tick
+  broken-tick None = refl
+  broken-tick (Some count) = refl
+
+  pub broken-own : (count : Option ℕ) → (broken_off m p count).own ≡ m.own
+  broken-own None = refl
+  broken-own (Some count) = refl
+
+  -- of the process only its registers change
+  pub broken-record : (count : Option ℕ) → p < length m.records → (regs : Regs) × (record_at (broken_off m p count).records p ≡ record (record_at m.records p) { regs = regs })
+  broken-record None within = (regs_at m p, refl)
+  broken-record (Some count) within =
+      let regs : Regs = record (regs_at m p) { y = count } in
+      (regs, record-put m.records p (record (record_at m.records p) { regs = regs }) within)
 
 -- ---- what is pending
 

@@ -1,12 +1,15 @@
 mod Acting
 mod Calling
+mod Choosing
 mod Columns
 mod Delivering
+mod Ending
 mod Executing
-mod Lines
+mod Forking
+mod PathCalls
 mod Pending
-mod PutLemmas
 mod Represented
 mod Running
+mod Ticking
 mod Turning
 mod Turns

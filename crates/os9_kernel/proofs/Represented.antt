@@ -1,20 +1,36 @@
 -- What the processes of a kernel keep, since they represent those of a machine.
-use Rattle.std.proofs.Common.{◌≡◌, ℕ, ◌<◌, false, None, List, length, get_or, set, refl, sym, ap, ◌∙◌, arith}
+use Rattle.std.proofs.Common.{◌≡◌, ℕ, ◌<◌, false, None, List, length, get_or, set, refl, sym, ap, ◌∙◌, subst, arith, ◌≤◌}
 use Rattle.std.specs.Prelude.{slice_index_or}
-use Rattle.std.proofs.lemmas.List.{get_or-set_same, length-set}
+use Rattle.std.proofs.lemmas.List.{get_or-set_same, length-map, length-set}
 use Rattle.os9_base.specs.declared.registers.Regs.{Regs}
 use Rattle.proc_rules.specs.declared.own.Own.{Own}
+use Rattle.proc_rules.specs.Records.{IsLiving}
 use Rattle.call_rules.specs.Attempts.{goes_on}
 use Rattle.call_rules.specs.Inner.{Inner, no_own, own_at}
 use Rattle.call_rules.specs.Ready.{act_of}
 use Rattle.proc_state.specs.declared.state.ProcState.{ProcState}
 use Rattle.proc_state.specs.Tie.{Represents}
 use Rattle.proc_state.proofs.Entered.{represented}
+use Rattle.os9_outer.specs.TerminalState.{TerminalState}
+use Rattle.io_machine.specs.Console.{terminals_emptied}
+use Rattle.io_machine.specs.State.{State}
+use Rattle.kept_laws.specs.Running.{AreOnTerminals}
+use Rattle.os9_kernel.specs.declared.kernel.Kernel.{Kernel}
 use Rattle.os9_kernel.specs.Next.{next_of}
+use Rattle.os9_kernel.specs.Tie.{Represents as RepresentsState}
+use Rattle.os9_kernel.proofs.Columns.{living-within}
 
 -- all processes are those of some machine
 pub some-inner : (processes : ProcState) → (m : Inner) × Represents processes m
 some-inner processes = (_, record { memory = represented processes.memory; is = refl })
+
+-- there are 33 places for processes
+pub places-there : (processes : ProcState) (m : Inner) → Represents processes m → length m.records ≡ 33
+places-there processes m tied = ap (λ (s : Inner). length s.records) tied.is ∙ processes.numbers.places
+
+-- a process that lives has one of them
+pub living-few : (processes : ProcState) (m : Inner) → Represents processes m → (p : ℕ) → IsLiving m.records p → p < 33
+living-few processes m tied p lives = omega (arith, living-within m.records p lives, places-there processes m tied)
 
 -- the tick stays where a change of the machine leaves it
 pub tick-kept : (old new : ProcState) (change : Inner → Inner) → ((m : Inner) → Represents old m → Represents new (change m)) → ((m : Inner) → (change m).tick ≡ m.tick) → new.tick ≡ old.tick
@@ -35,3 +51,19 @@ no-call new t p regs within tied =
     let inside : p < length t.own = omega (arith, ap length items, length-set t.own p own) in
     ap (λ (owns : List Own). (get_or owns p no_own).call) (sym items)
     ∙ ap (λ (o : Own). o.call) (get_or-set_same t.own p own no_own inside)
+
+-- the kernel represents the state with terminals without bytes, where these are taken
+pub represents-emptied : (kernel : Kernel) (drives : ℕ) (terms : List TerminalState) (s : State) → RepresentsState kernel drives terms s → RepresentsState kernel drives (terminals_emptied terms) (record s { terms = terminals_emptied s.terms })
+represents-emptied kernel drives terms s tied =
+    let long : length (terminals_emptied s.terms) ≡ length s.terms = simp length-map in record {
+      inner = tied.inner;
+      is = λ i. record (tied.is i) { terms = terminals_emptied (tied.is i).terms };
+      running = record {
+        kept = tied.running.kept;
+        in_calls = tied.running.in_calls;
+        places = tied.running.places;
+        on = subst (λ (n : ℕ). AreOnTerminals n s.io.paths) (sym long) tied.running.on;
+        some = subst (λ (n : ℕ). 0 < n) (sym long) tied.running.some;
+        few = subst (λ (n : ℕ). n ≤ 4) (sym long) tied.running.few;
+      };
+    }

@@ -8,10 +8,10 @@ use Rattle.proc_model.specs.MemoryChanges.{written}
 use Rattle.proc_rules.specs.Records.{IsLiving, record_at, is_waiting}
 use Rattle.call_rules.specs.Inner.{Inner, own_at, regs_at}
 use Rattle.call_rules.specs.Ready.{Act as MachineAct, executes, act_of, next_act}
-use Rattle.machine_model.specs.declared.ends.EventEnd.{EventEnd}
-use Rattle.machine_model.specs.declared.ends.EventEnd.TheVariants.{Ran}
-use Rattle.machine_model.specs.Event.{Acts, Event, cost, next_instruction, after_instruction, instruction_end}
-use Rattle.machine_model.specs.State.{State}
+use Rattle.io_machine.specs.declared.ends.EventEnd.{EventEnd}
+use Rattle.io_machine.specs.declared.ends.EventEnd.TheVariants.{Ran}
+use Rattle.io_machine.specs.Event.{Acts, Event, cost, next_instruction, after_instruction, io_after_instruction, instruction_end}
+use Rattle.io_machine.specs.State.{State}
 use Rattle.os9_kernel.specs.Slice.{Events, last, more}
 use Rattle.os9_kernel.proofs.Executing.{AreDone, none, first, next_outcome}
 use Rattle.os9_kernel.proofs.Columns.{inner_at, inner_at-same, inner_at-then, inner_at-regs, lives-set, living-within, record-put}
@@ -41,13 +41,13 @@ module _ (s : State) (p : ℕ) (chosen : s.chosen ≡ Some p) (lives : IsLiving 
     pub cost-one : cost (state_at memory regs) ≡ 1
     cost-one = rw (chosen, acts-still) refl
 
-    pub instruction-event : (outcome : Outcome) → next_outcome memory p regs ≡ outcome → Event (state_at memory regs) (instruction_end outcome) (record s { inner = after_instruction (inner_at s.inner p memory regs) p outcome })
+    pub instruction-event : (outcome : Outcome) → next_outcome memory p regs ≡ outcome → Event (state_at memory regs) (instruction_end outcome) (record s { inner = after_instruction (inner_at s.inner p memory regs) p outcome; io = io_after_instruction s.io p outcome })
     instruction-event outcome is = (
       p,
       chosen,
       lives-set s.inner.records p lives regs,
-      subst (λ (a : MachineAct). Acts a (state_at memory regs) p (instruction_end outcome) (record s { inner = after_instruction (inner_at s.inner p memory regs) p outcome })) (sym acts-still)
-          (sym (ap instruction_end (outcome-is ∙ is)), (λ i. record s { inner = after_instruction (inner_at s.inner p memory regs) p (sym (outcome-is ∙ is) i) })),
+      subst (λ (a : MachineAct). Acts a (state_at memory regs) p (instruction_end outcome) (record s { inner = after_instruction (inner_at s.inner p memory regs) p outcome; io = io_after_instruction s.io p outcome })) (sym acts-still)
+          (sym (ap instruction_end (outcome-is ∙ is)), (λ i. record s { inner = after_instruction (inner_at s.inner p memory regs) p (sym (outcome-is ∙ is) i); io = io_after_instruction s.io p (sym (outcome-is ∙ is) i) })),
     )
 
     -- one that is done leaves other memory and registers

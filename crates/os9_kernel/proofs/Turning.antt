@@ -11,10 +11,11 @@ use Rattle.guest_memory.specs.Running.{LeavesMemory, FollowInMemory, EndsInMemor
 use Rattle.call_rules.specs.End.{ended}
 use Rattle.call_rules.specs.Inner.{Inner, own_at, regs_at, with_own}
 use Rattle.call_rules.specs.Ready.{executes, act_of}
-use Rattle.machine_model.specs.declared.ends.EventEnd.{EventEnd}
-use Rattle.machine_model.specs.declared.ends.EventEnd.TheVariants.{Ran, Ended}
-use Rattle.machine_model.specs.Event.{Event, cost}
-use Rattle.machine_model.specs.State.{State}
+use Rattle.io_rules.specs.Processes.{io_ended}
+use Rattle.io_machine.specs.declared.ends.EventEnd.{EventEnd}
+use Rattle.io_machine.specs.declared.ends.EventEnd.TheVariants.{Ran, Ended}
+use Rattle.io_machine.specs.Event.{Event, cost}
+use Rattle.io_machine.specs.State.{State}
 use Rattle.os9_kernel.specs.Slice.{Events, last}
 use Rattle.os9_kernel.proofs.Columns.{inner_at, inner_at-then}
 use Rattle.os9_kernel.proofs.Executing.{next_outcome, follow-done}
@@ -80,18 +81,18 @@ module _ (s : State) (p : ℕ) (chosen : s.chosen ≡ Some p) (lives : IsLiving 
       let (few, left) : EndsInMemory p most ran.followed (Call code) before held now t = subst (λ (stop : Stop). EndsInMemory p most ran.followed stop before held now t) is ends in
       one-more before held Ran (record s { inner = calling t now code }) follow few (by_call before held (next_outcome held p before) code refl left)
 
-  by_abort : (before : Regs) (held : MemoryState) (outcome : Outcome) (status : ℕ) → next_outcome held p before ≡ outcome → LeavesMemory p outcome (Abort status) before held now t → Event (at held before) Ended (record s { inner = ended (inner_at s.inner p t now) p status })
+  by_abort : (before : Regs) (held : MemoryState) (outcome : Outcome) (status : ℕ) → next_outcome held p before ≡ outcome → LeavesMemory p outcome (Abort status) before held now t → Event (at held before) Ended (record s { inner = ended (inner_at s.inner p t now) p status; io = io_ended s.io p })
   by_abort before held (Done effect) status is left = cc (left.0)
   by_abort before held (Calls code past) status is left = cc (left.0)
   by_abort before held (Aborts other) status is (stops, registers, memory) =
       let status_is : status ≡ other = cc in
-      subst (λ (c : ℕ). Event (at held before) Ended (record s { inner = ended (inner_at s.inner p t now) p c })) (sym status_is)
-      (subst (λ (x : MemoryState). Event (at held before) Ended (record s { inner = ended (inner_at s.inner p x now) p other })) (sym memory)
-      (subst (λ (r : Regs). Event (at held before) Ended (record s { inner = ended (inner_at s.inner p held r) p other })) (sym registers)
+      subst (λ (c : ℕ). Event (at held before) Ended (record s { inner = ended (inner_at s.inner p t now) p c; io = io_ended s.io p })) (sym status_is)
+      (subst (λ (x : MemoryState). Event (at held before) Ended (record s { inner = ended (inner_at s.inner p x now) p other; io = io_ended s.io p })) (sym memory)
+      (subst (λ (r : Regs). Event (at held before) Ended (record s { inner = ended (inner_at s.inner p held r) p other; io = io_ended s.io p })) (sym registers)
       (instruction-event s p chosen lives next held before (Aborts other) is)))
 
-  pub turn-abort : (status : ℕ) → ran.stop ≡ Abort status → Events most s (ran.followed + 1) Ended (record s { inner = ended (inner_at s.inner p t now) p status })
+  pub turn-abort : (status : ℕ) → ran.stop ≡ Abort status → Events most s (ran.followed + 1) Ended (record s { inner = ended (inner_at s.inner p t now) p status; io = io_ended s.io p })
   turn-abort status is =
       let (before, held, follow, ends) = runs in
       let (few, left) : EndsInMemory p most ran.followed (Abort status) before held now t = subst (λ (stop : Stop). EndsInMemory p most ran.followed stop before held now t) is ends in
-      one-more before held Ended (record s { inner = ended (inner_at s.inner p t now) p status }) follow few (by_abort before held (next_outcome held p before) status refl left)
+      one-more before held Ended (record s { inner = ended (inner_at s.inner p t now) p status; io = io_ended s.io p }) follow few (by_abort before held (next_outcome held p before) status refl left)

@@ -3,11 +3,11 @@ use Rattle.std.proofs.Common.{◌≡◌, ℕ, ◌+◌, ◌-◌, ◌<◌, false, 
 use Rattle.std.specs.Prelude.{MatchOption}
 use Rattle.os9_base.specs.declared.registers.Pid.{Pid}
 use Rattle.os9_outer.specs.TerminalState.{TerminalState}
-use Rattle.machine_model.specs.declared.ends.EventEnd.{EventEnd}
-use Rattle.machine_model.specs.declared.ends.SliceEnd.TheVariants.{Idle, Ran}
-use Rattle.machine_model.specs.Event.{Event, cost, cost_of}
-use Rattle.machine_model.specs.Run.{Steps, FirstSteps, Slice, Tick, Choose, is_going}
-use Rattle.machine_model.specs.State.{State}
+use Rattle.io_machine.specs.declared.ends.EventEnd.{EventEnd}
+use Rattle.io_machine.specs.declared.ends.SliceEnd.TheVariants.{Idle, Ran}
+use Rattle.io_machine.specs.Event.{Event, cost, cost_of}
+use Rattle.io_machine.specs.Run.{Steps, FirstSteps, Slice, Tick, Choose, is_going}
+use Rattle.io_machine.specs.State.{State}
 use Rattle.os9_kernel.specs.declared.act.Act.{Act}
 use Rattle.os9_kernel.specs.declared.kernel.Kernel.{Kernel}
 use Rattle.os9_kernel.specs.Calls.{HasEvent}
@@ -17,11 +17,11 @@ use Rattle.os9_kernel.specs.Tie.{pending}
 use Rattle.os9_kernel.proofs.Acting.{cost-is}
 
 -- an event that costs nothing is a turn
-pub turn-of : (left : ℕ) (old new : Kernel) (p : Pid) (act : Act) (next : DoesNext old p act) → cost_of (act_in_machine act) ≡ 0 → (before after : List TerminalState) (end : EventEnd) → 0 < left → HasEvent old new before after end → (end ≡ EventEnd.Ran → pending new < pending old) → HasTurn left old new before after (record { count = 0; end = end })
-turn-of left old new p act next free before after end some event progress = record {
+pub turn-of : (left drives : ℕ) (old new : Kernel) (p : Pid) (act : Act) (next : DoesNext old p act) → cost_of (act_in_machine act) ≡ 0 → (before after : List TerminalState) (end : EventEnd) → 0 < left → HasEvent drives old new before after end → (end ≡ EventEnd.Ran → pending new < pending old) → HasTurn left drives old new before after (record { count = 0; end = end })
+turn-of left drives old new p act next free before after end some event progress = record {
   step = λ other s tied.
       let (t, happens, there) = event.step other s tied in
-      let nothing : cost s ≡ 0 = cost-is old p act next before s tied ∙ free in
+      let nothing : cost s ≡ 0 = cost-is old p act next drives before s tied ∙ free in
       (t, subst (λ n. Events left s n end t) nothing (last some happens), there);
   memory = event.memory;
   going = event.going;

@@ -1,6 +1,7 @@
 pub mod Calls
 pub mod Ends
-pub mod Line
 pub mod Next
+pub mod Paths
+pub mod Puts
 pub mod Slice
 pub mod Tie

@@ -6,8 +6,8 @@ use Rattle.proc_rules.specs.Records.{IsLiving, IsProcess, record_at, is_waiting}
 use Rattle.call_rules.specs.Inner.{no_own}
 use Rattle.call_rules.specs.Ready.{Act as MachineAct, attempts, delivers, executes, next_act}
 use Rattle.proc_state.specs.declared.state.ProcState.{ProcState}
-use Rattle.machine_model.specs.declared.ends.EventEnd.{EventEnd}
-use Rattle.machine_model.specs.State.{State}
+use Rattle.io_machine.specs.declared.ends.EventEnd.{EventEnd}
+use Rattle.io_machine.specs.State.{State}
 use Rattle.os9_kernel.specs.declared.act.Act.{Act}
 use Rattle.os9_kernel.specs.declared.act.Act.TheVariants.{Attempt, Delivery, Instruction}
 use Rattle.os9_kernel.specs.declared.kernel.Kernel.{Kernel}
@@ -36,13 +36,13 @@ pub record DoesNext (kernel : Kernel) (p : Pid) (act : Act) : Type 0 where
   pub next : next_of kernel.processes p.0 ≡ act_in_machine act
 
 -- a turn of the chosen process, with so many instructions left
-pub record HasTurn (left : ℕ) (old new : Kernel) (before after : List TerminalState) (turn : Turn) : Type 0 where
+pub record HasTurn (left drives : ℕ) (old new : Kernel) (before after : List TerminalState) (turn : Turn) : Type 0 where
   -- its events are some of the machine
-  pub step : turn.end ≢ EventEnd.NoMemory → (s : State) → Represents old before s
-      → (t : State) × Events left s turn.count turn.end t × Represents new after t
-  pub memory : turn.end ≡ EventEnd.NoMemory → WantsMemory old before after
+  pub step : turn.end ≢ EventEnd.NoMemory → (s : State) → Represents old drives before s
+      → (t : State) × Events left s turn.count turn.end t × Represents new drives after t
+  pub memory : turn.end ≡ EventEnd.NoMemory → WantsMemory old drives before after
   -- the chosen process lives still, where it goes on; then instructions were executed, or less is pending
   pub going : turn.end ≡ EventEnd.Ran → IsGoing new
   pub few : turn.count ≤ left
   pub progress : turn.end ≡ EventEnd.Ran → 4 * (left - turn.count) + pending new < 4 * left + pending old
-  pub count : ticks new ≡ ticks old
+  pub count : turn.end ≢ EventEnd.NoMemory → ticks new ≡ ticks old

@@ -1,13 +1,13 @@
 -- Slices in pieces.
 use Rattle.std.specs.Prelude.{◌≡◌, ◌≢◌, ℕ, ◌+◌, ◌-◌, ◌<◌, List}
 use Rattle.os9_outer.specs.TerminalState.{TerminalState, fault_counts}
-use Rattle.machine_model.specs.declared.ends.EventEnd.{EventEnd}
-use Rattle.machine_model.specs.declared.ends.SliceEnd.{SliceEnd}
-use Rattle.machine_model.specs.Event.{Event, cost}
-use Rattle.machine_model.specs.Run.{Steps, FirstSteps}
-use Rattle.machine_model.specs.State.{State}
+use Rattle.io_machine.specs.declared.ends.EventEnd.{EventEnd}
+use Rattle.io_machine.specs.declared.ends.SliceEnd.{SliceEnd}
+use Rattle.io_machine.specs.Event.{Event, cost}
+use Rattle.io_machine.specs.Run.{Steps, FirstSteps}
+use Rattle.io_machine.specs.State.{State}
 use Rattle.os9_kernel.specs.declared.kernel.Kernel.{Kernel}
-use Rattle.os9_kernel.specs.Line.{PutsByte}
+use Rattle.os9_kernel.specs.Puts.{PutsByte}
 use Rattle.os9_kernel.specs.Tie.{Represents, ticks}
 
 -- Events one after another, while so many instructions are left before each: so many are executed, all go on but
@@ -28,13 +28,14 @@ BeginsFrom n s left m =
     (states : List State) (t : State) → FirstSteps left m states t → (all : List State) × FirstSteps n s all t
 
 -- the events of a slice, of which so many instructions are left
-pub record HasEvents (left : ℕ) (old new : Kernel) (before after : List TerminalState) (end : SliceEnd) : Type 0 where
-  -- they are those of the machine
-  pub step : end ≢ SliceEnd.NoMemory → (s : State) → Represents old before s
-      → (states : List State) × (t : State) × Steps left s states t × Represents new after t
-  pub ran : end ≢ SliceEnd.NoMemory → end ≡ SliceEnd.Ran
-  -- memory is out: after the first of them the process has a byte to put, and no terminal failed since
-  pub part : end ≡ SliceEnd.NoMemory → (s : State) → Represents old before s
-      → (states : List State) × (t : State) × FirstSteps left s states t × PutsByte t
-      × (fault_counts t.terms ≡ fault_counts after)
-  pub count : ticks new ≡ ticks old
+pub record HasEvents (left drives : ℕ) (old new : Kernel) (before after : List TerminalState) (end : SliceEnd) : Type 0
+  where
+    -- they are those of the machine
+    pub step : end ≢ SliceEnd.NoMemory → (s : State) → Represents old drives before s
+        → (states : List State) × (t : State) × Steps left s states t × Represents new drives after t
+    pub ran : end ≢ SliceEnd.NoMemory → end ≡ SliceEnd.Ran
+    -- memory is out: after the first of them the process has a byte to put, and no terminal failed since
+    pub part : end ≡ SliceEnd.NoMemory → (s : State) → Represents old drives before s
+        → (states : List State) × (t : State) × FirstSteps left s states t × PutsByte t
+        × (fault_counts t.terms ≡ fault_counts after)
+    pub count : end ≢ SliceEnd.NoMemory → ticks new ≡ ticks old

@@ -6,13 +6,31 @@ use Rattle.proc_rules.specs.Records.{IsLiving, record_at}
 use Rattle.call_rules.specs.Inner.{no_own}
 use Rattle.proc_state.specs.declared.state.ProcState.{ProcState}
 use Rattle.proc_state.specs.Tie.{Represents as RepresentsProcesses}
-use Rattle.machine_model.specs.State.{State}
+use Rattle.io_machine.specs.State.{State}
+use Rattle.kept_laws.specs.Running.{IsRunning}
 use Rattle.os9_kernel.specs.declared.kernel.Kernel.{Kernel}
 
--- A kernel and its terminals represent a state: its processes are those of the machine, and all else is equal.
-pub record Represents (kernel : Kernel) (terms : List TerminalState) (s : State) : Type 0 where
+-- A kernel on a machine with so many drives, and its terminals, represent a state: its processes are those of the
+-- machine, all else is equal, and it is a state of a run.
+pub record Represents (kernel : Kernel) (drives : ℕ) (terms : List TerminalState) (s : State) : Type 0 where
   pub inner : RepresentsProcesses kernel.processes s.inner
-  pub is : s ≡ record { inner = s.inner; chosen = option_map (λ (p : Pid). p.0) kernel.chosen; terms = terms }
+  pub is : s
+      ≡ record {
+        inner = s.inner;
+        io = kernel.io;
+        chosen = option_map (λ (p : Pid). p.0) kernel.chosen;
+        drives = drives;
+        terms = terms;
+      }
+  pub running : IsRunning s
+
+-- a kernel on a machine with so many drives and these terminals stands for a state
+abbrev pub Stands : Kernel → ℕ → List TerminalState → Type 0
+Stands kernel drives terms = (s : State) × Represents kernel drives terms s
+
+-- a kernel on some machine stands for a state
+abbrev pub HasState : Kernel → Type 0
+HasState kernel = (drives : ℕ) × (terms : List TerminalState) × Stands kernel drives terms
 
 -- the process that was chosen lives
 abbrev pub IsGoing : Kernel → Type 0

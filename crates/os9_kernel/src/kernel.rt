@@ -1,14 +1,15 @@
-ghost use Rattle.std.specs.Prelude.{◌≡◌, ◌+◌, ◌<◌, ◌≤◌, List, IsOk, IfSome, option_map, vec_len};
+ghost use Rattle.std.specs.Prelude.{◌≡◌, ◌<◌, ℕ, List, IfSome, option_map, vec_len};
 ghost use Rattle.os9_outer.specs.TerminalState.{TerminalState, terminal_states};
-ghost use Rattle.machine_model.specs.State.{State, living_count};
-ghost use Rattle.machine_model.specs.Run.{Choose, Tick};
-ghost use Rattle.os9_kernel.specs.Calls.{HasEvent, HasSlice};
-ghost use Rattle.os9_kernel.specs.Tie.{Represents, IsGoing, ticks};
+ghost use Rattle.io_machine.specs.State.{State, living_count};
+ghost use Rattle.io_machine.specs.Run.{Choose};
+ghost use Rattle.os9_kernel.specs.Calls.{HasEvent, HasSlice, HasTick};
+ghost use Rattle.os9_kernel.specs.Tie.{Represents, Stands, IsGoing, ticks};
 
 use crate::act::Act;
-use call_rules::io_ready::IoReady;
 use device_table::devices::Devices;
-use machine_model::ends::{EventEnd, SliceEnd};
+use io_machine::ends::{EventEnd, SliceEnd};
+use io_state::state::IoState;
+use key_arrivals::keys::arrive_keys;
 use os9_base::call::OutOfMemory;
 use os9_base::limits::LAST_TICK;
 use os9_base::registers::Pid;
@@ -19,6 +20,8 @@ use proc_state::state::ProcState;
 #[derive(Drop)]
 pub struct Kernel {
     pub(crate) processes: ProcState,
+    /// Paths, terminals, pipes and the calls that wait on them.
+    pub(crate) io: IoState,
     /// The process that was chosen last, if one was Ready.
     pub(crate) chosen: Option<Pid>,
 }
@@ -26,45 +29,54 @@ pub struct Kernel {
 impl Kernel {
     /// How many processes live.
     pub fn living(&self) -> u8
-        ensures { (terms : List TerminalState) (s : State) → Represents self.now terms s
-            → result ≡ living_count s.inner }
+        ensures { (drives : ℕ) (terms : List TerminalState) (s : State)
+            → Represents self.now drives terms s → result ≡ living_count s.inner }
     {
         self.processes.living()
     }
 
-    /// Begins a slice: the tick rises by 1. It is below 4,294,000,000 before.
+    /// Begins a slice: the tick rises by 1, and the keys that are due arrive. It is below
+    /// 4,294,000,000 before.
+    ///
+    /// # Errors
+    ///
+    /// `OutOfMemory` if a bell found no memory. The kernel is used no more then.
     pub fn tick(&mut self, devices: &mut Devices) -> Result<(), OutOfMemory>
-        requires { ticks self.old < LAST_TICK }
-        ensures done { IsOk result }
-        ensures step { (terms : List TerminalState) (s : State) → Represents self.old terms s
-            → (t : State) × Tick s t × Represents self.new terms t }
-        ensures count { ticks self.new ≡ ticks self.old + 1 }
-        ensures devices_kept { devices.new ≡ devices.old }
+        requires count { ticks self.old < LAST_TICK }
+        requires stands { Stands self.old (vec_len devices.old.drives)
+            (terminal_states ⟦<dyn CharDriver as CharDriver>⟧ devices.old.terms.items) }
+        ensures tick { HasTick (vec_len devices.old.drives) self.old self.new
+            (terminal_states ⟦<dyn CharDriver as CharDriver>⟧ devices.old.terms.items)
+            (terminal_states ⟦<dyn CharDriver as CharDriver>⟧ devices.new.terms.items) result }
+        ensures terminals { vec_len devices.new.terms ≡ vec_len devices.old.terms }
+        ensures drives_kept { devices.new.drives ≡ devices.old.drives }
     {
         self.processes.tick += 1;
-        Ok(())
+        arrive_keys(&mut self.processes, &mut self.io, devices)
     }
 
     /// Chooses a process that is Ready; None exactly where none is.
     pub fn choose(&mut self) -> Option<Pid>
-        ensures step { (terms : List TerminalState) (s : State) → Represents self.old terms s
-            → (t : State) × Choose s t × Represents self.new terms t
+        ensures step { (drives : ℕ) (terms : List TerminalState) (s : State)
+            → Represents self.old drives terms s
+            → (t : State) × Choose s t × Represents self.new drives terms t
             × (option_map (λ p. p.0) result ≡ t.chosen) }
         ensures going { IfSome result (λ p. IsGoing self.new) }
         ensures count { ticks self.new ≡ ticks self.old }
     {
-        self.chosen = self.processes.choose(&IoReady::none());
+        let ready = self.io.ready_set();
+        self.chosen = self.processes.choose(&ready);
         self.chosen
     }
 
     /// One event of the process that was chosen, which has to live: the first attempt of its call,
-    /// the delivery of a pending signal, a further attempt, or an instruction. There has to be a
-    /// terminal. The process goes on where the answer is `Ran`. At `NoMemory` the kernel is used no
-    /// more.
+    /// the delivery of a pending signal, a further attempt, or an instruction. The process goes on
+    /// where the answer is `Ran`. At `NoMemory` the kernel is used no more.
     pub fn event(&mut self, devices: &mut Devices) -> EventEnd
         requires going { IsGoing self.old }
-        requires terminal { 0 < vec_len devices.old.terms }
-        ensures event { HasEvent self.old self.new
+        requires stands { Stands self.old (vec_len devices.old.drives)
+            (terminal_states ⟦<dyn CharDriver as CharDriver>⟧ devices.old.terms.items) }
+        ensures event { HasEvent (vec_len devices.old.drives) self.old self.new
             (terminal_states ⟦<dyn CharDriver as CharDriver>⟧ devices.old.terms.items)
             (terminal_states ⟦<dyn CharDriver as CharDriver>⟧ devices.new.terms.items) result }
         ensures terminals { vec_len devices.new.terms ≡ vec_len devices.old.terms }
@@ -78,22 +90,25 @@ impl Kernel {
         }
     }
 
-    /// A slice: the tick rises, a process that is Ready is chosen, and it has its events until it
-    /// has executed `n` instructions, waits or has ended. There has to be a terminal. `Idle` comes
-    /// exactly where no process is Ready. At `NoMemory` the kernel is used no more.
+    /// A slice: the tick rises and the keys that are due arrive, a process that is Ready is chosen,
+    /// and it has its events until it has executed `n` instructions, waits or has ended. `Idle`
+    /// comes exactly where no process is Ready. At `NoMemory` the kernel is used no more.
     pub fn slice(&mut self, n: u32, devices: &mut Devices) -> SliceEnd
         requires tick { ticks self.old < LAST_TICK }
-        requires terminal { 0 < vec_len devices.old.terms }
-        ensures slice { HasSlice n self.old self.new
+        requires stands { Stands self.old (vec_len devices.old.drives)
+            (terminal_states ⟦<dyn CharDriver as CharDriver>⟧ devices.old.terms.items) }
+        ensures slice { HasSlice n (vec_len devices.old.drives) self.old self.new
             (terminal_states ⟦<dyn CharDriver as CharDriver>⟧ devices.old.terms.items)
             (terminal_states ⟦<dyn CharDriver as CharDriver>⟧ devices.new.terms.items) result }
         ensures terminals { vec_len devices.new.terms ≡ vec_len devices.old.terms }
         ensures drives_kept { devices.new.drives ≡ devices.old.drives }
     {
-        if self.tick(devices).is_err() {
-            return SliceEnd::NoMemory;
+        match self.tick(devices) {
+            Ok(()) => {}
+            Err(OutOfMemory) => return SliceEnd::NoMemory,
         }
-        match self.choose() {
+        let chosen = self.choose();
+        match chosen {
             None => SliceEnd::Idle,
             Some(_) => self.events(n, devices),
         }

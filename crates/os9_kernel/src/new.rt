@@ -1,14 +1,15 @@
 //! The start of a kernel.
 
-ghost use Rattle.std.specs.Prelude.{◌≡◌, ◌≢◌, ◌≤◌, List, IfOk, IfErr, OnOk};
+ghost use Rattle.std.specs.Prelude.{◌≡◌, ◌≢◌, ◌<◌, ◌≤◌, ℕ, List, IfOk, IfErr, OnOk, length};
 ghost use Rattle.os9_outer.specs.TerminalState.{TerminalState};
-ghost use Rattle.machine_model.specs.declared.ends.BootFault.{BootFault};
-ghost use Rattle.machine_model.specs.Start.{Starts, Refuses};
-ghost use Rattle.machine_model.specs.State.{State};
+ghost use Rattle.io_machine.specs.declared.ends.BootFault.{BootFault};
+ghost use Rattle.io_machine.specs.Start.{Starts, Refuses};
+ghost use Rattle.io_machine.specs.State.{State};
 ghost use Rattle.os9_kernel.specs.Tie.{Represents, ticks};
 
 use crate::kernel::Kernel;
-use machine_model::ends::BootFault;
+use io_machine::ends::BootFault;
+use io_state::state::IoState;
 use process_start::start;
 use std::alloc::Global;
 
@@ -33,8 +34,10 @@ impl Kernel {
     pub fn new(alloc: Global, config: Config, boot: &[u8]) -> Result<Kernel, BootFault>
         requires least { 8 ≤ config.blocks }
         requires most { config.blocks ≤ 256 }
-        ensures start { IfOk result (λ kernel. (terms : List TerminalState)
-            → (s : State) × Starts boot.now config.blocks terms s × Represents kernel terms s) }
+        ensures start { IfOk result (λ kernel. (drives : ℕ) (terms : List TerminalState)
+            → 0 < length terms → length terms ≤ 4
+            → (s : State) × Starts boot.now config.blocks drives terms s
+            × Represents kernel drives terms s) }
         ensures accepted { OnOk result ((fault : BootFault)
             → ¬ Refuses boot.now config.blocks fault) }
         ensures refused { IfErr result (λ fault. fault ≢ BootFault.OutOfMemory
@@ -42,8 +45,10 @@ impl Kernel {
         ensures count { IfOk result (λ kernel. ticks kernel ≡ 0) }
     {
         let processes = start(alloc, config.blocks, boot)?;
+        let io = IoState::new(alloc)?;
         Ok(Kernel {
             processes,
+            io,
             chosen: None,
         })
     }

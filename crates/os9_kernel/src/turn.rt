@@ -4,12 +4,12 @@ ghost use Rattle.std.specs.Prelude.{◌≡◌, ◌<◌, vec_len};
 ghost use Rattle.os9_outer.specs.TerminalState.{terminal_states};
 ghost use Rattle.os9_kernel.specs.Next.{HasTurn};
 ghost use Rattle.os9_kernel.specs.Slice.{HasEvents};
-ghost use Rattle.os9_kernel.specs.Tie.{IsGoing};
+ghost use Rattle.os9_kernel.specs.Tie.{IsGoing, Stands};
 
 use crate::act::Act;
 use crate::kernel::Kernel;
 use device_table::devices::Devices;
-use machine_model::ends::{EventEnd, SliceEnd};
+use io_machine::ends::{EventEnd, SliceEnd};
 use os9_base::registers::Pid;
 use os9_outer::terminal::CharDriver;
 
@@ -24,8 +24,9 @@ impl Kernel {
     /// The events of the chosen process until the slice is over.
     pub(crate) fn events(&mut self, n: u32, devices: &mut Devices) -> SliceEnd
         requires going { IsGoing self.old }
-        requires terminal { 0 < vec_len devices.old.terms }
-        ensures events { HasEvents n self.old self.new
+        requires stands { Stands self.old (vec_len devices.old.drives)
+            (terminal_states ⟦<dyn CharDriver as CharDriver>⟧ devices.old.terms.items) }
+        ensures events { HasEvents n (vec_len devices.old.drives) self.old self.new
             (terminal_states ⟦<dyn CharDriver as CharDriver>⟧ devices.old.terms.items)
             (terminal_states ⟦<dyn CharDriver as CharDriver>⟧ devices.new.terms.items) result }
         ensures terminals { vec_len devices.new.terms ≡ vec_len devices.old.terms }
@@ -47,9 +48,10 @@ impl Kernel {
     /// one after another, but at most so many.
     fn turn(&mut self, left: u32, devices: &mut Devices) -> Turn
         requires going { IsGoing self.old }
-        requires terminal { 0 < vec_len devices.old.terms }
+        requires stands { Stands self.old (vec_len devices.old.drives)
+            (terminal_states ⟦<dyn CharDriver as CharDriver>⟧ devices.old.terms.items) }
         requires some { 0 < left }
-        ensures turn { HasTurn left self.old self.new
+        ensures turn { HasTurn left (vec_len devices.old.drives) self.old self.new
             (terminal_states ⟦<dyn CharDriver as CharDriver>⟧ devices.old.terms.items)
             (terminal_states ⟦<dyn CharDriver as CharDriver>⟧ devices.new.terms.items) result }
         ensures terminals { vec_len devices.new.terms ≡ vec_len devices.old.terms }

@@ -1,8 +1,10 @@
-use Rattle.std.proofs.Common.{◌≡◌, false, refl, sym, ap, ◌∙◌, inl, inr, ◌⊎◌, arith}
-use Rattle.os9_outer.specs.TerminalState.{fault_counts}
-use Rattle.machine_model.specs.declared.ends.EventEnd.{EventEnd}
-use Rattle.machine_model.specs.declared.ends.EventEnd.TheVariants.{Ran, Waits, Ended, NoMemory}
-use Rattle.machine_model.specs.Run.{is_going}
+use Rattle.std.proofs.Common.{◌≡◌, false, refl, sym, ap, ◌∙◌, subst, inl, inr, ◌⊎◌, arith}
+use Rattle.std.specs.Vec.{vec_len}
+use Rattle.os9_outer.specs.TerminalState.{fault_counts, terminal_states}
+use Rattle.os9_kernel.specs.Tie.{Represents}
+use Rattle.io_machine.specs.declared.ends.EventEnd.{EventEnd}
+use Rattle.io_machine.specs.declared.ends.EventEnd.TheVariants.{Ran, Waits, Ended, NoMemory}
+use Rattle.io_machine.specs.Run.{is_going}
 use Rattle.os9_kernel.proofs.Turns.{turn-continues, turn-begins, turn-ends, used-up, begun-here}
 use Rattle.os9_kernel.proofs.kernel.Kernel.events.Goals as goal
 
@@ -19,13 +21,17 @@ loop-left-preserved g c =
     let turn = c.turn-turn.ensures.turn in record {
       going = turn.going c.in-Ran.is;
       terminal = c.turn-turn.ensures.terminals ∙ c.loop-left.invariant.terminal;
-      count = turn.count ∙ c.loop-left.invariant.count;
+      count = turn.count (λ out. let no : Ran ≡ NoMemory = sym c.in-Ran.is ∙ out in cc) ∙ c.loop-left.invariant.count;
       drives = c.turn-turn.ensures.drives_kept ∙ c.loop-left.invariant.drives;
+      stands =
+          let (m, there) = c.loop-left.invariant.stands in
+          let (t, events, now) = turn.step (λ out. let no : Ran ≡ NoMemory = sym c.in-Ran.is ∙ out in cc) m there in
+          (t, subst (λ drives. Represents c.turn-turn.new.self (vec_len drives) (terminal_states (λ table. (g.dyn-2.0.entry table).1) c.turn-turn.new.devices.terms.items) t) (sym c.turn-turn.ensures.drives_kept) now);
       tied = λ s tied.
           let (m, there, continues, begins) = c.loop-left.invariant.tied s tied in
           let (t, events, now) = turn.step (λ out. let no : Ran ≡ NoMemory = sym c.in-Ran.is ∙ out in cc) m there in (
             t,
-            now,
+            subst (λ drives. Represents c.turn-turn.new.self (vec_len drives) (terminal_states (λ table. (g.dyn-2.0.entry table).1) c.turn-turn.new.devices.terms.items) t) (sym c.turn-turn.ensures.drives_kept) now,
             turn-continues events c.in-Ran.is c.args.n s continues,
             turn-begins events c.in-Ran.is c.args.n s begins,
           );
@@ -38,10 +44,10 @@ returns-in-Waits-clause-events g c =
           let (m, there, continues, begins) = c.loop-left.invariant.tied s tied in
           let (t, events, now) = turn.step (other c.turn-turn.result.end c.in-Waits.is) m there in
           let (all, steps) = turn-ends events (stops c.turn-turn.result.end c.in-Waits.is) c.args.n s continues in
-          (all, t, steps, now);
+          (all, t, steps, subst (λ drives. Represents c.turn-turn.new.self (vec_len drives) (terminal_states (λ table. (g.dyn-2.0.entry table).1) c.turn-turn.new.devices.terms.items) t) c.loop-left.invariant.drives now);
       ran = λ _. refl;
       part = λ is. cc;
-      count = turn.count ∙ c.loop-left.invariant.count;
+      count = λ _. turn.count (other c.turn-turn.result.end c.in-Waits.is) ∙ c.loop-left.invariant.count;
     }
 
 pub returns-in-NoMemory-clause-events : goal.returns-in-NoMemory-clause-events
@@ -54,7 +60,7 @@ returns-in-NoMemory-clause-events g c =
           let (puts, unfaulted) = turn.memory c.in-NoMemory.is in
           let (all, first) = begun-here c.args.n c.loop-left.left s m (omega arith) begins in
           (all, m, first, puts m there, ap fault_counts (ap (λ s. s.terms) there.is) ∙ sym unfaulted);
-      count = turn.count ∙ c.loop-left.invariant.count;
+      count = λ e. absurd (e refl);
     }
 
 pub returns-clause-events : goal.returns-clause-events
@@ -62,8 +68,8 @@ returns-clause-events g c = record {
   step = λ _ s tied.
       let (m, there, continues, begins) = c.loop-left.invariant.tied s tied in
       let (all, steps) = used-up c.args.n c.loop-left.left s m (omega arith) continues in
-      (all, m, steps, there);
+      (all, m, steps, subst (λ drives. Represents c.loop-left.self (vec_len drives) (terminal_states (λ table. (g.dyn-2.0.entry table).1) c.loop-left.devices.terms.items) m) c.loop-left.invariant.drives there);
   ran = λ _. refl;
   part = λ is. cc;
-  count = c.loop-left.invariant.count;
+  count = λ _. c.loop-left.invariant.count;
 }

@@ -1,8 +1,8 @@
 use Rattle.std.proofs.Common.{◌≡◌, ◌+◌, ◌*◌}
 use Rattle.std.specs.Vec.{vec_len}
 use Rattle.os9_outer.specs.TerminalState.{terminal_states}
-use Rattle.machine_model.specs.State.{State}
-use Rattle.os9_kernel.specs.Tie.{Represents, IsGoing, ticks, pending}
+use Rattle.io_machine.specs.State.{State}
+use Rattle.os9_kernel.specs.Tie.{Represents, Stands, IsGoing, ticks, pending}
 use Rattle.os9_kernel.specs.Slice.{BeginsFrom, ContinuesFrom}
 use Rattle.os9_kernel.proofs.kernel.Kernel.events.Given as goal
 
@@ -12,7 +12,8 @@ invariant-loop-left g l = record {
   terminal : vec_len l.devices.terms ≡ vec_len l.initial.devices.terms;
   count : ticks l.self ≡ ticks l.initial.self;
   drives : l.devices.drives ≡ l.initial.devices.drives;
-  tied : (s : State) → Represents l.initial.self (terminal_states (λ table. (g.dyn-2.0.entry table).1) l.initial.devices.terms.items) s → (m : State) × Represents l.self (terminal_states (λ table. (g.dyn-2.0.entry table).1) l.devices.terms.items) m × ContinuesFrom l.n s l.left m × BeginsFrom l.n s l.left m;
+  stands : Stands l.self (vec_len l.devices.drives) (terminal_states (λ table. (g.dyn-2.0.entry table).1) l.devices.terms.items);
+  tied : (s : State) → Represents l.initial.self (vec_len l.initial.devices.drives) (terminal_states (λ table. (g.dyn-2.0.entry table).1) l.initial.devices.terms.items) s → (m : State) × Represents l.self (vec_len l.devices.drives) (terminal_states (λ table. (g.dyn-2.0.entry table).1) l.devices.terms.items) m × ContinuesFrom l.n s l.left m × BeginsFrom l.n s l.left m;
 }
 
 abbrev pub decreases-loop-left : goal.decreases-loop-left

@@ -1,4 +1,4 @@
-use Rattle.std.proofs.Common.{◌≡◌, ◌≤◌, ◌<◌, ◌+◌, ◌-◌, ◌*◌, ℕ, Option, Some, List, refl, sym, ◌∙◌, subst, arith}
+use Rattle.std.proofs.Common.{◌≡◌, ◌≤◌, ◌<◌, ◌+◌, ◌-◌, ◌*◌, ℕ, Option, Some, List, refl, sym, ap, ◌∙◌, subst, arith}
 use Rattle.os9_base.specs.declared.registers.Regs.{Regs}
 use Rattle.cpu_model.specs.declared.stop.Stop.{Stop}
 use Rattle.cpu_model.specs.declared.stop.Stop.TheVariants.{Next, Call, Abort}
@@ -10,14 +10,16 @@ use Rattle.proc_rules.specs.Records.{IsLiving}
 use Rattle.proc_state.specs.Tie.{Represents as RepresentsProcesses}
 use Rattle.call_rules.specs.End.{ended}
 use Rattle.call_rules.specs.Inner.{Inner, own_at, regs_at, with_memory, with_own, with_regs_of}
+use Rattle.io_rules.specs.Io.{Io}
+use Rattle.io_rules.specs.Processes.{io_ended}
 use Rattle.os9_kernel.specs.declared.kernel.Kernel.{Kernel}
 use Rattle.os9_kernel.specs.Tie.{pending, pending_of}
 use Rattle.os9_kernel.specs.declared.act.Act.TheVariants.{Instruction}
-use Rattle.os9_kernel.proofs.Acting.{acts-so, chosen-is, lives-there, represents-here}
+use Rattle.os9_kernel.proofs.Acting.{acts-so, chosen-is, lives-there, events-running, io-is, represents-here}
 use Rattle.os9_kernel.proofs.Columns.{inner_at}
 use Rattle.os9_kernel.proofs.Pending.{at_most-three, pending-is}
 use Rattle.os9_kernel.proofs.Represented.{some-inner, tick-kept}
-use Rattle.machine_model.proofs.Ticks.{ended-tick}
+use Rattle.io_machine.proofs.Ticks.{ended-tick}
 use Rattle.os9_kernel.proofs.Turning.{all-done, some-left, turn-next, turn-call, turn-abort}
 use Rattle.os9_kernel.proofs.kernel.Kernel.instructions.Goals as goal
 use Rattle.os9_kernel.proofs.kernel.Kernel.instructions.Goals.{After-set_regs}
@@ -65,63 +67,66 @@ overflow_add-result-in-Abort c =
     omega (arith, some, c.ranges.most.fits)
 
 pub returns-in-Next-clause-turn : goal.returns-in-Next-clause-turn
-returns-in-Next-clause-turn c terms =
+returns-in-Next-clause-turn c drives terms =
     let here = (goal.at.returns-in-Next-clause-turn c).After-set_regs in
     let old = c.args.self.now in
     let p = c.args.p in
     let next = c.requires.next in
     let whole = all here c.in-Next.is in record {
       step = λ _ s tied.
-          let (t, (runs, there)) = ran here s.inner tied.inner in (
+          let (t, (runs, there)) = ran here s.inner tied.inner in
+          let events = turn-next s p.0 (chosen-is old p Instruction next drives terms s tied) (lives-there old p Instruction next drives terms s tied) (acts-so old p Instruction next drives terms s tied) c.args.most c.run-ran.result c.run-ran.new.regs t c.requires.some runs c.in-Next.is in (
             record s { inner = inner_at s.inner p.0 t c.run-ran.new.regs },
-            turn-next s p.0 (chosen-is old p Instruction next terms s tied) (lives-there old p Instruction next terms s tied) (acts-so old p Instruction next terms s tied) c.args.most c.run-ran.result c.run-ran.new.regs t c.requires.some runs c.in-Next.is,
-            represents-here old p Instruction next terms s tied _ _ refl (regs_set here s.inner tied.inner t there),
+            events,
+            represents-here old p Instruction next drives terms s tied (record { processes = c.set_regs.new.self; io = old.io; chosen = old.chosen }) _ s.io refl (regs_set here s.inner tied.inner t there) (io-is old p Instruction next drives terms s tied) (events-running events tied.running),
           );
       memory = λ is. cc;
       going = λ _. (p, next.chosen, c.set_regs.ensures.lives);
       few = omega (arith, whole);
-      progress = λ _. lowers here (record { processes = c.set_regs.new.self; chosen = old.chosen }) c.run-ran.result.followed refl (omega (arith, whole)) (omega (arith, whole));
-      count = ticks_set here;
+      progress = λ _. lowers here (record { processes = c.set_regs.new.self; io = old.io; chosen = old.chosen }) c.run-ran.result.followed refl (omega (arith, whole)) (omega (arith, whole));
+      count = λ _. ticks_set here;
     }
 
 pub returns-in-Call-clause-turn : goal.returns-in-Call-clause-turn
-returns-in-Call-clause-turn c terms =
+returns-in-Call-clause-turn c drives terms =
     let here = (goal.at.returns-in-Call-clause-turn c).After-set_regs in
     let old = c.args.self.now in
     let p = c.args.p in
     let next = c.requires.next in
     let some = left here (Call c.in-Call.code) c.in-Call.is (λ e. cc) in record {
       step = λ _ s tied.
-          let (t, (runs, there)) = ran here s.inner tied.inner in (
+          let (t, (runs, there)) = ran here s.inner tied.inner in
+          let events = turn-call s p.0 (chosen-is old p Instruction next drives terms s tied) (lives-there old p Instruction next drives terms s tied) (acts-so old p Instruction next drives terms s tied) c.args.most c.run-ran.result c.run-ran.new.regs t c.requires.some runs c.in-Call.code c.in-Call.is in (
             record s { inner = with_own (inner_at s.inner p.0 t c.run-ran.new.regs) p.0 (record (own_at s.inner p.0) { call = Some c.in-Call.code }) },
-            turn-call s p.0 (chosen-is old p Instruction next terms s tied) (lives-there old p Instruction next terms s tied) (acts-so old p Instruction next terms s tied) c.args.most c.run-ran.result c.run-ran.new.regs t c.requires.some runs c.in-Call.code c.in-Call.is,
-            represents-here old p Instruction next terms s tied _ _ c.begin_call.ensures.chosen (c.begin_call.ensures.tied _ (regs_set here s.inner tied.inner t there)),
+            events,
+            represents-here old p Instruction next drives terms s tied c.begin_call.new.self _ s.io c.begin_call.ensures.chosen (c.begin_call.ensures.tied _ (regs_set here s.inner tied.inner t there)) (io-is old p Instruction next drives terms s tied ∙ sym c.begin_call.ensures.io) (events-running events tied.running),
           );
       memory = λ is. cc;
       going = λ _. (p, c.begin_call.ensures.chosen ∙ next.chosen, subst (λ (records : List (Option Record)). IsLiving records p.0) (sym c.begin_call.ensures.records) c.set_regs.ensures.lives);
       few = omega (arith, some);
       progress = λ _. lowers here c.begin_call.new.self (c.run-ran.result.followed + 1) c.begin_call.ensures.chosen (omega arith) (omega (arith, some));
-      count = c.begin_call.ensures.count ∙ ticks_set here;
+      count = λ _. c.begin_call.ensures.count ∙ ticks_set here;
     }
 
 pub returns-in-Abort-clause-turn : goal.returns-in-Abort-clause-turn
-returns-in-Abort-clause-turn c terms =
+returns-in-Abort-clause-turn c drives terms =
     let here = (goal.at.returns-in-Abort-clause-turn c).After-set_regs in
     let old = c.args.self.now in
     let p = c.args.p in
     let next = c.requires.next in
     let some = left here (Abort c.in-Abort.status) c.in-Abort.is (λ e. cc) in record {
       step = λ _ s tied.
-          let (t, (runs, there)) = ran here s.inner tied.inner in (
-            record s { inner = ended (inner_at s.inner p.0 t c.run-ran.new.regs) p.0 c.in-Abort.status },
-            turn-abort s p.0 (chosen-is old p Instruction next terms s tied) (lives-there old p Instruction next terms s tied) (acts-so old p Instruction next terms s tied) c.args.most c.run-ran.result c.run-ran.new.regs t c.requires.some runs c.in-Abort.status c.in-Abort.is,
-            represents-here old p Instruction next terms s tied _ _ refl (c.end.ensures _ (regs_set here s.inner tied.inner t there)),
+          let (t, (runs, there)) = ran here s.inner tied.inner in
+          let events = turn-abort s p.0 (chosen-is old p Instruction next drives terms s tied) (lives-there old p Instruction next drives terms s tied) (acts-so old p Instruction next drives terms s tied) c.args.most c.run-ran.result c.run-ran.new.regs t c.requires.some runs c.in-Abort.status c.in-Abort.is in (
+            record s { inner = ended (inner_at s.inner p.0 t c.run-ran.new.regs) p.0 c.in-Abort.status; io = io_ended s.io p.0 },
+            events,
+            represents-here old p Instruction next drives terms s tied c.end_process.new.self _ (io_ended s.io p.0) c.end_process.ensures.chosen (c.end_process.ensures.tied _ (regs_set here s.inner tied.inner t there)) (ap (λ (io : Io). io_ended io p.0) (io-is old p Instruction next drives terms s tied) ∙ sym c.end_process.ensures.io) (events-running events tied.running),
           );
       memory = λ is. cc;
       going = λ is. cc;
       few = omega (arith, some);
       progress = λ is. cc;
       count =
-          tick-kept c.set_regs.new.self c.end.new.self (λ (m : Inner). ended m p.0 c.in-Abort.status) c.end.ensures (λ m. ended-tick m p.0 c.in-Abort.status)
+          λ _. tick-kept c.set_regs.new.self c.end_process.new.self.processes (λ (m : Inner). ended m p.0 c.in-Abort.status) c.end_process.ensures.tied (λ m. ended-tick m p.0 c.in-Abort.status)
           ∙ ticks_set here;
     }

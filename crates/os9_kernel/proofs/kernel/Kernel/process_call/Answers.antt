@@ -1,33 +1,67 @@
-use Rattle.std.proofs.Common.{refl, sym, ap, ◌∙◌, subst}
+use Rattle.std.proofs.Common.{◌≡◌, refl, sym, ap, ◌∙◌, subst}
+use Rattle.std.specs.Prelude.{slice_index_or}
+use Rattle.os9_base.specs.declared.call.CallEnd.{CallEnd}
+use Rattle.proc_calls.specs.Telling.{LivesOn}
 use Rattle.call_rules.specs.Attempts.{attempted, after_attempt}
-use Rattle.call_rules.specs.Inner.{Inner}
-use Rattle.os9_kernel.specs.declared.act.Act.TheVariants.{Attempt}
+use Rattle.proc_rules.specs.Records.{IsLiving}
+use Rattle.call_rules.specs.Inner.{Inner, no_own}
+use Rattle.io_rules.specs.Io.{Io}
+use Rattle.io_machine.specs.Event.{io_after_call}
+use Rattle.io_machine.specs.State.{State}
+use Rattle.proc_state.specs.declared.state.ProcState.{ProcState}
 use Rattle.proc_state.specs.Tie.{Represents as RepresentsProcesses}
+use Rattle.os9_kernel.specs.declared.act.Act.TheVariants.{Attempt}
 use Rattle.os9_kernel.specs.Ends.{event_end_of}
-use Rattle.os9_kernel.proofs.Acting.{event-then, terms-are}
-use Rattle.os9_kernel.proofs.Calling.{end-tied, never-wants, goes-on, lives-so}
+use Rattle.os9_kernel.specs.Paths.{MayBegin, io_then, number_in_a}
+use Rattle.os9_kernel.proofs.Acting.{event-then, io-is, terms-are}
+use Rattle.os9_kernel.proofs.Calling.{code-names, end-tied, goes-on, has-number, HasNumber, io-tied, lives-so, may-begin, never-wants}
 use Rattle.os9_kernel.proofs.Pending.{attempt-lowers}
-use Rattle.os9_kernel.proofs.Represented.{some-inner, tick-kept, no-call}
-use Rattle.machine_model.proofs.Ticks.{attempt-tick}
+use Rattle.os9_kernel.proofs.Represented.{some-inner, tick-kept, no-call, places-there}
+use Rattle.io_machine.proofs.Ticks.{attempt-tick}
 use Rattle.os9_kernel.proofs.kernel.Kernel.process_call.Goals as goal
+use Rattle.os9_kernel.proofs.kernel.Kernel.process_call.Goals.{After-attempt-end}
+
+-- the number in A, behind a call that came to this
+numbered : (c : After-attempt-end) (m : Inner) → RepresentsProcesses c.args.self.now.processes m → HasNumber (attempted c.args.call m c.args.p.0) c.args.p.0 (number_in_a c.attempt-end.new.s.table c.args.p.0)
+numbered c m tied =
+    let (there, ends) = c.attempt-end.ensures.call m tied in
+    has-number m c.args.p.0 (attempted c.args.call m c.args.p.0) c.attempt-end.new.s there (subst (λ (end : CallEnd). LivesOn end c.attempt-end.new.s.table c.args.p.0) ends c.attempt-end.ensures.lives)
+
+pub follow-requires-clause-begins : goal.follow-requires-clause-begins
+follow-requires-clause-begins c done fork =
+    let here = (goal.at.follow-requires-clause-begins c).After-attempt-end in
+    let p = c.args.p.0 in
+    let (drives, terms, (s, tied)) = c.requires.stands in
+    let m = s.inner in
+    let result = attempted c.args.call m p in
+    let (there, ends) = c.attempt-end.ensures.call m tied.inner in
+    let lives = subst (λ (m : Inner). IsLiving m.records p) (sym tied.inner.is) c.requires.next.lives in
+    subst (λ (io : Io). MayBegin io (number_in_a c.attempt-end.new.s.table p)) (ap (λ (s : State). s.io) tied.is)
+    (may-begin m s.io p (number_in_a c.attempt-end.new.s.table p) result tied.running.kept (places-there c.args.self.now.processes m tied.inner) (sym ends ∙ done)
+    (code-names c.args.code c.args.call fork c.requires.is_call m p lives) (numbered here m tied.inner))
 
 pub returns-clause-event : goal.returns-clause-event
-returns-clause-event c terms =
+returns-clause-event c drives terms =
+    let here = (goal.at.returns-clause-event c).After-attempt-end in
     let old = c.args.self.now in
+    let new = c.follow.new.self in
     let p = c.args.p in
+    let a = number_in_a c.attempt-end.new.s.table p.0 in
     let act = Attempt c.args.code in
     let next = c.requires.next in record {
       step = λ _ s tied.
-          let (there, ends) = c.attempt.ensures.call s.inner tied.inner in
+          let (there, ends) = c.attempt-end.ensures.call s.inner tied.inner in
           let result = attempted c.args.call s.inner p.0 in
-          event-then old p act next terms s tied _ terms _ (after_attempt s.inner p.0 result) refl there
-          (result, s.terms, rw c.requires.is_call (refl, refl), c.event_end.ensures ∙ ap event_end_of ends ∙ end-tied result, (λ i. record { inner = after_attempt s.inner p.0 result; chosen = s.chosen; terms = sym (terms-are old p act next terms s tied) i }));
+          let now : RepresentsProcesses new.processes (after_attempt s.inner p.0 result) = subst (λ (processes : ProcState). RepresentsProcesses processes (after_attempt s.inner p.0 result)) (sym c.follow.ensures.processes) there in
+          let then : new.io ≡ io_after_call c.args.code s.io p.0 result = c.follow.ensures.io ∙ ap (λ (end : CallEnd). io_then c.args.code end old.io p.0 a) ends ∙ io-tied c.args.code old.io p.0 a result (numbered here s.inner tied.inner) ∙ ap (λ (io : Io). io_after_call c.args.code io p.0 result) (sym (io-is old p act next drives terms s tied)) in
+          event-then old p act next drives terms s tied new terms _ (after_attempt s.inner p.0 result) c.follow.ensures.chosen now
+          (result, new.io, terms, rw c.requires.is_call (refl, then, sym (terms-are old p act next drives terms s tied)), c.event_end.ensures ∙ ap event_end_of ends ∙ end-tied result, refl);
       memory = λ out.
           let (m, there) = some-inner old.processes in
-          let ends = (c.attempt.ensures.call m there).1 in
+          let ends = (c.attempt-end.ensures.call m there).1 in
           absurd (never-wants (attempted c.args.call m p.0) (sym (c.event_end.ensures ∙ ap event_end_of ends) ∙ out));
-      going = λ ran. (p, next.chosen, lives-so c.attempt.result c.attempt.new.s.table p.0 (sym c.event_end.ensures ∙ ran) c.attempt.ensures.lives);
-      count = tick-kept old.processes c.attempt.new.s (λ (m : Inner). after_attempt m p.0 (attempted c.args.call m p.0)) (λ m there. (c.attempt.ensures.call m there).0) (λ m. attempt-tick m p.0 c.args.call);
+      going = λ ran. (p, c.follow.ensures.chosen ∙ next.chosen, subst (λ (processes : ProcState). IsLiving processes.table p.0) (sym c.follow.ensures.processes) (lives-so c.attempt-end.result c.attempt-end.new.s.table p.0 (sym c.event_end.ensures ∙ ran) c.attempt-end.ensures.lives));
+      count = λ _. ap (λ (processes : ProcState). processes.tick) c.follow.ensures.processes ∙ tick-kept old.processes c.attempt-end.new.s (λ (m : Inner). after_attempt m p.0 (attempted c.args.call m p.0)) (λ m there. (c.attempt-end.ensures.call m there).0) (λ m. attempt-tick m p.0 c.args.call);
     }
 
 pub returns-clause-progress : goal.returns-clause-progress
@@ -35,7 +69,8 @@ returns-clause-progress c ran =
     let old = c.args.self.now in
     let p = c.args.p in
     let (m, there) = some-inner old.processes in
-    let (now, ends) = c.attempt.ensures.call m there in
+    let (now, ends) = c.attempt-end.ensures.call m there in
     let (t, regs, is) = goes-on (attempted c.args.call m p.0) (sym (c.event_end.ensures ∙ ap event_end_of ends) ∙ ran) m p.0 in
-    let none = no-call c.attempt.new.s t p.0 regs c.requires.next.process.1 (subst (λ (x : Inner). RepresentsProcesses c.attempt.new.s x) is now) in
-    attempt-lowers old p c.args.code c.requires.next (record { processes = c.attempt.new.s; chosen = old.chosen }) refl none
+    let none = no-call c.attempt-end.new.s t p.0 regs c.requires.next.process.1 (subst (λ (x : Inner). RepresentsProcesses c.attempt-end.new.s x) is now) in
+    attempt-lowers old p c.args.code c.requires.next c.follow.new.self c.follow.ensures.chosen
+    (ap (λ (processes : ProcState). (slice_index_or processes.own.items p.0 no_own).call) c.follow.ensures.processes ∙ none)

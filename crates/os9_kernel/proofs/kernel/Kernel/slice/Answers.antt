@@ -1,39 +1,44 @@
-use Rattle.std.proofs.Common.{◌≡◌, Some, None, option_map, [], sym, ap, ◌∙◌, subst}
+use Rattle.std.proofs.Common.{◌≡◌, Some, None, option_map, [], refl, sym, ap, ◌∙◌, subst, inr}
+use Rattle.std.specs.Vec.{vec_len}
 use Rattle.os9_base.specs.declared.registers.Pid.{Pid}
 use Rattle.os9_outer.specs.TerminalState.{terminal_states}
-use Rattle.machine_model.specs.declared.ends.SliceEnd.{SliceEnd}
-use Rattle.machine_model.specs.Run.{Slice}
+use Rattle.io_machine.specs.declared.ends.SliceEnd.{SliceEnd}
+use Rattle.io_machine.specs.Run.{Slice}
 use Rattle.os9_kernel.specs.Tie.{Represents}
 use Rattle.os9_kernel.proofs.Turns.{slice-idle, slice-ran}
 use Rattle.os9_kernel.proofs.kernel.Kernel.slice.Goals as goal
 
+pub events-requires-clause-stands : goal.events-requires-clause-stands
+events-requires-clause-stands g c =
+    let (s, tied) = c.requires.stands in
+    let (ticked, ticks, there) = c.tick.ensures.tick.step (rw c.in-Ok.is refl) s tied in
+    let (chosen, chooses, now, who) = c.choose-chosen.ensures.step _ _ ticked there in
+    (chosen, subst (λ drives. Represents c.choose-chosen.new.self (vec_len drives) (terminal_states (λ table. (g.dyn-2.0.entry table).1) c.tick.new.devices.terms.items) chosen) (sym c.tick.ensures.drives_kept) now)
+
 pub returns-in-None-clause-slice : goal.returns-in-None-clause-slice
 returns-in-None-clause-slice g c = record {
   step = λ _ s tied.
-      let here = subst (λ d. Represents c.args.self.now (terminal_states (λ table. (g.dyn-2.0.entry table).1) d.terms.items) s) (sym c.tick.ensures.devices_kept) tied in
-      let (ticked, ticks, there) = c.tick.ensures.step _ s here in
-      let (chosen, chooses, now, who) = c.choose.ensures.step _ ticked there in
+      let (ticked, ticks, there) = c.tick.ensures.tick.step (rw c.in-Ok.is refl) s tied in
+      let (chosen, chooses, now, who) = c.choose-chosen.ensures.step _ _ ticked there in
       let none : chosen.chosen ≡ None = sym who ∙ ap (option_map (λ (p : Pid). p.0)) c.in-None.is in
       ([], chosen, slice-idle c.args.n s ticked chosen ticks chooses none, now);
   part = λ is. cc;
-  count = c.choose.ensures.count ∙ c.tick.ensures.count;
+  count = λ _. c.choose-chosen.ensures.count ∙ c.tick.ensures.tick.count;
 }
 
 pub returns-in-Some-clause-slice : goal.returns-in-Some-clause-slice
 returns-in-Some-clause-slice g c =
     let events = c.events.ensures.events in record {
       step = λ other s tied.
-          let here = subst (λ d. Represents c.args.self.now (terminal_states (λ table. (g.dyn-2.0.entry table).1) d.terms.items) s) (sym c.tick.ensures.devices_kept) tied in
-          let (ticked, ticks, there) = c.tick.ensures.step _ s here in
-          let (chosen, chooses, now, who) = c.choose.ensures.step _ ticked there in
+          let (ticked, ticks, there) = c.tick.ensures.tick.step (rw c.in-Ok.is refl) s tied in
+          let (chosen, chooses, now, who) = c.choose-chosen.ensures.step _ _ ticked there in
           let some : chosen.chosen ≡ Some c.in-Some.field-0.0 = sym who ∙ ap (option_map (λ (p : Pid). p.0)) c.in-Some.is in
-          let (all, t, steps, later) = events.step other chosen now in
-          (all, t, subst (λ (end : SliceEnd). Slice c.args.n s all end t) (sym (events.ran other)) (slice-ran c.args.n c.in-Some.field-0.0 s ticked chosen t all ticks chooses some steps), later);
+          let (all, t, steps, later) = events.step other chosen (subst (λ drives. Represents c.choose-chosen.new.self (vec_len drives) (terminal_states (λ table. (g.dyn-2.0.entry table).1) c.tick.new.devices.terms.items) chosen) (sym c.tick.ensures.drives_kept) now) in
+          (all, t, subst (λ (end : SliceEnd). Slice c.args.n s all end t) (sym (events.ran other)) (slice-ran c.args.n c.in-Some.field-0.0 s ticked chosen t all ticks chooses some steps), subst (λ drives. Represents c.events.new.self (vec_len drives) (terminal_states (λ table. (g.dyn-2.0.entry table).1) c.events.new.devices.terms.items) t) c.tick.ensures.drives_kept later);
       part = λ out s tied.
-          let here = subst (λ d. Represents c.args.self.now (terminal_states (λ table. (g.dyn-2.0.entry table).1) d.terms.items) s) (sym c.tick.ensures.devices_kept) tied in
-          let (ticked, ticks, there) = c.tick.ensures.step _ s here in
-          let (chosen, chooses, now, who) = c.choose.ensures.step _ ticked there in
-          let (all, t, first, puts, counts) = events.part out chosen now in
-          (all, t, (ticked, chosen, ticks, chooses, first), puts, counts);
-      count = events.count ∙ c.choose.ensures.count ∙ c.tick.ensures.count;
+          let (ticked, ticks, there) = c.tick.ensures.tick.step (rw c.in-Ok.is refl) s tied in
+          let (chosen, chooses, now, who) = c.choose-chosen.ensures.step _ _ ticked there in
+          let (all, t, first, puts, counts) = events.part out chosen (subst (λ drives. Represents c.choose-chosen.new.self (vec_len drives) (terminal_states (λ table. (g.dyn-2.0.entry table).1) c.tick.new.devices.terms.items) chosen) (sym c.tick.ensures.drives_kept) now) in
+          inr (all, t, (ticked, chosen, ticks, chooses, first), puts, counts);
+      count = λ other. events.count other ∙ c.choose-chosen.ensures.count ∙ c.tick.ensures.tick.count;
     }
