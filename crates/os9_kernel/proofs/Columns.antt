@@ -1,34 +1,13 @@
 -- What the columns of the processes are after a change of one process.
-use Rattle.std.proofs.Common.{◌≡◌, ℕ, ◌<◌, true, Option, Some, None, List, length, refl, sym, ap, ◌∙◌, inl, inr}
-use Rattle.std.specs.Prelude.{not, slice_set, unwrap_or}
-use Rattle.std.proofs.lemmas.List.{get_or-set_same, get_or_past, set-set, set-get_or}
-use Rattle.std.proofs.lemmas.Bool.{cases_lt}
+use Rattle.std.proofs.Common.{◌≡◌, ℕ, ◌<◌, Option, Some, None, List, length, sym, ap, ◌∙◌}
+use Rattle.std.specs.Prelude.{not, slice_set}
+use Rattle.std.proofs.lemmas.List.{get_or-set_same, set-set, set-get_or}
 use Rattle.os9_base.specs.declared.registers.Regs.{Regs}
 use Rattle.proc_model.specs.Memory.{MemoryState}
 use Rattle.proc_rules.specs.declared.record.Record.{Record}
-use Rattle.proc_rules.specs.Records.{IsLiving, record_of, record_at, record_passes, has_ended, new_record, with_record, with_regs}
+use Rattle.proc_rules.specs.Records.{IsLiving, record_at, record_passes, has_ended, with_record, with_regs}
 use Rattle.call_rules.specs.Inner.{Inner, regs_at, with_memory, with_regs_of}
-
--- a process that lives has a place
-pub living-within : (records : List (Option Record)) (p : ℕ) → IsLiving records p → p < length records
-living-within records p lives =
-    elim (cases_lt p (length records)) [
-      | inl lt ↦ lt
-      | inr past ↦ (let none : record_of records p ≡ None = get_or_past records p None past in cc)
-    ]
-
--- and a record there
-pub living-record : (records : List (Option Record)) (p : ℕ) → IsLiving records p → record_of records p ≡ Some (record_at records p)
-living-record records p lives = by_place (record_of records p) refl lives
-  where
-    by_place : (place : Option Record) → record_of records p ≡ place → record_passes (λ r. not (has_ended r.life)) place ≡ true → record_of records p ≡ Some (record_at records p)
-    by_place None is lives = cc
-    by_place (Some r) is lives = rw is refl
-
--- a record that was put stands
-pub record-put : (records : List (Option Record)) (p : ℕ) (r : Record) → p < length records → record_at (with_record records p r) p ≡ r
-record-put records p r within =
-    ap (λ place. unwrap_or place (new_record (record { 0 = 0 }) 0 0)) (get_or-set_same records p (Some r) None within)
+pub use Rattle.io_isolation.proofs.OthersKept.{living-record, living-within, record-put}
 
 module _ (records : List (Option Record)) (p : ℕ) (lives : IsLiving records p) where
   within : p < length records

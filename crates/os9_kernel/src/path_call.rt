@@ -1,15 +1,16 @@
 //! Attempts of calls on paths.
 
-ghost use Rattle.std.specs.Prelude.{◌≡◌, ◌≢◌, ◌<◌, None, Some, vec_len};
+ghost use Rattle.std.specs.Prelude.{◌≡◌, ◌≢◌, ◌<◌, IfSome, None, Some, vec_len};
 ghost use Rattle.os9_outer.specs.TerminalState.{terminal_states};
 ghost use Rattle.proc_rules.specs.Records.{IsLiving};
-ghost use Rattle.proc_calls.specs.Telling.{LivesOn};
+ghost use Rattle.proc_calls.specs.Telling.{LivesOn, WaitsFor};
 ghost use Rattle.proc_state.specs.Tie.{Comes, Represents};
 ghost use Rattle.call_rules.specs.Attempts.{after_attempt, attempt_end};
 ghost use Rattle.call_rules.specs.CallResult.{CallResult};
 ghost use Rattle.call_rules.specs.Codes.{call_of};
 ghost use Rattle.call_rules.specs.Inner.{Inner};
 ghost use Rattle.io_rules.specs.Codes.{io_call_of};
+ghost use Rattle.io_rules.specs.Waiting.{io_waits_for};
 ghost use Rattle.os9_kernel.specs.Calls.{HasEvent};
 ghost use Rattle.os9_kernel.specs.Next.{DoesNext};
 ghost use Rattle.os9_kernel.specs.Tie.{Stands, pending};
@@ -60,6 +61,9 @@ impl Kernel {
         ensures told { (m : Inner) (call : CallResult) → Comes m p.0 call end self.old.processes
             → Represents self.new.processes (after_attempt m p.0 call) × (end ≡ attempt_end call) }
         ensures lives { LivesOn end self.new.processes.table p.0 }
+        ensures waits { end ≡ CallEnd.Wait → IfSome (io_waits_for self.old.io p.0)
+            (λ cause. WaitsFor self.old.processes self.new.processes p.0
+            (record { cause = cause; until = None })) }
         ensures io { self.new.io ≡ self.old.io }
         ensures chosen { self.new.chosen ≡ self.old.chosen }
     {
