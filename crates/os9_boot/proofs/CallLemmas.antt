@@ -1,12 +1,11 @@
 -- From what the steps of a command leave to what the command leaves.
-use Rattle.std.proofs.Common.{◌≡◌, ◌≢◌, ℕ, Option, Some, None, Result, List, Ok, Err, slice_get, refl, sym, ap, subst, ◌∙◌, inl, inr, All, arith}
+use Rattle.std.proofs.Common.{◌≡◌, ◌≢◌, ℕ, Option, Some, None, List, Ok, Err, length, refl, sym, ap, subst, ◌∙◌, inl, inr, All, arith}
 use Rattle.std.specs.Prelude.{IfSome}
 use Rattle.std.proofs.lemmas.Bool.{cases_eq}
 use Rattle.os9_outer.specs.Host.{Files, file_contents}
 use Rattle.os9_outer.specs.Stream.{GainsPrefix}
 use Rattle.os9_outer.specs.TerminalState.{TerminalState}
 use Rattle.os9_outer.specs.declared.host.Host.{Ghosts}
-use Rattle.os9_outer.specs.declared.host.HostFault.{HostFault}
 use Rattle.rbf_model.specs.Faults.{IsFault}
 use Rattle.rbf_check.specs.declared.faults.CheckFault.{CheckFault}
 use Rattle.rbf_check.specs.declared.tree.Tree.{Tree}
@@ -17,20 +16,23 @@ use Rattle.os9_words.specs.declared.command.RunWords.{RunWords}
 use Rattle.os9_words.specs.Command.{command_of}
 use Rattle.os9_words.specs.Lines.{no_memory_line, words_line}
 use Rattle.os9_words.specs.Streams.{ChangesErrOnly}
+use Rattle.script_text.specs.declared.script.ScriptKey.{ScriptKey}
+use Rattle.script_text.specs.Script.{keys_of}
 use Rattle.script_text.specs.Slices.{slices_of}
-use Rattle.machine_model.specs.State.{State, living_count}
-use Rattle.machine_model.specs.Run.{status_of}
+use Rattle.io_machine.specs.State.{State, living_count}
+use Rattle.io_machine.specs.Run.{status_of}
 use Rattle.os9_boot.specs.Console.{IsObserved}
 use Rattle.os9_boot.specs.End.{end_line, file_name, status_number}
 use Rattle.os9_boot.specs.declared.status.End.{End}
 use Rattle.os9_boot.specs.declared.status.End.TheVariants.{Ended, Living, CannotRead, CannotWrite, NoMemory, BadImage, BadText, BadModule, NoFirst, TooLarge}
 use Rattle.os9_boot.specs.declared.status.Input.{Input}
-use Rattle.os9_boot.specs.declared.status.Input.TheVariants.{Slices as SlicesInput}
+use Rattle.os9_boot.specs.declared.status.Input.TheVariants.{Script as ScriptInput, Slices as SlicesInput}
+use Rattle.os9_boot.specs.declared.files.RunFiles.{RunFiles}
 use Rattle.os9_boot.specs.Commands.{PerformsWords, IsAnswered, IsSilent, IsStopped, PerformsCommand, tree_line}
 use Rattle.os9_boot.specs.Partly.{PerformsWordsPartly, PerformsPartly}
-use Rattle.os9_boot.specs.ReadFile.{ReadsFile}
+use Rattle.os9_boot.specs.RunFiles.{HasFiles, RefusesTexts}
 use Rattle.os9_boot.specs.TopCall.{BootCall, CommandCall, CommandReport, PrintCall, ReportsLine, TopCall}
-use Rattle.os9_boot.specs.World.{World, FailsToRead, FailsToReadFile, HasNoFault, IfAllObserved, world_of}
+use Rattle.os9_boot.specs.World.{World, FailsToRead, FailsToReadFile, FailsToReadInput, HasNoFault, IfAllObserved, world_of}
 use Rattle.os9_boot.proofs.RunLemmas.{none-living, some-living}
 
 -- ---- statuses of runs
@@ -52,13 +54,13 @@ status-at_end s living end counted idle lives =
 -- ---- worlds
 
 -- the world of a host of which nothing that a world has was changed
-pub same-world : {Host : Type 0} (members : Ghosts Host) (before after : Host) (terms : List TerminalState) → members.file_map after ≡ members.file_map before → members.bytes_out after ≡ members.bytes_out before → members.host_faults after ≡ members.host_faults before → members.failed_name after ≡ members.failed_name before → members.failed_in_read after ≡ members.failed_in_read before → world_of members after terms ≡ world_of members before terms
-same-world members before after terms files out faults name in_read = rw (files, out, faults, name, in_read) refl
+same-world : {Host : Type 0} (members : Ghosts Host) (before after : Host) (drives : ℕ) (terms : List TerminalState) → members.file_map after ≡ members.file_map before → members.bytes_out after ≡ members.bytes_out before → members.host_faults after ≡ members.host_faults before → members.failed_name after ≡ members.failed_name before → members.failed_in_read after ≡ members.failed_in_read before → world_of members after drives terms ≡ world_of members before drives terms
+same-world members before after drives terms files out faults name in_read = rw (files, out, faults, name, in_read) refl
 
 -- a line on the error stream changes no world
-pub err-only : {Host : Type 0} (members : Ghosts Host) (before after : Host) (terms : List TerminalState) → ChangesErrOnly members before after → world_of members after terms ≡ world_of members before terms
-err-only members before after terms changed =
-    same-world members before after terms changed.files changed.out changed.faults changed.name changed.in_read
+pub err-only : {Host : Type 0} (members : Ghosts Host) (before after : Host) (drives : ℕ) (terms : List TerminalState) → ChangesErrOnly members before after → world_of members after drives terms ≡ world_of members before drives terms
+err-only members before after drives terms changed =
+    same-world members before after drives terms changed.files changed.out changed.faults changed.name changed.in_read
 
 pub kept-counts : (before after : World) → after ≡ before → HasNoFault before after
 kept-counts before after same = (ap (λ w. w.faults) same, ap (λ w. w.failed_name) same, ap (λ w. w.failed_in_read) same)
@@ -135,12 +137,12 @@ no_stop-7 (inl e) = omega (arith, e)
 no_stop-7 (inr e) = omega (arith, e)
 
 -- a file could not be read
-pub could-not-read : (command : Command) (input : Input) (before after : World) → FailsToReadFile (file_name command input) before after → after.files ≡ before.files → after.out ≡ before.out → after.terms ≡ before.terms → CommandCall command before after (CannotRead input)
-could-not-read command input before after failed files out terms = record {
+pub could-not-read : (command : Command) (input : Input) (name : List ℕ) (before after : World) → file_name command input ≡ Some name → FailsToReadFile name before after → after.files ≡ before.files → after.out ≡ before.out → after.terms ≡ before.terms → CommandCall command before after (CannotRead input)
+could-not-read command input name before after named failed files out terms = record {
   performed = λ answered. absurd (answered.0 refl);
   partial = λ stopped. absurd (no_stop-2 stopped);
   not_refused = λ e. omega (arith, e);
-  read_fault = λ other is. subst (λ i. FailsToReadFile (file_name command i) before after) (same-input input other is) failed;
+  read_fault = λ other is. subst (λ i. FailsToReadInput command i before after) (same-input input other is) (name, named, failed);
   output_fault = λ e. absurd (omega (arith, e));
   count_kept = λ no2 no3. absurd (no2 refl);
   silent = λ silent. out;
@@ -151,31 +153,49 @@ could-not-read command input before after failed files out terms = record {
 
 -- ---- runs
 
--- the two files of the words were read, and the slice text gives slices
-module _ (before after : World) (run : RunWords) (text file modules : List ℕ) (first : IfSome before.files (λ files. text ≡ file_contents files run.slices)) (second : IfSome before.files (λ files. file ≡ file_contents files modules)) (named : slice_get run.files 0 ≡ Some modules) where
-  pub text-refused : (line : ℕ) → slices_of text ≡ Err line → after ≡ before → CommandCall (RunCommand run) before after (BadText SlicesInput line)
-  text-refused line refused same =
-      nothing-done (RunCommand run) before after (BadText SlicesInput line) same (λ e. omega (arith, e)) (λ e. omega (arith, e)) (λ e. omega (arith, e)) (λ answered. by_files before.files first) (λ stopped. absurd (no_stop-7 stopped))
+-- the files of the words were read
+module _ (before after : World) (run : RunWords) (read : RunFiles) (has : IfSome before.files (λ files. HasFiles files run read)) where
+  script-refused : (line : ℕ) → keys_of (length before.terms) read.script.items ≡ Err line → after ≡ before → CommandCall (RunCommand run) before after (BadText ScriptInput line)
+  script-refused line refused same =
+      nothing-done (RunCommand run) before after (BadText ScriptInput line) same (λ e. omega (arith, e)) (λ e. omega (arith, e)) (λ e. omega (arith, e)) (λ answered. by_files before.files has) (λ stopped. absurd (no_stop-7 stopped))
     where
-      by_files : (told : Option Files) → IfSome told (λ files. text ≡ file_contents files run.slices) → IfSome told (λ files. All IsObserved before.terms → PerformsCommand files before after (BadText SlicesInput line) (RunCommand run))
-      by_files None text_is = tt
-      by_files (Some files) text_is = λ observed. rw (named, ← text_is, refused) (refl, same)
+      by_files : (told : Option Files) → IfSome told (λ files. HasFiles files run read) → IfSome told (λ files. All IsObserved before.terms → PerformsCommand files before after (BadText ScriptInput line) (RunCommand run))
+      by_files None has = tt
+      by_files (Some files) has = λ observed. rw (has.modules.1, ← has.script, refused) (refl, same)
 
-  module _ (slices : List ℕ) (end : End) (read : slices_of text ≡ Ok slices) (call : BootCall file run.blocks slices before after end) where
+  slices-refused : (keys : List ScriptKey) (line : ℕ) → keys_of (length before.terms) read.script.items ≡ Ok keys → slices_of read.slices.items ≡ Err line → after ≡ before → CommandCall (RunCommand run) before after (BadText SlicesInput line)
+  slices-refused keys line given refused same =
+      nothing-done (RunCommand run) before after (BadText SlicesInput line) same (λ e. omega (arith, e)) (λ e. omega (arith, e)) (λ e. omega (arith, e)) (λ answered. by_files before.files has) (λ stopped. absurd (no_stop-7 stopped))
+    where
+      by_files : (told : Option Files) → IfSome told (λ files. HasFiles files run read) → IfSome told (λ files. All IsObserved before.terms → PerformsCommand files before after (BadText SlicesInput line) (RunCommand run))
+      by_files None has = tt
+      by_files (Some files) has = λ observed. rw (has.modules.1, ← has.script, given, ← has.slices, refused) (refl, same)
+
+  -- one of their texts was refused
+  pub texts-refused : (terminals : ℕ) (end : End) → terminals ≡ length before.terms → RefusesTexts terminals read.script.items read.slices.items end → after ≡ before → CommandCall (RunCommand run) before after end
+  texts-refused terminals end count (inl none) same = rw none (out-of-memory (RunCommand run) before after same)
+  texts-refused terminals end count (inr (inl (line, refused, is))) same =
+      rw is (script-refused line (rw count at refused) same)
+  texts-refused terminals end count (inr (inr (keys, line, given, refused, is))) same =
+      rw is (slices-refused keys line (rw count at given) refused same)
+
+  -- they give keys and slices
+  module _ (keys : List ScriptKey) (slices : List ℕ) (end : End) (given : keys_of (length before.terms) read.script.items ≡ Ok keys) (cut : slices_of read.slices.items ≡ Ok slices) (call : BootCall read.modules.items run.blocks keys slices before after end) where
     performs : IsAnswered (status_number end) → IfAllObserved before (λ files. PerformsCommand files before after end (RunCommand run))
-    performs answered = by_files before.files first second
+    performs answered = by_files before.files has
       where
-        by_files : (told : Option Files) → IfSome told (λ files. text ≡ file_contents files run.slices) → IfSome told (λ files. file ≡ file_contents files modules) → IfSome told (λ files. All IsObserved before.terms → PerformsCommand files before after end (RunCommand run))
-        by_files None text_is file_is = tt
-        by_files (Some files) text_is file_is = λ observed. rw (named, ← text_is, read, ← file_is) (call.booted answered observed)
+        by_files : (told : Option Files) → IfSome told (λ files. HasFiles files run read) → IfSome told (λ files. All IsObserved before.terms → PerformsCommand files before after end (RunCommand run))
+        by_files None has = tt
+        by_files (Some files) has = λ observed.
+            rw (has.modules.1, ← has.script, given, ← has.slices, cut, ← has.modules.2) (call.booted answered observed)
 
     performs-partly : IsStopped (status_number end) → IfAllObserved before (λ files. PerformsPartly files before after end (RunCommand run))
-    performs-partly stopped = by_files before.files first second
+    performs-partly stopped = by_files before.files has
       where
-        by_files : (told : Option Files) → IfSome told (λ files. text ≡ file_contents files run.slices) → IfSome told (λ files. file ≡ file_contents files modules) → IfSome told (λ files. All IsObserved before.terms → PerformsPartly files before after end (RunCommand run))
-        by_files None text_is file_is = tt
-        by_files (Some files) text_is file_is = λ observed.
-            inr (modules, slices, named, rw (← text_is) read, rw (← file_is) (call.partial stopped observed))
+        by_files : (told : Option Files) → IfSome told (λ files. HasFiles files run read) → IfSome told (λ files. All IsObserved before.terms → PerformsPartly files before after end (RunCommand run))
+        by_files None has = tt
+        by_files (Some files) has = λ observed.
+            inr (has.modules.0, keys, slices, has.modules.1, rw (← has.script) given, rw (← has.slices) cut, rw (← has.modules.2) (call.partial stopped observed))
 
     pub command-booted : CommandCall (RunCommand run) before after end
     command-booted = record {
@@ -269,7 +289,7 @@ module _ (words : List (List ℕ)) (before after : World) (err_before err_after 
     pub top-command : TopCall words before after err_before err_after status
     top-command = record {
       run_headline = answers;
-      complete = λ none not4. answers ((λ e. none (fails-to-read e).1.0), (λ e. none (report.call.output_fault (number_is 3 e)).0), not4);
+      complete = λ none not4. answers ((λ e. none (fails-to-read e).1.2.0), (λ e. none (report.call.output_fault (number_is 3 e)).0), not4);
       partial = answers-partly;
       refused_words = λ e. absurd (report.call.not_refused (number_is 1 e));
       words_refused = λ none. absurd (other none);
@@ -339,12 +359,12 @@ module _ (words : List (List ℕ)) (before after : World) (err_before err_after 
 pub printed-after : (line : List ℕ) (before between after : World) (end : End) → between ≡ before → PrintCall line between after end → PrintCall line before after end
 printed-after line before between after end same call = subst (λ world. PrintCall line world after end) same call
 
-pub booted-after : (file : List ℕ) (blocks : ℕ) (slices : List ℕ) (before between after : World) (end : End) → between ≡ before → BootCall file blocks slices between after end → BootCall file blocks slices before after end
-booted-after file blocks slices before between after end same call =
-    subst (λ world. BootCall file blocks slices world after end) same call
+pub booted-after : (file : List ℕ) (blocks : ℕ) (keys : List ScriptKey) (slices : List ℕ) (before between after : World) (end : End) → between ≡ before → BootCall file blocks keys slices between after end → BootCall file blocks keys slices before after end
+booted-after file blocks keys slices before between after end same call =
+    subst (λ world. BootCall file blocks keys slices world after end) same call
 
-pub read-after : {Value : Type 0} (name : List ℕ) (answer : Result Value HostFault) (before between after : World) → between ≡ before → ReadsFile name answer between after → ReadsFile name answer before after
-read-after name answer before between after same read = subst (λ world. ReadsFile name answer world after) same read
+pub ended-after : (command : Command) (before between after : World) (end : End) → between ≡ before → CommandCall command between after end → CommandCall command before after end
+ended-after command before between after end same call = subst (λ world. CommandCall command world after end) same call
 
 -- the same, of which only the error stream was written afterwards
 pub command-reported : (command : Command) (before between after : World) (err_before err_between err_after : Option (List ℕ)) (end : End) (answer : ℕ) → after ≡ between → answer ≡ status_number end → CommandCall command before between end → err_between ≡ err_before → GainsPrefix err_between (end_line command end) err_after → CommandReport command before after err_before err_after answer

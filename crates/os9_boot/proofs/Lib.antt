@@ -1,3 +1,5 @@
 pub mod ConsoleLemmas
 pub mod RunLemmas
 pub mod CallLemmas
+pub mod LoadedLemmas
+pub mod FileLemmas

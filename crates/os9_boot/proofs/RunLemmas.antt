@@ -9,15 +9,16 @@ use Rattle.os9_words.proofs.Prefixes.{GainsPrefix-then}
 use Rattle.std.proofs.lemmas.List.{take_more}
 use Rattle.device_table.proofs.StreamLemmas.{appended-twice, appended-nothing}
 use Rattle.os9_outer.specs.TerminalState.{TerminalState, fault_counts}
-use Rattle.machine_model.specs.declared.ends.SliceEnd.{SliceEnd}
-use Rattle.machine_model.specs.Console.{terminals_emptied, console_bytes}
-use Rattle.machine_model.specs.Terminals.{TerminalsOnlyGain}
-use Rattle.machine_model.specs.State.{State, living_count, has_living}
-use Rattle.machine_model.specs.Run.{BeginsSlice, Slice, Run}
-use Rattle.machine_model.proofs.TerminalLaws.{gain-emptied, gains-slice}
+use Rattle.io_machine.specs.declared.ends.SliceEnd.{SliceEnd}
+use Rattle.io_machine.specs.Console.{terminals_emptied, console_bytes}
+use Rattle.io_machine.specs.Terminals.{TerminalsOnlyGain}
+use Rattle.io_machine.specs.State.{State, living_count, has_living}
+use Rattle.io_machine.specs.Run.{Slice, Run}
+use Rattle.io_machine.proofs.TerminalLaws.{gain-emptied, gains-slice}
 use Rattle.os9_kernel.specs.declared.kernel.Kernel.{Kernel}
-use Rattle.os9_kernel.specs.Line.{PutsByte}
-use Rattle.os9_kernel.specs.Tie.{Represents}
+use Rattle.os9_kernel.specs.Calls.{HasSlice, StopsSlice}
+use Rattle.os9_kernel.specs.Tie.{Represents, Stands}
+use Rattle.os9_kernel.proofs.Represented.{represents-emptied}
 use Rattle.os9_boot.specs.Console.{IsObserved}
 use Rattle.os9_boot.specs.Slices.{RunsPartly}
 use Rattle.os9_boot.specs.World.{World}
@@ -38,17 +39,17 @@ observed-slice n s states end t slice = observed-later s.terms t.terms (gains-sl
 observed-emptied : (terms : List TerminalState) → All IsObserved terms → All IsObserved (terminals_emptied terms)
 observed-emptied terms = observed-later terms (terminals_emptied terms) (gain-emptied terms)
 
--- ---- a kernel with other terminals
-
-pub tied-terms : (kernel : Kernel) (terms other : List TerminalState) (s : State) → Represents kernel terms s → Represents kernel other (record s { terms = other })
-tied-terms kernel terms other s tied = record {
-  inner = tied.inner;
-  is = let with_other : State → State = λ s. record s { terms = other } in ap with_other tied.is;
-}
+-- ---- a kernel and its terminals
 
 -- the terminals of a state that they stand for
-pub terms-standing : (kernel : Kernel) (terms : List TerminalState) (s : State) → Represents kernel terms s → terms ≡ s.terms
-terms-standing kernel terms s tied = sym (ap (λ s. s.terms) tied.is)
+pub terms-standing : (kernel : Kernel) (drives : ℕ) (terms : List TerminalState) (s : State) → Represents kernel drives terms s → terms ≡ s.terms
+terms-standing kernel drives terms s tied = sym (ap (λ s. s.terms) tied.is)
+
+-- a slice that was run leaves a kernel that stands, also when the bytes are taken from the terminals
+pub stands-emptied : (n drives : ℕ) (old new : Kernel) (before mid now : List TerminalState) (end : SliceEnd) → Stands old drives before → end ≢ SliceEnd.NoMemory → HasSlice n drives old new before mid end → now ≡ terminals_emptied mid → Stands new drives now
+stands-emptied n drives old new before mid now end (s, tied) more slice emptied =
+    let step = slice.step more s tied in
+    (record step.1 { terms = terminals_emptied step.1.terms }, rw emptied (represents-emptied new drives mid step.1 step.3))
 
 -- ---- whether one lives
 
@@ -103,15 +104,15 @@ run-append (n ∷ first) rest s m t states others written more run next =
         )
 
 -- a kernel and its terminals have come so far from s: a run over these slices wrote what the output gained
-abbrev pub Reaches : Option (List ℕ) → List ℕ → State → Kernel → List TerminalState → Option (List ℕ) → Type 0
-Reaches first ran s kernel terms out =
-    (m : State) × (states : List State) × (written : List ℕ) × All IsObserved terms × Represents kernel terms m × (out ≡ stream_with first written) × Run ran s states written m
+abbrev pub Reaches : ℕ → Option (List ℕ) → List ℕ → State → Kernel → List TerminalState → Option (List ℕ) → Type 0
+Reaches drives first ran s kernel terms out =
+    (m : State) × (states : List State) × (written : List ℕ) × All IsObserved terms × Represents kernel drives terms m × (out ≡ stream_with first written) × Run ran s states written m
 
-pub reaches-none : (first : Option (List ℕ)) (s : State) (kernel : Kernel) (terms : List TerminalState) → All IsObserved terms → Represents kernel terms s → Reaches first [] s kernel terms first
-reaches-none first s kernel terms told tied = (s, [], [], told, tied, sym (appended-nothing first), (refl, refl, refl))
+pub reaches-none : (drives : ℕ) (first : Option (List ℕ)) (s : State) (kernel : Kernel) (terms : List TerminalState) → All IsObserved terms → Represents kernel drives terms s → Reaches drives first [] s kernel terms first
+reaches-none drives first s kernel terms told tied = (s, [], [], told, tied, sym (appended-nothing first), (refl, refl, refl))
 
-pub reaches-more : (ran : List ℕ) (s : State) (n : ℕ) (kernel after : Kernel) (terms mid now : List TerminalState) (first out next : Option (List ℕ)) (end : SliceEnd) → Reaches first ran s kernel terms out → ((m : State) → Represents kernel terms m → living_count m.inner ≢ 0) → ((m : State) → Represents kernel terms m → (states : List State) × (t : State) × Slice n m states end t × Represents after mid t) → now ≡ terminals_emptied mid → (All IsObserved mid → next ≡ stream_with out (console_bytes mid)) → Reaches first (ran ++ n ∷ []) s after now next
-reaches-more ran s n kernel after terms mid now first out next end (m, states, written, told, tied, is, so_far) some steps emptied gained =
+pub reaches-more : (drives : ℕ) (ran : List ℕ) (s : State) (n : ℕ) (kernel after : Kernel) (terms mid now : List TerminalState) (first out next : Option (List ℕ)) (end : SliceEnd) → Reaches drives first ran s kernel terms out → ((m : State) → Represents kernel drives terms m → living_count m.inner ≢ 0) → ((m : State) → Represents kernel drives terms m → (states : List State) × (t : State) × Slice n m states end t × Represents after drives mid t) → now ≡ terminals_emptied mid → (All IsObserved mid → next ≡ stream_with out (console_bytes mid)) → Reaches drives first (ran ++ n ∷ []) s after now next
+reaches-more drives ran s n kernel after terms mid now first out next end (m, states, written, told, tied, is, so_far) some steps emptied gained =
     let step = steps m tied in
     let begun : List State = step.0 in
     let t : State = step.1 in
@@ -122,43 +123,40 @@ reaches-more ran s n kernel after terms mid now first out next end (m, states, w
       states ++ begun,
       written ++ console_bytes t.terms,
       rw emptied (observed-emptied mid told_mid),
-      rw (emptied, ← there) (tied-terms after mid (terminals_emptied t.terms) t step.3),
+      rw emptied (represents-emptied after drives mid t step.3),
       gained told_mid ∙ ap (λ stream. stream_with stream (console_bytes mid)) is ∙ appended-twice first written (console_bytes mid) ∙ rw there refl,
       run-append ran (n ∷ []) s m (record t { terms = terminals_emptied t.terms }) states begun written (console_bytes t.terms) so_far (run-slice n m t begun end (some-living m (some m tied)) step.2),
     )
 
 -- a run over these slices comes to a state that the kernel represents, and the output gained what it writes
-abbrev pub HasRun : Option (List ℕ) → List ℕ → State → Kernel → List TerminalState → Option (List ℕ) → Type 0
-HasRun first slices s kernel terms out =
-    (states : List State) × (written : List ℕ) × (t : State) × Run slices s states written t × Represents kernel terms t × (out ≡ stream_with first written)
+abbrev pub HasRun : ℕ → Option (List ℕ) → List ℕ → State → Kernel → List TerminalState → Option (List ℕ) → Type 0
+HasRun drives first slices s kernel terms out =
+    (states : List State) × (written : List ℕ) × (t : State) × Run slices s states written t × Represents kernel drives terms t × (out ≡ stream_with first written)
 
-pub reaches-idle : (first out : Option (List ℕ)) (slices ran rest : List ℕ) (s : State) (kernel : Kernel) (terms : List TerminalState) → ran ++ rest ≡ slices → Reaches first ran s kernel terms out → ((m : State) → Represents kernel terms m → living_count m.inner ≡ 0) → HasRun first slices s kernel terms out
-reaches-idle first out slices ran rest s kernel terms all (m, states, written, told, tied, is, so_far) none =
+pub reaches-idle : (drives : ℕ) (first out : Option (List ℕ)) (slices ran rest : List ℕ) (s : State) (kernel : Kernel) (terms : List TerminalState) → ran ++ rest ≡ slices → Reaches drives first ran s kernel terms out → ((m : State) → Represents kernel drives terms m → living_count m.inner ≡ 0) → HasRun drives first slices s kernel terms out
+reaches-idle drives first out slices ran rest s kernel terms all (m, states, written, told, tied, is, so_far) none =
     let ended : Run (ran ++ rest) s (states ++ []) (written ++ []) m = run-append ran rest s m m states [] written [] so_far (run-idle rest m (none-living m (none m tied))) in
     (states, written, m, rw (all, append-nil states, append-nil written) at ended, tied, is)
 
-pub reaches-all : (first out : Option (List ℕ)) (slices : List ℕ) (s : State) (kernel : Kernel) (terms : List TerminalState) → Reaches first slices s kernel terms out → HasRun first slices s kernel terms out
-reaches-all first out slices s kernel terms (m, states, written, told, tied, is, so_far) = (states, written, m, so_far, tied, is)
+pub reaches-all : (drives : ℕ) (first out : Option (List ℕ)) (slices : List ℕ) (s : State) (kernel : Kernel) (terms : List TerminalState) → Reaches drives first slices s kernel terms out → HasRun drives first slices s kernel terms out
+reaches-all drives first out slices s kernel terms (m, states, written, told, tied, is, so_far) = (states, written, m, so_far, tied, is)
 
 -- if memory was out in a slice, the output holds all that the slices before it wrote
-pub partly-before : (slices : List ℕ) (count n : ℕ) (s : State) (kernel : Kernel) (terms : List TerminalState) (before after : World) → slice_get slices count ≡ Some n → Reaches before.out (take count slices) s kernel terms after.out → ((m : State) → Represents kernel terms m → living_count m.inner ≢ 0) → ((m : State) → Represents kernel terms m → (begun : List State) × (t : State) × BeginsSlice n m begun t × PutsByte t × (fault_counts t.terms ≡ fault_counts after.terms)) → RunsPartly slices s before after
-partly-before slices count n s kernel terms before after here (m, states, written, told, tied, is, so_far) some begins =
-    let begun = begins m tied in
+pub partly-before : (drives : ℕ) (slices : List ℕ) (count n : ℕ) (s : State) (kernel : Kernel) (terms : List TerminalState) (before after : World) → slice_get slices count ≡ Some n → Reaches drives before.out (take count slices) s kernel terms after.out → ((m : State) → Represents kernel drives terms m → living_count m.inner ≢ 0) → ((m : State) → Represents kernel drives terms m → StopsSlice n m after.terms) → RunsPartly slices s before after
+partly-before drives slices count n s kernel terms before after here (m, states, written, told, tied, is, so_far) some begins =
     record {
       count = count;
       states = states;
       written = written;
       reached = m;
-      last = begun.1;
       run = so_far;
-      stopped = inr (n, begun.0, here, some-living m (some m tied), begun.2, begun.3);
+      stopped = inr (n, here, some-living m (some m tied), begins m tied);
       output = GainsPrefix-whole before.out written after.out is;
-      terminals = sym begun.4;
     }
 
 -- if a slice was run and its bytes were not all passed on, the output holds a prefix
-pub partly-after : (slices : List ℕ) (count : ℕ) (s : State) (kernel later : Kernel) (terms mid : List TerminalState) (before after : World) (out : Option (List ℕ)) (end : SliceEnd) → count < length slices → Reaches before.out (take count slices) s kernel terms out → ((m : State) → Represents kernel terms m → living_count m.inner ≢ 0) → ((m : State) → Represents kernel terms m → (begun : List State) × (t : State) × Slice (get_or slices count 0) m begun end t × Represents later mid t) → (All IsObserved mid → GainsPrefix out (console_bytes mid) after.out) → fault_counts after.terms ≡ fault_counts mid → RunsPartly slices s before after
-partly-after slices count s kernel later terms mid before after out end within (m, states, written, told, tied, is, so_far) some steps gained failed =
+pub partly-after : (drives : ℕ) (slices : List ℕ) (count : ℕ) (s : State) (kernel later : Kernel) (terms mid : List TerminalState) (before after : World) (out : Option (List ℕ)) (end : SliceEnd) → count < length slices → Reaches drives before.out (take count slices) s kernel terms out → ((m : State) → Represents kernel drives terms m → living_count m.inner ≢ 0) → ((m : State) → Represents kernel drives terms m → (begun : List State) × (t : State) × Slice (get_or slices count 0) m begun end t × Represents later drives mid t) → (All IsObserved mid → GainsPrefix out (console_bytes mid) after.out) → fault_counts after.terms ≡ fault_counts mid → RunsPartly slices s before after
+partly-after drives slices count s kernel later terms mid before after out end within (m, states, written, told, tied, is, so_far) some steps gained failed =
     let step = steps m tied in
     let begun : List State = step.0 in
     let t : State = step.1 in
@@ -172,9 +170,7 @@ partly-after slices count s kernel later terms mid before after out end within (
       states = states ++ begun;
       written = written ++ console_bytes t.terms;
       reached = last;
-      last = last;
       run = rw (take_more slices count 0 within) (run-append (take count slices) (n ∷ []) s m last states begun written (console_bytes t.terms) so_far (run-slice n m t begun end (some-living m (some m tied)) step.2));
-      stopped = inl refl;
+      stopped = inl (failed ∙ ap fault_counts (sym there) ∙ sym (faults-emptied t.terms));
       output = GainsPrefix-then before.out written (console_bytes t.terms) out after.out is (rw there (gained told_mid));
-      terminals = failed ∙ ap fault_counts (sym there) ∙ sym (faults-emptied t.terms);
     }

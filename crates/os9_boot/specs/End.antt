@@ -1,13 +1,13 @@
 -- How a command ended.
-use Rattle.std.specs.Prelude.{ℕ, Option, Some, None, List, [], slice_index_or}
+use Rattle.std.specs.Prelude.{ℕ, Option, Some, None, List, [], slice_get, unwrap_or}
 use Rattle.os9_words.specs.declared.command.Command.{Command}
 use Rattle.os9_words.specs.declared.command.Command.TheVariants.{Run, Check}
 use Rattle.os9_words.specs.declared.message.Message.{Message}
 use Rattle.os9_words.specs.Lines.{message_line, cannot_read_line, cannot_write_output_line, no_memory_line, image_fault_line, text_fault_line, boot_module_line, boot_too_large_line, no_first_line}
-use Rattle.machine_model.specs.declared.ends.BootFault.{BootFault}
-use Rattle.machine_model.specs.declared.ends.BootFault.TheVariants.{OutOfMemory, BadModule as BadModuleFault, NoFirst as NoFirstFault, TooLarge as TooLargeFault}
+use Rattle.io_machine.specs.declared.ends.BootFault.{BootFault}
+use Rattle.io_machine.specs.declared.ends.BootFault.TheVariants.{OutOfMemory, BadModule as BadModuleFault, NoFirst as NoFirstFault, TooLarge as TooLargeFault}
 use Rattle.os9_boot.specs.declared.status.Input.{Input}
-use Rattle.os9_boot.specs.declared.status.Input.TheVariants.{Slices, Modules, Image}
+use Rattle.os9_boot.specs.declared.status.Input.TheVariants.{Script, Slices, Modules, Image}
 use Rattle.os9_boot.specs.declared.status.End.{End}
 use Rattle.os9_boot.specs.declared.status.End.TheVariants.{Ended, Living, CannotRead, CannotWrite, NoMemory, BadImage, BadText, BadModule, NoFirst, TooLarge}
 
@@ -31,20 +31,25 @@ boot_end (BadModuleFault at error) = BadModule at error
 boot_end NoFirstFault = NoFirst
 boot_end TooLargeFault = TooLarge
 
--- the name of a file that the words give
-abbrev pub file_name : Command → Input → List ℕ
-file_name (Check image) _ = image
-file_name (Run run) Slices = run.slices
-file_name (Run run) Modules = slice_index_or run.files 0 []
-file_name (Run run) Image = slice_index_or run.files 0 []
+-- the name of a file that the words give, if they give one
+abbrev pub file_name : Command → Input → Option (List ℕ)
+file_name (Check image) _ = Some image
+file_name (Run run) Script = run.script
+file_name (Run run) Slices = Some run.slices
+file_name (Run run) Modules = slice_get run.files 0
+file_name (Run run) Image = slice_get run.files 0
+
+-- this name as it is shown: without one there is nothing to show
+abbrev pub shown_name : Command → Input → List ℕ
+shown_name command input = unwrap_or (file_name command input) []
 
 -- the line that says why a command ended; no bytes if none does
 abbrev pub end_line : Command → End → List ℕ
-end_line command (CannotRead input) = cannot_read_line (file_name command input)
+end_line command (CannotRead input) = cannot_read_line (shown_name command input)
 end_line command CannotWrite = cannot_write_output_line
 end_line command NoMemory = no_memory_line
-end_line command (BadImage fault) = image_fault_line (file_name command Image) fault.rule fault.lsn
-end_line command (BadText input line) = text_fault_line (file_name command input) line
+end_line command (BadImage fault) = image_fault_line (shown_name command Image) fault.rule fault.lsn
+end_line command (BadText input line) = text_fault_line (shown_name command input) line
 end_line command (BadModule at error) = boot_module_line at error
 end_line command NoFirst = no_first_line
 end_line command TooLarge = boot_too_large_line

@@ -2,9 +2,9 @@ pub mod Console
 pub mod RunFault
 pub mod End
 pub mod World
-pub mod ReadFile
 pub mod PassedBytes
 pub mod Slices
 pub mod Commands
 pub mod Partly
 pub mod TopCall
+pub mod RunFiles

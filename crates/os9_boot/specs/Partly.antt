@@ -1,7 +1,9 @@
 -- What a command has done if the output could not be written, or memory was out.
-use Rattle.std.specs.Prelude.{◌≡◌, ◌⊎◌, ℕ, Option, Some, Ok, List, slice_get, MatchOption}
+use Rattle.std.specs.Prelude.{◌≡◌, ◌⊎◌, ℕ, Option, Some, Ok, List, length, slice_get, MatchOption}
 use Rattle.os9_outer.specs.Host.{Files, file_contents}
 use Rattle.os9_outer.specs.Stream.{GainsPrefix}
+use Rattle.script_text.specs.declared.script.ScriptKey.{ScriptKey}
+use Rattle.script_text.specs.Script.{keys_of}
 use Rattle.script_text.specs.Slices.{slices_of}
 use Rattle.os9_words.specs.declared.command.Command.{Command}
 use Rattle.os9_words.specs.declared.command.Command.TheVariants.{Run as RunCommand, Check as CheckCommand}
@@ -9,11 +11,10 @@ use Rattle.os9_words.specs.declared.command.RunWords.{RunWords}
 use Rattle.os9_words.specs.Command.{command_of}
 use Rattle.rbf_model.specs.Geometry.{image_geometry}
 use Rattle.rbf_model.specs.Volume.{DiskVolume, Vol}
-use Rattle.machine_model.specs.State.{State}
-use Rattle.machine_model.specs.Start.{Starts}
+use Rattle.io_machine.specs.State.{State}
 use Rattle.os9_boot.specs.declared.status.End.{End}
 use Rattle.os9_boot.specs.declared.status.End.TheVariants.{NoMemory}
-use Rattle.os9_boot.specs.Commands.{counts_of}
+use Rattle.os9_boot.specs.Commands.{StartsLoaded, script_of, counts_of}
 use Rattle.os9_boot.specs.End.{status_number}
 use Rattle.os9_boot.specs.Slices.{RunsPartly}
 use Rattle.os9_boot.specs.World.{World}
@@ -22,17 +23,21 @@ use Rattle.os9_boot.specs.World.{World}
 abbrev pub IsUndone : World → World → End → Type 0
 IsUndone before after end = (end ≡ NoMemory) × (after ≡ before)
 
--- nothing was run; or the boot file starts a machine with so many blocks, which is run over the first of the slices
-abbrev pub BootsPartly : List ℕ → ℕ → List ℕ → World → World → End → Type 0
-BootsPartly file blocks slices before after end =
-    IsUndone before after end ⊎ ((s : State) × Starts file blocks before.terms s × RunsPartly slices s before after)
+-- nothing was run; or the machine that the boot file starts is run over the first of the slices
+abbrev pub BootsPartly : List ℕ → ℕ → List ScriptKey → List ℕ → World → World → End → Type 0
+BootsPartly file blocks keys slices before after end =
+    IsUndone before after end
+    ⊎ ((s : State) × StartsLoaded file blocks keys before s × RunsPartly slices s before after)
 
--- nothing was run; or the slice text gives slices, and the boot file that the words name is run over the first of them
+-- nothing was run; or the texts give keys and slices, and the boot file that the words name is run over the first of
+-- these slices
 abbrev pub RunsFilesPartly : Files → RunWords → World → World → End → Type 0
 RunsFilesPartly files run before after end =
-    IsUndone before after end ⊎ ((modules : List ℕ) × (slices : List ℕ) × (slice_get run.files 0 ≡ Some modules)
+    IsUndone before after end
+    ⊎ ((modules : List ℕ) × (keys : List ScriptKey) × (slices : List ℕ) × (slice_get run.files 0 ≡ Some modules)
+    × (keys_of (length before.terms) (script_of files run) ≡ Ok keys)
     × (slices_of (file_contents files run.slices) ≡ Ok slices)
-    × BootsPartly (file_contents files modules) run.blocks slices before after end)
+    × BootsPartly (file_contents files modules) run.blocks keys slices before after end)
 
 -- the image represents a volume, and the output gained the beginning of its counts
 abbrev pub PrintsPartly : List ℕ → Option (List ℕ) → Option (List ℕ) → Type 0

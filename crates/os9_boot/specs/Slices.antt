@@ -2,10 +2,10 @@
 use Rattle.std.specs.Prelude.{◌≡◌, ◌⊎◌, ℕ, true, Some, Result, List, take, slice_get, OnOk, OnErr, All}
 use Rattle.os9_outer.specs.Stream.{stream_with, GainsPrefix}
 use Rattle.os9_outer.specs.TerminalState.{fault_counts}
-use Rattle.machine_model.specs.State.{State, has_living}
-use Rattle.machine_model.specs.Run.{BeginsSlice, Run}
+use Rattle.io_machine.specs.State.{State, has_living}
+use Rattle.io_machine.specs.Run.{Run}
 use Rattle.os9_kernel.specs.declared.kernel.Kernel.{Kernel}
-use Rattle.os9_kernel.specs.Line.{PutsByte}
+use Rattle.os9_kernel.specs.Calls.{StopsSlice}
 use Rattle.os9_kernel.specs.Tie.{Represents}
 use Rattle.os9_boot.specs.declared.run.RunFault.{RunFault}
 use Rattle.os9_boot.specs.Console.{IsObserved}
@@ -18,25 +18,23 @@ pub record RunsPartly (slices : List ℕ) (s : State) (before after : World) : T
   pub states : List State  -- the states after their events
   pub written : List ℕ  -- what they wrote
   pub reached : State  -- the state that they came to
-  pub last : State  -- the state at which the run stopped
   pub run : Run (take count slices) s states written reached
-  -- it stopped after these slices, or within the next one, before a byte is put
-  pub stopped : (last ≡ reached) ⊎ ((n : ℕ) × (begun : List State) × (slice_get slices count ≡ Some n)
-      × (has_living reached ≡ true) × BeginsSlice n reached begun last × PutsByte last)
+  -- it stopped after these slices, where each terminal has failed as often; or memory was out within the next one
+  pub stopped : (fault_counts after.terms ≡ fault_counts reached.terms) ⊎ ((n : ℕ) × (slice_get slices count ≡ Some n)
+      × (has_living reached ≡ true) × StopsSlice n reached after.terms)
   -- the output gained the beginning of what the slices wrote
   pub output : GainsPrefix before.out written after.out
-  -- each terminal has failed as often as in the last state
-  pub terminals : fault_counts after.terms ≡ fault_counts last.terms
 
 pub record RunsSlices {Value : Type 0} (slices : List ℕ) (old new : Kernel) (answer : Result Value RunFault)
     (before after : World) : Type 0 where
   -- Ok: from each state that was represented there is a run over the slices to one that is represented
   -- now, and the output gained what it writes
-  pub run : OnOk answer ((s : State) → All IsObserved before.terms → Represents old before.terms s
+  pub run : OnOk answer ((s : State) → All IsObserved before.terms → Represents old before.drives before.terms s
       → (states : List State) × (written : List ℕ) × (t : State) × Run slices s states written t
-      × Represents new after.terms t × (after.out ≡ stream_with before.out written))
+      × Represents new before.drives after.terms t × (after.out ≡ stream_with before.out written))
   -- else there is a run over the first of them
-  pub partial : OnErr answer ((s : State) → All IsObserved before.terms → Represents old before.terms s
+  pub partial : OnErr answer ((s : State) → All IsObserved before.terms
+      → Represents old before.drives before.terms s
       → RunsPartly slices s before after)
   -- the host failed last at the output, or not at all
   pub output_fault : OnOutputFault answer (FailsToWrite before after)

@@ -2,6 +2,7 @@
 use Rattle.std.specs.Prelude.{◌≡◌, ◌≢◌, ℕ, ◌⊎◌, Option, Some, None, List, All, MatchOption}
 use Rattle.os9_base.specs.Count.{Rose}
 use Rattle.os9_outer.specs.Stream.{stream_with, GainsPrefix}
+use Rattle.script_text.specs.declared.script.ScriptKey.{ScriptKey}
 use Rattle.os9_words.specs.declared.command.Command.{Command}
 use Rattle.os9_words.specs.declared.command.Command.TheVariants.{Check as CheckCommand}
 use Rattle.os9_words.specs.Command.{command_of}
@@ -11,9 +12,9 @@ use Rattle.os9_boot.specs.declared.status.End.TheVariants.{Ended, CannotRead}
 use Rattle.os9_boot.specs.declared.status.Input.{Input}
 use Rattle.os9_boot.specs.Commands.{PerformsWords, Boots, IsAnswered, IsSilent, IsStopped, PerformsCommand}
 use Rattle.os9_boot.specs.Console.{IsObserved}
-use Rattle.os9_boot.specs.End.{end_line, file_name, status_number}
+use Rattle.os9_boot.specs.End.{end_line, status_number}
 use Rattle.os9_boot.specs.Partly.{PerformsWordsPartly, BootsPartly, PerformsPartly}
-use Rattle.os9_boot.specs.World.{World, FailsToRead, FailsToReadFile, FailsToWrite, HasNoFault, IfAllObserved}
+use Rattle.os9_boot.specs.World.{World, FailsToRead, FailsToReadInput, FailsToWrite, HasNoFault, IfAllObserved}
 
 pub record CommandCall (command : Command) (before after : World) (end : End) : Type 0 where
   -- if nothing failed, what the command does is done
@@ -25,7 +26,7 @@ pub record CommandCall (command : Command) (before after : World) (end : End) : 
   -- the words were a command
   pub not_refused : status_number end ≢ 1
   -- at 2 the host failed, and last at the read of the file that the end names
-  pub read_fault : (input : Input) → end ≡ CannotRead input → FailsToReadFile (file_name command input) before after
+  pub read_fault : (input : Input) → end ≡ CannotRead input → FailsToReadInput command input before after
   -- at 3 it failed, and last at a write to the output
   pub output_fault : status_number end ≡ 3 → FailsToWrite before after
   -- at every other status it did not fail
@@ -86,12 +87,14 @@ pub record TopCall (words : List (List ℕ)) (before after : World) (err_before 
   -- the error stream has gained the beginning of the line that says why the call ended
   pub line : ReportsLine words before after err_before err_after status
 
-pub record BootCall (file : List ℕ) (blocks : ℕ) (slices : List ℕ) (before after : World) (end : End) : Type 0 where
+pub record BootCall (file : List ℕ) (blocks : ℕ) (keys : List ScriptKey) (slices : List ℕ) (before after : World)
+    (end : End) : Type 0 where
   -- if nothing failed, the file is run or refused
-  pub booted : IsAnswered (status_number end) → All IsObserved before.terms → Boots file blocks slices before after end
+  pub booted : IsAnswered (status_number end) → All IsObserved before.terms
+      → Boots file blocks keys slices before after end
   -- at 3 and 4 it is run in part, or not at all
   pub partial : IsStopped (status_number end) → All IsObserved before.terms
-      → BootsPartly file blocks slices before after end
+      → BootsPartly file blocks keys slices before after end
   -- nothing is read, and the words were a command
   pub not_refused : status_number end ≢ 1
   pub no_read : status_number end ≢ 2

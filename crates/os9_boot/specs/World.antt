@@ -1,4 +1,4 @@
--- The world around a call of the program, as far as it can be observed: the host and the terminals.
+-- The world around a call of the program, as far as it can be observed: the host and the devices.
 use Rattle.std.specs.Prelude.{◌≡◌, ℕ, Bool, true, false, Option, Some, None, IfSome, List, All}
 use Rattle.os9_base.specs.Count.{Rose}
 use Rattle.os9_outer.specs.Host.{Files}
@@ -15,17 +15,19 @@ pub record World : Type 0 where
   pub faults : ℕ  -- how often a file or the output stream failed
   pub failed_name : Option (List ℕ)  -- the file of the last failure, none if the output stream failed
   pub failed_in_read : Bool  -- the last failure was that of a read
+  pub drives : ℕ  -- how many drives there are
   pub terms : List TerminalState  -- the terminals
 
--- the world of a host and of terminals, as
--- `world_of H.Host host.now (terminal_states ⟦<dyn CharDriver as CharDriver>⟧ devices.now.terms.items)`
-abbrev pub world_of : {Host : Type 0} → Ghosts Host → Host → List TerminalState → World
-world_of members host terms = record {
+-- the world of a host and of so many drives and these terminals, as `world_of H.Host host.now
+-- (vec_len devices.now.drives) (terminal_states ⟦<dyn CharDriver as CharDriver>⟧ devices.now.terms.items)`
+abbrev pub world_of : {Host : Type 0} → Ghosts Host → Host → ℕ → List TerminalState → World
+world_of members host drives terms = record {
   files = members.file_map host;
   out = members.bytes_out host;
   faults = members.host_faults host;
   failed_name = members.failed_name host;
   failed_in_read = members.failed_in_read host;
+  drives = drives;
   terms = terms;
 }
 
@@ -44,9 +46,14 @@ abbrev pub FailsToReadFile : List ℕ → World → World → Type 0
 FailsToReadFile name before after =
     Rose before.faults after.faults × (after.failed_name ≡ Some name) × (after.failed_in_read ≡ true)
 
+-- the host failed, and last at the read of this file that the command names
+abbrev pub FailsToReadInput : Command → Input → World → World → Type 0
+FailsToReadInput command input before after =
+    (name : List ℕ) × (file_name command input ≡ Some name) × FailsToReadFile name before after
+
 -- the host failed, and last at the read of a file that the command names
 abbrev pub FailsToRead : Command → World → World → Type 0
-FailsToRead command before after = (input : Input) × FailsToReadFile (file_name command input) before after
+FailsToRead command before after = (input : Input) × FailsToReadInput command input before after
 
 -- the host failed, and last at a write to the output stream
 abbrev pub FailsToWrite : World → World → Type 0

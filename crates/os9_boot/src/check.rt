@@ -1,4 +1,4 @@
-ghost use Rattle.std.specs.Prelude.{◌≡◌, List};
+ghost use Rattle.std.specs.Prelude.{◌≡◌, ℕ, List};
 ghost use Rattle.os9_outer.specs.TerminalState.{TerminalState};
 ghost use Rattle.os9_boot.specs.Commands.{tree_line};
 ghost use Rattle.os9_boot.specs.TopCall.{CommandCall, PrintCall};
@@ -16,14 +16,13 @@ use std::alloc::Global;
 /// `check IMAGE`: reads the image of a disk, and passes the counts of its volume to the output
 /// stream.
 pub fn check_image<H: Host>(alloc: Global, image: &Word, host: &mut H) -> End
-    ensures call { (terms : List TerminalState) → CommandCall (Command.Check image.now)
-        (world_of H.Host host.old terms) (world_of H.Host host.new terms) result }
+    ensures call { (drives : ℕ) (terms : List TerminalState) → CommandCall (Command.Check image.now)
+        (world_of H.Host host.old drives terms) (world_of H.Host host.new drives terms) result }
     ensures err_kept { H.bytes_err host.new ≡ H.bytes_err host.old }
 {
-    let bytes = match read_input(host, image) {
+    let bytes = match read_input(host, image, Input::Image) {
         Ok(bytes) => bytes,
-        Err(HostFault::Failed) => return End::CannotRead(Input::Image),
-        Err(HostFault::OutOfMemory) => return End::NoMemory,
+        Err(end) => return end,
     };
     match check(alloc, bytes.as_slice()) {
         Ok(tree) => print_counts(&tree, host),
@@ -34,8 +33,8 @@ pub fn check_image<H: Host>(alloc: Global, image: &Word, host: &mut H) -> End
 
 /// Passes the counts of a volume to the output stream.
 fn print_counts<H: Host>(tree: &Tree, host: &mut H) -> End
-    ensures call { (terms : List TerminalState) → PrintCall (tree_line tree.now)
-        (world_of H.Host host.old terms) (world_of H.Host host.new terms) result }
+    ensures call { (drives : ℕ) (terms : List TerminalState) → PrintCall (tree_line tree.now)
+        (world_of H.Host host.old drives terms) (world_of H.Host host.new drives terms) result }
     ensures err_kept { H.bytes_err host.new ≡ H.bytes_err host.old }
 {
     let counts = Counts {

@@ -49,9 +49,9 @@ fn take_from(devices: &mut Devices, n: usize) -> Vec<u8>
 /// The output has gained a prefix of these bytes.
 pub fn pass_on<H: Host>(devices: &mut Devices, host: &mut H) -> Result<(), HostFault>
     ensures passed { PassesBytes result
-        (world_of H.Host host.old
+        (world_of H.Host host.old (vec_len devices.old.drives)
         (terminal_states ⟦<dyn CharDriver as CharDriver>⟧ devices.old.terms.items))
-        (world_of H.Host host.new
+        (world_of H.Host host.new (vec_len devices.new.drives)
         (terminal_states ⟦<dyn CharDriver as CharDriver>⟧ devices.new.terms.items)) }
     ensures err_kept { H.bytes_err host.new ≡ H.bytes_err host.old }
     ensures terminals { vec_len devices.new.terms ≡ vec_len devices.old.terms }

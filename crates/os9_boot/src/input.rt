@@ -1,23 +1,33 @@
-ghost use Rattle.std.specs.Prelude.{IfOk, IfSome, ◌≡◌, List};
+ghost use Rattle.std.specs.Prelude.{◌≡◌, ℕ, IfErr, IfOk, IfSome, List, OnOk, Some};
 ghost use Rattle.os9_outer.specs.Host.{file_contents};
 ghost use Rattle.os9_outer.specs.TerminalState.{TerminalState};
-ghost use Rattle.os9_boot.specs.ReadFile.{ReadsFile};
+ghost use Rattle.os9_words.specs.declared.command.Command.{Command};
+ghost use Rattle.os9_boot.specs.End.{file_name};
+ghost use Rattle.os9_boot.specs.TopCall.{CommandCall};
 ghost use Rattle.os9_boot.specs.World.{world_of};
 
+use crate::status::{End, Input};
 use os9_outer::host::{Host, HostFault};
 use os9_words::word::Word;
 
-/// Reads the file that a word names.
+/// Reads the file of this name, which a command gives as this input.
 ///
 /// # Errors
 ///
-/// Those of [`Host::read_file`].
-pub fn read_input<H: Host>(host: &mut H, name: &Word) -> Result<Vec<u8>, HostFault>
+/// The end of the command: the file could not be read, or memory is out.
+pub fn read_input<H: Host>(host: &mut H, name: &Word, input: Input) -> Result<Vec<u8>, End>
     ensures contents { IfOk result (λ bytes. IfSome (H.file_map host.old) (λ files.
         bytes.items ≡ file_contents files name.now)) }
-    ensures read { (terms : List TerminalState) → ReadsFile name.now result
-        (world_of H.Host host.old terms) (world_of H.Host host.new terms) }
+    ensures kept { OnOk result ((drives : ℕ) (terms : List TerminalState)
+        → world_of H.Host host.new drives terms ≡ world_of H.Host host.old drives terms) }
+    ensures ended { IfErr result (λ end. (drives : ℕ) (terms : List TerminalState)
+        (command : Command) → file_name command input ≡ Some name.now → CommandCall command
+        (world_of H.Host host.old drives terms) (world_of H.Host host.new drives terms) end) }
     ensures err_kept { H.bytes_err host.new ≡ H.bytes_err host.old }
 {
-    host.read_file(name.text())
+    match host.read_file(name.text()) {
+        Ok(bytes) => Ok(bytes),
+        Err(HostFault::Failed) => Err(End::CannotRead(input)),
+        Err(HostFault::OutOfMemory) => Err(End::NoMemory),
+    }
 }

@@ -3,11 +3,13 @@
 
 mod check;
 mod console;
+mod files;
 mod input;
 mod run;
 mod status;
 #[cfg(test)]
 mod tests;
+mod texts;
 mod top;
 
 pub use os9_words::command::read_words;

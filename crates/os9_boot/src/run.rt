@@ -1,6 +1,6 @@
 ghost use Rattle.std.specs.Prelude.{◌≡◌, ◌+◌, ◌<◌, length, vec_len};
 ghost use Rattle.os9_outer.specs.TerminalState.{terminal_states};
-ghost use Rattle.os9_kernel.specs.Tie.{ticks};
+ghost use Rattle.os9_kernel.specs.Tie.{Stands, ticks};
 ghost use Rattle.os9_boot.specs.Slices.{RunsSlices};
 ghost use Rattle.os9_boot.specs.World.{world_of};
 
@@ -33,11 +33,12 @@ pub fn run_slices<H: Host>(
     devices: &mut Devices,
 ) -> Result<(), RunFault>
     requires few { ticks kernel.old + length slices.now < LAST_TICK }
-    requires terminal { 0 < vec_len devices.old.terms }
+    requires stands { Stands kernel.old (vec_len devices.old.drives)
+        (terminal_states ⟦<dyn CharDriver as CharDriver>⟧ devices.old.terms.items) }
     ensures ran { RunsSlices slices.now kernel.old kernel.new result
-        (world_of H.Host host.old
+        (world_of H.Host host.old (vec_len devices.old.drives)
         (terminal_states ⟦<dyn CharDriver as CharDriver>⟧ devices.old.terms.items))
-        (world_of H.Host host.new
+        (world_of H.Host host.new (vec_len devices.new.drives)
         (terminal_states ⟦<dyn CharDriver as CharDriver>⟧ devices.new.terms.items)) }
     ensures err_kept { H.bytes_err host.new ≡ H.bytes_err host.old }
     ensures drives_kept { devices.new.drives ≡ devices.old.drives }

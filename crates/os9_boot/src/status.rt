@@ -1,16 +1,18 @@
-ghost use Rattle.std.specs.Prelude.{◌≡◌};
+ghost use Rattle.std.specs.Prelude.{◌≡◌, [], unwrap_or};
 ghost use Rattle.os9_words.specs.Command.{HasOneFile};
 ghost use Rattle.os9_words.specs.Streams.{WritesErr};
-ghost use Rattle.os9_boot.specs.End.{status_number, file_name, end_line, text_of};
+ghost use Rattle.os9_boot.specs.End.{status_number, shown_name, end_line, text_of};
 
 use os9_outer::host::{Host, HostFault};
-use os9_words::command::Command;
+use os9_words::command::{Command, RunWords};
 use os9_words::message::{Message, report};
 use rbf_check::CheckFault;
 
 /// A file that the words of a command give to be read.
 #[derive(Clone, Copy, Debug, PartialEq, Eq)]
 pub enum Input {
+    /// The script of keys.
+    Script,
     /// The list of slices.
     Slices,
     /// The file of modules.
@@ -98,14 +100,25 @@ fn message_of<'a>(end: End, command: &'a Command) -> Option<Message<'a>>
     }
 }
 
-/// The name of a file that the words give.
+/// The name of a file that the words give; empty if they give no such file.
 fn name_of(command: &Command, input: Input) -> &str
     requires { HasOneFile command.now }
-    ensures { result.now ≡ file_name command.now input }
+    ensures { result.now ≡ shown_name command.now input }
 {
     match (command, input) {
         (Command::Check(image), _) => image.text(),
+        (Command::Run(run), Input::Script) => script_name(run),
         (Command::Run(run), Input::Slices) => run.slices.text(),
         (Command::Run(run), Input::Modules | Input::Image) => run.files.word(0).text(),
+    }
+}
+
+/// The name of the script; empty without one.
+fn script_name(run: &RunWords) -> &str
+    ensures { result.now ≡ unwrap_or run.now.script [] }
+{
+    match &run.script {
+        Some(script) => script.text(),
+        None => "",
     }
 }

@@ -1,3 +1,5 @@
+ghost use Rattle.std.specs.Prelude.{◌≡◌, []};
+
 use crate::os9_main;
 use device_table::devices::Devices;
 use os9_outer::host_file::HostFile;
@@ -13,6 +15,13 @@ const HELLO: [u8; 43] = [
     0x87, 0xCD, 0x00, 0x2B, 0x00, 0x0D, 0x11, 0x81, 0x03, 0x00, 0x12, 0x00, 0xC8, 0x53, 0x79, 0x73,
     0x47, 0xEF, 0x30, 0x8C, 0x0D, 0x10, 0x8E, 0x00, 0x50, 0x86, 0x01, 0x10, 0x3F, 0x8C, 0x5F, 0x10,
     0x3F, 0x06, 0x48, 0x65, 0x6C, 0x6C, 0x6F, 0x0D, 0x84, 0x92, 0xD7,
+];
+
+/// A program that reads a line, writes it, and exits with 0.
+const ECHO: [u8; 41] = [
+    0x87, 0xCD, 0x00, 0x29, 0x00, 0x0D, 0x11, 0x81, 0x01, 0x00, 0x12, 0x00, 0xC8, 0x53, 0x79, 0x73,
+    0x47, 0xEF, 0x8E, 0x00, 0x00, 0x10, 0x8E, 0x00, 0x50, 0x4F, 0x10, 0x3F, 0x8B, 0x86, 0x01, 0x10,
+    0x3F, 0x8C, 0x5F, 0x10, 0x3F, 0x06, 0x66, 0x5D, 0xF4,
 ];
 
 /// What a call of the program shows.
@@ -39,21 +48,27 @@ fn call(
     plan: &[u64],
 ) -> Result<Shown, AllocError> {
     let term = Box::new(alloc, SureTty::new(alloc))?;
-    call_on(alloc, term, words, module, slices, plan)
+    let files = files(alloc, module, slices)?;
+    call_on(alloc, term, words, files, plan)
 }
 
-/// The same, with this one as TERM.
+fn files(alloc: Global, module: &[u8], slices: &[u8]) -> Result<Vec<HostFile>, AllocError> {
+    let mut files = Vec::new(alloc);
+    files.push(file(alloc, "h", module)?)?;
+    files.push(file(alloc, "s", slices)?)?;
+    Ok(files)
+}
+
+/// The same on these files, with this one as TERM.
 fn call_on(
     alloc: Global,
     term: Box<dyn CharDriver>,
     words: &[&str],
-    module: &[u8],
-    slices: &[u8],
+    files: Vec<HostFile>,
     plan: &[u64],
-) -> Result<Shown, AllocError> {
-    let mut files = Vec::new(alloc);
-    files.push(file(alloc, "h", module)?)?;
-    files.push(file(alloc, "s", slices)?)?;
+) -> Result<Shown, AllocError>
+    requires { keys_left term ≡ [] }
+{
     let mut given = Vec::new(alloc);
     for word in words {
         given.push(String::from_str(alloc, word)?)?;
@@ -109,7 +124,8 @@ fn host_faults(rt: HostRuntime) -> Result<(), Fail> {
     Ok(())
 }
 
-// Of the first cause that applies: the reading of the modules (2), the slice text (7), the modules (8).
+// Of the first cause that applies: the reading of the modules (2), the script (7), the slice text
+// (7), the modules (8).
 #[test]
 fn order_of_causes(rt: HostRuntime) -> Result<(), Fail> {
     let unread = call(rt.alloc(), &RUN, &changed(&[(0, 0x86)]), b"0", &[2])?;
@@ -118,6 +134,10 @@ fn order_of_causes(rt: HostRuntime) -> Result<(), Fail> {
     let bad_text = call(rt.alloc(), &RUN, &changed(&[(0, 0x86)]), b"0", &[])?;
     assert_eq!(rt; bad_text.status, 7);
     assert!(rt; bad_text.err.as_slice() == b"os9: s: line 1\n".as_slice());
+    let words = ["run", "h", "--slices", "s", "--script", "h"];
+    let bad_script = call(rt.alloc(), &words, &HELLO, b"0", &[])?;
+    assert_eq!(rt; bad_script.status, 7);
+    assert!(rt; bad_script.err.as_slice() == b"os9: h: line 1\n".as_slice());
     Ok(())
 }
 
@@ -141,14 +161,42 @@ fn refused_slices(rt: HostRuntime) -> Result<(), Fail> {
 // alone is missing.
 #[test]
 fn terminal_that_fails(rt: HostRuntime) -> Result<(), Fail> {
-    let rows: [(u64, &[u8]); 4] = [(1, b""), (4, b"Hel"), (6, b"Hello"), (7, b"Hello\r")];
+    let rows: [(u64, &[u8]); 4] = [(2, b""), (5, b"Hel"), (7, b"Hello"), (8, b"Hello\r")];
     for (put, out) in rows {
         let alloc = rt.alloc();
         let term = Box::new(alloc, ScriptTty::new(alloc, vec![in alloc; put]?))?;
-        let shown = call_on(alloc, term, &RUN, &HELLO, b"100", &[])?;
+        let files = files(alloc, &HELLO, b"100")?;
+        let shown = call_on(alloc, term, &RUN, files, &[])?;
         assert_eq!(rt; shown.status, 0);
         assert!(rt; shown.out.as_slice() == out);
         assert!(rt; shown.err.is_empty());
+    }
+    Ok(())
+}
+
+/// Calls `ECHO` with this script over a host whose calls of these numbers fail.
+fn echo(alloc: Global, script: &[u8], plan: &[u64]) -> Result<Shown, AllocError> {
+    let words = ["run", "h", "--slices", "s", "--script", "t"];
+    let term = Box::new(alloc, SureTty::new(alloc))?;
+    let mut files = files(alloc, &ECHO, b"100*2")?;
+    files.push(file(alloc, "t", script)?)?;
+    call_on(alloc, term, &words, files, plan)
+}
+
+// There is one terminal.
+#[test]
+fn keys_of_a_script(rt: HostRuntime) -> Result<(), Fail> {
+    let rows: [(&[u8], &[u64], u8, &[u8], &[u8]); 4] = [
+        (b"2 TERM 68 69 0D", &[], 0, b"hi\r\nhi\r\n", b""),
+        (b"3 TERM 68 69 0D", &[], 5, b"", b""),
+        (b"# keys\n2 T1 0D", &[], 7, b"", b"os9: t: line 2\n"),
+        (b"2 T1 0D", &[1], 2, b"", b"os9: cannot read t\n"),
+    ];
+    for (script, plan, status, out, err) in rows {
+        let shown = echo(rt.alloc(), script, plan)?;
+        assert_eq!(rt; shown.status, status);
+        assert!(rt; shown.out.as_slice() == out);
+        assert!(rt; shown.err.as_slice() == err);
     }
     Ok(())
 }

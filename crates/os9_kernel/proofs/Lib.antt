@@ -8,7 +8,7 @@ mod Executing
 mod Forking
 mod PathCalls
 mod Pending
-mod Represented
+pub mod Represented
 mod Running
 mod Ticking
 mod Turning

@@ -10,7 +10,7 @@ use Rattle.os9_words.specs.declared.command.WordsFault.TheVariants.{Refused, Out
 
 -- the options of `run`, and those of `check`
 abbrev pub run_options : List (List ℕ)
-run_options = codes "slices" ∷ codes "blocks" ∷ []
+run_options = codes "slices" ∷ codes "script" ∷ codes "blocks" ∷ []
 
 abbrev pub check_options : List (List ℕ)
 check_options = []
@@ -20,15 +20,17 @@ abbrev pub blocks_of : Given → Option ℕ
 blocks_of words =
     option_map_or (λ number. within 8 256 (number_of number)) (value_of words (codes "blocks")) (Some 64)
 
--- `run` of this file of modules, over these slices and blocks, where all three are given
-abbrev pub run_with : Option (List ℕ) → Option (List ℕ) → Option ℕ → Option Command
-run_with (Some modules) (Some slices) (Some blocks) =
-    Some (Run (record { files = modules ∷ []; slices = slices; blocks = blocks }))
-run_with _ _ _ = None
+-- `run` of this file of modules, with this script or without one, over these slices and blocks, where files of
+-- modules and slices and a number of blocks are given
+abbrev pub run_with : Option (List ℕ) → Option (List ℕ) → Option (List ℕ) → Option ℕ → Option Command
+run_with (Some modules) script (Some slices) (Some blocks) =
+    Some (Run (record { files = modules ∷ []; script = script; slices = slices; blocks = blocks }))
+run_with _ _ _ _ = None
 
--- `run MODULES --slices SLICES`, with `--blocks N` or not
+-- `run MODULES --slices SLICES`, with `--script SCRIPT` and `--blocks N` or not
 abbrev pub run_of : Given → Option Command
-run_of words = run_with (only_argument words) (value_of words (codes "slices")) (blocks_of words)
+run_of words =
+    run_with (only_argument words) (value_of words (codes "script")) (value_of words (codes "slices")) (blocks_of words)
 
 -- `check IMAGE`
 abbrev pub check_of : Given → Option Command

@@ -1,4 +1,4 @@
-ghost use Rattle.std.specs.Prelude.{◌≡◌, ◌≢◌, None, Some, IfOk, [], ◌∷◌, map, option_and_then, string_bytes};
+ghost use Rattle.std.specs.Prelude.{◌≡◌, ◌≢◌, None, Some, IfOk, [], ◌∷◌, map, option_and_then, option_map, string_bytes};
 ghost use Rattle.std.specs.List.{All};
 ghost use Rattle.os9_words.specs.Command.{command_of, check_options, run_options, HasOneFile, HasBlocks, OnRefused};
 ghost use Rattle.os9_words.specs.Command.{blocks_of as blocks_of_lem, check_of as check_of_lem, run_of as run_of_lem};
@@ -15,6 +15,8 @@ use thiserror::Error;
 pub struct RunWords {
     /// The file of modules.
     pub files: Words,
+    /// The file with the keys of the terminals, if they are given some.
+    pub script: Option<Word>,
     /// The file with the list of slices.
     pub slices: Word,
     /// The number of memory blocks, from 8 to 256.
@@ -24,8 +26,8 @@ pub struct RunWords {
 /// A command line.
 #[derive(Debug, Drop)]
 pub enum Command {
-    /// `run MODULES --slices SLICES`, with `--blocks N` or not: runs the program of a file of
-    /// modules.
+    /// `run MODULES --slices SLICES`, with `--script SCRIPT` and `--blocks N` or not: runs the
+    /// program of a file of modules.
     Run(RunWords),
     /// `check IMAGE`: tests the image in a file.
     Check(Word),
@@ -80,7 +82,7 @@ fn read_run(alloc: Global, words: &[String]) -> Result<Command, WordsFault>
     ensures refused { OnRefused result (option_and_then run_of_lem
         (words_give run_options (map string_bytes words.now)) ≡ None) }
 {
-    let names = ["slices", "blocks"];
+    let names = ["slices", "script", "blocks"];
     let given = read_options(alloc, &names, words)?;
     run_of(alloc, &given)
 }
@@ -115,7 +117,7 @@ fn read_options<'a>(
     }
 }
 
-// `run MODULES --slices SLICES`, with `--blocks N` or not.
+// `run MODULES --slices SLICES`, with `--script SCRIPT` and `--blocks N` or not.
 fn run_of(alloc: Global, given: &GivenWords<'_>) -> Result<Command, WordsFault>
     ensures command { IfOk result (λ read. run_of_lem given.now ≡ Some read) }
     ensures refused { OnRefused result (run_of_lem given.now ≡ None) }
@@ -126,7 +128,7 @@ fn run_of(alloc: Global, given: &GivenWords<'_>) -> Result<Command, WordsFault>
     let (Some(modules), Some(slices), Some(blocks)) = (modules, slices, blocks) else {
         return Err(WordsFault::Refused);
     };
-    match run_words(alloc, modules, slices, blocks) {
+    match run_words(alloc, modules, given.value("script"), slices, blocks) {
         Ok(run) => Ok(Command::Run(run)),
         Err(_) => Err(WordsFault::OutOfMemory),
     }
@@ -149,18 +151,34 @@ fn check_of(alloc: Global, given: &GivenWords<'_>) -> Result<Command, WordsFault
 fn run_words(
     alloc: Global,
     modules: &str,
+    script: Option<&str>,
     slices: &str,
     blocks: u16,
 ) -> Result<RunWords, AllocError>
-    ensures { IfOk result (λ run.
-        run ≡ record { files = modules.now ∷ []; slices = slices.now; blocks = blocks }) }
+    ensures { IfOk result (λ run. run ≡ record {
+      files = modules.now ∷ [];
+      script = option_map (λ script. script.now) script.entry;
+      slices = slices.now;
+      blocks = blocks;
+    }) }
 {
     let modules = Word::copy_of(alloc, modules)?;
     Ok(RunWords {
         files: Words::one(alloc, modules)?,
+        script: copy_if_given(alloc, script)?,
         slices: Word::copy_of(alloc, slices)?,
         blocks,
     })
+}
+
+// The word with this text, if there is one.
+fn copy_if_given(alloc: Global, text: Option<&str>) -> Result<Option<Word>, AllocError>
+    ensures { IfOk result (λ word. word ≡ option_map (λ text. text.now) text.entry) }
+{
+    match text {
+        Some(text) => Ok(Some(Word::copy_of(alloc, text)?)),
+        None => Ok(None),
+    }
 }
 
 // The number of blocks: 64 without `--blocks`.
@@ -188,12 +206,22 @@ mod tests {
 
     #[test]
     fn run_words_are_read(rt: HostRuntime) -> Result<(), Fail> {
-        for (words, blocks) in [
-            (["run", "h", "--slices", "s"].as_slice(), 64),
-            (&["run", "h", "--slices", "s", "--blocks", "8"], 8),
-            (&["run", "h", "--slices", "s", "--blocks", "0000256"], 256),
-            (&["run", "--blocks=9", "--slices=s", "h"], 9),
-            (&["run", "--slices", "s", "--", "h"], 64),
+        for (words, script, blocks) in [
+            (["run", "h", "--slices", "s"].as_slice(), "", 64),
+            (&["run", "h", "--slices", "s", "--blocks", "8"], "", 8),
+            (
+                &["run", "h", "--slices", "s", "--blocks", "0000256"],
+                "",
+                256,
+            ),
+            (&["run", "--blocks=9", "--slices=s", "h"], "", 9),
+            (&["run", "--slices", "s", "--", "h"], "", 64),
+            (&["run", "h", "--slices", "s", "--script", "t"], "t", 64),
+            (
+                &["run", "--script=-t", "h", "--slices=s", "--blocks=9"],
+                "-t",
+                9,
+            ),
         ] {
             let words = words_of(rt.alloc(), words)?;
             let Command::Run(run) = read_words(rt.alloc(), &words)? else {
@@ -201,6 +229,8 @@ mod tests {
             };
             assert_eq!(rt; run.files.len(), 1);
             assert_eq!(rt; run.files.word(0).text() == "h", true);
+            let named = run.script.as_ref().map_or("", |script| script.text());
+            assert_eq!(rt; named == script, true);
             assert_eq!(rt; run.slices.text() == "s", true);
             assert_eq!(rt; run.blocks, blocks);
         }
@@ -236,7 +266,13 @@ mod tests {
             &["run", "h", "--slices="],
             &["run", "--slices", "--", "h"],
             &["run", "h", "s", "--slices", "s"],
-            &["run", "h", "--slices", "s", "--script", "t"],
+            &["run", "h", "--slices", "s", "--script"],
+            &["run", "h", "--slices", "s", "--script", "-t"],
+            &["run", "h", "--slices", "s", "--script="],
+            &["run", "h", "--script", "t"],
+            &[
+                "run", "h", "--slices", "s", "--script", "t", "--script", "t",
+            ],
             &["run", "h", "--slices", "s", "--time", "1990-01-01T00:00:00"],
             &["boot", "e", "--script", "t", "--slices", "s"],
             &["stress", "1"],

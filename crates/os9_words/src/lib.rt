@@ -7,3 +7,4 @@ pub mod counts;
 pub mod message;
 mod pieces;
 pub mod word;
+pub mod worked;

@@ -37,8 +37,8 @@ returns-in_err-write_out-clause-passed g c =
       written = search rules;
       prefix = prefix-on_error c.from_residual.result c.loop-n.n c.take_from-bytes.result.items _ _ _ _ _ passed so_far.written (rw (← c.as_slice.ensures.value) wrote.prefix);
       terminals_kept = ap fault_counts passed.emptied ∙ faults-front (c.loop-n.n + 1) _;
-      output_fault = failed-then c.from_residual.result (world_of g.H.Host c.args.host.now []) (world_of g.H.Host c.loop-n.host []) (world_of g.H.Host c.write_out.new.host []) so_far.count (search rules) (search rules) (search rules);
-      no_fault = kept-then c.from_residual.result (world_of g.H.Host c.args.host.now []) (world_of g.H.Host c.loop-n.host []) (world_of g.H.Host c.write_out.new.host []) so_far.count (search rules) (search rules) (search rules);
+      output_fault = failed-then c.from_residual.result (world_of g.H.Host c.args.host.now 0 []) (world_of g.H.Host c.loop-n.host 0 []) (world_of g.H.Host c.write_out.new.host 0 []) so_far.count (search rules) (search rules) (search rules);
+      no_fault = kept-then c.from_residual.result (world_of g.H.Host c.args.host.now 0 []) (world_of g.H.Host c.loop-n.host 0 []) (world_of g.H.Host c.write_out.new.host 0 []) so_far.count (search rules) (search rules) (search rules);
       files_kept = wrote.files_kept ∙ so_far.files;
     }
 

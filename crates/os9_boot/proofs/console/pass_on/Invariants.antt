@@ -2,7 +2,7 @@ use Rattle.std.proofs.Common.{◌≡◌, ◌≤◌, take, All}
 use Rattle.std.specs.Vec.{vec_len}
 use Rattle.os9_outer.specs.Stream.{stream_with}
 use Rattle.os9_outer.specs.TerminalState.{terminal_states}
-use Rattle.machine_model.specs.Console.{console_bytes}
+use Rattle.io_machine.specs.Console.{console_bytes}
 use Rattle.os9_boot.specs.Console.{IsObserved}
 use Rattle.os9_boot.specs.World.{HasNoFault, world_of}
 use Rattle.os9_boot.proofs.ConsoleLemmas.{emptied_front}
@@ -17,7 +17,7 @@ invariant-loop-n g l =
       drives : l.devices.drives ≡ l.initial.devices.drives;
       emptied : terminal_states (λ table. (g.dyn-2.0.entry table).1) l.devices.terms.items ≡ emptied_front l.n before;
       written : All IsObserved before → g.H.Host.bytes_out l.host ≡ stream_with (g.H.Host.bytes_out l.initial.host) (console_bytes (take l.n before));
-      count : HasNoFault (world_of g.H.Host l.initial.host before) (world_of g.H.Host l.host before);
+      count : HasNoFault (world_of g.H.Host l.initial.host 0 before) (world_of g.H.Host l.host 0 before);
       err : g.H.Host.bytes_err l.host ≡ g.H.Host.bytes_err l.initial.host;
       files : g.H.Host.file_map l.host ≡ g.H.Host.file_map l.initial.host;
     }

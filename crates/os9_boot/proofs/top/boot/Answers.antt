@@ -1,57 +1,26 @@
-use Rattle.std.proofs.Common.{arith, inl, inr, refl}
-use Rattle.os9_boot.proofs.CallLemmas.{not_silent-3, not_silent-4, status-at_end}
-use Rattle.os9_boot.proofs.RunLemmas.{terms-standing}
+use Rattle.std.proofs.Common.{ap}
+use Rattle.std.specs.Vec.{vec_len}
+use Rattle.os9_outer.specs.TerminalState.{terminal_states}
+use Rattle.os9_boot.specs.World.{world_of}
+use Rattle.os9_boot.proofs.LoadedLemmas.{booted-nothing, booted-output, booted-whole, booted-without_memory, stands-loaded}
 use Rattle.os9_boot.proofs.top.boot.Goals as goal
+
+pub returns-in-Err-clause-call : goal.returns-in-Err-clause-call
+returns-in-Err-clause-call g c =
+    rw c.in-Err.ensures.kept (booted-nothing c.args.file.now c.args.config.blocks c.args.texts.now.keys.items c.args.texts.now.slices.items (world_of g.H.Host c.args.host.now (vec_len c.args.devices.now.drives) (terminal_states (λ table. (g.dyn-2.0.entry table).1) c.args.devices.now.terms.items)))
+
+pub run_slices-requires-clause-stands : goal.run_slices-requires-clause-stands
+run_slices-requires-clause-stands g c =
+    stands-loaded c.args.file.now c.args.config.blocks c.args.texts.now.keys.items c.args.texts.now.slices.items c.in-Ok.kernel (world_of g.H.Host c.args.host.now (vec_len c.args.devices.now.drives) (terminal_states (λ table. (g.dyn-2.0.entry table).1) c.args.devices.now.terms.items)) (vec_len c.load_keys.new.devices.drives) (terminal_states (λ table. (g.dyn-2.0.entry table).1) c.load_keys.new.devices.terms.items) c.requires.terminals (rw c.as_slice.ensures.value at c.in-Ok-load_keys.ensures.loaded) (ap vec_len c.in-Ok-load_keys.ensures.drives_kept) c.in-Ok.ensures.start
 
 pub returns-in-Ok-run_slices-clause-call : goal.returns-in-Ok-run_slices-clause-call
 returns-in-Ok-run_slices-clause-call g c =
-    let ran = c.in-Ok-run_slices.ensures.ran in
-    record {
-      booted = λ answered observed.
-          let started = c.in-Ok.ensures.start _ in
-          let went = ran.run started.0 observed started.2 in
-          let status = status-at_end went.2 c.living.result c.end_of.result (c.living.ensures _ went.2 went.4) c.end_of.ensures.idle c.end_of.ensures.lives in
-          inl (started.0, started.1, (went.0, went.1, went.2, went.3, status, went.5, terms-standing _ _ went.2 went.4));
-      partial = λ stopped. absurd (c.end_of.ensures.not_stopped stopped);
-      not_refused = λ e. c.end_of.ensures.not_silent (inl e);
-      no_read = λ e. c.end_of.ensures.not_silent (inr (inl e));
-      output_fault = λ e. absurd (c.end_of.ensures.answered.1 e);
-      count_kept = λ no3. ran.no_fault;
-      silent = λ silent. absurd (c.end_of.ensures.not_silent silent);
-      terminals_kept = λ silent. absurd (c.end_of.ensures.not_silent silent);
-      files_kept = ran.files_kept;
-    }
+    booted-whole c.args.file.now c.args.config.blocks c.args.texts.now.keys.items c.args.texts.now.slices.items c.in-Ok.kernel (world_of g.H.Host c.args.host.now (vec_len c.args.devices.now.drives) (terminal_states (λ table. (g.dyn-2.0.entry table).1) c.args.devices.now.terms.items)) (vec_len c.load_keys.new.devices.drives) (terminal_states (λ table. (g.dyn-2.0.entry table).1) c.load_keys.new.devices.terms.items) c.requires.terminals (rw c.as_slice.ensures.value at c.in-Ok-load_keys.ensures.loaded) (ap vec_len c.in-Ok-load_keys.ensures.drives_kept) c.in-Ok.ensures.start _ _ _ c.living.result c.end_of.result (rw c.as_slice-2.ensures.value at c.in-Ok-run_slices.ensures.ran) (λ t tied. c.living.ensures _ _ t tied) c.end_of.ensures.idle c.end_of.ensures.lives c.end_of.ensures.answered c.end_of.ensures.not_stopped c.end_of.ensures.not_silent
 
 pub returns-in-Err-Output-clause-call : goal.returns-in-Err-Output-clause-call
 returns-in-Err-Output-clause-call g c =
-    let ran = rw c.in-Err-Output.field-0-is at c.in-Err-Output.ensures.ran in
-    record {
-      booted = λ answered observed. absurd (answered.1 refl);
-      partial = λ stopped observed.
-          let started = c.in-Ok.ensures.start _ in
-          inr (started.0, started.1, ran.partial started.0 observed started.2);
-      not_refused = λ e. omega (arith, e);
-      no_read = λ e. omega (arith, e);
-      output_fault = λ e. ran.output_fault;
-      count_kept = λ no3. absurd (no3 refl);
-      silent = λ silent. absurd (not_silent-3 silent);
-      terminals_kept = λ silent. absurd (not_silent-3 silent);
-      files_kept = ran.files_kept;
-    }
+    booted-output c.args.file.now c.args.config.blocks c.args.texts.now.keys.items c.args.texts.now.slices.items c.in-Ok.kernel (world_of g.H.Host c.args.host.now (vec_len c.args.devices.now.drives) (terminal_states (λ table. (g.dyn-2.0.entry table).1) c.args.devices.now.terms.items)) (vec_len c.load_keys.new.devices.drives) (terminal_states (λ table. (g.dyn-2.0.entry table).1) c.load_keys.new.devices.terms.items) c.requires.terminals (rw c.as_slice.ensures.value at c.in-Ok-load_keys.ensures.loaded) (ap vec_len c.in-Ok-load_keys.ensures.drives_kept) c.in-Ok.ensures.start _ _ (rw (c.in-Err-Output.field-0-is, c.as_slice-2.ensures.value) at c.in-Err-Output.ensures.ran)
 
 pub returns-clause-call : goal.returns-clause-call
 returns-clause-call g c =
-    let ran = rw c.in-Err-NoMemory.field-0-is at c.in-Err-NoMemory.ensures.ran in
-    record {
-      booted = λ answered observed. absurd (answered.2 refl);
-      partial = λ stopped observed.
-          let started = c.in-Ok.ensures.start _ in
-          inr (started.0, started.1, ran.partial started.0 observed started.2);
-      not_refused = λ e. omega (arith, e);
-      no_read = λ e. omega (arith, e);
-      output_fault = λ e. absurd (omega (arith, e));
-      count_kept = λ no3. ran.no_fault;
-      silent = λ silent. absurd (not_silent-4 silent);
-      terminals_kept = λ silent. absurd (not_silent-4 silent);
-      files_kept = ran.files_kept;
-    }
+    booted-without_memory c.args.file.now c.args.config.blocks c.args.texts.now.keys.items c.args.texts.now.slices.items c.in-Ok.kernel (world_of g.H.Host c.args.host.now (vec_len c.args.devices.now.drives) (terminal_states (λ table. (g.dyn-2.0.entry table).1) c.args.devices.now.terms.items)) (vec_len c.load_keys.new.devices.drives) (terminal_states (λ table. (g.dyn-2.0.entry table).1) c.load_keys.new.devices.terms.items) c.requires.terminals (rw c.as_slice.ensures.value at c.in-Ok-load_keys.ensures.loaded) (ap vec_len c.in-Ok-load_keys.ensures.drives_kept) c.in-Ok.ensures.start _ _ (rw (c.in-Err-NoMemory.field-0-is, c.as_slice-2.ensures.value) at c.in-Err-NoMemory.ensures.ran)

@@ -6,8 +6,8 @@ returns-in-Ok-clause-call g c = top-command _ _ _ _ _ c.in-Ok.command _ c.in-Ok.
 
 pub returns-in-Err-Refused-clause-call : goal.returns-in-Err-Refused-clause-call
 returns-in-Err-Refused-clause-call g c =
-    top-refused _ _ _ _ _ c.report.ensures.prefix (rw c.in-Err-Refused.field-0-is at c.in-Err-Refused.ensures.refused) (err-only g.H.Host _ _ _ c.report.ensures.others)
+    top-refused _ _ _ _ _ c.report.ensures.prefix (rw c.in-Err-Refused.field-0-is at c.in-Err-Refused.ensures.refused) (err-only g.H.Host _ _ _ _ c.report.ensures.others)
 
 pub returns-in-Err-OutOfMemory-clause-call : goal.returns-in-Err-OutOfMemory-clause-call
 returns-in-Err-OutOfMemory-clause-call g c =
-    top-memory _ _ _ _ _ c.report-in-Err-OutOfMemory.ensures.prefix (err-only g.H.Host _ _ _ c.report-in-Err-OutOfMemory.ensures.others)
+    top-memory _ _ _ _ _ c.report-in-Err-OutOfMemory.ensures.prefix (err-only g.H.Host _ _ _ _ c.report-in-Err-OutOfMemory.ensures.others)
