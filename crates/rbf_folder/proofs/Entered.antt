@@ -604,6 +604,12 @@ module _ (media : Option (List ℕ)) (v : DiskVolume) (on : Represents media v) 
         filled_at : sector done.now lsn ≡ put_at (sector made.image lsn) (32 * (place % 8)) entry_now
         filled_at = done.writes.filled ∙ ap (λ b. put_at b (32 * (place % 8)) entry_now) old_at
 
+        -- the new directory stands as before
+        pub file_stays : file_at (sector_at new) n ≡ file_at (sector_at mid) n
+        file_stays =
+            ap (λ m. file_at (sector_at m) n) done.is ∙ sym (done.vol.sound.shows.shown n file file_after)
+            ∙ sym made.made.shown ∙ ap (λ m. file_at (sector_at m) n) (sym made.is)
+
         pub named : IsEnteredOn v dir e media new n
         named = record {
           allowed = roomy;

@@ -1,5 +1,5 @@
 -- A new directory: its clusters are taken, its first sector is written, and then its descriptor.
-use Rattle.std.proofs.Common.{◌≡◌, ◌≢◌, ℕ, zero, suc, ◌+◌, ◌-◌, ◌*◌, ◌/◌, ◌%◌, ◌<◌, ◌≤◌, Bool, true, false, ◌==◌, ◌||◌, Option, Some, IsSome, Result, Ok, Err, List, [], ◌∷◌, ◌++◌, length, inl, inr, take, get_or, refl, sym, ap, ap₂, ◌∙◌, subst, ⊎_elim, arith, eq-eqb, leb-true, le-leb}
+use Rattle.std.proofs.Common.{◌≡◌, ◌≢◌, ℕ, zero, suc, ◌+◌, ◌-◌, ◌*◌, ◌/◌, ◌%◌, ◌<◌, ◌≤◌, Bool, true, false, not, ◌==◌, ◌&&◌, ◌||◌, Option, Some, IsSome, Result, Ok, Err, List, [], ◌∷◌, ◌++◌, length, inl, inr, take, get_or, refl, sym, ap, ap₂, ◌∙◌, subst, ⊎_elim, arith, eq-eqb, leb-true, le-leb}
 use Rattle.std.specs.Prelude.{nat_le, slice_get, flat_map, if◌then◌else◌}
 use Rattle.std.specs.List.{range_with_len}
 use Rattle.std.proofs.lemmas.List.{append-nil}
@@ -8,13 +8,13 @@ use mathlib.Core.Path.{fun_ext}
 use Rattle.std.proofs.lemmas.Bool.{and_from, or_left, or_right, both_ways, false≢true, cases_lt}
 use Rattle.std.proofs.lemmas.Option.{same_Some}
 use Rattle.os9_base.specs.declared.registers.TimePacket.{TimePacket}
-use Rattle.os9_outer.specs.Drive.{sector_count, with_sector}
+use Rattle.os9_outer.specs.Drive.{sector_at, sector_count, with_sector}
 use Rattle.rbf_model.specs.Disk.{image_disk}
 use Rattle.rbf_model.specs.Fields.{segments_field, size_field}
 use Rattle.rbf_model.specs.File.{DiskFile, file_at, file_from, segment_bytes}
 use Rattle.rbf_model.specs.Geometry.{Geometry, LieWithin, geometry, image_geometry, is_within, sector, map_sectors}
 use Rattle.rbf_model.specs.Laws.{IsMapSector, IsReady}
-use Rattle.rbf_model.specs.Segments.{AreDistinct, has, joins, sectors_of}
+use Rattle.rbf_model.specs.Segments.{AreDistinct, appended_segments, has, joins, sectors_of}
 use Rattle.rbf_model.specs.Space.{is_whole, own_sectors as owned_sectors, has_cluster}
 use Rattle.rbf_model.specs.Volume.{DiskVolume, Vol, is_free}
 use Rattle.rbf_model.specs.Writes.{with_lost, IsNewDirectory}
@@ -25,19 +25,20 @@ use Rattle.rbf_model.proofs.Space.{cluster_from_owns}
 use Rattle.rbf_change.specs.Calls.{shape, cluster_size, is_free_in, minute_of, day_of}
 use Rattle.rbf_change.specs.Contents.{extended}
 use Rattle.rbf_change.specs.Faults.{MayLose}
-use Rattle.rbf_change.specs.Growth.{with_clusters}
+use Rattle.rbf_change.specs.Growth.{uses, with_clusters}
 use Rattle.rbf_change.specs.Names.{new_listing}
 use Rattle.rbf_change.specs.NewFiles.{Plan, directory_plan, IsNewFile, file_clusters}
 use Rattle.rbf_change.specs.Tidy.{IsNewList, KeepsMapEnd}
 use Rattle.rbf_change.proofs.LawfulWrites.{shape-image}
 use Rattle.rbf_access.specs.Faults.{file_fault}
+use Rattle.rbf_access.specs.MapMarks.{marking_sectors}
 use Rattle.rbf_access.specs.Mounted.{Represents, IsMounted}
 use Rattle.rbf_access.specs.declared.faults.FileFault.{FileFault}
 use Rattle.rbf_access.specs.declared.faults.FileFault.TheVariants.{Device, NoCluster, TooManyRuns}
 use Rattle.rbf_access.specs.declared.volume.Volume.{Volume}
 use Rattle.rbf_growth.specs.Gained.{IsTooMany}
-use Rattle.rbf_growth.specs.Grown.{IsChosen, IsGrown, GrowthEnds, Grows}
-use Rattle.rbf_growth.proofs.Chosen.{has_free}
+use Rattle.rbf_growth.specs.Grown.{IsChosen, IsGrown, GrowthEnds, Grows, is_gained}
+use Rattle.rbf_growth.proofs.Chosen.{has_free, uses_more}
 use Rattle.rbf_growth.proofs.Growing.{agrees_on}
 use Rattle.rbf_sector.specs.declared.fd.Fd.{Fd}
 use Rattle.rbf_update.proofs.Stored.{IsStored}
@@ -69,6 +70,20 @@ starts k first positive = range_starts first (new_sectors k) (some_sector k posi
 
 pub first_is : (k first : ℕ) → 1 ≤ k → get_or (sectors_of (run_of k first)) 0 0 ≡ first
 first_is k first positive = let s = starts k first positive in ap (λ xs. get_or xs 0 0) s.1
+
+-- the clusters of segments that have gained some
+uses_with : (k : ℕ) (segments : List (ℕ × ℕ)) (taken : List ℕ) (c : ℕ) → 1 ≤ k → uses k (with_clusters k segments taken) c ≡ (uses k segments c || has taken c)
+uses_with k segments [] c positive = or_none (uses k segments c)
+  where
+    or_none : (t : Bool) → t ≡ (t || false)
+    or_none true = refl
+    or_none false = refl
+uses_with k segments (d ∷ taken) c positive =
+    uses_with k (appended_segments segments (d * k) k) taken c positive ∙ ap (λ t. t || has taken c) (uses_more k segments d c positive) ∙ or_either (uses k segments c) (d == c) (has taken c)
+  where
+    or_either : (x y z : Bool) → ((x || y) || z) ≡ (x || (y || z))
+    or_either true y z = refl
+    or_either false y z = refl
 
 same_tests : (a b : Bool) → (a ≡ true → b ≡ true) → (b ≡ true → a ≡ true) → a ≡ b
 same_tests true b one other = sym (one refl)
@@ -476,6 +491,25 @@ module _ (media mid : Option (List ℕ)) (v : DiskVolume) (on : Represents media
             (new_directory_is number parent (let few = number_few media v on parent attr owner now grown.taken grown.chosen in omega arith) parent_low);
       }
 
+      -- the clusters that were gained are those of its descriptor on the media
+      pub marks_made : marking_sectors (shape v) (is_gained sectors [] after) ≡ marking_sectors (shape v) (has_cluster (shape v) number (file_at (sector_at new) number))
+      marks_made = ap (marking_sectors (shape v)) (fun_ext gained_is)
+        where
+          shown_new : file_at (sector_at new) number ≡ folder
+          shown_new = ap (λ m. file_at (sector_at m) number) (now_is listed u on_listed number number_lost bytes whole new new_is) ∙ shown
+
+          only_new : (t : Bool) → (t && not false) ≡ t
+          only_new true = refl
+          only_new false = refl
+
+          gained_is : (c : ℕ) → is_gained sectors [] after c ≡ has_cluster (shape v) number (file_at (sector_at new) number) c
+          gained_is c =
+              only_new (uses sectors after c)
+              ∙ ap (λ xs. uses sectors xs c) grown.segments
+              ∙ uses_with sectors [] grown.taken c (positive_of media v on)
+              ∙ cluster_is media v on parent attr owner now grown.taken grown.chosen c
+              ∙ ap (λ f. has_cluster (shape v) number f c) (sym shown_new)
+
       pub is_made : IsFolderMade v parent number (planned number) media new
       is_made = record {
         image = grown.image;
@@ -640,5 +674,13 @@ module _ (media mid : Option (List ℕ)) (v : DiskVolume) (on : Represents media
           made_as fd read rest k segs fd_is list same low =
               subst (λ x. IsFolderMade v parent x (directory_plan attr owner now parent x) media new) (sym m_is)
               (is_made media mid v on parent attr owner now after grown one one_whole listed listed_is bytes whole fd read rest
+              (fd_as fd attr owner now k (cluster_size v) f (first media v on parent attr owner now grown.taken grown.chosen) segs fd_is list same f_is)
+              (one_is ∙ ap (λ x. extended (new_listing x parent) 256) m_is) low new new_is)
+
+          pub marks_as : (fd : Fd) (read : IsReadAs fd bytes) (rest : IsNewList bytes) (k : ℕ) (segs : List (ℕ × ℕ)) → fd ≡ record { attr = 128 + attr % 128; owner = owner; modified = minute_of now; links = 1; size = 64; created = day_of now; segs = segs } → segs ≡ run_of k f → k ≡ cluster_size v
+              → parent < 16777216 → marking_sectors (shape v) (is_gained (cluster_size v) [] after) ≡ marking_sectors (shape v) (has_cluster (shape v) m (file_at (sector_at new) m))
+          marks_as fd read rest k segs fd_is list same low =
+              subst (λ x. marking_sectors (shape v) (is_gained (cluster_size v) [] after) ≡ marking_sectors (shape v) (has_cluster (shape v) x (file_at (sector_at new) x))) (sym m_is)
+              (marks_made media mid v on parent attr owner now after grown one one_whole listed listed_is bytes whole fd read rest
               (fd_as fd attr owner now k (cluster_size v) f (first media v on parent attr owner now grown.taken grown.chosen) segs fd_is list same f_is)
               (one_is ∙ ap (λ x. extended (new_listing x parent) 256) m_is) low new new_is)

@@ -1,17 +1,20 @@
 -- What the making of a directory answers, step by step.
-use Rattle.std.proofs.Common.{◌≡◌, ℕ, ◌<◌, false, Option, Some, None, IsSome, Ok, Err, List, refl, sym, ap, ◌∙◌, subst, arith}
+use Rattle.std.proofs.Common.{◌≡◌, ℕ, ◌+◌, ◌<◌, min, false, Option, Some, None, IsSome, Ok, Err, List, refl, sym, ap, ◌∙◌, subst, arith}
 use Rattle.std.specs.Prelude.{Result}
 use Rattle.std.proofs.lemmas.Bool.{both_ways}
 use Rattle.std.proofs.lemmas.Option.{same_Some}
 use Rattle.os9_base.specs.declared.registers.TimePacket.{TimePacket}
 use Rattle.rbf_model.specs.File.{DiskFile}
+use Rattle.rbf_model.specs.Space.{has_cluster}
 use Rattle.rbf_model.specs.Volume.{DiskVolume, Vol}
 use Rattle.rbf_change.specs.Agrees.{Agrees}
-use Rattle.rbf_change.specs.Calls.{cluster_size, free_total}
+use Rattle.rbf_change.specs.Calls.{shape, cluster_size, free_total}
 use Rattle.rbf_change.specs.Names.{new_entry}
 use Rattle.rbf_change.specs.NewFiles.{directory_plan, file_clusters}
 use Rattle.rbf_access.specs.Drive.{DriveCounts, MovesCounts}
+use Rattle.rbf_access.proofs.Counting.{counts_then}
 use Rattle.rbf_access.specs.Faults.{file_fault}
+use Rattle.rbf_access.specs.MapMarks.{marking_sectors}
 use Rattle.rbf_access.specs.Mounted.{kept, Represents, HasFile, IsMounted}
 use Rattle.rbf_access.specs.Reading.{IsFdOf, OnFile, OnVolumeFile}
 use Rattle.rbf_access.specs.declared.faults.FileFault.{FileFault}
@@ -32,7 +35,7 @@ use Rattle.rbf_make.proofs.Found.{asked}
 use Rattle.rbf_folder.specs.Asked.{folder_request}
 use Rattle.rbf_folder.specs.Made.{IsFolderMade, MakesFolder, folder_calls}
 use Rattle.rbf_folder.proofs.Making.{need, kept_size}
-use Rattle.rbf_folder.proofs.Entered.{number_below_all, full, no_segment, unmade, low, may_enter_it, read_still, calls_left, unnamed, named}
+use Rattle.rbf_folder.proofs.Entered.{number_below_all, full, no_segment, unmade, low, may_enter_it, read_still, calls_left, unnamed, file_stays, named}
 
 -- what the call answers of any volume that the media represents
 abbrev pub Answered : Option (List ℕ) → Option (List ℕ) → ℕ → List ℕ → ℕ → ℕ → TimePacket → Result ℕ DirError → Type 0
@@ -114,8 +117,8 @@ module _ (m0 : Option (List ℕ)) (d place : ℕ) (name : List ℕ) (attr user :
       makes_here : (mid : Option (List ℕ)) (r : Result ℕ FileFault) → ((v : DiskVolume) → Represents m1 v → MakesFolder v d (directory_plan attr user now d) m1 mid r) → MakesFolder has.content d (directory_plan attr user now d) m0 mid r
       makes_here mid r makes = subst (λ m. MakesFolder has.content d (directory_plan attr user now d) m mid r) same (makes has.content on1)
 
-      pub folder_calls_here : (f : Option ℕ) (t u : DriveCounts) → ((v : DiskVolume) → Represents m1 v → MovesCounts f (folder_calls v) t u) → (v : DiskVolume) (file : DiskFile) → Represents m0 v → v.files d ≡ Some file → MovesCounts f (folder_calls v) t u
-      folder_calls_here f t u moved v file on is = moved v (record { image = on.image; is = same ∙ on.is; vol = on.vol })
+      pub folder_calls_here : (most : DiskVolume → ℕ) (f : Option ℕ) (t u : DriveCounts) → ((v : DiskVolume) → Represents m1 v → MovesCounts f (most v) t u) → (v : DiskVolume) (file : DiskFile) → Represents m0 v → v.files d ≡ Some file → MovesCounts f (most v) t u
+      folder_calls_here most f t u moved v file on is = moved v (record { image = on.image; is = same ∙ on.is; vol = on.vol })
 
       -- the directory was not made
       pub not_made : (mid : Option (List ℕ)) (e : FileFault) → ((v : DiskVolume) → Represents m1 v → MakesFolder v d (directory_plan attr user now d) m1 mid (Err e)) → (IsSome (file_fault {A = ℕ} (Err e))) × Answered m0 mid d name attr user now (Err (File e))
@@ -169,6 +172,15 @@ module _ (m0 : Option (List ℕ)) (d place : ℕ) (name : List ℕ) (attr user :
             not_entered NoCluster device answer = absurd (both_ways false refl device)
             not_entered TooManyRuns device answer = absurd (both_ways false refl device)
 
+            -- its clusters stay those of its descriptor
+            pub entered_calls : OnVolumeFile mid loaded.number (λ on file. AnswersEntry on file (record { directory = loaded.number; place = place; entry = bytes; now = now }) mid m2 (Ok tt)) → (v : DiskVolume) (file : DiskFile) (s t u : DriveCounts)
+                → MovesCounts None (folder_calls {E = FileFault} v mid (Ok n)) s t → MovesCounts None (entry_calls v file) t u → MovesCounts None (folder_calls {E = FileFault} v m2 (Ok n) + entry_calls v file) s u
+            entered_calls answer v file s t u one other =
+                let stays : folder_calls {E = FileFault} v mid (Ok n) ≡ folder_calls {E = FileFault} v m2 (Ok n) =
+                ap (λ f. min (file_clusters (cluster_size v) 64) (marking_sectors (shape v) (has_cluster (shape v) n f)) + 2)
+                (sym (file_stays m0 has.content has.on d place has.file has.is name attr user now spot room mid n made m2 (here (Ok tt) answer))) in
+                subst (λ m. MovesCounts None (m + entry_calls v file) s u) stays (counts_then None (folder_calls {E = FileFault} v mid (Ok n)) (entry_calls v file) s t u one other)
+
             pub is_entered : OnVolumeFile mid loaded.number (λ on file. AnswersEntry on file (record { directory = loaded.number; place = place; entry = bytes; now = now }) mid m2 (Ok tt)) → Answered m0 m2 d name attr user now (Ok n)
             is_entered answer = answered m2 (Ok n) (named m0 has.content has.on d place has.file has.is name attr user now spot room mid n made m2 (here (Ok tt) answer))
 
@@ -178,6 +190,6 @@ module _ (m0 m1 : Option (List ℕ)) (same : m1 ≡ m0) (d : ℕ) (name : List �
       → ((v : DiskVolume) (file : DiskFile) → Represents m1 v → v.files found.dir.number ≡ Some file → AnswersEntering v file (folder_request found.dir.number name attr found.user now) m1 m2 (widened r)) → Answered m0 m2 d name attr user now (widened r)
   answer_there attr now r m2 = asked m0 m1 same d name user false found is (λ m n u x v file. AnswersEntering v file (folder_request n name attr u now) m m2 (widened r))
 
-  pub calls_there : (r : Result ℕ FileFault) (t u : DriveCounts) → ((v : DiskVolume) (file : DiskFile) → Represents m1 v → v.files found.dir.number ≡ Some file → MovesCounts (file_fault r) (entering_calls v file (folder_calls v) (widened r)) t u)
-      → (v : DiskVolume) (file : DiskFile) → Represents m0 v → v.files d ≡ Some file → MovesCounts (file_fault r) (entering_calls v file (folder_calls v) (widened r)) t u
-  calls_there r t u = asked m0 m1 same d name user false found is (λ m n w x v file. MovesCounts (file_fault r) (entering_calls v file (folder_calls v) (widened r)) t u)
+  pub calls_there : (most : DiskVolume → ℕ) (r : Result ℕ FileFault) (t u : DriveCounts) → ((v : DiskVolume) (file : DiskFile) → Represents m1 v → v.files found.dir.number ≡ Some file → MovesCounts (file_fault r) (entering_calls v file (most v) (widened r)) t u)
+      → (v : DiskVolume) (file : DiskFile) → Represents m0 v → v.files d ≡ Some file → MovesCounts (file_fault r) (entering_calls v file (most v) (widened r)) t u
+  calls_there most r t u = asked m0 m1 same d name user false found is (λ m n w x v file. MovesCounts (file_fault r) (entering_calls v file (most v) (widened r)) t u)

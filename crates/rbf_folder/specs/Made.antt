@@ -1,6 +1,7 @@
 -- A new directory whose descriptor is on the media, before it has a name.
-use Rattle.std.specs.Prelude.{◌≡◌, ◌≢◌, ◌↔◌, ℕ, ◌+◌, ◌-◌, ◌<◌, ◌==◌, true, false, Option, Some, List, length, get_or, if◌then◌else◌, Result, IfOk, IfSome, IsErrOf}
-use Rattle.rbf_model.specs.File.{DiskFile}
+use Rattle.std.specs.Prelude.{◌≡◌, ◌≢◌, ◌↔◌, ℕ, ◌+◌, ◌-◌, ◌<◌, ◌==◌, min, true, false, Option, Some, List, length, get_or, if◌then◌else◌, Result, Ok, Err, IfOk, IfSome, IsErrOf}
+use Rattle.os9_outer.specs.Drive.{sector_at}
+use Rattle.rbf_model.specs.File.{DiskFile, file_at}
 use Rattle.rbf_model.specs.Geometry.{image_geometry, sector}
 use Rattle.rbf_model.specs.Disk.{image_disk}
 use Rattle.rbf_model.specs.Laws.{IsMapSector, IsReady}
@@ -14,6 +15,7 @@ use Rattle.rbf_change.specs.NewFiles.{Plan, IsNewFile, file_clusters}
 use Rattle.rbf_change.specs.Parts.{FileIsMade}
 use Rattle.rbf_change.specs.Tidy.{KeepsMapEnd}
 use Rattle.rbf_access.specs.Faults.{file_fault}
+use Rattle.rbf_access.specs.MapMarks.{marking_sectors}
 use Rattle.rbf_append.specs.NewEntry.{IsAfterMarks}
 use Rattle.rbf_access.specs.declared.faults.FileFault.{FileFault}
 use Rattle.rbf_access.specs.declared.faults.FileFault.TheVariants as fault
@@ -90,6 +92,11 @@ pub record MakesFolder (v : DiskVolume) (parent : ℕ) (plan : ℕ → Plan) (ol
   -- an access of the drive has failed
   pub ends : IfSome (file_fault result) (λ _. FolderEnds v plan old new)
 
--- how many calls of the drive make it at most: one for each cluster that it takes, and one for each of its two sectors
-abbrev pub folder_calls : DiskVolume → ℕ
-folder_calls v = file_clusters (cluster_size v) 64 + 2
+-- how many calls of the drive make a directory at most: one for each of its two sectors, and one for each sector of the
+-- map that has a mark of its clusters, as its descriptor on the media shows them, and no more than it takes clusters;
+-- after a fault one for each cluster
+abbrev pub folder_calls : {E : Type 0} → DiskVolume → Option (List ℕ) → Result ℕ E → ℕ
+folder_calls v after (Ok n) =
+    min (file_clusters (cluster_size v) 64)
+    (marking_sectors (shape v) (has_cluster (shape v) n (file_at (sector_at after) n))) + 2
+folder_calls v after (Err fault) = file_clusters (cluster_size v) 64 + 2

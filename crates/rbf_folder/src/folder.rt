@@ -41,7 +41,8 @@ pub fn create_folder(
     ensures refused { OnErr result (IsNone (file_fault result) → media d.new ≡ media d.old) }
     ensures mounted { IsMounted volume.new (media d.new) }
     ensures counts { (v : DiskVolume) → Represents (media d.old) v
-        → Counts ⟦<dyn BlockDriver as BlockDriver>⟧ (file_fault result) (folder_calls v) d.old d.new }
+        → Counts ⟦<dyn BlockDriver as BlockDriver>⟧ (file_fault result)
+        (folder_calls v (media d.new) result) d.old d.new }
 {
     let k = volume.ident.cluster;
     let space = grow(volume, d, &Segs::empty(), new_clusters(k))?;

@@ -48,8 +48,8 @@ pub fn make_dir(
     ensures mounted { IsMounted v.new (media d.new) }
     ensures counts { OnVolumeFile (media d.old) dir (λ on file.
         Counts ⟦<dyn BlockDriver as BlockDriver>⟧ (directory_fault result)
-        (place_calls file name.now user false + entering_calls on file (folder_calls on) result)
-        d.old d.new) }
+        (place_calls file name.now user false
+        + entering_calls on file (folder_calls on (media d.new) result) result) d.old d.new) }
 {
     let found = find_place(v, d, dir, name, user, false)?;
     let n = make_dir_at(v, d, &found, name, attr, now)?;
@@ -80,7 +80,8 @@ pub fn make_dir_at(
     ensures mounted { IsMounted v.new (media d.new) }
     ensures counts { OnVolumeFile (media d.old) found.now.dir.number (λ on file.
         Counts ⟦<dyn BlockDriver as BlockDriver>⟧ (file_fault result)
-        (entering_calls on file (folder_calls on) (widened result)) d.old d.new) }
+        (entering_calls on file (folder_calls on (media d.new) result) (widened result))
+        d.old d.new) }
 {
     let clusters = new_clusters(v.ident.cluster);
     check_room(v, &found.dir.file, found.place, clusters)?;

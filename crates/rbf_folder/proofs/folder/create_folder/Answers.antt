@@ -2,13 +2,13 @@ use Rattle.std.proofs.Common.{◌≡◌, ℕ, List, Err, IsSome, ◌+◌, ap, sy
 use Rattle.std.proofs.lemmas.Result.{err_from_is_err_and}
 use Rattle.rbf_change.specs.Calls.{cluster_size}
 use Rattle.rbf_change.specs.NewFiles.{file_clusters}
-use Rattle.rbf_access.proofs.Counting.{counts_then, counts_most}
+use Rattle.rbf_access.proofs.Counting.{counts_then}
 use Rattle.rbf_access.proofs.Reading.{mounted_still}
 use Rattle.rbf_growth.proofs.Growing.{sizes_are}
 use Rattle.rbf_update.proofs.Stored.{mounted_now}
 use Rattle.rbf_create.proofs.Making.{refused_as}
-use Rattle.rbf_folder.proofs.Counted.{as_folder}
-use Rattle.rbf_folder.proofs.Making.{kept_size, empty_grows, folder_refused, folder_fault, taken_or, number_there, first_there, m_low, f_low, f_on_drive, listed_stored, unlisted, ends_undescribed, m_on_drive, described_stored, made_as}
+use Rattle.rbf_folder.proofs.Counted.{fault_calls, made_calls}
+use Rattle.rbf_folder.proofs.Making.{kept_size, empty_grows, folder_refused, folder_fault, taken_or, number_there, first_there, m_low, f_low, f_on_drive, listed_stored, unlisted, ends_undescribed, m_on_drive, described_stored, made_as, marks_as}
 use Rattle.rbf_folder.proofs.folder.create_folder.Goals as goal
 
 pub returns-in_err-space-clause-makes : goal.returns-in_err-space-clause-makes
@@ -61,7 +61,7 @@ pub returns-in_err-store-clause-counts : goal.returns-in_err-store-clause-counts
 returns-in_err-store-clause-counts g c v on =
     let p = err_from_is_err_and c.from_residual-in_err-store.result c.from_residual-in_err-store.ensures.1 in
     let is : c.new_clusters.result ≡ file_clusters (cluster_size v) 64 = c.new_clusters.ensures.value ∙ ap (λ x. file_clusters x 64) (kept_size c.args.volume.now _ v c.requires.mounted on) in
-    counts_most _ (c.new_clusters.result + 1) (file_clusters (cluster_size v) 64 + 2) _ _ (omega arith) (counts_then _ c.new_clusters.result 1 _ _ _ c.in_ok-space.ensures.counts (as_folder (Unit {0}) c.in_err-store.field-0.0 _ 1 _ _ (p.1 ∙ ap Err p.2) c.in_err-store.ensures.counts))
+    fault_calls (Unit {0}) c.in_err-store.field-0.0 _ v _ (c.new_clusters.result + 1) _ _ (p.1 ∙ ap Err p.2) (omega arith) (counts_then _ c.new_clusters.result 1 _ _ _ c.in_ok-space.ensures.counts c.in_err-store.ensures.counts)
 
 pub first_segs-requires-clause-some : goal.first_segs-requires-clause-some
 first_segs-requires-clause-some g c =
@@ -98,7 +98,7 @@ pub returns-in_err-store-2-clause-counts : goal.returns-in_err-store-2-clause-co
 returns-in_err-store-2-clause-counts g c v on =
     let p = err_from_is_err_and c.from_residual-in_err-store-2.result c.from_residual-in_err-store-2.ensures.1 in
     let is : c.new_clusters.result ≡ file_clusters (cluster_size v) 64 = c.new_clusters.ensures.value ∙ ap (λ x. file_clusters x 64) (kept_size c.args.volume.now _ v c.requires.mounted on) in
-    counts_most _ (c.new_clusters.result + 1 + 1) (file_clusters (cluster_size v) 64 + 2) _ _ (omega arith) (counts_then _ (c.new_clusters.result + 1) 1 _ _ _ (counts_then _ c.new_clusters.result 1 _ _ _ c.in_ok-space.ensures.counts c.in_ok-store.ensures.counts) (as_folder (Unit {0}) c.in_err-store-2.field-0.0 _ 1 _ _ (p.1 ∙ ap Err p.2) c.in_err-store-2.ensures.counts))
+    fault_calls (Unit {0}) c.in_err-store-2.field-0.0 _ v _ (c.new_clusters.result + 1 + 1) _ _ (p.1 ∙ ap Err p.2) (omega arith) (counts_then _ (c.new_clusters.result + 1) 1 _ _ _ (counts_then _ c.new_clusters.result 1 _ _ _ c.in_ok-space.ensures.counts c.in_ok-store.ensures.counts) c.in_err-store-2.ensures.counts)
 
 pub returns-clause-makes : goal.returns-clause-makes
 returns-clause-makes g c v on =
@@ -118,9 +118,12 @@ pub returns-in_err-space-clause-counts : goal.returns-in_err-space-clause-counts
 returns-in_err-space-clause-counts g c v on =
     let p = err_from_is_err_and c.from_residual.result c.from_residual.ensures.1 in
     let is : c.new_clusters.result ≡ file_clusters (cluster_size v) 64 = c.new_clusters.ensures.value ∙ ap (λ x. file_clusters x 64) (kept_size c.args.volume.now _ v c.requires.mounted on) in
-    counts_most _ c.new_clusters.result (file_clusters (cluster_size v) 64 + 2) _ _ (omega arith) (as_folder (List (ℕ × ℕ)) c.in_err-space.field-0.0 _ c.new_clusters.result _ _ (p.1 ∙ ap Err p.2) c.in_err-space.ensures.counts)
+    fault_calls (List (ℕ × ℕ)) c.in_err-space.field-0.0 _ v _ c.new_clusters.result _ _ (p.1 ∙ ap Err p.2) (omega arith) c.in_err-space.ensures.counts
 
 pub returns-clause-counts : goal.returns-clause-counts
 returns-clause-counts g c v on =
     let is : c.new_clusters.result ≡ file_clusters (cluster_size v) 64 = c.new_clusters.ensures.value ∙ ap (λ x. file_clusters x 64) (kept_size c.args.volume.now _ v c.requires.mounted on) in
-    counts_most _ (c.new_clusters.result + 1 + 1) (file_clusters (cluster_size v) 64 + 2) _ _ (omega arith) (counts_then _ (c.new_clusters.result + 1) 1 _ _ _ (counts_then _ c.new_clusters.result 1 _ _ _ c.in_ok-space.ensures.counts c.in_ok-store.ensures.counts) c.in_ok-store-2.ensures.counts)
+    let grows = empty_grows v _ _ c.empty.result c.args.volume.now.ident.cluster c.new_clusters.result _ c.empty.ensures c.new_clusters.ensures.value (kept_size c.args.volume.now _ v c.requires.mounted on) (c.in_ok-space.ensures.grows v on) in
+    made_calls v _ c.unwrap-n.result c.new_clusters.result c.empty.result c.in_ok-space.space _ _ _ is c.empty.ensures
+    (marks_as _ _ v on c.args.parent c.args.attr c.args.owner c.args.now c.in_ok-space.space grows.grown c.unwrap-n.result c.unwrap-first.result (sym c.lsn_of.ensures ∙ c.unwrap-n.ensures) (sym c.lsn_of-2.ensures ∙ c.unwrap-first.ensures) c.listing.result c.listing.ensures _ c.in_ok-store.ensures.written c.descriptor.result c.descriptor.ensures.whole _ c.in_ok-store-2.ensures.written c.new_directory-file.result c.descriptor.ensures.fields c.descriptor.ensures.rest c.args.volume.now.ident.cluster c.first_segs.result c.new_directory-file.ensures c.first_segs.ensures (kept_size c.args.volume.now _ v c.requires.mounted on) c.requires.parent)
+    c.in_ok-space.ensures.counts (c.in_ok-space.ensures.marks v on) (counts_then _ 1 1 _ _ _ c.in_ok-store.ensures.counts c.in_ok-store-2.ensures.counts)

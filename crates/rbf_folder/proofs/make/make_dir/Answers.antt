@@ -1,8 +1,9 @@
-use Rattle.std.proofs.Common.{Ok, Err, false}
+use Rattle.std.proofs.Common.{◌+◌, Ok, Err, false}
 use Rattle.std.proofs.lemmas.Result.{err_from_is_err_and}
+use Rattle.rbf_change.specs.Calls.{cluster_size}
+use Rattle.rbf_change.specs.NewFiles.{file_clusters}
 use Rattle.rbf_append.proofs.Counted.{place_calls_most, then_calls}
 use Rattle.rbf_make.proofs.Found.{place_for}
-use Rattle.rbf_folder.specs.Made.{folder_calls}
 use Rattle.rbf_folder.proofs.Stepped.{no_place, answer_there, calls_there}
 use Rattle.rbf_folder.proofs.make.make_dir.Goals as goal
 
@@ -14,7 +15,7 @@ returns-in_err-found-clause-answer g c v file on is =
 pub returns-in_err-found-clause-counts : goal.returns-in_err-found-clause-counts
 returns-in_err-found-clause-counts g c v file on is =
     let p = err_from_is_err_and c.from_residual.result c.from_residual.ensures.1 in
-    rw (p.1, p.2) (place_calls_most v file (folder_calls v) _ (Err c.in_err-found.field-0.0) _ _ (c.in_err-found.ensures.counts v file on is))
+    rw (p.1, p.2) (place_calls_most v file (file_clusters (cluster_size v) 64 + 2) _ (Err c.in_err-found.field-0.0) _ _ (c.in_err-found.ensures.counts v file on is))
 
 pub make_dir_at-requires-clause-place : goal.make_dir_at-requires-clause-place
 make_dir_at-requires-clause-place g c = place_for _ _ c.in_ok-found.ensures.media_kept c.args.dir c.args.name.now c.args.user false c.in_ok-found.found c.in_ok-found.ensures.read c.requires.file c.in_ok-found.ensures.answer
@@ -30,7 +31,7 @@ returns-in_err-n-clause-answer g c v file on is =
 pub returns-in_err-n-clause-counts : goal.returns-in_err-n-clause-counts
 returns-in_err-n-clause-counts g c v file on is =
     let p = err_from_is_err_and c.from_residual-in_err-n.result c.from_residual-in_err-n.ensures.1 in
-    rw (p.1, p.2) (then_calls v file (folder_calls v) _ (Err c.in_err-n.field-0.0) _ _ _ (c.in_ok-found.ensures.counts v file on is) (calls_there _ _ c.in_ok-found.ensures.media_kept c.args.dir c.args.name.now c.args.user c.in_ok-found.found c.in_ok-found.ensures.read (Err c.in_err-n.field-0.0) _ _ c.in_err-n.ensures.counts v file on is))
+    rw (p.1, p.2) (then_calls v file (file_clusters (cluster_size v) 64 + 2) _ (Err c.in_err-n.field-0.0) _ _ _ (c.in_ok-found.ensures.counts v file on is) (calls_there _ _ c.in_ok-found.ensures.media_kept c.args.dir c.args.name.now c.args.user c.in_ok-found.found c.in_ok-found.ensures.read (λ u. file_clusters (cluster_size u) 64 + 2) (Err c.in_err-n.field-0.0) _ _ c.in_err-n.ensures.counts v file on is))
 
 pub returns-clause-answer : goal.returns-clause-answer
 returns-clause-answer g c v file on is =
@@ -38,4 +39,4 @@ returns-clause-answer g c v file on is =
 
 pub returns-clause-counts : goal.returns-clause-counts
 returns-clause-counts g c v file on is =
-    then_calls v file (folder_calls v) _ (Ok c.in_ok-n.n) _ _ _ (c.in_ok-found.ensures.counts v file on is) (calls_there _ _ c.in_ok-found.ensures.media_kept c.args.dir c.args.name.now c.args.user c.in_ok-found.found c.in_ok-found.ensures.read (Ok c.in_ok-n.n) _ _ c.in_ok-n.ensures.counts v file on is)
+    then_calls v file _ _ (Ok c.in_ok-n.n) _ _ _ (c.in_ok-found.ensures.counts v file on is) (calls_there _ _ c.in_ok-found.ensures.media_kept c.args.dir c.args.name.now c.args.user c.in_ok-found.found c.in_ok-found.ensures.read _ (Ok c.in_ok-n.n) _ _ c.in_ok-n.ensures.counts v file on is)
