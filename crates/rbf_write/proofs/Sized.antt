@@ -156,7 +156,7 @@ module _ (before : Option (List ℕ)) (v : DiskVolume) (old : DiskFile) (on : Re
             planned = inr choice;
             volume = subst (λ x. MayLose x laid.left (has laid.taken)) (same_volume before v on laying old is) lose;
           });
-          tidy = laid.tidy;
+          tidy = (choice, laid.tidy);
         }
     longer_answers after (Err NoCluster) laid = record { few = subst (λ m. free_total v < m) needs_are laid.few; media_kept = laid.media_kept }
     longer_answers after (Err TooManyRuns) laid = record {

@@ -1,11 +1,11 @@
 -- A whole write: what it answers is what the laying of its bytes answers.
 use Rattle.std.proofs.Common.{◌≡◌, ℕ, ◌+◌, ◌-◌, ◌<◌, ◌≤◌, Bool, true, false, not, ◌==◌, ◌&&◌, Option, Some, None, IsSome, Result, Ok, Err, List, [], ◌∷◌, length, refl, sym, ap, ◌∙◌, subst, inl, inr, ⊎_elim, arith, eq-eqb, eqb-true}
 use Rattle.std.specs.Prelude.{if◌then◌else◌}
-use Rattle.std.proofs.lemmas.Bool.{both_ways, or_left, cond-true, cond-false, false_from_ne_true}
+use Rattle.std.proofs.lemmas.Bool.{both_ways, cond-true, cond-false, false_from_ne_true}
 use Rattle.os9_base.specs.declared.registers.TimePacket.{TimePacket}
 use Rattle.rbf_model.specs.Fields.{segments_field}
 use Rattle.rbf_model.specs.Geometry.{Geometry, image_geometry, sector}
-use Rattle.rbf_model.specs.Segments.{sectors_of, has}
+use Rattle.rbf_model.specs.Segments.{sectors_of}
 use Rattle.rbf_model.specs.File.{DiskFile}
 use Rattle.rbf_model.specs.Volume.{DiskVolume}
 use Rattle.rbf_model.specs.Writes.{put_at}
@@ -13,7 +13,6 @@ use Rattle.rbf_model.proofs.Owners.{cluster_positive}
 use Rattle.rbf_change.specs.Calls.{cluster_size, is_free_in, free_total, replaced, minute_of}
 use Rattle.rbf_change.specs.Contents.{extended, written, sector_count}
 use Rattle.rbf_change.specs.Growth.{with_clusters, clusters_needed, IsChoice, IsOneTooMany}
-use Rattle.rbf_change.specs.Faults.{MayLose, none}
 use Rattle.rbf_change.proofs.LawfulWrites.{shape-image}
 use Rattle.rbf_access.specs.declared.faults.FileFault.{FileFault}
 use Rattle.rbf_access.specs.declared.faults.FileFault.TheVariants.{Device, NoCluster, TooManyRuns}
@@ -24,9 +23,9 @@ use Rattle.rbf_access.proofs.Counting.{counts_then}
 use Rattle.rbf_access.proofs.ReadFile.{room_for}
 use Rattle.rbf_growth.specs.Grown.{ChangesMap}
 use Rattle.rbf_files.proofs.FilledFile.{put_same_file}
-use Rattle.rbf_write.specs.Laying.{Laying, laid_contents, laid_file, laying_needs, IsTidyChange, IsTidyStop, AnswersLaying}
-use Rattle.rbf_write.specs.Outcomes.{contents_written, write_needs, IsWritten, AnswersWrite, AreMarked, laying_calls, write_calls}
-use Rattle.rbf_write.proofs.Laid.{tidy_of, stop_of, same_end, same_volume, no_clusters}
+use Rattle.rbf_write.specs.Laying.{Laying, laid_contents, laid_file, laying_needs, IsTidyChange, AnswersLaying}
+use Rattle.rbf_write.specs.Outcomes.{contents_written, write_needs, IsWritten, AnswersWrite, unchanged, stopped, AreMarked, laying_calls, write_calls}
+use Rattle.rbf_write.proofs.Laid.{tidy_of, same_end, no_clusters}
 use Rattle.rbf_write.proofs.Steps.{few_segments}
 
 -- an image that stays
@@ -40,11 +39,6 @@ same_map image = record { others = λ s out. refl; end = λ c past. and_true _ }
 pub nothing_changed : (before after : Option (List ℕ)) (v : DiskVolume) → Represents before v → after ≡ before → (n : ℕ) (segments : List (ℕ × ℕ)) → IsTidyChange before after n segments
 nothing_changed before after v on same n segments =
     tidy_of before after on.image on.image on.image n segments on.is (same ∙ on.is) (same_map on.image) (λ s low. refl) (λ s map differ out. refl) (same_end (sector on.image n) (sector on.image n) refl)
-
--- nor has it where the descriptor could not be read
-pub nothing_stopped : (before after : Option (List ℕ)) (v : DiskVolume) → Represents before v → after ≡ before → (n : ℕ) (segments : List (ℕ × ℕ)) → IsTidyStop before after n segments
-nothing_stopped before after v on same n segments =
-    stop_of before after on.image on.image on.image n segments on.is (same ∙ on.is) (same_map on.image) (λ s low. refl) (λ s out. refl) refl (λ s out. inl refl)
 
 pub laid_is_written : (contents : List ℕ) (at : ℕ) (bytes : List ℕ) → 1 ≤ length bytes → put_at (extended contents at) at bytes ≡ written contents at bytes
 laid_is_written contents at [] some = absurd (omega arith)
@@ -98,23 +92,7 @@ module _ (before : Option (List ℕ)) (v : DiskVolume) (old : DiskFile) (on : Re
     pub load_answers : (after : Option (List ℕ)) (fault : FileFault) → IsSome (file_fault {A = Unit {0}} (Err fault)) → after ≡ before → AnswersWrite v old write before after (Err fault)
     load_answers after NoCluster is_fault same = absurd (both_ways false refl is_fault)
     load_answers after TooManyRuns is_fault same = absurd (both_ways false refl is_fault)
-    load_answers after (Device n) is_fault same = record {
-      volume = v;
-      on = record { image = on.image; is = same ∙ on.is; vol = on.vol };
-      ends = record {
-        some = some;
-        old = old;
-        is = is;
-        count = 0;
-        front = none;
-        taken = [];
-        planned = inl refl;
-        volume = subst (λ x. MayLose x v (has [])) (sym (same_volume before v on write old is))
-            (record { same = refl; still = λ c was. was; only = λ c lost. or_left (v.lost c) false lost });
-        order = inl refl;
-      };
-      tidy = nothing_stopped before after v on same write.number old.segments;
-    }
+    load_answers after (Device n) is_fault same = unchanged (omega arith) same
 
     pub write_answers : (after : Option (List ℕ)) (result : Result (Unit {0}) FileFault) → AnswersLaying v old write before after result → AnswersWrite v old write before after result
     write_answers after (Ok done) laid = record {
@@ -141,7 +119,7 @@ module _ (before : Option (List ℕ)) (v : DiskVolume) (old : DiskFile) (on : Re
     }
     write_answers after (Err (Device n)) laid =
         let chosen : IsChoice k (is_free_in v) old.segments (length (contents_written old write)) laid.taken = subst (λ c. IsChoice k (is_free_in v) old.segments (length c) laid.taken) contents_are laid.choice in
-        record {
+        stopped (record {
           volume = laid.left;
           on = laid.on;
           ends = record {
@@ -155,8 +133,9 @@ module _ (before : Option (List ℕ)) (v : DiskVolume) (old : DiskFile) (on : Re
             volume = laid.lose;
             order = ⊎_elim (λ none_yet. inl none_yet) (λ all. inr (record { choice = chosen; lost = all })) laid.order;
           };
+          choice = chosen;
           tidy = laid.tidy;
-        }
+        })
     write_answers after (Err NoCluster) laid = record { few = subst (λ m. free_total v < m) needs_are laid.few; media_kept = laid.media_kept }
     write_answers after (Err TooManyRuns) laid = record {
       enough = subst (λ m. m ≤ free_total v) needs_are laid.enough;

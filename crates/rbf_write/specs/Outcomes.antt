@@ -4,7 +4,7 @@ use Rattle.rbf_model.specs.Geometry.{map_sectors}
 use Rattle.rbf_model.specs.File.{DiskFile}
 use Rattle.rbf_model.specs.Volume.{DiskVolume}
 use Rattle.rbf_change.specs.Contents.{written, sector_span}
-use Rattle.rbf_change.specs.Growth.{with_clusters, clusters_needed, IsOneTooMany}
+use Rattle.rbf_change.specs.Growth.{with_clusters, clusters_needed, IsChoice, IsOneTooMany}
 use Rattle.rbf_change.specs.Calls.{shape, cluster_size, is_free_in, free_total, Writes}
 use Rattle.rbf_change.specs.Faults.{WriteEnds}
 use Rattle.rbf_access.specs.declared.faults.FileFault.{FileFault}
@@ -33,12 +33,20 @@ pub record IsWritten (v : DiskVolume) (old : DiskFile) (write : Laying) (before 
   pub tidy : IsTidyChange before after write.number writes.new.segments
   pub nothing : write.bytes ≡ [] → after ≡ before
 
--- a fault has ended the write
-pub record WriteIsEnded (v : DiskVolume) (write : Laying) (before after : Option (List ℕ)) : Type 0 where
+-- a fault has ended a write whose clusters had been chosen, so that it was not to be refused: only the map, and sectors
+-- of the file as it was to be then, have changed
+pub record WriteStops (v : DiskVolume) (write : Laying) (before after : Option (List ℕ)) : Type 0 where
   pub volume : DiskVolume
   pub on : Represents after volume
   pub ends : WriteEnds v volume write.number write.at write.bytes
+  pub choice : IsChoice (cluster_size v) (is_free_in v) ends.old.segments (length (contents_written ends.old write))
+      ends.taken
   pub tidy : IsTidyStop before after write.number (with_clusters (cluster_size v) ends.old.segments ends.taken)
+
+-- a fault has ended a write of some bytes: all has stayed, or its clusters had been chosen
+pub data WriteIsEnded (v : DiskVolume) (write : Laying) (before after : Option (List ℕ)) : Type 0 where
+  unchanged : 0 < length write.bytes → after ≡ before → WriteIsEnded v write before after
+  stopped : WriteStops v write before after → WriteIsEnded v write before after
 
 -- error 248: fewer clusters are free than the write needs
 pub record WriteIsFull (v : DiskVolume) (old : DiskFile) (write : Laying) (before after : Option (List ℕ))

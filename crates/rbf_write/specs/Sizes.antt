@@ -6,7 +6,7 @@ use Rattle.rbf_model.specs.Segments.{sectors_of, has}
 use Rattle.rbf_model.specs.File.{DiskFile}
 use Rattle.rbf_model.specs.Volume.{DiskVolume}
 use Rattle.rbf_model.specs.Laws.{IsMapSector}
-use Rattle.rbf_change.specs.Growth.{with_clusters, clusters_needed, IsOneTooMany}
+use Rattle.rbf_change.specs.Growth.{with_clusters, clusters_needed, IsChoice, IsOneTooMany}
 use Rattle.rbf_change.specs.Cut.{cut_file, is_given_up}
 use Rattle.rbf_change.specs.Calls.{shape, cluster_size, is_free_in, free_total, minute_of, SetsSize}
 use Rattle.rbf_change.specs.Faults as ends
@@ -65,13 +65,14 @@ pub record IsTidyCut (before after : Option (List ℕ)) (n : ℕ) (gone : ℕ �
   pub map_end : MayKeepMapEnd image now gone
   pub list : KeepsListEnd (sector image n) (sector now n)
 
--- by how the fault ended the call: all has stayed; all but the map and sectors of the segments that the file was to
--- have; or all but the map and its descriptor
+-- by how the fault ended the call: all has stayed; the clusters had been chosen, and all but the map and sectors of the
+-- segments that the file was to have has stayed; or all but the map and its descriptor
 abbrev pub IsTidyEnd : (left : List ℕ) (v w : DiskVolume) (sizing : Sizing) → (ℕ → Bool) → Option (List ℕ)
     → Option (List ℕ) → SizeEnds left v w sizing.number sizing.size sizing.now → Type 0
 IsTidyEnd left v w sizing gone media now (ends.before same) = now ≡ media
 IsTidyEnd left v w sizing gone media now (ends.longer end) =
-    IsTidyStop media now sizing.number (with_clusters (cluster_size v) end.old.segments end.taken)
+    IsChoice (cluster_size v) (is_free_in v) end.old.segments sizing.size end.taken
+    × IsTidyStop media now sizing.number (with_clusters (cluster_size v) end.old.segments end.taken)
 IsTidyEnd left v w sizing gone media now (ends.cut end) = IsTidyCut media now sizing.number gone
 
 -- the file has the size
