@@ -1,14 +1,14 @@
 -- A file that is cut: what the call answers when its descriptor has been written, and when clusters have been given back.
-use Rattle.std.proofs.Common.{◌≡◌, ◌≢◌, ℕ, ◌+◌, ◌-◌, ◌*◌, ◌/◌, ◌<◌, ◌≤◌, Bool, true, false, not, ◌&&◌, ◌||◌, Option, Some, None, IsSome, Err, List, [], length, refl, sym, ap, ◌∙◌, subst, inl, inr, ⊎_elim, arith, length-take}
+use Rattle.std.proofs.Common.{◌≡◌, ◌≢◌, ℕ, ◌+◌, ◌-◌, ◌*◌, ◌/◌, ◌<◌, ◌≤◌, Bool, true, false, not, ◌&&◌, ◌||◌, Option, Some, None, IsSome, Err, List, [], length, get_or, refl, sym, ap, ◌∙◌, subst, inl, inr, ⊎_elim, arith, length-take}
 use Rattle.std.specs.Prelude.{nat_lt}
 use mathlib.Core.Path.{fun_ext}
-use Rattle.std.proofs.lemmas.Bool.{and_parts, and_from, both_ways, cond-true, lt-ltb, cases_Bool, false≢true}
+use Rattle.std.proofs.lemmas.Bool.{and_parts, and_from, both_ways, cond-true, cond-false, false_from_ne_true, lt-ltb, ltb-true, cases_Bool, false≢true}
 use Rattle.os9_base.specs.declared.registers.TimePacket.{TimePacket}
 use Rattle.os9_outer.specs.Drive.{sector_at, with_sector}
 use Rattle.rbf_model.specs.Fields.{segments_field}
 use Rattle.rbf_model.specs.Geometry.{Geometry, geometry, image_geometry, sector, map_sectors}
 use Rattle.rbf_model.specs.Segments.{sectors_of, shortened_segments, has}
-use Rattle.rbf_model.specs.File.{DiskFile, is_directory}
+use Rattle.rbf_model.specs.File.{DiskFile, is_directory, segment_bytes}
 use Rattle.rbf_model.specs.Space.{is_whole, is_marked, has_cluster}
 use Rattle.rbf_model.specs.Volume.{DiskVolume, Vol}
 use Rattle.rbf_model.specs.Writes.{put_sector, put_file, with_file, with_lost}
@@ -42,7 +42,7 @@ use Rattle.rbf_cut.specs.Rest.{in_rest}
 use Rattle.rbf_cut.specs.Release.{MayRelease, IsReleasing, ReleaseEnds}
 use Rattle.rbf_write.specs.declared.loaded.Loaded.{Loaded}
 use Rattle.rbf_write.specs.Files.{HasDataFile, IsLoaded}
-use Rattle.rbf_write.specs.Sizes.{Sizing, size_needs, giving_up, given_up, giving_calls, IsSized, SizeIsEnded, AnswersSize}
+use Rattle.rbf_write.specs.Sizes.{Sizing, size_needs, giving_up, given_up, giving_calls, zeroed_segments, IsSized, SizeIsEnded, AnswersSize}
 use Rattle.rbf_write.proofs.Laid.{no_clusters}
 use Rattle.rbf_write.proofs.Steps.{data_in}
 use Rattle.rbf_size.specs.Kept.{kept_sectors, IsStored}
@@ -231,6 +231,12 @@ module _ (media mid : Option (List ℕ)) (loaded : Loaded) (size : ℕ) (now : T
         let none : size_needs v old sizing ≡ 0 = no_clusters (cluster_size v) (sector_count size - length (sectors_of old.segments)) positive missing in
         omega arith
 
+    none_zeroed : zeroed_segments old sizing new.segments ≡ []
+    none_zeroed =
+        let shorter_then = less in
+        cond-false (nat_lt (length old.contents) size) new.segments []
+        (false_from_ne_true (nat_lt (length old.contents) size) (λ h. let more = ltb-true (length old.contents) size h in absurd (omega arith)))
+
     pub cut_done : IsSized v old sizing media after
     cut_done = record {
       enough = enough;
@@ -247,6 +253,7 @@ module _ (media mid : Option (List ℕ)) (loaded : Loaded) (size : ℕ) (now : T
         was = on.is;
         is = clear.is;
         others = λ s none differ outside. others_then gone after last clear s none differ;
+        behind = λ p high. subst (λ xs. get_or (segment_bytes (sector clear.now) xs) p 0 ≡ get_or (segment_bytes (sector image) xs) p 0) (sym none_zeroed) refl;
         map_end = λ c past. marks_then gone after last clear c past.in_map ∙ ap (λ t. is_marked (sector image) c && not t) (sym (giving_is c));
         list = list_then gone after last clear;
       };

@@ -34,7 +34,7 @@ sectors_with k segments (c ∷ taken) =
     sectors_with k (appended_segments segments (c * k) k) taken ∙ ap (λ xs. xs ++ cluster_sectors k taken) (sectors_of-appended segments (c * k) k)
     ∙ append_assoc (sectors_of segments) (range_with_len (c * k) k) (cluster_sectors k taken)
 
-in_taken : (k : ℕ) (taken : List ℕ) (s : ℕ) → 1 ≤ k → has (cluster_sectors k taken) s ≡ true → has taken (s / k) ≡ true
+pub in_taken : (k : ℕ) (taken : List ℕ) (s : ℕ) → 1 ≤ k → has (cluster_sectors k taken) s ≡ true → has taken (s / k) ≡ true
 in_taken k [] s positive h = h
 in_taken k (c ∷ taken) s positive h = ⊎_elim
     (λ here. or_left (c == s / k) (has taken (s / k)) (eq-eqb c (s / k) (sym (cluster_of_range k c s positive here))))

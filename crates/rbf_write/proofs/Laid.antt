@@ -1,9 +1,9 @@
 -- A file that has gained clusters and over which bytes are laid: what the media represents at each answer.
-use Rattle.std.proofs.Common.{◌≡◌, ◌≢◌, ℕ, ◌+◌, ◌-◌, ◌*◌, ◌/◌, ◌%◌, ◌<◌, ◌≤◌, min, max, Bool, true, false, ◌==◌, ◌||◌, Option, Some, List, [], length, take, get_or, refl, sym, ap, ◌∙◌, subst, inl, inr, ◌⊎◌, ⊎_elim, arith, slice_index, eq-eqb, eqb-true, le-leb, length-take, length-append}
+use Rattle.std.proofs.Common.{◌≡◌, ◌≢◌, ℕ, ◌+◌, ◌-◌, ◌*◌, ◌/◌, ◌%◌, ◌<◌, ◌≤◌, min, max, Bool, true, false, ◌==◌, ◌||◌, Option, Some, List, [], ◌∷◌, ◌++◌, length, take, get_or, refl, sym, ap, ap₂, ◌∙◌, subst, inl, inr, ◌⊎◌, ⊎_elim, arith, slice_index, eq-eqb, eqb-true, le-leb, length-take, length-append}
 use Rattle.std.specs.Prelude.{if◌then◌else◌, flat_map}
 use Rattle.std.specs.Int.{bit_at}
 use mathlib.Core.Path.{fun_ext}
-use Rattle.std.proofs.lemmas.Bool.{or_left, or_right, both_ways, false_from_ne_true, cond-true, cond-false}
+use Rattle.std.proofs.lemmas.Bool.{or_left, or_right, both_ways, false_from_ne_true, cond-true, cond-false, cases_lt}
 use Rattle.std.proofs.lemmas.Grind.{flat_map-append}
 use Rattle.std.proofs.lemmas.List.{take-append-le, nil_from_length}
 use Rattle.std.proofs.Math.Nat.{lt-div-mul-add, div-eq_of_lt}
@@ -12,13 +12,13 @@ use Rattle.rbf_model.specs.Fields.{segments_field, size_field}
 use Rattle.rbf_model.specs.Geometry.{Geometry, image_geometry, sector, map_sectors}
 use Rattle.rbf_model.specs.Segments.{sectors_of, has}
 use Rattle.rbf_model.specs.File.{DiskFile, file_from, is_directory, has_room, segment_bytes}
-use Rattle.rbf_model.specs.Space.{is_marked}
+use Rattle.rbf_model.specs.Space.{is_marked, has_cluster}
 use Rattle.rbf_model.specs.Volume.{DiskVolume, Vol, is_free}
 use Rattle.rbf_model.specs.Writes.{put_at, put_file, put_sector, with_lost, with_file_in_place}
 use Rattle.rbf_model.specs.Laws.{IsMapSector}
 use Rattle.rbf_model.proofs.Free.{free_parts}
-use Rattle.rbf_model.proofs.Owners.{cluster_positive, own_after, owns_own}
-use Rattle.rbf_model.proofs.Segments.{has_cases}
+use Rattle.rbf_model.proofs.Owners.{cluster_positive, own_after, owns_own, owns_system, root_file}
+use Rattle.rbf_model.proofs.Segments.{has_cases, has_range}
 use Rattle.rbf_model.proofs.Space.{cluster_from_owns}
 use Rattle.rbf_model.proofs.Unique.{vol_is_unique}
 use Rattle.rbf_change.specs.Agrees.{Agrees}
@@ -42,9 +42,9 @@ use Rattle.rbf_files.proofs.Redated.{same_file, beside_put, here_put, agrees_put
 use Rattle.rbf_files.proofs.LaidBytes.{front_byte, rest_byte, length-front, length-target, target_byte, laid_after}
 use Rattle.rbf_write.specs.declared.loaded.Loaded.{Loaded}
 use Rattle.rbf_write.specs.Finished.{IsResized}
-use Rattle.rbf_write.specs.Laying.{Laying, laid_contents, laid_file, laying_needs, AllAreMarked, IsTidyChange, IsTidyStop, IsLaidOver, LayingEnds}
+use Rattle.rbf_write.specs.Laying.{Laying, laid_contents, laid_file, laying_needs, KeepsBytesFrom, AllAreMarked, IsTidyChange, IsTidyStop, IsLaidOver, LayingEnds}
 use Rattle.rbf_write.proofs.Contents.{put_none, laid_all, laid_part, length-laid, front_of_sectors, front_of_all}
-use Rattle.rbf_write.proofs.Gained.{data_gained, descriptor_apart}
+use Rattle.rbf_write.proofs.Gained.{data_gained, descriptor_apart, cluster_sectors, sectors_with, in_taken}
 
 -- a mark rests on one sector of the map
 pub same_mark : (one other : ℕ → List ℕ) (c : ℕ) → one (1 + c / 8 / 256) ≡ other (1 + c / 8 / 256) → is_marked one c ≡ is_marked other c
@@ -68,26 +68,33 @@ file_of_volume media v w first second n one other is at =
     let file : other ≡ one = cc in
     ap (λ (x : DiskFile). x.segments) file
 
+-- the same sectors have the same bytes
+pub same_bytes : (one other : ℕ → List ℕ) (xs : List ℕ) → ((s : ℕ) → has xs s ≡ true → one s ≡ other s) → flat_map one xs ≡ flat_map other xs
+same_bytes one other [] same = refl
+same_bytes one other (x ∷ xs) same =
+    ap₂ (λ a b. a ++ b) (same x (or_left (x == x) (has xs x) (eq-eqb x x refl))) (same_bytes one other xs (λ s h. same s (or_right (x == s) (has xs s) h)))
+
 -- what has stayed
-pub tidy_of : (before after : Option (List ℕ)) (image mid now : List ℕ) (n : ℕ) (segments : List (ℕ × ℕ)) → before ≡ Some image → after ≡ Some now → ChangesMap image mid
+pub tidy_of : (before after : Option (List ℕ)) (image mid now : List ℕ) (n : ℕ) (segments : List (ℕ × ℕ)) (end : ℕ) → before ≡ Some image → after ≡ Some now → ChangesMap image mid
     → ((s : ℕ) → s ≤ map_sectors (image_geometry image) → sector now s ≡ sector mid s)
     → ((s : ℕ) → ¬ IsMapSector (image_geometry image) s → s ≢ n → has (sectors_of segments) s ≡ false → sector now s ≡ sector mid s)
-    → KeepsListEnd (sector image n) (sector now n) → IsTidyChange before after n segments
-tidy_of before after image mid now n segments was is changes map_same beside list = record {
+    → KeepsBytesFrom end segments image now → KeepsListEnd (sector image n) (sector now n) → IsTidyChange before after n segments end
+tidy_of before after image mid now n segments end was is changes map_same beside behind list = record {
   image = image;
   now = now;
   was = was;
   is = is;
   others = λ s not_map differ none. beside s not_map differ none ∙ changes.others s not_map;
+  behind = behind;
   map_end = λ c past. same_mark (sector now) (sector mid) c (map_same (1 + c / 8 / 256) (let low = past.in_map in omega arith)) ∙ changes.end c past;
   list = list;
 }
 
 -- and where a fault came before the descriptor was written
-pub stop_of : (before after : Option (List ℕ)) (image mid now : List ℕ) (n : ℕ) (segments : List (ℕ × ℕ)) → before ≡ Some image → after ≡ Some now → ChangesMap image mid
+pub stop_of : (before after : Option (List ℕ)) (image mid now : List ℕ) (n : ℕ) (segments : List (ℕ × ℕ)) (end : ℕ) → before ≡ Some image → after ≡ Some now → ChangesMap image mid
     → ((s : ℕ) → s ≤ map_sectors (image_geometry image) → sector now s ≡ sector mid s) → ((s : ℕ) → has (sectors_of segments) s ≡ false → sector now s ≡ sector mid s)
-    → sector now n ≡ sector image n → ((s : ℕ) → ¬ IsMapSector (image_geometry image) s → (sector now s ≡ sector image s) ⊎ AllAreMarked now segments) → IsTidyStop before after n segments
-stop_of before after image mid now n segments was is changes map_same beside here marks = record {
+    → KeepsBytesFrom end segments image now → sector now n ≡ sector image n → ((s : ℕ) → ¬ IsMapSector (image_geometry image) s → (sector now s ≡ sector image s) ⊎ AllAreMarked now segments) → IsTidyStop before after n segments end
+stop_of before after image mid now n segments end was is changes map_same beside behind here marks = record {
   image = image;
   now = now;
   was = was;
@@ -95,6 +102,7 @@ stop_of before after image mid now n segments was is changes map_same beside her
   descriptor = here;
   marks = marks;
   others = λ s not_map none. beside s none ∙ changes.others s not_map;
+  behind = behind;
   map_end = λ c past. same_mark (sector now) (sector mid) c (map_same (1 + c / 8 / 256) (let low = past.in_map in omega arith)) ∙ changes.end c past;
 }
 
@@ -151,6 +159,34 @@ module _ (before : Option (List ℕ)) (v : DiskVolume) (on : Represents before v
       let past = own_after (image_geometry image) (sector image) v vol.sound n old n is (or_left (n == n) (has (sectors_of old.segments) n) (eq-eqb n n refl)) in
       absurd (omega arith)
 
+  positive : 1 ≤ k
+  positive = subst (λ (g : Geometry). 1 ≤ g.cluster) (sym (shape-image on.image v on.vol)) (cluster_positive (image_geometry on.image).cluster on.vol.sound.shape.header.clusters)
+
+  -- a sector of a free cluster lies behind the map
+  free_past : (image : List ℕ) → before ≡ Some image → (s : ℕ) → is_free_in v (s / k) ≡ true → map_sectors (image_geometry image) < s
+  free_past image was s free = ⊎_elim
+      (λ past. past)
+      (λ in_system.
+      let g : Geometry = image_geometry image in
+      let vol = at_image image was in
+      let r = root_file g (sector image) v vol.sound in
+      let facts = free_parts g (sector image) v vol.sound (s / g.cluster) (subst (λ h. is_free h v (s / h.cluster) ≡ true) (shape-image image v vol) free) in
+      absurd (both_ways (has_cluster g g.root r.0 (s / g.cluster)) (facts.2 g.root r.0 r.1)
+      (cluster_from_owns g g.root r.0 s (owns_system g r.0 s (has_range 0 (1 + map_sectors g) s (omega arith) (omega arith))))))
+      (cases_lt (map_sectors (image_geometry image)) s)
+
+  -- a change of the map leaves the bytes of the file and of the clusters that it gains
+  map_kept : (image now : List ℕ) → before ≡ Some image → ChangesMap image now → (taken : List ℕ) → Gains k (is_free_in v) old.segments taken
+      → segment_bytes (sector now) (with_clusters k old.segments taken) ≡ segment_bytes (sector image) (with_clusters k old.segments taken)
+  map_kept image now was changes taken gained =
+      same_bytes (sector now) (sector image) (sectors_of (with_clusters k old.segments taken)) (λ s h. changes.others s (λ map. let past = past_map s h in let low = map.within in absurd (omega arith)))
+    where
+      past_map : (s : ℕ) → has (sectors_of (with_clusters k old.segments taken)) s ≡ true → map_sectors (image_geometry image) < s
+      past_map s h = ⊎_elim
+          (λ own. own_after (image_geometry image) (sector image) v (at_image image was).sound n old s is (or_right (n == s) (has (sectors_of old.segments) s) own))
+          (λ new. free_past image was s (has_free k (is_free_in v) old.segments taken (s / k) gained (in_taken k taken s positive new)))
+          (has_cases (sectors_of old.segments) (cluster_sectors k taken) s (subst (λ xs. has xs s ≡ true) (sectors_with k old.segments taken) h))
+
   -- a fault while clusters were taken
   pub growth_ends : (count : ℕ) (after : Option (List ℕ)) → count ≡ clusters_needed k old.segments end → GrowthEnds v count before after old.segments → LayingEnds v old laying before after
   growth_ends count after counted ends = record {
@@ -162,7 +198,8 @@ module _ (before : Option (List ℕ)) (v : DiskVolume) (on : Represents before v
     on = record { image = ends.now; is = ends.is; vol = ends.vol };
     lose = subst (λ x. MayLose x ends.left (has ends.taken)) (sym same_volume) ends.lose;
     order = inl refl;
-    tidy = stop_of before after ends.image ends.now ends.now n (with_clusters k old.segments ends.taken) ends.was ends.is ends.changes (λ s low. refl) (λ s out. refl)
+    tidy = stop_of before after ends.image ends.now ends.now n (with_clusters k old.segments ends.taken) end ends.was ends.is ends.changes (λ s low. refl) (λ s out. refl)
+        (λ p high. ap (λ b. get_or b p 0) (map_kept ends.image ends.now ends.was ends.changes ends.taken ends.chosen.gained))
         (ends.changes.others n (not_map ends.image ends.was)) (λ s not_map_sector. inl (ends.changes.others s not_map_sector));
   }
 
@@ -182,9 +219,6 @@ module _ (before : Option (List ℕ)) (v : DiskVolume) (on : Represents before v
 
     choice : IsChoice k (is_free_in v) old.segments (length (laid_contents old.contents laying)) taken
     choice = choice_is count taken counted grown.chosen
-
-    positive : 1 ≤ k
-    positive = subst (λ (g : Geometry). 1 ≤ g.cluster) (sym (shape-image on.image v on.vol)) (cluster_positive (image_geometry on.image).cluster on.vol.sound.shape.header.clusters)
 
     pub has_room_then : end ≤ 256 * length (sectors_of longer)
     has_room_then =
@@ -253,9 +287,21 @@ module _ (before : Option (List ℕ)) (v : DiskVolume) (on : Represents before v
       beside_segments : (s : ℕ) → has (sectors_of segments) s ≡ false → sector laid.now s ≡ sector grown.now s
       beside_segments s out = beside s (subst (λ xs. has (sectors_of xs) s ≡ false) (sym grown.segments) out)
 
-      tidy_laid : IsTidyChange before after n segments
-      tidy_laid = tidy_of before after grown.image grown.now laid.now n segments grown.was laid.is grown.changes
-          (λ s low. beside s (map_apart s low)) (λ s map differ out. beside_segments s out) (same_end (sector grown.image n) (sector laid.now n) here)
+      abbrev KeptBehind : Type 0
+      KeptBehind = (p : ℕ) → end ≤ p → get_or bytes p 0 ≡ get_or whole p 0
+
+      behind_laid : KeptBehind → KeepsBytesFrom end segments grown.image laid.now
+      behind_laid keeps p high =
+          ap (λ xs. get_or (segment_bytes (sector laid.now) xs) p 0) (sym grown.segments)
+          ∙ ap (λ b. get_or b p 0) laid.bytes_are
+          ∙ keeps p high
+          ∙ ap (λ m. get_or (segment_bytes (sector_at m) longer) p 0) grown.is
+          ∙ ap (λ xs. get_or (segment_bytes (sector grown.now) xs) p 0) grown.segments
+          ∙ ap (λ b. get_or b p 0) (map_kept grown.image grown.now grown.was grown.changes taken grown.chosen.gained)
+
+      tidy_laid : KeptBehind → IsTidyChange before after n segments end
+      tidy_laid keeps = tidy_of before after grown.image grown.now laid.now n segments end grown.was laid.is grown.changes
+          (λ s low. beside s (map_apart s low)) (λ s map differ out. beside_segments s out) (behind_laid keeps) (same_end (sector grown.image n) (sector laid.now n) here)
 
       -- all clusters are marked
       all_marked : AllAreMarked laid.now segments
@@ -270,12 +316,12 @@ module _ (before : Option (List ℕ)) (v : DiskVolume) (on : Represents before v
           (λ new. ((laid.vol.sound.mapped.lost_are (s / now_shape.cluster)).0 (subst (λ m. lost (s / m) ≡ true) same_k (known.behind s new))).marked_in)
           (has_cases (sectors_of old.segments) known.more s (subst (λ xs. has xs s ≡ true) (ap sectors_of (sym grown.segments) ∙ known.sectors_are) h))
 
-      stop_laid : IsTidyStop before after n segments
-      stop_laid = stop_of before after grown.image grown.now laid.now n segments grown.was laid.is grown.changes (λ s low. beside s (map_apart s low)) (λ s out. beside_segments s out) here (λ s not_map_sector. inr all_marked)
+      stop_laid : KeptBehind → IsTidyStop before after n segments end
+      stop_laid keeps = stop_of before after grown.image grown.now laid.now n segments end grown.was laid.is grown.changes (λ s low. beside s (map_apart s low)) (λ s out. beside_segments s out) (behind_laid keeps) here (λ s not_map_sector. inr all_marked)
 
       -- and then a fault
-      pub laid_ends : (so_far : ℕ) → IsFront size laying.at laying.bytes so_far → take size bytes ≡ put_at old.contents laying.at (take so_far laying.bytes) → LayingEnds v old laying before after
-      laid_ends so_far front contents = record {
+      pub laid_ends : KeptBehind → (so_far : ℕ) → IsFront size laying.at laying.bytes so_far → take size bytes ≡ put_at old.contents laying.at (take so_far laying.bytes) → LayingEnds v old laying before after
+      laid_ends keeps so_far front contents = record {
         count = so_far;
         front = front;
         taken = taken;
@@ -288,8 +334,12 @@ module _ (before : Option (List ℕ)) (v : DiskVolume) (on : Represents before v
           only = λ c now. now;
         };
         order = inr (λ c gained. or_right (v.lost c) (has taken c) gained);
-        tidy = stop_laid;
+        tidy = stop_laid keeps;
       }
+
+    -- the bytes behind those that are laid stay
+    target_behind : (p : ℕ) → end ≤ p → get_or target p 0 ≡ get_or whole p 0
+    target_behind p high = target_byte whole size laying.at laying.bytes in_size in_whole p ∙ laid_after size laying.at laying.bytes p (get_or whole p 0) high
 
     -- a fault among the sectors
     pub part_ends : (after : Option (List ℕ)) → IsPartLaid volume_grown n old longer mid after size laying.at laying.bytes → LayingEnds v old laying before after
@@ -299,7 +349,12 @@ module _ (before : Option (List ℕ)) (v : DiskVolume) (on : Represents before v
         let whole_is = length_whole in
         let there = has_room_then in
         let in_place : 256 * j ≤ length whole = omega arith in
-        laid_ends after (laid_front target whole j) part.laid (min (256 * j) size - laying.at) (front_of_sectors size laying.at j laying.bytes few)
+        laid_ends after (laid_front target whole j) part.laid
+        (λ p high. ⊎_elim
+        (λ low. front_byte whole size laying.at laying.bytes in_size in_whole j in_place p low ∙ target_behind p high)
+        (λ past. rest_byte whole size laying.at laying.bytes in_size in_whole j in_place p past)
+        (cases_lt p (256 * j)))
+        (min (256 * j) size - laying.at) (front_of_sectors size laying.at j laying.bytes few)
         (laid_part whole old.contents laying.at laying.bytes first in_size in_whole (laid_front target whole j) (256 * j)
         (length-front whole size laying.at laying.bytes in_size in_whole j in_place)
         (λ p low. front_byte whole size laying.at laying.bytes in_size in_whole j in_place p low)
@@ -311,11 +366,11 @@ module _ (before : Option (List ℕ)) (v : DiskVolume) (on : Represents before v
       -- but not the descriptor
       pub all_ends : size < end → LayingEnds v old laying before after
       all_ends later =
-          laid_ends after target laid (min end size - laying.at) (front_of_all size laying.at laying.bytes later)
+          laid_ends after target laid target_behind (min end size - laying.at) (front_of_all size laying.at laying.bytes later)
           (laid_part whole old.contents laying.at laying.bytes first in_size in_whole target end
           (length-target whole size laying.at laying.bytes in_size in_whole)
           (λ p low. refl)
-          (λ p high. target_byte whole size laying.at laying.bytes in_size in_whole p ∙ laid_after size laying.at laying.bytes p (get_or whole p 0) high)
+          target_behind
           (omega arith))
 
       -- the descriptor stays
@@ -342,7 +397,7 @@ module _ (before : Option (List ℕ)) (v : DiskVolume) (on : Represents before v
               vol = subst (λ f. Vol laid.now (replaced v n (Some f))) file
                   (subst (λ l. Vol laid.now (record { ident = v.ident; files = put_file v.files n (Some (record old { contents = take size target })); lost = l; rest = v.rest })) lost_none laid.vol);
             };
-            tidy = tidy_laid after target laid;
+            tidy = tidy_laid after target laid target_behind;
           }
         where
           or_false : (t : Bool) → (t || false) ≡ t
@@ -435,15 +490,20 @@ module _ (before : Option (List ℕ)) (v : DiskVolume) (on : Represents before v
         map_low : (s : ℕ) → s ≤ map_sectors (image_geometry grown.image) → s ≢ n
         map_low s low same = let past = own_after (image_geometry grown.image) (sector grown.image) v (at_image grown.image grown.was).sound n old n is (or_left (n == n) (has (sectors_of old.segments) n) (eq-eqb n n refl)) in absurd (omega arith)
 
+        last_bytes : segment_bytes (sector (put_sector now n new)) segments ≡ segment_bytes (sector now) segments
+        last_bytes = same_bytes (sector (put_sector now n new)) (sector now) (sectors_of segments)
+            (λ s h. beside_last s (λ same. both_ways (has (sectors_of segments) s) (subst (λ m. has (sectors_of segments) m ≡ false) (sym same) (subst (λ xs. has (sectors_of xs) n ≡ false) grown.segments apart)) h))
+
         pub done_longer : laying_needs v old laying ≤ free_total v → IsLaidOver v old laying before last
         done_longer enough = record {
           enough = enough;
           gained = taken;
           choice = choice;
           on = record { image = put_sector now n new; is = last_is; vol = vol_last };
-          tidy = tidy_of before last grown.image grown.now (put_sector now n new) n segments grown.was last_is grown.changes
+          tidy = tidy_of before last grown.image grown.now (put_sector now n new) n segments end grown.was last_is grown.changes
               (λ s low. beside_last s (map_low s low) ∙ beside after target laid s (map_apart s low))
               (λ s map differ out. beside_last s differ ∙ beside_segments after target laid s out)
+              (λ p high. ap (λ b. get_or b p 0) last_bytes ∙ behind_laid after target laid target_behind p high)
               list_then;
         }
 

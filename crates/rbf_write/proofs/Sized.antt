@@ -24,20 +24,21 @@ use Rattle.rbf_access.specs.Mounted.{Represents}
 use Rattle.rbf_access.proofs.Counting.{counts_then}
 use Rattle.rbf_access.proofs.ReadFile.{room_for}
 use Rattle.rbf_files.proofs.FilledFile.{put_same_file}
-use Rattle.rbf_write.specs.Laying.{Laying, laid_contents, laid_file, laying_needs, IsTidyChange, AnswersLaying}
+use Rattle.rbf_write.specs.Laying.{Laying, laid_contents, laid_file, laying_end, laying_needs, IsTidyChange, IsTidyStop, AnswersLaying}
 use Rattle.rbf_write.specs.Outcomes.{AreMarked, laying_calls}
-use Rattle.rbf_write.specs.Sizes.{Sizing, size_needs, giving_up, given_up, IsTidySize, IsSized, AnswersSize, giving_calls, size_calls}
+use Rattle.rbf_write.specs.Sizes.{Sizing, size_needs, giving_up, given_up, zeroed_segments, IsTidySize, IsSized, AnswersSize, giving_calls, size_calls}
 use Rattle.rbf_write.proofs.Contents.{put_none, length-extended}
 use Rattle.rbf_write.proofs.Laid.{same_volume, no_clusters}
 use Rattle.rbf_write.proofs.Whole.{nothing_changed}
 
-pub tidy_size : (before after : Option (List ℕ)) (n : ℕ) (segments : List (ℕ × ℕ)) (gone : ℕ → Bool) → ((c : ℕ) → gone c ≡ false) → IsTidyChange before after n segments → IsTidySize before after n segments gone
-tidy_size before after n segments gone none_gone tidy = record {
+pub tidy_size : (before after : Option (List ℕ)) (n : ℕ) (segments : List (ℕ × ℕ)) (size : ℕ) (gone : ℕ → Bool) → ((c : ℕ) → gone c ≡ false) → IsTidyChange before after n segments size → IsTidySize before after n segments size gone
+tidy_size before after n segments size gone none_gone tidy = record {
   image = tidy.image;
   now = tidy.now;
   was = tidy.was;
   is = tidy.is;
   others = tidy.others;
+  behind = tidy.behind;
   map_end = λ c past. tidy.map_end c past ∙ ap (λ t. is_marked (sector tidy.image) c && not t) (sym (none_gone c));
   list = tidy.list;
 }
@@ -80,7 +81,7 @@ module _ (before : Option (List ℕ)) (v : DiskVolume) (old : DiskFile) (on : Re
           changed = stays same;
           volume = ap (λ fs. record { ident = v.ident; files = fs; lost = v.lost; rest = v.rest }) (sym (put_same_file v.files n old is));
         };
-        tidy = tidy_size before after n old.segments (giving_up v old sizing) (none_given_up (omega arith)) (nothing_changed before after v on kept n old.segments);
+        tidy = tidy_size before after n (zeroed_segments old sizing old.segments) sizing.size (giving_up v old sizing) (none_given_up (omega arith)) (nothing_changed before after v on kept n (zeroed_segments old sizing old.segments) sizing.size);
         same = λ stays_so. kept;
       }
 
@@ -110,6 +111,9 @@ module _ (before : Option (List ℕ)) (v : DiskVolume) (old : DiskFile) (on : Re
         let size = length-extended old.contents sizing.size in
         ap length (put_none (extended old.contents sizing.size) sizing.size) ∙ omega arith
 
+    end_is : laying_end laying ≡ sizing.size
+    end_is = omega arith
+
     needs_are : laying_needs v old laying ≡ size_needs v old sizing
     needs_are = ap (clusters_needed k old.segments) size_is
 
@@ -137,7 +141,10 @@ module _ (before : Option (List ℕ)) (v : DiskVolume) (old : DiskFile) (on : Re
         });
         volume = refl;
       };
-      tidy = tidy_size before after n (with_clusters k old.segments laid.gained) (giving_up v old sizing) (none_given_up (omega arith)) laid.tidy;
+      tidy = subst (λ xs. IsTidySize before after n xs sizing.size (giving_up v old sizing))
+          (sym (cond-true (nat_lt (length old.contents) sizing.size) (with_clusters k old.segments laid.gained) [] (lt-ltb (length old.contents) sizing.size longer)))
+          (tidy_size before after n (with_clusters k old.segments laid.gained) sizing.size (giving_up v old sizing) (none_given_up (omega arith))
+          (subst (λ e. IsTidyChange before after n (with_clusters k old.segments laid.gained) e) end_is laid.tidy));
       same = λ stays_so. absurd (omega arith);
     }
     longer_answers after (Err (Device m)) laid =
@@ -156,7 +163,7 @@ module _ (before : Option (List ℕ)) (v : DiskVolume) (old : DiskFile) (on : Re
             planned = inr choice;
             volume = subst (λ x. MayLose x laid.left (has laid.taken)) (same_volume before v on laying old is) lose;
           });
-          tidy = (choice, laid.tidy);
+          tidy = (choice, subst (λ e. IsTidyStop before after n (with_clusters k old.segments laid.taken) e) end_is laid.tidy);
         }
     longer_answers after (Err NoCluster) laid = record { few = subst (λ m. free_total v < m) needs_are laid.few; media_kept = laid.media_kept }
     longer_answers after (Err TooManyRuns) laid = record {

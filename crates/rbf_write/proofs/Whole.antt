@@ -23,7 +23,7 @@ use Rattle.rbf_access.proofs.Counting.{counts_then}
 use Rattle.rbf_access.proofs.ReadFile.{room_for}
 use Rattle.rbf_growth.specs.Grown.{ChangesMap}
 use Rattle.rbf_files.proofs.FilledFile.{put_same_file}
-use Rattle.rbf_write.specs.Laying.{Laying, laid_contents, laid_file, laying_needs, IsTidyChange, AnswersLaying}
+use Rattle.rbf_write.specs.Laying.{Laying, laying_end, laid_contents, laid_file, laying_needs, IsTidyChange, AnswersLaying}
 use Rattle.rbf_write.specs.Outcomes.{contents_written, write_needs, IsWritten, AnswersWrite, unchanged, stopped, AreMarked, laying_calls, write_calls}
 use Rattle.rbf_write.proofs.Laid.{tidy_of, same_end, no_clusters}
 use Rattle.rbf_write.proofs.Steps.{few_segments}
@@ -36,9 +36,9 @@ same_map image = record { others = λ s out. refl; end = λ c past. and_true _ }
     and_true true = refl
     and_true false = refl
 
-pub nothing_changed : (before after : Option (List ℕ)) (v : DiskVolume) → Represents before v → after ≡ before → (n : ℕ) (segments : List (ℕ × ℕ)) → IsTidyChange before after n segments
-nothing_changed before after v on same n segments =
-    tidy_of before after on.image on.image on.image n segments on.is (same ∙ on.is) (same_map on.image) (λ s low. refl) (λ s map differ out. refl) (same_end (sector on.image n) (sector on.image n) refl)
+pub nothing_changed : (before after : Option (List ℕ)) (v : DiskVolume) → Represents before v → after ≡ before → (n : ℕ) (segments : List (ℕ × ℕ)) (end : ℕ) → IsTidyChange before after n segments end
+nothing_changed before after v on same n segments end =
+    tidy_of before after on.image on.image on.image n segments end on.is (same ∙ on.is) (same_map on.image) (λ s low. refl) (λ s map differ out. refl) (λ p high. refl) (same_end (sector on.image n) (sector on.image n) refl)
 
 pub laid_is_written : (contents : List ℕ) (at : ℕ) (bytes : List ℕ) → 1 ≤ length bytes → put_at (extended contents at) at bytes ≡ written contents at bytes
 laid_is_written contents at [] some = absurd (omega arith)
@@ -77,7 +77,7 @@ module _ (before : Option (List ℕ)) (v : DiskVolume) (old : DiskFile) (on : Re
           };
           volume = ap (λ fs. record { ident = v.ident; files = fs; lost = v.lost; rest = v.rest }) (sym (put_same_file v.files write.number old is));
         };
-        tidy = nothing_changed before before v on refl write.number old.segments;
+        tidy = nothing_changed before before v on refl write.number old.segments (laying_end write);
         nothing = λ empty. refl;
       }
 

@@ -1,9 +1,9 @@
 -- Bytes that are laid over those of a file from a place on, with zeros between its end and that place.
-use Rattle.std.specs.Prelude.{◌≡◌, ◌≢◌, ◌⊎◌, ℕ, ◌/◌, ◌<◌, ◌≤◌, ◌==◌, true, false, Option, Some, List, length, Result, Ok, Err, if◌then◌else◌}
+use Rattle.std.specs.Prelude.{◌≡◌, ◌≢◌, ◌⊎◌, ℕ, ◌+◌, ◌/◌, ◌<◌, ◌≤◌, ◌==◌, true, false, Option, Some, List, length, get_or, Result, Ok, Err, if◌then◌else◌}
 use Rattle.os9_base.specs.declared.registers.TimePacket.{TimePacket}
 use Rattle.rbf_model.specs.Geometry.{image_geometry, sector}
 use Rattle.rbf_model.specs.Segments.{sectors_of, has}
-use Rattle.rbf_model.specs.File.{DiskFile}
+use Rattle.rbf_model.specs.File.{DiskFile, segment_bytes}
 use Rattle.rbf_model.specs.Space.{is_marked}
 use Rattle.rbf_model.specs.Volume.{DiskVolume}
 use Rattle.rbf_model.specs.Writes.{put_at}
@@ -44,8 +44,19 @@ abbrev pub laying_needs : DiskVolume → DiskFile → Laying → ℕ
 laying_needs v file laying =
     clusters_needed (cluster_size v) file.segments (length (laid_contents file.contents laying))
 
--- what has stayed on the media where file n was given these segments, beside what the volume shows
-pub record IsTidyChange (before after : Option (List ℕ)) (n : ℕ) (segments : List (ℕ × ℕ)) : Type 0 where
+-- where they end
+abbrev pub laying_end : Laying → ℕ
+laying_end laying = laying.at + length laying.bytes
+
+-- the bytes of the segments' sectors stay from a place of the file on, also those that its size does not reach
+abbrev pub KeepsBytesFrom : ℕ → List (ℕ × ℕ) → List ℕ → List ℕ → Type 0
+KeepsBytesFrom end segments old new =
+    (place : ℕ) → end ≤ place
+    → get_or (segment_bytes (sector new) segments) place 0 ≡ get_or (segment_bytes (sector old) segments) place 0
+
+-- what has stayed on the media where file n was given these segments and bytes up to an end, beside what the volume
+-- shows
+pub record IsTidyChange (before after : Option (List ℕ)) (n : ℕ) (segments : List (ℕ × ℕ)) (end : ℕ) : Type 0 where
   pub image : List ℕ
   pub now : List ℕ
   pub was : before ≡ Some image
@@ -53,6 +64,8 @@ pub record IsTidyChange (before after : Option (List ℕ)) (n : ℕ) (segments :
   -- all sectors but those of the file, its descriptor and the map
   pub others : (s : ℕ) → ¬ IsMapSector (image_geometry image) s → s ≢ n → has (sectors_of segments) s ≡ false
       → sector now s ≡ sector image s
+  -- and of those of the file all that is behind the bytes
+  pub behind : KeepsBytesFrom end segments image now
   -- the marks behind the whole clusters
   pub map_end : KeepsMapEnd image now (λ _. false)
   -- the end of the list of segments and the bytes behind it
@@ -64,9 +77,9 @@ AllAreMarked image segments =
     (s : ℕ) → has (sectors_of segments) s ≡ true
     → is_marked (sector image) (s / (image_geometry image).cluster) ≡ true
 
--- what a fault has left as it was, where file n was to be given these segments: its descriptor, and all sectors but
--- those of the segments and of the map
-pub record IsTidyStop (before after : Option (List ℕ)) (n : ℕ) (segments : List (ℕ × ℕ)) : Type 0 where
+-- what a fault has left as it was, where file n was to be given these segments and bytes up to an end: its descriptor,
+-- and all sectors but those of the segments and of the map
+pub record IsTidyStop (before after : Option (List ℕ)) (n : ℕ) (segments : List (ℕ × ℕ)) (end : ℕ) : Type 0 where
   pub image : List ℕ
   pub now : List ℕ
   pub was : before ≡ Some image
@@ -74,6 +87,7 @@ pub record IsTidyStop (before after : Option (List ℕ)) (n : ℕ) (segments : L
   pub descriptor : sector now n ≡ sector image n
   pub others : (s : ℕ) → ¬ IsMapSector (image_geometry image) s → has (sectors_of segments) s ≡ false
       → sector now s ≡ sector image s
+  pub behind : KeepsBytesFrom end segments image now
   -- a sector beside the map is as it was until all clusters of the segments are marked
   pub marks : (s : ℕ) → ¬ IsMapSector (image_geometry image) s
       → (sector now s ≡ sector image s) ⊎ AllAreMarked now segments
@@ -88,6 +102,7 @@ pub record IsLaidOver (v : DiskVolume) (old : DiskFile) (laying : Laying) (befor
   pub on : Represents after
       (replaced v laying.number (Some (laid_file old laying (with_clusters (cluster_size v) old.segments gained))))
   pub tidy : IsTidyChange before after laying.number (with_clusters (cluster_size v) old.segments gained)
+      (laying_end laying)
 
 -- a fault has ended it: a front of the bytes is there, and clusters that were taken may be lost
 pub record LayingEnds (v : DiskVolume) (old : DiskFile) (laying : Laying) (before after : Option (List ℕ))
@@ -102,6 +117,7 @@ pub record LayingEnds (v : DiskVolume) (old : DiskFile) (laying : Laying) (befor
   -- the first byte comes after the last mark
   pub order : (count ≡ 0) ⊎ ((c : ℕ) → has taken c ≡ true → left.lost c ≡ true)
   pub tidy : IsTidyStop before after laying.number (with_clusters (cluster_size v) old.segments taken)
+      (laying_end laying)
 
 -- fewer clusters are free than it needs
 pub record LayingIsFull (v : DiskVolume) (old : DiskFile) (laying : Laying) (before after : Option (List ℕ))

@@ -14,7 +14,7 @@ use Rattle.rbf_access.specs.MapMarks.{marking_sectors}
 use Rattle.rbf_access.specs.Mounted.{Represents}
 use Rattle.rbf_growth.specs.Grown.{is_gained}
 use Rattle.rbf_write.specs.Files.{OnVolumeFile}
-use Rattle.rbf_write.specs.Laying.{Laying, IsTidyChange, IsTidyStop}
+use Rattle.rbf_write.specs.Laying.{Laying, laying_end, IsTidyChange, IsTidyStop}
 
 -- the contents of a file that is written to
 abbrev pub contents_written : DiskFile → Laying → List ℕ
@@ -30,7 +30,7 @@ pub record IsWritten (v : DiskVolume) (old : DiskFile) (write : Laying) (before 
   pub volume : DiskVolume
   pub on : Represents after volume
   pub writes : Writes v volume write.number write.at write.bytes write.now
-  pub tidy : IsTidyChange before after write.number writes.new.segments
+  pub tidy : IsTidyChange before after write.number writes.new.segments (laying_end write)
   pub nothing : write.bytes ≡ [] → after ≡ before
 
 -- a fault has ended a write whose clusters had been chosen, so that it was not to be refused: only the map, and sectors
@@ -42,6 +42,7 @@ pub record WriteStops (v : DiskVolume) (write : Laying) (before after : Option (
   pub choice : IsChoice (cluster_size v) (is_free_in v) ends.old.segments (length (contents_written ends.old write))
       ends.taken
   pub tidy : IsTidyStop before after write.number (with_clusters (cluster_size v) ends.old.segments ends.taken)
+      (laying_end write)
 
 -- a fault has ended a write of some bytes: all has stayed, or its clusters had been chosen
 pub data WriteIsEnded (v : DiskVolume) (write : Laying) (before after : Option (List ℕ)) : Type 0 where

@@ -1,5 +1,5 @@
 -- What a change of a file's size answers, and what it leaves then.
-use Rattle.std.specs.Prelude.{◌≡◌, ◌≢◌, ℕ, ◌+◌, ◌<◌, ◌≤◌, nat_lt, Option, Some, List, length, Bool, false, Result, Ok, Err, if◌then◌else◌}
+use Rattle.std.specs.Prelude.{◌≡◌, ◌≢◌, ℕ, ◌+◌, ◌<◌, ◌≤◌, nat_lt, Option, Some, List, [], length, Bool, false, Result, Ok, Err, if◌then◌else◌}
 use Rattle.os9_base.specs.declared.registers.TimePacket.{TimePacket}
 use Rattle.rbf_model.specs.Geometry.{image_geometry, sector}
 use Rattle.rbf_model.specs.Segments.{sectors_of, has}
@@ -16,7 +16,7 @@ use Rattle.rbf_access.specs.MapMarks.{marking_sectors}
 use Rattle.rbf_access.specs.declared.faults.FileFault.{FileFault}
 use Rattle.rbf_access.specs.declared.faults.FileFault.TheVariants.{Device, NoCluster, TooManyRuns}
 use Rattle.rbf_access.specs.Mounted.{Represents}
-use Rattle.rbf_write.specs.Laying.{IsTidyStop}
+use Rattle.rbf_write.specs.Laying.{KeepsBytesFrom, IsTidyStop}
 use Rattle.rbf_write.specs.Outcomes.{laying_calls}
 
 -- a size that file n is given, at a time
@@ -39,16 +39,23 @@ given_up v file sizing c =
 abbrev pub giving_up : DiskVolume → DiskFile → Sizing → ℕ → Bool
 giving_up v file sizing c = if nat_lt sizing.size (length file.contents) then given_up v file sizing c else false
 
--- what has stayed on the media where file n has these segments, and some clusters were given up
-pub record IsTidySize (before after : Option (List ℕ)) (n : ℕ) (segments : List (ℕ × ℕ)) (gone : ℕ → Bool)
+-- the segments in whose sectors zeros are laid: none where the file is cut
+abbrev pub zeroed_segments : DiskFile → Sizing → List (ℕ × ℕ) → List (ℕ × ℕ)
+zeroed_segments old sizing segments = if nat_lt (length old.contents) sizing.size then segments else []
+
+-- what has stayed on the media where file n has got a size with zeros in these segments, and some clusters were given
+-- up
+pub record IsTidySize (before after : Option (List ℕ)) (n : ℕ) (segments : List (ℕ × ℕ)) (size : ℕ) (gone : ℕ → Bool)
     : Type 0 where
   pub image : List ℕ
   pub now : List ℕ
   pub was : before ≡ Some image
   pub is : after ≡ Some now
-  -- all sectors but those of the file, its descriptor and the map
+  -- all sectors but those of the segments, its descriptor and the map
   pub others : (s : ℕ) → ¬ IsMapSector (image_geometry image) s → s ≢ n → has (sectors_of segments) s ≡ false
       → sector now s ≡ sector image s
+  -- and of those of the segments all that is behind the size
+  pub behind : KeepsBytesFrom size segments image now
   -- the marks behind the whole clusters, but that of a cluster that is given up
   pub map_end : KeepsMapEnd image now gone
   -- the end of the list of segments and the bytes behind it
@@ -72,7 +79,7 @@ abbrev pub IsTidyEnd : (left : List ℕ) (v w : DiskVolume) (sizing : Sizing) �
 IsTidyEnd left v w sizing gone media now (ends.before same) = now ≡ media
 IsTidyEnd left v w sizing gone media now (ends.longer end) =
     IsChoice (cluster_size v) (is_free_in v) end.old.segments sizing.size end.taken
-    × IsTidyStop media now sizing.number (with_clusters (cluster_size v) end.old.segments end.taken)
+    × IsTidyStop media now sizing.number (with_clusters (cluster_size v) end.old.segments end.taken) sizing.size
 IsTidyEnd left v w sizing gone media now (ends.cut end) = IsTidyCut media now sizing.number gone
 
 -- the file has the size
@@ -81,7 +88,8 @@ pub record IsSized (v : DiskVolume) (old : DiskFile) (sizing : Sizing) (before a
   pub volume : DiskVolume
   pub on : Represents after volume
   pub sets : SetsSize v volume sizing.number sizing.size sizing.now
-  pub tidy : IsTidySize before after sizing.number sets.new.segments (giving_up v old sizing)
+  pub tidy : IsTidySize before after sizing.number (zeroed_segments old sizing sets.new.segments) sizing.size
+      (giving_up v old sizing)
   pub same : length old.contents ≡ sizing.size → after ≡ before
 
 -- a fault has ended the call
