@@ -19,9 +19,10 @@ use rbf_write::{lay_over, load_file};
 ///
 /// # Errors
 ///
-/// `NoCluster` exactly if fewer clusters are free than the size needs, and `TooManyRuns` if one that
-/// was chosen finds no place in the list of segments: then nothing has changed. `Device` if a call
-/// of the drive fails: then the file is as it was, or it has been cut, and clusters may be lost.
+/// If no fault comes, `NoCluster` exactly if fewer clusters are free than the size needs, and
+/// `TooManyRuns` if one that was chosen finds no place in the list of segments: then nothing has
+/// changed. `Device` if a call of the drive fails: then the file is as it was, or it has been cut,
+/// and clusters may be lost; in a call that was to be refused nothing has changed.
 pub fn set_size(
     volume: &mut Volume,
     d: &mut dyn BlockDriver,

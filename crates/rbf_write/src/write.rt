@@ -17,10 +17,11 @@ use rbf_access::{FileFault, Volume};
 ///
 /// # Errors
 ///
-/// `NoCluster` exactly if fewer clusters are free than the write needs, and `TooManyRuns` if one that
-/// was chosen finds no place in the list of segments: then nothing has changed. `Device` if a call
-/// of the drive fails: then the file may have a first part of the bytes, up to the end of a sector
-/// and its old size, and clusters may be lost; in a call that was to be refused nothing has changed.
+/// If no fault comes, `NoCluster` exactly if fewer clusters are free than the write needs, and
+/// `TooManyRuns` if one that was chosen finds no place in the list of segments: then nothing has
+/// changed. `Device` if a call of the drive fails: then the file may have a first part of the
+/// bytes, up to the end of a sector and its old size, and clusters may be lost; in a call that was
+/// to be refused nothing has changed.
 pub fn write_at(
     volume: &mut Volume,
     d: &mut dyn BlockDriver,
