@@ -41,10 +41,10 @@ use Rattle.io_rules.specs.Step.{Caller, IoEffect, IoEnd, IoStep, refused, comes,
 use Rattle.io_rules.specs.Terminals.{ReadsTerminal, request_of, write_ends}
 use Rattle.io_rules.specs.Waiting.{io_interrupted, pid, wait_target, without_unfinished}
 use Rattle.io_rules.specs.declared.io_call.IoCall.{IoCall}
-use Rattle.io_machine.specs.declared.ends.EventEnd.{EventEnd}
-use Rattle.io_machine.specs.Event.{Acts, Event, before_delivery, io_after_call, io_after_delivery, io_after_instruction, next_instruction}
-use Rattle.io_machine.specs.State.{State}
-use Rattle.io_isolation.proofs.StepWalk.{StepGives, step-gives}
+use Rattle.machine_model.specs.declared.ends.EventEnd.{EventEnd}
+use Rattle.machine_model.specs.Event.{Acts, Event, before_delivery, io_after_call, io_after_delivery, io_after_instruction, next_instruction}
+use Rattle.machine_model.specs.State.{State}
+use Rattle.isolation_laws.proofs.StepWalk.{StepGives, step-gives}
 use Rattle.flow_laws.specs.Keys.{EventKeys, HasAhead, KeyMove, ahead_at, keys_to_come, read_call, reading_of, stay, use_up}
 use Rattle.flow_laws.proofs.KeyReads.{IsReadOn, StepReads, step-reads}
 

@@ -14,14 +14,14 @@ use Rattle.io_model.specs.Terminal.{Terminal, key_bytes, new_terminal, typed_byt
 use Rattle.io_model.specs.declared.terminal.TheConstants.{TYPE_AHEAD}
 use Rattle.io_rules.specs.Arrivals.{ArrivesAt, ArrivesFrom, Desk}
 use Rattle.io_rules.specs.Io.{Io, first_io, terminal_at}
-use Rattle.io_machine.specs.declared.ends.EventEnd.{EventEnd}
-use Rattle.io_machine.specs.declared.ends.SliceEnd.{SliceEnd}
-use Rattle.io_machine.specs.declared.ends.SliceEnd.TheVariants.{Idle, Ran}
-use Rattle.io_machine.specs.Console.{console_bytes, terminals_emptied}
-use Rattle.io_machine.specs.Event.{Event, cost}
-use Rattle.io_machine.specs.Run.{Run, Slice, Steps, Tick, desk_of, is_going}
-use Rattle.io_machine.specs.Start.{Starts}
-use Rattle.io_machine.specs.State.{State, has_living}
+use Rattle.machine_model.specs.declared.ends.EventEnd.{EventEnd}
+use Rattle.machine_model.specs.declared.ends.SliceEnd.{SliceEnd}
+use Rattle.machine_model.specs.declared.ends.SliceEnd.TheVariants.{Idle, Ran}
+use Rattle.machine_model.specs.Console.{console_bytes, terminals_emptied}
+use Rattle.machine_model.specs.Event.{Event, cost}
+use Rattle.machine_model.specs.Run.{Run, Slice, Steps, Tick, desk_of, is_going}
+use Rattle.machine_model.specs.Start.{Starts}
+use Rattle.machine_model.specs.State.{State, has_living}
 use Rattle.flow_laws.specs.Keys.{EventKeys, HasAhead, IsKeyStep, KeyMove, KeyStep, KeysArrive, KeysPass, ahead_at, ahead_moves, arrive, arrived_by, keys_to_come, stay, use_up}
 use Rattle.flow_laws.proofs.KeyEvents.{come_of, event-keys}
 

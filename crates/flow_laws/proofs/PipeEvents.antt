@@ -26,9 +26,9 @@ use Rattle.io_rules.specs.Processes.{closed_below, closed_if_open, io_ended, io_
 use Rattle.io_rules.specs.Step.{Caller, IoEffect, IoEnd, IoStep, answers, fails, keeps, refused, comes, reads, writes}
 use Rattle.io_rules.specs.Waiting.{io_interrupted, wait_target, without_unfinished}
 use Rattle.io_rules.specs.declared.io_call.IoCall.{IoCall}
-use Rattle.io_machine.specs.declared.ends.EventEnd.{EventEnd}
-use Rattle.io_machine.specs.Event.{Acts, Event, before_delivery, io_after_call, io_after_delivery, io_after_instruction, next_instruction}
-use Rattle.io_machine.specs.State.{State}
+use Rattle.machine_model.specs.declared.ends.EventEnd.{EventEnd}
+use Rattle.machine_model.specs.Event.{Acts, Event, before_delivery, io_after_call, io_after_delivery, io_after_instruction, next_instruction}
+use Rattle.machine_model.specs.State.{State}
 use Rattle.flow_laws.specs.Flow.{EndsIn, Passes, ReadCounts, WriteCounts, moved_before, stored_from}
 use Rattle.flow_laws.proofs.PipeSteps.{IsStoring, Moved, PipeLeft, StepMoves, closed-left, left-held, left-then, step-moves}
 

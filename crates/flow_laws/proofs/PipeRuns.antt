@@ -7,13 +7,13 @@ use Rattle.io_model.specs.Pipe.{Flows, IsPipe, In, Movement, Out, held_bytes}
 use Rattle.io_model.proofs.PipeLemmas.{flows-in_order}
 use Rattle.io_rules.specs.Arrivals.{ArrivesFrom, Desk}
 use Rattle.io_rules.specs.Io.{Io, pipe_bytes}
-use Rattle.io_machine.specs.declared.ends.EventEnd.{EventEnd}
-use Rattle.io_machine.specs.declared.ends.SliceEnd.{SliceEnd}
-use Rattle.io_machine.specs.declared.ends.SliceEnd.TheVariants.{Idle, Ran}
-use Rattle.io_machine.specs.Console.{console_bytes, terminals_emptied}
-use Rattle.io_machine.specs.Event.{Event, cost}
-use Rattle.io_machine.specs.Run.{Choose, Run, Slice, Steps, Tick, desk_of, is_going}
-use Rattle.io_machine.specs.State.{State, has_living}
+use Rattle.machine_model.specs.declared.ends.EventEnd.{EventEnd}
+use Rattle.machine_model.specs.declared.ends.SliceEnd.{SliceEnd}
+use Rattle.machine_model.specs.declared.ends.SliceEnd.TheVariants.{Idle, Ran}
+use Rattle.machine_model.specs.Console.{console_bytes, terminals_emptied}
+use Rattle.machine_model.specs.Event.{Event, cost}
+use Rattle.machine_model.specs.Run.{Choose, Run, Slice, Steps, Tick, desk_of, is_going}
+use Rattle.machine_model.specs.State.{State, has_living}
 use Rattle.flow_laws.specs.Flow.{AllLive, IsPassing, Passes, Passing, PassesThrough, moved_by}
 use Rattle.flow_laws.proofs.PipeEvents.{event-passes}
 

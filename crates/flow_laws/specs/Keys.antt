@@ -19,10 +19,10 @@ use Rattle.io_rules.specs.Io.{Io, OpenPath, kept_at, open_path, terminal_at}
 use Rattle.io_rules.specs.Waiting.{pid}
 use Rattle.io_rules.specs.declared.io_call.IoCall.{IoCall}
 use Rattle.io_rules.specs.declared.io_call.IoCall.TheVariants as Call
-use Rattle.io_machine.specs.declared.ends.EventEnd.{EventEnd}
-use Rattle.io_machine.specs.Event.{Event}
-use Rattle.io_machine.specs.Run.{Tick}
-use Rattle.io_machine.specs.State.{State}
+use Rattle.machine_model.specs.declared.ends.EventEnd.{EventEnd}
+use Rattle.machine_model.specs.Event.{Event}
+use Rattle.machine_model.specs.Run.{Tick}
+use Rattle.machine_model.specs.State.{State}
 
 -- the keys of a terminal that are still to come
 abbrev pub keys_to_come : State → ℕ → List Key

@@ -1,12 +1,12 @@
 //! Keys of terminals over a run: each is used by one read, in order, or is dropped by a rule.
 
 ghost use Rattle.std.specs.Prelude.{ℕ, ◌<◌, List};
-ghost use Rattle.io_machine.specs.declared.ends.EventEnd.{EventEnd};
-ghost use Rattle.io_machine.specs.declared.ends.SliceEnd.{SliceEnd};
-ghost use Rattle.io_machine.specs.Event.{Event};
-ghost use Rattle.io_machine.specs.Run.{Run, Slice, Tick};
-ghost use Rattle.io_machine.specs.Start.{Starts};
-ghost use Rattle.io_machine.specs.State.{State};
+ghost use Rattle.machine_model.specs.declared.ends.EventEnd.{EventEnd};
+ghost use Rattle.machine_model.specs.declared.ends.SliceEnd.{SliceEnd};
+ghost use Rattle.machine_model.specs.Event.{Event};
+ghost use Rattle.machine_model.specs.Run.{Run, Slice, Tick};
+ghost use Rattle.machine_model.specs.Start.{Starts};
+ghost use Rattle.machine_model.specs.State.{State};
 ghost use Rattle.os9_outer.specs.TerminalState.{TerminalState};
 ghost use Rattle.os9_outer.specs.declared.terminal.Key.{Key};
 ghost use Rattle.flow_laws.specs.Keys.{EventKeys, HasAhead, KeyMove, KeysArrive, KeysPass};

@@ -2,11 +2,11 @@
 
 ghost use Rattle.std.specs.Prelude.{ℕ, List};
 ghost use Rattle.io_model.specs.Pipe.{IsPipe};
-ghost use Rattle.io_machine.specs.declared.ends.EventEnd.{EventEnd};
-ghost use Rattle.io_machine.specs.declared.ends.SliceEnd.{SliceEnd};
-ghost use Rattle.io_machine.specs.Event.{Event};
-ghost use Rattle.io_machine.specs.Run.{Run, Slice};
-ghost use Rattle.io_machine.specs.State.{State};
+ghost use Rattle.machine_model.specs.declared.ends.EventEnd.{EventEnd};
+ghost use Rattle.machine_model.specs.declared.ends.SliceEnd.{SliceEnd};
+ghost use Rattle.machine_model.specs.Event.{Event};
+ghost use Rattle.machine_model.specs.Run.{Run, Slice};
+ghost use Rattle.machine_model.specs.State.{State};
 ghost use Rattle.flow_laws.specs.Flow.{AllLive, Passes, PassesThrough};
 
 /// While a pipe lives, an event moves bytes into it or out of it only as an attempt of a call on it

@@ -18,7 +18,7 @@ use Rattle.io_rules.specs.Codes.{io_call_of}
 use Rattle.io_rules.specs.Io.{Io, kept_at}
 use Rattle.io_rules.specs.declared.io_call.IoCall.{IoCall}
 use Rattle.io_rules.specs.declared.io_call.IoCall.TheVariants as Call
-use Rattle.io_machine.specs.State.{State}
+use Rattle.machine_model.specs.State.{State}
 use Rattle.kept_laws.specs.Kept.{AreKept, StaysAllowed as IsAllowed, StaysRead as AllowedRead}
 use Rattle.kept_laws.specs.Running.{AreOnTerminals, IsRunning}
 use Rattle.kept_laws.proofs.KeptEvents.{attempts-code}

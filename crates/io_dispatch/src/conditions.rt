@@ -3,7 +3,7 @@
 ghost use Rattle.std.specs.Prelude.{◌≡◌, ◌<◌, ℕ, Some, length};
 ghost use Rattle.call_rules.specs.Ready.{attempts, act_of};
 ghost use Rattle.io_dispatch.specs.Staying.{MayAttempt};
-ghost use Rattle.io_machine.specs.State.{State};
+ghost use Rattle.machine_model.specs.State.{State};
 ghost use Rattle.io_rules.specs.Codes.{io_call_of};
 ghost use Rattle.io_rules.specs.declared.io_call.IoCall.{IoCall};
 ghost use Rattle.kept_laws.specs.Running.{IsRunning};

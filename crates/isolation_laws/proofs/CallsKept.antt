@@ -21,7 +21,7 @@ use Rattle.proc_rules.specs.declared.record.Reap.{Reap}
 use Rattle.proc_rules.specs.declared.record.Reap.TheVariants.{NoChild, NotYet}
 use Rattle.proc_rules.specs.declared.record.SendFault.{SendFault}
 use Rattle.proc_rules.specs.declared.record.SendFault.TheVariants.{NoProcess, Pending}
-use Rattle.proc_rules.specs.Ends.{ended_child, reaped, after_reap}
+use Rattle.proc_rules.specs.Ends.{ended_child, orphaned, reaped, after_exit, after_reap}
 use Rattle.proc_rules.specs.Records.{record_of, record_at, is_waiting, with_record, with_regs, without_record, with_priority}
 use Rattle.proc_rules.specs.Signals.{is_reached, wake_signal, with_signal}
 use Rattle.user_names.specs.declared.name_fault.NameFault.{NameFault}
@@ -56,7 +56,7 @@ use Rattle.isolation_laws.specs.Objects.{KeepsToItself}
 use Rattle.isolation_laws.specs.Isolation.{LeavesOthers}
 use Rattle.isolation_laws.proofs.MemoryKept.{itself-written, grown-modules, Kept, kept-same, itself-same, itself-cut, itself-cleared, itself-unmapped, kept-map, kept-written, Grows, grown-kept, grows-same, mapped-grows, mapped-modules}
 use Rattle.isolation_laws.proofs.ModulesKept.{linked-modules, HaveMore, more-all, more-linked, keeps-more, keeps-unlinked}
-use Rattle.isolation_laws.proofs.OthersKept.{Changed, changed-leaves, changed-self, changed-then, changed-goes_on, changed-waiting, record-same, record-other, own-same, own-still, own-other, named-record, woken-own, reaped-record, exit-record, turns-without}
+use Rattle.isolation_laws.proofs.OthersKept.{Changed, changed-leaves, changed-self, changed-then, changed-goes_on, changed-waiting, record-same, record-other, own-same, own-still, own-other, named-record, woken-own, reaped-record, exit-other, exit-record, RecordLeft, turns-without}
 
 -- what an event leaves, and that no place for a record comes or goes
 pub record Left (m : Inner) (p : ℕ) (end : EventEnd) (n : Inner) : Type 0 where
@@ -108,20 +108,25 @@ module _ (m : Inner) (p : ℕ) (end : EventEnd) where
 
 -- ---- the end of a process
 
-module _ (m : Inner) (p status : ℕ) where
-  ended-by : (memory : MemoryState) (own : List Own) → Kept m.memory (IsParameter m p) p p (cleared memory p) → KeepsToItself m.memory p (cleared memory p) → ((q : ℕ) → q ≢ p → KeepsOwn m p (cleared memory p) q (own_at m q) (slice_index_or own q no_own)) → ChangesLinks m p Ended (cleared memory p) → Left m p Ended (without_process (record m { memory = memory; own = own }) p status)
-  ended-by memory own kept itself own_is links = left-by m p Ended (without_process (record m { memory = memory; own = own }) p status) (record {
+-- where the process has other records of its own
+module _ (m : Inner) (p status : ℕ) (records : List (Option Record)) (same : (q : ℕ) → q ≢ p → record_of records q ≡ record_of m.records q) (places : length records ≡ length m.records) where
+  exit-left : (q : ℕ) → q ≢ p → RecordLeft m p Ended q (record_of m.records q) (record_of (after_exit records p status) q)
+  exit-left q differ =
+      subst (RecordLeft m p Ended q (record_of m.records q)) (sym (exit-other records p status q differ ∙ ap (orphaned p) (same q differ) ∙ sym (exit-other m.records p status q differ))) (exit-record m p status q differ)
+
+  ended-by : (memory : MemoryState) (own : List Own) → Kept m.memory (IsParameter m p) p p (cleared memory p) → KeepsToItself m.memory p (cleared memory p) → ((q : ℕ) → q ≢ p → KeepsOwn m p (cleared memory p) q (own_at m q) (slice_index_or own q no_own)) → ChangesLinks m p Ended (cleared memory p) → Left m p Ended (without_process (record m { memory = memory; records = records; own = own }) p status)
+  ended-by memory own kept itself own_is links = left-by m p Ended (without_process (record m { memory = memory; records = records; own = own }) p status) (record {
     memory = kept;
     itself = itself;
     links = links;
-    records = λ q differ. exit-record m p status q differ;
+    records = exit-left;
     turns = turns-without m p m.order;
     own = λ q differ. subst (KeepsOwn m p (cleared memory p) q (own_at m q)) (sym (get_or-set_other own p q no_own no_own differ)) (own_is q differ);
-    places = simp (length-set, length-map);
+    places = simp (length-set, length-map) places;
   })
 
-  pub ended-left : Left m p Ended (ended m p status)
-  ended-left = by_primary (own_at m p).primary refl
+  pub ended-from : Left m p Ended (ended (with_records m records) p status)
+  ended-from = by_primary (own_at m p).primary refl
     where
       kept : Kept m.memory (IsParameter m p) p p (cleared m.memory p)
       kept = kept-map m.memory p p no_slots
@@ -134,12 +139,15 @@ module _ (m : Inner) (p status : ℕ) where
             less ∙ ap (λ (primary : Option ModId). without_link m.memory.modules (option_map (λ (id : ModId). id.0) primary)) (sym at);
       }
 
-      by_primary : (primary : Option ModId) → (own_at m p).primary ≡ primary → Left m p Ended (without_process (option_map_or (λ (id : ModId). without_module_link m id.0) primary m) p status)
+      by_primary : (primary : Option ModId) → (own_at m p).primary ≡ primary → Left m p Ended (without_process (option_map_or (λ (id : ModId). without_module_link (with_records m records) id.0) primary (with_records m records)) p status)
       by_primary None at = ended-by m.memory m.own kept (itself-cleared m.memory p) (λ q differ. own-same m p Ended q (cleared m.memory p) (own_at m q)) (inr (inr (inr (inr (loses (cleared m.memory p) None at refl)))))
       by_primary (Some id) at =
           ended-by (unlinked m.memory id.0) (map (still_primary (unlinked m.memory id.0).modules) m.own) (record { objects = kept.objects; maps = kept.maps; modules = keeps-unlinked m.memory.modules m.memory.modules id.0 (more-all m.memory.modules); new_objects = kept.new_objects; sizes = kept.sizes }) (itself-cleared m.memory p)
           (λ q differ. subst (KeepsOwn m p (cleared (unlinked m.memory id.0) p) q (own_at m q)) (sym (still-at (unlinked m.memory id.0).modules m.own q)) (own-still m p Ended q (cleared (unlinked m.memory id.0) p) (own_at m q)))
           (inr (inr (inr (inr (loses (cleared (unlinked m.memory id.0) p) (Some id) at refl)))))
+
+pub ended-left : (m : Inner) (p status : ℕ) → Left m p Ended (ended m p status)
+ended-left m p status = ended-from m p status m.records (λ q differ. refl) refl
 
 -- ---- attempts
 

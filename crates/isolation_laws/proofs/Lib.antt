@@ -1,7 +1,11 @@
 pub mod CallsKept
 pub mod EventsKept
 pub mod ForksKept
+pub mod IoEvents
+pub mod IoKept
 pub mod Lists
 pub mod MemoryKept
 pub mod ModulesKept
 pub mod OthersKept
+pub mod PathsKept
+pub mod StepWalk

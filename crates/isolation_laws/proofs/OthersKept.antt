@@ -249,17 +249,20 @@ reaped-record m p end call q = by_child (ended_child m.records p) refl
 
 -- ---- the end of a process
 
-pub exit-record : (m : Inner) (p status q : ℕ) → q ≢ p → RecordLeft m p Ended q (record_of m.records q) (record_of (after_exit m.records p status) q)
-exit-record m p status q differ =
-    subst (RecordLeft m p Ended q (record_of m.records q)) (sym (record-other (map (orphaned p) m.records) p (ended_record (record_at m.records p) status) q differ ∙ mapped)) (by_place (record_of m.records q))
+pub exit-other : (records : List (Option Record)) (p status q : ℕ) → q ≢ p → record_of (after_exit records p status) q ≡ orphaned p (record_of records q)
+exit-other records p status q differ = record-other (map (orphaned p) records) p (ended_record (record_at records p) status) q differ ∙ mapped
   where
-    mapped : record_of (map (orphaned p) m.records) q ≡ orphaned p (record_of m.records q)
+    mapped : record_of (map (orphaned p) records) q ≡ orphaned p (record_of records q)
     mapped =
-        elim (cases_lt q (length m.records)) [
-          | inl within ↦ get_or-map (orphaned p) m.records q None None within
-          | inr past ↦ get_or_past (map (orphaned p) m.records) q None (rw length-map past) ∙ ap (orphaned p) (sym (get_or_past m.records q None past))
+        elim (cases_lt q (length records)) [
+          | inl within ↦ get_or-map (orphaned p) records q None None within
+          | inr past ↦ get_or_past (map (orphaned p) records) q None (rw length-map past) ∙ ap (orphaned p) (sym (get_or_past records q None past))
         ]
 
+pub exit-record : (m : Inner) (p status q : ℕ) → q ≢ p → RecordLeft m p Ended q (record_of m.records q) (record_of (after_exit m.records p status) q)
+exit-record m p status q differ =
+    subst (RecordLeft m p Ended q (record_of m.records q)) (sym (exit-other m.records p status q differ)) (by_place (record_of m.records q))
+  where
     by_tests : (r : Record) (child ended : Bool) → is_child p r ≡ child → has_ended r.life ≡ ended → RecordLeft m p Ended q (Some r) (if not child then Some r else (if ended then None else Some (record r { parent = record { 0 = 0 } })))
     by_tests r false ended child_is ended_is = record-same m p Ended q (Some r)
     by_tests r true true child_is ended_is =

@@ -1,3 +1,4 @@
+pub mod InputOutput
 pub mod Isolation
 pub mod Links
 pub mod Modules

@@ -34,15 +34,15 @@ use Rattle.io_rules.specs.Io.{Io, kept_at, with_call}
 use Rattle.io_rules.specs.Step.{IoEffect, IoEnd, answers, fails, keeps}
 use Rattle.io_rules.specs.Waiting.{interrupted_count}
 use Rattle.io_rules.specs.declared.io_call.IoCall.{IoCall}
-use Rattle.io_machine.specs.declared.ends.EventEnd.{EventEnd}
-use Rattle.io_machine.specs.Event.{Acts, Event, after_instruction, broken_off, io_after_call, next_instruction}
-use Rattle.io_machine.specs.State.{State}
-use Rattle.io_isolation.specs.InputOutput.{LeavesIo}
-use Rattle.io_isolation.specs.Isolation.{LeavesOthers}
-use Rattle.io_isolation.specs.Others.{ComesOf, Stays}
-use Rattle.io_isolation.proofs.EventsKept.{event-leaves, event-left}
-use Rattle.io_isolation.proofs.IoEvents.{io-event-leaves}
-use Rattle.io_isolation.proofs.OthersKept.{living-within, record-put}
+use Rattle.machine_model.specs.declared.ends.EventEnd.{EventEnd}
+use Rattle.machine_model.specs.Event.{Acts, Event, after_instruction, broken_off, io_after_call, next_instruction}
+use Rattle.machine_model.specs.State.{State}
+use Rattle.isolation_laws.specs.InputOutput.{LeavesIo}
+use Rattle.isolation_laws.specs.Isolation.{LeavesOthers}
+use Rattle.isolation_laws.specs.Others.{ComesOf, Stays}
+use Rattle.isolation_laws.proofs.EventsKept.{event-leaves, event-left}
+use Rattle.isolation_laws.proofs.IoEvents.{io-event-leaves}
+use Rattle.isolation_laws.proofs.OthersKept.{living-within, record-put}
 use Rattle.kept_laws.specs.Kept.{AreInCalls, WaitsInCall}
 use Rattle.kept_laws.specs.Running.{HasPlaces}
 use Rattle.kept_laws.proofs.CallCodes.{not-both}

@@ -35,17 +35,17 @@ use Rattle.io_rules.specs.Waiting.{io_interrupted, wait_target, without_unfinish
 use Rattle.io_model.specs.declared.path.TheConstants.{PROCESS_PATHS}
 use Rattle.io_rules.specs.Step.{IoEnd, answers, fails, keeps}
 use Rattle.io_rules.specs.declared.io_call.IoCall.{IoCall}
-use Rattle.io_machine.specs.declared.ends.EventEnd.{EventEnd}
-use Rattle.io_machine.specs.Event.{Acts, Event, before_delivery, io_after_call, io_after_delivery, io_after_instruction, next_instruction}
-use Rattle.io_machine.specs.State.{State}
-use Rattle.io_isolation.specs.InputOutput.{IsGivenPaths, LeavesIo}
-use Rattle.io_isolation.specs.Isolation.{LeavesOthers}
-use Rattle.io_isolation.specs.Objects.{KeepsSizes}
-use Rattle.io_isolation.specs.Others.{ComesOf, Stays}
-use Rattle.io_isolation.proofs.EventsKept.{event-leaves}
-use Rattle.io_isolation.proofs.IoEvents.{io-event-leaves}
-use Rattle.io_isolation.proofs.MemoryKept.{kept-written}
-use Rattle.io_isolation.proofs.OthersKept.{free-is, living-record, living-within}
+use Rattle.machine_model.specs.declared.ends.EventEnd.{EventEnd}
+use Rattle.machine_model.specs.Event.{Acts, Event, before_delivery, io_after_call, io_after_delivery, io_after_instruction, next_instruction}
+use Rattle.machine_model.specs.State.{State}
+use Rattle.isolation_laws.specs.InputOutput.{IsGivenPaths, LeavesIo}
+use Rattle.isolation_laws.specs.Isolation.{LeavesOthers}
+use Rattle.isolation_laws.specs.Objects.{KeepsSizes}
+use Rattle.isolation_laws.specs.Others.{ComesOf, Stays}
+use Rattle.isolation_laws.proofs.EventsKept.{event-leaves}
+use Rattle.isolation_laws.proofs.IoEvents.{io-event-leaves}
+use Rattle.isolation_laws.proofs.MemoryKept.{kept-written}
+use Rattle.isolation_laws.proofs.OthersKept.{free-is, living-record, living-within}
 use Rattle.kept_laws.specs.Kept.{AreKept, KeepsCall, StaysAllowed, StaysRead}
 use Rattle.kept_laws.proofs.CallCodes.{code-is, not-both}
 use Rattle.kept_laws.proofs.Keeping.{Again, MayWait, does-keep, step-keeps}

@@ -28,10 +28,10 @@ use Rattle.io_rules.specs.Processes.{closed_below, closed_if_open, io_ended, io_
 use Rattle.io_rules.specs.Step.{Caller, IoEffect, IoStep, refused, comes, reads, writes}
 use Rattle.io_rules.specs.Waiting.{io_interrupted, wait_target, without_unfinished}
 use Rattle.io_rules.specs.declared.io_call.IoCall.{IoCall}
-use Rattle.io_machine.specs.declared.ends.EventEnd.{EventEnd}
-use Rattle.io_machine.specs.Event.{Acts, before_delivery, io_after_call, io_after_delivery, io_after_instruction, next_instruction}
-use Rattle.io_machine.specs.State.{State}
-use Rattle.io_isolation.proofs.StepWalk.{StepGives, Walk, step-gives}
+use Rattle.machine_model.specs.declared.ends.EventEnd.{EventEnd}
+use Rattle.machine_model.specs.Event.{Acts, before_delivery, io_after_call, io_after_delivery, io_after_instruction, next_instruction}
+use Rattle.machine_model.specs.State.{State}
+use Rattle.isolation_laws.proofs.StepWalk.{StepGives, Walk, step-gives}
 
 -- as many calls may wait
 module _ (count : ℕ) where

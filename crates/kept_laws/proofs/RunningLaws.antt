@@ -22,17 +22,17 @@ use Rattle.io_model.specs.Path.{numbers_of}
 use Rattle.io_model.specs.declared.kept.Kept.{Kept}
 use Rattle.io_rules.specs.Arrivals.{ArrivesAt, ArrivesFrom, Desk, after_key_signal, every_user}
 use Rattle.io_rules.specs.Io.{Io, first_io, kept_at, open_path}
-use Rattle.io_machine.specs.declared.ends.EventEnd.{EventEnd}
-use Rattle.io_machine.specs.declared.ends.SliceEnd.{SliceEnd}
-use Rattle.io_machine.specs.declared.ends.SliceEnd.TheVariants.{Idle, Ran}
-use Rattle.io_machine.specs.Console.{console_bytes, terminals_emptied}
-use Rattle.io_machine.specs.Event.{Event, cost}
-use Rattle.io_machine.specs.Run.{Choose, Run, Slice, Steps, Tick, desk_of, is_going}
-use Rattle.io_machine.specs.Start.{Starts, first_priority, first_process, first_start, no_parent, superuser}
-use Rattle.io_machine.specs.State.{State, has_living}
-use Rattle.io_machine.specs.Terminals.{TerminalsOnlyGain}
-use Rattle.io_machine.proofs.TerminalLaws.{gain-tick, gains-event}
-use Rattle.io_isolation.proofs.OthersKept.{living-record, living-within}
+use Rattle.machine_model.specs.declared.ends.EventEnd.{EventEnd}
+use Rattle.machine_model.specs.declared.ends.SliceEnd.{SliceEnd}
+use Rattle.machine_model.specs.declared.ends.SliceEnd.TheVariants.{Idle, Ran}
+use Rattle.machine_model.specs.Console.{console_bytes, terminals_emptied}
+use Rattle.machine_model.specs.Event.{Event, cost}
+use Rattle.machine_model.specs.Run.{Choose, Run, Slice, Steps, Tick, desk_of, is_going}
+use Rattle.machine_model.specs.Start.{Starts, first_priority, first_process, first_start, no_parent, superuser}
+use Rattle.machine_model.specs.State.{State, has_living}
+use Rattle.machine_model.specs.Terminals.{TerminalsOnlyGain}
+use Rattle.machine_model.proofs.TerminalLaws.{gain-tick, gains-event}
+use Rattle.isolation_laws.proofs.OthersKept.{living-record, living-within}
 use Rattle.kept_laws.specs.Kept.{AreInCalls, AreKept, WaitsInCall}
 use Rattle.kept_laws.specs.Running.{AllRunning, AreOnTerminals, HasPlaces, HasTerminals, IsRunning}
 use Rattle.kept_laws.proofs.InCalls.{IsWaiting, event-in, event-places, put-waits, waits-runs}

@@ -4,7 +4,7 @@ use Rattle.std.specs.List.{AllByRecursion}
 use Rattle.io_model.specs.Path.{PathTable, desc_of}
 use Rattle.io_model.specs.declared.path.Desc.{Desc}
 use Rattle.io_model.specs.declared.path.Target.TheVariants.{Term}
-use Rattle.io_machine.specs.State.{State}
+use Rattle.machine_model.specs.State.{State}
 use Rattle.kept_laws.specs.Kept.{AreInCalls, AreKept}
 
 -- each terminal that a path was opened on is one of so many

@@ -2,12 +2,12 @@
 
 ghost use Rattle.std.specs.Prelude.{ℕ, ◌<◌, ◌≤◌, List, length};
 ghost use Rattle.os9_outer.specs.TerminalState.{TerminalState};
-ghost use Rattle.io_machine.specs.declared.ends.EventEnd.{EventEnd};
-ghost use Rattle.io_machine.specs.declared.ends.SliceEnd.{SliceEnd};
-ghost use Rattle.io_machine.specs.Event.{Event};
-ghost use Rattle.io_machine.specs.Run.{Choose, Run, Slice, Tick};
-ghost use Rattle.io_machine.specs.Start.{Starts};
-ghost use Rattle.io_machine.specs.State.{State};
+ghost use Rattle.machine_model.specs.declared.ends.EventEnd.{EventEnd};
+ghost use Rattle.machine_model.specs.declared.ends.SliceEnd.{SliceEnd};
+ghost use Rattle.machine_model.specs.Event.{Event};
+ghost use Rattle.machine_model.specs.Run.{Choose, Run, Slice, Tick};
+ghost use Rattle.machine_model.specs.Start.{Starts};
+ghost use Rattle.machine_model.specs.State.{State};
 ghost use Rattle.kept_laws.specs.Running.{IsRunning, AllRunning};
 
 /// What is kept of a call that waits is of the call that its process waits in, made with the registers

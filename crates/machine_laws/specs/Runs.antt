@@ -1,15 +1,11 @@
 -- Events, slices and runs that there are.
-use Rattle.std.specs.Prelude.{◌≡◌, ℕ, ◌<◌, List, length}
+use Rattle.std.specs.Prelude.{◌≡◌, ℕ, List}
 use Rattle.os9_outer.specs.TerminalState.{fault_counts}
 use Rattle.machine_model.specs.declared.ends.EventEnd.{EventEnd}
 use Rattle.machine_model.specs.declared.ends.SliceEnd.{SliceEnd}
 use Rattle.machine_model.specs.Event.{Event}
 use Rattle.machine_model.specs.Run.{Run, Slice}
 use Rattle.machine_model.specs.State.{State}
-
--- the machine has TERM, the first of its terminals
-abbrev pub HasTerm : State → Type 0
-HasTerm s = 0 < length s.terms
 
 -- the count of faults of each terminal is the same in two states
 abbrev pub SameCounts : State → State → Type 0

@@ -7,6 +7,7 @@ use Rattle.proc_model.specs.Loading.{no_entries}
 use Rattle.proc_model.proofs.LoadingLemmas.{Enters-one, Enters-some}
 use Rattle.proc_model.proofs.ModuleListLaws.{found_entry}
 use Rattle.os9_outer.specs.TerminalState.{TerminalState}
+use Rattle.io_rules.specs.Io.{first_io}
 use Rattle.machine_model.specs.declared.ends.BootFault.{BootFault}
 use Rattle.machine_model.specs.declared.ends.BootFault.TheVariants.{OutOfMemory, BadModule, NoFirst, TooLarge}
 use Rattle.machine_model.specs.State.{State}
@@ -49,8 +50,8 @@ started-one file blocks entries others number other entry second one two =
     let same = first-one file entries others number other entry second one two in
     λ i. first_started file blocks (same.one_list i) (same.one_number i) (same.one_program i)
 
-pub Starts-one : (file : List ℕ) (blocks : ℕ) (terms : List TerminalState) (s t : State) → Starts file blocks terms s → Starts file blocks terms t → s ≡ t
-Starts-one file blocks terms s t one other =
+pub Starts-one : (file : List ℕ) (blocks drives : ℕ) (terms : List TerminalState) (s t : State) → Starts file blocks drives terms s → Starts file blocks drives terms t → s ≡ t
+Starts-one file blocks drives terms s t one other =
     let same = first-one file one.entries other.entries one.number other.number one.entry other.entry one.has other.has in
     let ends : first_started file blocks one.entries one.number one.entry ≡ first_started file blocks other.entries other.number other.entry = started-one file blocks one.entries other.entries one.number other.number one.entry other.entry one.has other.has in
     let memories : one.memory ≡ other.memory = cc (one.begins, other.begins, ends) in
@@ -62,12 +63,12 @@ begins-once file blocks entries others number other entry second memory one two 
     let ends : first_started file blocks entries number entry ≡ first_started file blocks others other second = started-one file blocks entries others number other entry second one two in
     let ok : first_started file blocks others other second ≡ Ok memory = sym ends ∙ begins in cc (ok, fails)
 
-pub never-both : (file : List ℕ) (blocks : ℕ) (terms : List TerminalState) (s : State) (fault : BootFault) → Starts file blocks terms s → Refuses file blocks fault → ⊥
-never-both file blocks terms s TooLarge starts (inl long) = let short : length file ≤ longest_file = starts.has.short in absurd (omega arith)
-never-both file blocks terms s TooLarge starts (inr (entries, number, program, has, wants)) = begins-once file blocks starts.entries entries starts.number number starts.entry program starts.memory starts.has has starts.begins wants
-never-both file blocks terms s (BadModule at error) starts (short, refusal) = never-refused file starts.entries at error starts.has.entered refusal
-never-both file blocks terms s NoFirst starts (short, (entries, ending, without)) = never-without file starts.entries entries starts.number starts.entry starts.has ending without
-never-both file blocks terms s OutOfMemory starts refusal = refusal
+pub never-both : (file : List ℕ) (blocks drives : ℕ) (terms : List TerminalState) (s : State) (fault : BootFault) → Starts file blocks drives terms s → Refuses file blocks fault → ⊥
+never-both file blocks drives terms s TooLarge starts (inl long) = let short : length file ≤ longest_file = starts.has.short in absurd (omega arith)
+never-both file blocks drives terms s TooLarge starts (inr (entries, number, program, has, wants)) = begins-once file blocks starts.entries entries starts.number number starts.entry program starts.memory starts.has has starts.begins wants
+never-both file blocks drives terms s (BadModule at error) starts (short, refusal) = never-refused file starts.entries at error starts.has.entered refusal
+never-both file blocks drives terms s NoFirst starts (short, (entries, ending, without)) = never-without file starts.entries entries starts.number starts.entry starts.has ending without
+never-both file blocks drives terms s OutOfMemory starts refusal = refusal
 
 -- one place and one error are one fault
 same-fault : {at error place number : ℕ} → (let refusal : Result (List (Option ModuleEntry)) (ℕ × ℕ) = Err (at, error) in refusal) ≡ Err (place, number) → BadModule at error ≡ BadModule place number
@@ -99,33 +100,33 @@ pub first_entry : (entries : List (Option ModuleEntry)) (number : ℕ) → first
 first_entry entries number found_it = found_entry (answers_to entries (codes "SysGo") 0x11) entries number found_it
 
 -- a machine starts a file, or refuses it
-abbrev Ends : List ℕ → ℕ → List TerminalState → Type 0
-Ends file blocks terms = ((s : State) × Starts file blocks terms s) ⊎ ((fault : BootFault) × Refuses file blocks fault)
+abbrev Ends : List ℕ → ℕ → ℕ → List TerminalState → Type 0
+Ends file blocks drives terms = ((s : State) × Starts file blocks drives terms s) ⊎ ((fault : BootFault) × Refuses file blocks fault)
 
 -- a file with a first program starts where that can begin
-by_start : (file : List ℕ) (blocks : ℕ) (terms : List TerminalState) (entries : List (Option ModuleEntry)) (number : ℕ) (entry : ModuleEntry) (began : Result MemoryState MemoryFault) → first_started file blocks entries number entry ≡ began → HasFirst file entries number entry → Ends file blocks terms
-by_start file blocks terms entries number entry (Err fault) is has =
+by_start : (file : List ℕ) (blocks drives : ℕ) (terms : List TerminalState) (entries : List (Option ModuleEntry)) (number : ℕ) (entry : ModuleEntry) (began : Result MemoryState MemoryFault) → first_started file blocks entries number entry ≡ began → HasFirst file entries number entry → Ends file blocks drives terms
+by_start file blocks drives terms entries number entry (Err fault) is has =
     inr (TooLarge, inr (entries, number, entry, has, rw is refl))
-by_start file blocks terms entries number entry (Ok memory) is has =
-    inl (record { inner = only_process memory (first_start number entry); chosen = None; terms = terms }, record { entries = entries; number = number; entry = entry; memory = memory; has = has; begins = is; is = refl })
+by_start file blocks drives terms entries number entry (Ok memory) is has =
+    inl (record { inner = only_process memory (first_start number entry); io = first_io; chosen = None; drives = drives; terms = terms }, record { entries = entries; number = number; entry = entry; memory = memory; has = has; begins = is; is = refl })
 
-by_room : (file : List ℕ) (blocks : ℕ) (terms : List TerminalState) (entries : List (Option ModuleEntry)) (number : ℕ) (entry : ModuleEntry) → HasFirst file entries number entry → Ends file blocks terms
-by_room file blocks terms entries number entry has =
-    by_start file blocks terms entries number entry (first_started file blocks entries number entry) refl has
+by_room : (file : List ℕ) (blocks drives : ℕ) (terms : List TerminalState) (entries : List (Option ModuleEntry)) (number : ℕ) (entry : ModuleEntry) → HasFirst file entries number entry → Ends file blocks drives terms
+by_room file blocks drives terms entries number entry has =
+    by_start file blocks drives terms entries number entry (first_started file blocks entries number entry) refl has
 
-by_first : (file : List ℕ) (blocks : ℕ) (terms : List TerminalState) (entries : List (Option ModuleEntry)) (first : Option ℕ) → length file ≤ longest_file → EntersBoot file (Ok entries) → first_program entries ≡ first → Ends file blocks terms
-by_first file blocks terms entries None short entering without = inr (NoFirst, (short, (entries, entering, without)))
-by_first file blocks terms entries (Some number) short entering found_it =
+by_first : (file : List ℕ) (blocks drives : ℕ) (terms : List TerminalState) (entries : List (Option ModuleEntry)) (first : Option ℕ) → length file ≤ longest_file → EntersBoot file (Ok entries) → first_program entries ≡ first → Ends file blocks drives terms
+by_first file blocks drives terms entries None short entering without = inr (NoFirst, (short, (entries, entering, without)))
+by_first file blocks drives terms entries (Some number) short entering found_it =
     let first = first_entry entries number found_it in
-    by_room file blocks terms entries number first.0 (record { short = short; entered = entering; found_it = found_it; is = first.1 })
+    by_room file blocks drives terms entries number first.0 (record { short = short; entered = entering; found_it = found_it; is = first.1 })
 
-by_outcome : (file : List ℕ) (blocks : ℕ) (terms : List TerminalState) (outcome : Result (List (Option ModuleEntry)) (ℕ × ℕ)) → length file ≤ longest_file → EntersBoot file outcome → Ends file blocks terms
-by_outcome file blocks terms (Err (at, error)) short entering = inr (BadModule at error, (short, entering))
-by_outcome file blocks terms (Ok entries) short entering = by_first file blocks terms entries (first_program entries) short entering refl
+by_outcome : (file : List ℕ) (blocks drives : ℕ) (terms : List TerminalState) (outcome : Result (List (Option ModuleEntry)) (ℕ × ℕ)) → length file ≤ longest_file → EntersBoot file outcome → Ends file blocks drives terms
+by_outcome file blocks drives terms (Err (at, error)) short entering = inr (BadModule at error, (short, entering))
+by_outcome file blocks drives terms (Ok entries) short entering = by_first file blocks drives terms entries (first_program entries) short entering refl
 
-pub some-end : (file : List ℕ) (blocks : ℕ) (terms : List TerminalState) → ((s : State) × Starts file blocks terms s) ⊎ ((fault : BootFault) × Refuses file blocks fault)
-some-end file blocks terms =
+pub some-end : (file : List ℕ) (blocks drives : ℕ) (terms : List TerminalState) → ((s : State) × Starts file blocks drives terms s) ⊎ ((fault : BootFault) × Refuses file blocks fault)
+some-end file blocks drives terms =
     elim (cases_lt longest_file (length file)) [
       | inl long ↦ inr (TooLarge, inl long)
-      | inr short ↦ (let entering = Enters-some file (boot_group file) true 0 no_entries in by_outcome file blocks terms entering.0 short entering.1)
+      | inr short ↦ (let entering = Enters-some file (boot_group file) true 0 no_entries in by_outcome file blocks drives terms entering.0 short entering.1)
     ]

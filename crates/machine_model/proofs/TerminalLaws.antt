@@ -1,25 +1,33 @@
 -- The terminals only gain: event by event, slice by slice, in a whole run.
-use Rattle.std.proofs.Common.{◌≡◌, ℕ, ◌-◌, ◌<◌, Bool, true, false, Option, Some, None, List, [], ◌∷◌, ◌++◌, slice_get, slice_set, eqb, refl, sym, ap, ◌∙◌, append_assoc, subst, inl, inr, arith}
+use Rattle.std.proofs.Common.{◌≡◌, ℕ, zero, suc, ◌+◌, ◌-◌, ◌<◌, ◌≤◌, Bool, true, false, Option, Some, None, List, [], ◌∷◌, ◌++◌, length, slice_get, slice_set, refl, sym, ap, ◌∙◌, append_assoc, subst, arith}
 use Rattle.std.specs.Prelude.{is_some, MatchBool, MatchOption}
-use Rattle.os9_base.specs.declared.errors.TheConstants.{E_BPNUM, E_UNKSVC, E_BPADDR}
-use Rattle.os9_base.specs.declared.calls.TheConstants.{I_WRITLN}
+use Rattle.std.proofs.lemmas.Option.{none-some, same_Some}
+use Rattle.os9_base.specs.declared.errors.TheConstants.{E_UNKSVC}
+use Rattle.os9_base.specs.declared.registers.Pid.{Pid}
 use Rattle.os9_outer.specs.Stream.{stream_with, emptied}
-use Rattle.os9_outer.specs.TerminalState.{TerminalState}
+use Rattle.os9_outer.specs.TerminalState.{TerminalState, ChangesOneTerminal}
 use Rattle.call_rules.specs.declared.proc_call.ProcCall.{ProcCall}
 use Rattle.call_rules.specs.Attempts.{attempted}
-use Rattle.call_rules.specs.CallResult.{CallResult, refused}
+use Rattle.call_rules.specs.CallResult.{CallResult}
 use Rattle.call_rules.specs.Codes.{call_of}
-use Rattle.call_rules.specs.Inner.{cells_at, regs_at}
 use Rattle.call_rules.specs.Ready.{Act, attempts, delivers, executes, act_of}
+use Rattle.io_model.specs.declared.terminal.Arrival.{Arrival}
+use Rattle.io_model.specs.declared.terminal.Progress.{Progress}
+use Rattle.io_model.specs.declared.terminal.Reading.{Reading}
+use Rattle.io_model.specs.Terminal.{Terminal, Arrives, Reads, Writes, BreaksOff, Attempted, IsCutShort, IsWritten, LeavesDriver, read_attempt, is_refused}
+use Rattle.io_rules.specs.declared.io_call.IoCall.{IoCall}
+use Rattle.io_rules.specs.Arrivals.{Desk, ArrivesFrom}
+use Rattle.io_rules.specs.Attempts.{Does, IoAttempts}
+use Rattle.io_rules.specs.Codes.{io_call_of}
+use Rattle.io_rules.specs.Io.{Io, terminal_at}
+use Rattle.io_rules.specs.Step.{Caller, IoEffect, IoStep, refused, comes, reads, writes}
+use Rattle.io_rules.specs.Terminals.{request_of}
 use Rattle.machine_model.specs.declared.ends.EventEnd.{EventEnd}
 use Rattle.machine_model.specs.declared.ends.EventEnd.TheVariants.{Ran}
 use Rattle.machine_model.specs.declared.ends.SliceEnd.{SliceEnd}
 use Rattle.machine_model.specs.declared.ends.SliceEnd.TheVariants.{Idle, Ran as SliceRan}
-use Rattle.machine_model.specs.Event.{Acts, Attempts, Event, cost}
-use Rattle.user_names.specs.UserLines.{line_at}
-use Rattle.machine_model.specs.Line.{IsGiven, FailsAtByte, shown, is_standard_path}
-use Rattle.machine_model.specs.Line.{PutsLine, WritesLine}
-use Rattle.machine_model.specs.Run.{Steps, FirstSteps, BeginsSlice, Slice, Run, is_going}
+use Rattle.machine_model.specs.Event.{Acts, Attempts, Event, cost, io_after_call}
+use Rattle.machine_model.specs.Run.{Tick, BreaksTick, Steps, FirstSteps, BeginsSlice, Slice, Run, desk_of, is_going}
 use Rattle.machine_model.specs.Console.{terminals_emptied, console_bytes, without_bytes}
 use Rattle.machine_model.specs.State.{State, has_living}
 use Rattle.machine_model.specs.Terminals.{OnlyGains, TerminalsOnlyGain}
@@ -47,18 +55,36 @@ observed-emptied : (put : Option (List ℕ)) → is_some (emptied put) ≡ is_so
 observed-emptied None = refl
 observed-emptied (Some before) = refl
 
-gains-given : (bytes : List ℕ) (old new : TerminalState) → IsGiven bytes old new → OnlyGains old new
-gains-given bytes old new given = record {
-  keys = ([], sym given.keys);
-  faults = omega (arith, given.faults);
-  observed = ap (λ put. is_some put) given.put ∙ observed-with old.put bytes;
-}
+gains-faults : (answer : Progress) (before now : TerminalState) → LeavesDriver answer before now → before.faults ≤ now.faults
+gains-faults answer before now driver = driver.never_falls
 
-gains-failed : (bytes : List ℕ) (old new : TerminalState) → FailsAtByte bytes old new → OnlyGains old new
-gains-failed bytes old new failed = record {
-  keys = ([], sym failed.keys);
-  faults = failed.never_falls;
-  observed = ap (λ put. is_some put) failed.put.2 ∙ observed-with old.put _;
+gains-read : (request : Reading) (answer : Progress) (old new : Terminal) (before now : TerminalState) → Reads request answer old new before now → OnlyGains before now
+gains-read request answer old new before now it = record {
+  keys = ([], sym it.driver.keys);
+  faults = gains-faults answer before now it.driver;
+  observed = put (is_refused answer) it.outcome;
+}
+  where
+    put : (refusal : Bool) → MatchBool refusal (BreaksOff request old new before now) (Attempted (read_attempt request old) answer new before now) → is_some now.put ≡ is_some before.put
+    put true broken = ap (λ put. is_some put) broken.echo ∙ observed-with before.put _
+    put false whole = ap (λ put. is_some put) whole.echo ∙ observed-with before.put _
+
+gains-write : (process : Pid) (bytes : List ℕ) (count : ℕ) (answer : Progress) (old new : Terminal) (before now : TerminalState) → Writes process bytes count answer old new before now → OnlyGains before now
+gains-write process bytes count answer old new before now it = record {
+  keys = ([], sym it.driver.keys);
+  faults = gains-faults answer before now it.driver;
+  observed = put (is_refused answer) it.outcome;
+}
+  where
+    put : (refusal : Bool) → MatchBool refusal (IsCutShort process bytes old new before now) (IsWritten process bytes count answer old new before now) → is_some now.put ≡ is_some before.put
+    put true cut = ap (λ put. is_some put) cut.part.2 ∙ observed-with before.put _
+    put false written = ap (λ put. is_some put) written.put ∙ observed-with before.put _
+
+gains-arrival : (tick : ℕ) (old new : Terminal) (before now : TerminalState) (answer : Arrival) → Arrives tick old new before now answer → OnlyGains before now
+gains-arrival tick old new before now answer arrives = record {
+  keys = (arrives.taken, arrives.in_order);
+  faults = arrives.faults.never_falls;
+  observed = ap (λ put. is_some put) arrives.put ∙ observed-with before.put _;
 }
 
 gains-emptied : (terminal : TerminalState) → OnlyGains terminal (without_bytes terminal)
@@ -79,54 +105,63 @@ gain-then (x ∷ a) [] c first next = absurd first
 gain-then (x ∷ a) (y ∷ b) [] first next = absurd next
 gain-then (x ∷ a) (y ∷ b) (z ∷ c) first next = (gains-then x y z first.0 next.0, gain-then a b c first.1 next.1)
 
-gain-set : (terms : List TerminalState) (old new : TerminalState) → slice_get terms 0 ≡ Some old → OnlyGains old new → TerminalsOnlyGain terms (slice_set terms 0 new)
-gain-set [] old new is gains = cc
-gain-set (terminal ∷ terms) old new is gains =
-    let same : terminal ≡ old = cc in (rw same gains, gain-same terms)
+gain-set : (terms : List TerminalState) (n : ℕ) (old new : TerminalState) → slice_get terms n ≡ Some old → OnlyGains old new → TerminalsOnlyGain terms (slice_set terms n new)
+gain-set [] n old new is gains = absurd (none-some old is)
+gain-set (terminal ∷ terms) zero old new is gains =
+    let same : terminal ≡ old = same_Some terminal old is in
+    (subst (λ (t : TerminalState). OnlyGains t new) (sym same) gains, gain-same terms)
+gain-set (terminal ∷ terms) (suc n) old new is gains = (gains-same terminal, gain-set terms n old new is gains)
+
+gain-one : (change : TerminalState → TerminalState → Type 0) (n : ℕ) (before now : List TerminalState) → ((old new : TerminalState) → change old new → OnlyGains old new) → ChangesOneTerminal change n before now → TerminalsOnlyGain before now
+gain-one change n before now gains (old, new, found, is, changed) =
+    subst (TerminalsOnlyGain before) (sym is) (gain-set before n old new found (gains old new changed))
 
 pub gain-emptied : (terms : List TerminalState) → TerminalsOnlyGain terms (terminals_emptied terms)
 gain-emptied [] = tt
 gain-emptied (terminal ∷ terms) = (gains-emptied terminal, gain-emptied terms)
 
+-- ---- keys that arrive
+
+pub gain-arrivals : (tick n count : ℕ) (old new : Desk) → ArrivesFrom tick n count old new → TerminalsOnlyGain old.terms new.terms
+gain-arrivals tick n zero old new is = subst (λ (d : Desk). TerminalsOnlyGain old.terms d.terms) (sym is) (gain-same old.terms)
+gain-arrivals tick n (suc count) old new (between, here, later) =
+    gain-then old.terms between.terms new.terms
+    (gain-one _ n old.terms between.terms (λ before now arrives. gains-arrival tick (terminal_at old.io n) here.terminal before now here.answer arrives) here.device)
+    (gain-arrivals tick (n + 1) count between new later)
+
+pub gain-tick : (s t : State) → Tick s t → TerminalsOnlyGain s.terms t.terms
+gain-tick s t (desk, arrives, is) =
+    subst (λ (t : State). TerminalsOnlyGain s.terms t.terms) (sym is) (gain-arrivals (s.inner.tick + 1) 0 (length s.terms) (desk_of s) desk arrives)
+
+pub gain-broken : (s : State) (terms : List TerminalState) → BreaksTick s terms → TerminalsOnlyGain s.terms terms
+gain-broken s terms broken =
+    gain-then s.terms broken.desk.terms terms (gain-arrivals (s.inner.tick + 1) 0 broken.count (desk_of s) broken.desk broken.arrivals)
+    (gain-one _ broken.count broken.desk.terms terms (λ before now arrives. gains-arrival (s.inner.tick + 1) (terminal_at broken.desk.io broken.count) broken.terminal before now broken.answer arrives) broken.device)
+
 -- ---- one event
 
-gain-line : (s : State) (p : ℕ) (line : List ℕ) (old : TerminalState) (result : CallResult) (terms : List TerminalState) → slice_get s.terms 0 ≡ Some old → PutsLine s p line old result terms → TerminalsOnlyGain s.terms terms
-gain-line s p line old result terms first (terminal, is, inl (done, given)) =
-    rw is (gain-set s.terms old terminal first (gains-given (shown line) old terminal given))
-gain-line s p line old result terms first (terminal, is, inr (refusal, failed)) =
-    rw is (gain-set s.terms old terminal first (gains-failed (shown line) old terminal failed))
+gain-does : (step : IoStep) (caller : Caller) (io : Io) (effect : IoEffect) (before after : List TerminalState) → Does step caller io effect before after → TerminalsOnlyGain before after
+gain-does (refused number) caller io effect before after (is, same) = subst (TerminalsOnlyGain before) (sym same) (gain-same before)
+gain-does (comes it) caller io effect before after (is, same) = subst (TerminalsOnlyGain before) (sym same) (gain-same before)
+gain-does (reads read) caller io effect before after does =
+    gain-one _ read.terminal before after (λ old new it. gains-read (request_of caller read) does.answer (terminal_at io read.terminal) does.new old new it) does.device
+gain-does (writes write) caller io effect before after does =
+    gain-one _ write.terminal before after (λ old new it. gains-write caller.process write.put write.count does.answer (terminal_at io write.terminal) does.new old new it) does.device
 
-module _ (s : State) (p : ℕ) (result : CallResult) (terms : List TerminalState) where
-  -- the path is tested when the line was read
-  abbrev OnPath : Bool → List ℕ → Type 0
-  OnPath standard line =
-      MatchBool standard (MatchOption (slice_get s.terms 0) ⊥ (λ old. PutsLine s p line old result terms)) ((result ≡ refused E_BPNUM) × (terms ≡ s.terms))
+module _ (s : State) (p : ℕ) (result : CallResult) (io : Io) (terms : List TerminalState) where
+  gain-io : (call : Option IoCall) → MatchOption call ((result ≡ CallResult.refused E_UNKSVC) × (io ≡ s.io) × (terms ≡ s.terms)) (λ call. IoAttempts call s.inner s.io s.drives p result io s.terms terms) → TerminalsOnlyGain s.terms terms
+  gain-io None (refusal, same, is) = rw is (gain-same s.terms)
+  gain-io (Some call) attempt = gain-does _ _ s.io attempt.effect s.terms terms attempt.does
 
-  gain-terminal : (line : List ℕ) (first : Option TerminalState) → slice_get s.terms 0 ≡ first → MatchOption first ⊥ (λ old. PutsLine s p line old result terms) → TerminalsOnlyGain s.terms terms
-  gain-terminal line None is answer = absurd answer
-  gain-terminal line (Some old) is answer = gain-line s p line old result terms is answer
-
-  gain-path : (line : List ℕ) (standard : Bool) → OnPath standard line → TerminalsOnlyGain s.terms terms
-  gain-path line true answer = gain-terminal line (slice_get s.terms 0) refl answer
-  gain-path line false (refusal, is) = rw is (gain-same s.terms)
-
-  gain-writes : (line : Option (List ℕ)) → MatchOption line ((result ≡ refused E_BPADDR) × (terms ≡ s.terms)) (λ line. OnPath (is_standard_path (regs_at s.inner p).a) line) → TerminalsOnlyGain s.terms terms
-  gain-writes None (refusal, is) = rw is (gain-same s.terms)
-  gain-writes (Some line) answer = gain-path line (is_standard_path (regs_at s.inner p).a) answer
-
-  gain-io : (is_line : Bool) → MatchBool is_line (WritesLine s p result terms) ((result ≡ refused E_UNKSVC) × (terms ≡ s.terms)) → TerminalsOnlyGain s.terms terms
-  gain-io true answer = gain-writes (line_at (cells_at s.inner p) (regs_at s.inner p).x (regs_at s.inner p).y) answer
-  gain-io false (refusal, is) = rw is (gain-same s.terms)
-
-  gain-call : (code : ℕ) (call : Option ProcCall) → MatchOption call (MatchBool (eqb code I_WRITLN) (WritesLine s p result terms) ((result ≡ refused E_UNKSVC) × (terms ≡ s.terms))) (λ call. (result ≡ attempted call s.inner p) × (terms ≡ s.terms)) → TerminalsOnlyGain s.terms terms
-  gain-call code None answer = gain-io (eqb code I_WRITLN) answer
-  gain-call code (Some call) (is_result, is) = rw is (gain-same s.terms)
+  gain-call : (code : ℕ) (call : Option ProcCall) → MatchOption call (MatchOption (io_call_of code) ((result ≡ CallResult.refused E_UNKSVC) × (io ≡ s.io) × (terms ≡ s.terms)) (λ call. IoAttempts call s.inner s.io s.drives p result io s.terms terms)) (λ call. (result ≡ attempted call s.inner p) × (io ≡ io_after_call code s.io p result) × (terms ≡ s.terms)) → TerminalsOnlyGain s.terms terms
+  gain-call code None answer = gain-io (io_call_of code) answer
+  gain-call code (Some call) (is_result, io_is, is) = rw is (gain-same s.terms)
 
 gain-acts : (act : Act) (s : State) (p : ℕ) (end : EventEnd) (t : State) → Acts act s p end t → TerminalsOnlyGain s.terms t.terms
 gain-acts executes s p end t (ends, is) = rw is (gain-same s.terms)
 gain-acts (delivers signal) s p end t (ends, is) = rw is (gain-same s.terms)
-gain-acts (attempts code) s p end t (result, terms, answer, ends, is) =
-    rw is (gain-call s p result terms code (call_of code) answer)
+gain-acts (attempts code) s p end t (result, io, terms, answer, ends, is) =
+    rw is (gain-call s p result io terms code (call_of code) answer)
 
 pub gains-event : (s t : State) (end : EventEnd) → Event s end t → TerminalsOnlyGain s.terms t.terms
 gains-event s t end (p, chosen, lives, acts) = gain-acts (act_of s.inner p) s p end t acts
@@ -153,13 +188,15 @@ gain-chosen n chosen states end t (Some p) (ran, steps) = gain-steps n chosen st
 
 pub gains-slice : (n : ℕ) (s t : State) (states : List State) (end : SliceEnd) → Slice n s states end t → TerminalsOnlyGain s.terms t.terms
 gains-slice n s t states end (ticked, chosen, ticks, chooses, rest) =
-    let there : chosen.terms ≡ s.terms = ap (λ s. s.terms) chooses ∙ ap (λ s. s.terms) ticks in
-    subst (λ terms. TerminalsOnlyGain terms t.terms) there (gain-chosen n chosen states end t chosen.chosen rest)
+    let there : chosen.terms ≡ ticked.terms = ap (λ (s : State). s.terms) chooses in
+    gain-then s.terms ticked.terms t.terms (gain-tick s ticked ticks)
+    (subst (λ terms. TerminalsOnlyGain terms t.terms) there (gain-chosen n chosen states end t chosen.chosen rest))
 
 pub gains-begun : (n : ℕ) (s t : State) (states : List State) → BeginsSlice n s states t → TerminalsOnlyGain s.terms t.terms
 gains-begun n s t states (ticked, chosen, ticks, chooses, steps) =
-    let there : chosen.terms ≡ s.terms = ap (λ s. s.terms) chooses ∙ ap (λ s. s.terms) ticks in
-    subst (λ terms. TerminalsOnlyGain terms t.terms) there (gain-first n chosen states t steps)
+    let there : chosen.terms ≡ ticked.terms = ap (λ (s : State). s.terms) chooses in
+    gain-then s.terms ticked.terms t.terms (gain-tick s ticked ticks)
+    (subst (λ terms. TerminalsOnlyGain terms t.terms) there (gain-first n chosen states t steps))
 
 pub gains-run : (slices written : List ℕ) (s t : State) (states : List State) → Run slices s states written t → TerminalsOnlyGain s.terms t.terms
 gains-run [] written s t states (none, nothing, is) = rw is (gain-same s.terms)

@@ -1,7 +1,7 @@
 -- One event of the chosen process, the atomic step of the machine: an instruction, an attempt of its call, or the
 -- delivery of a signal.
-use Rattle.std.specs.Prelude.{◌≡◌, ℕ, ◌==◌, true, Option, Some, None, Result, Ok, Err, List, MatchBool, MatchOption}
-use Rattle.os9_base.specs.declared.calls.TheConstants.{I_WRITLN}
+use Rattle.std.specs.Prelude.{◌≡◌, ℕ, ◌==◌, true, Option, Some, None, Result, Ok, Err, List, if◌then◌else◌, MatchOption}
+use Rattle.os9_base.specs.declared.calls.TheConstants.{F_FORK}
 use Rattle.os9_base.specs.declared.errors.TheConstants.{E_UNKSVC}
 use Rattle.os9_outer.specs.TerminalState.{TerminalState}
 use Rattle.cpu_model.specs.Step.{Outcome, Done, Calls, Aborts, step_of}
@@ -14,10 +14,14 @@ use Rattle.call_rules.specs.Delivery.{delivered, after_delivery}
 use Rattle.call_rules.specs.End.{ended}
 use Rattle.call_rules.specs.Inner.{Inner, own_at, regs_at, cells_at, with_memory, with_regs_of, with_own}
 use Rattle.call_rules.specs.Ready.{Act, attempts, delivers, executes, act_of}
+use Rattle.io_rules.specs.Attempts.{IoAttempts}
+use Rattle.io_rules.specs.Codes.{io_call_of}
+use Rattle.io_rules.specs.Io.{Io}
+use Rattle.io_rules.specs.Processes.{io_started, io_ended}
+use Rattle.io_rules.specs.Waiting.{io_interrupted, interrupted_count}
 use Rattle.machine_model.specs.declared.ends.EventEnd.{EventEnd}
 use Rattle.machine_model.specs.declared.ends.EventEnd.TheVariants.{Ran, Waits, Ended}
-use Rattle.machine_model.specs.Line.{WritesLine}
-use Rattle.machine_model.specs.State.{State, with_inner}
+use Rattle.machine_model.specs.State.{State}
 
 -- ---- an instruction
 
@@ -29,6 +33,12 @@ after_instruction m p (Done effect) =
 after_instruction m p (Calls code regs) =
     with_own (with_regs_of m p regs) p (record (own_at m p) { call = Some code })
 after_instruction m p (Aborts status) = ended m p status
+
+-- input and output after an instruction of a process
+abbrev pub io_after_instruction : Io → ℕ → Outcome → Io
+io_after_instruction io p (Done effect) = io
+io_after_instruction io p (Calls code regs) = io
+io_after_instruction io p (Aborts status) = io_ended io p
 
 -- how an instruction ends
 abbrev pub instruction_end : Outcome → EventEnd
@@ -42,12 +52,22 @@ next_instruction m p = step_of (cells_at m p) (regs_at m p)
 
 -- ---- an attempt of a call
 
--- an attempt of a call by its code: what it comes to, and the terminals then; a code that is no call's is refused
-abbrev pub Attempts : ℕ → State → ℕ → CallResult → List TerminalState → Type 0
-Attempts code s p result terms =
+-- input and output after a call on processes and modules that came to this: the child that F$Fork starts is given its
+-- parent's standard paths, and what a process had that ends is closed
+abbrev pub io_after_call : ℕ → Io → ℕ → CallResult → Io
+io_after_call code io p (done t) = if code == F_FORK then io_started io p (regs_at t p).a else io
+io_after_call code io p (refused number) = io
+io_after_call code io p (waits t) = io
+io_after_call code io p (ends status) = io_ended io p
+
+-- an attempt of a call by its code: what it comes to, and input and output and the terminals then; a code that is no
+-- call's is refused
+abbrev pub Attempts : ℕ → State → ℕ → CallResult → Io → List TerminalState → Type 0
+Attempts code s p result io terms =
     MatchOption (call_of code)
-    (MatchBool (code == I_WRITLN) (WritesLine s p result terms) ((result ≡ refused E_UNKSVC) × (terms ≡ s.terms)))
-    (λ call. (result ≡ attempted call s.inner p) × (terms ≡ s.terms))
+    (MatchOption (io_call_of code) ((result ≡ refused E_UNKSVC) × (io ≡ s.io) × (terms ≡ s.terms))
+    (λ call. IoAttempts call s.inner s.io s.drives p result io s.terms terms))
+    (λ call. (result ≡ attempted call s.inner p) × (io ≡ io_after_call code s.io p result) × (terms ≡ s.terms))
 
 -- how an attempt ends
 abbrev pub call_event_end : CallResult → EventEnd
@@ -57,6 +77,20 @@ call_event_end (waits t) = Waits
 call_event_end (ends status) = Ended
 
 -- ---- the delivery of a signal
+
+-- the processes where the call of one is broken off: Y has the count that it answers, if it answers one
+abbrev pub broken_off : Inner → ℕ → Option ℕ → Inner
+broken_off m p None = m
+broken_off m p (Some count) = with_regs_of m p (record (regs_at m p) { y = count })
+
+-- the processes that a signal finds
+abbrev pub before_delivery : State → ℕ → Inner
+before_delivery s p = broken_off s.inner p (interrupted_count s.io p)
+
+-- input and output after a delivery: the call that waits, if one does, is broken off; or the process has ended
+abbrev pub io_after_delivery : Io → ℕ → Result Inner ℕ → Io
+io_after_delivery io p (Ok t) = io_interrupted io p
+io_after_delivery io p (Err status) = io_ended io p
 
 -- how a delivery ends
 abbrev pub delivery_end : Result Inner ℕ → EventEnd
@@ -69,13 +103,22 @@ delivery_end (Err status) = Ended
 abbrev pub Acts : Act → State → ℕ → EventEnd → State → Type 0
 Acts executes s p end t =
     (end ≡ instruction_end (next_instruction s.inner p))
-    × (t ≡ with_inner s (after_instruction s.inner p (next_instruction s.inner p)))
+    × (t
+    ≡ record s {
+      inner = after_instruction s.inner p (next_instruction s.inner p);
+      io = io_after_instruction s.io p (next_instruction s.inner p);
+    })
 Acts (attempts code) s p end t =
-    (result : CallResult) × (terms : List TerminalState) × Attempts code s p result terms
-    × (end ≡ call_event_end result) × (t ≡ record s { inner = after_attempt s.inner p result; terms = terms })
+    (result : CallResult) × (io : Io) × (terms : List TerminalState) × Attempts code s p result io terms
+    × (end ≡ call_event_end result)
+    × (t ≡ record s { inner = after_attempt s.inner p result; io = io; terms = terms })
 Acts (delivers signal) s p end t =
-    (end ≡ delivery_end (delivered s.inner p signal))
-    × (t ≡ with_inner s (after_delivery s.inner p (delivered s.inner p signal)))
+    (end ≡ delivery_end (delivered (before_delivery s p) p signal))
+    × (t
+    ≡ record s {
+      inner = after_delivery (before_delivery s p) p (delivered (before_delivery s p) p signal);
+      io = io_after_delivery s.io p (delivered (before_delivery s p) p signal);
+    })
 
 -- one event of the chosen process, which lives
 abbrev pub Event : State → EventEnd → State → Type 0

@@ -1,29 +1,53 @@
 -- Slices and whole runs (this project's own: a list of slices decides every interleaving).
 use Rattle.std.specs.Prelude.{◌≡◌, ℕ, ◌+◌, ◌-◌, ◌<◌, Bool, true, false, Option, None, Some, option_map, List, [], ◌∷◌, ◌++◌, if◌then◌else◌, MatchBool, MatchOption}
 use Rattle.os9_base.specs.declared.registers.Pid.{Pid}
+use Rattle.os9_outer.specs.TerminalState.{TerminalState, ChangesOneTerminal}
 use Rattle.call_rules.specs.Choice.{choice_of, after_choice}
-use Rattle.call_rules.specs.Ready.{no_io}
+use Rattle.io_model.specs.Terminal.{Terminal, Arrives}
+use Rattle.io_model.specs.declared.terminal.Arrival.{Arrival}
+use Rattle.io_rules.specs.Arrivals.{Desk, Arrivals, ArrivesFrom}
+use Rattle.io_rules.specs.Io.{terminal_at}
+use Rattle.io_rules.specs.Waiting.{io_may_go}
 use Rattle.machine_model.specs.declared.ends.EventEnd.{EventEnd}
 use Rattle.machine_model.specs.declared.ends.EventEnd.TheVariants as EventEnd
 use Rattle.machine_model.specs.declared.ends.SliceEnd.{SliceEnd}
 use Rattle.machine_model.specs.declared.ends.SliceEnd.TheVariants.{Idle, Ran}
 use Rattle.machine_model.specs.Console.{console_bytes, terminals_emptied}
 use Rattle.machine_model.specs.Event.{Event, cost}
-use Rattle.machine_model.specs.State.{State, with_inner, has_living}
+use Rattle.machine_model.specs.State.{State, has_living}
 
 -- ---- a slice
 
--- the tick rises by 1
-abbrev pub Tick : State → State → Type 0
-Tick s t = t ≡ with_inner s (record s.inner { tick = s.inner.tick + 1 })
+-- what keys that arrive may change, in the tick that follows
+abbrev pub desk_of : State → Desk
+desk_of s = record { inner = record s.inner { tick = s.inner.tick + 1 }; io = s.io; terms = s.terms }
 
--- a process that is Ready is chosen, if there is one
+-- the tick rises by 1, and the keys that are due arrive
+abbrev pub Tick : State → State → Type 0
+Tick s t =
+    (desk : Desk) × Arrivals (s.inner.tick + 1) (desk_of s) desk
+    × (t ≡ record s { inner = desk.inner; io = desk.io; terms = desk.terms })
+
+-- A tick that is broken off for want of memory: the keys of so many terminals have arrived, and then a bell of the next
+-- one found no memory. These are the terminals then.
+pub record BreaksTick (s : State) (terms : List TerminalState) : Type 0 where
+  pub count : ℕ
+  pub desk : Desk
+  pub arrivals : ArrivesFrom (s.inner.tick + 1) 0 count (desk_of s) desk
+  pub answer : Arrival
+  pub terminal : Terminal
+  pub memory : answer.memory ≡ false
+  pub device : ChangesOneTerminal
+      (λ before now. Arrives (s.inner.tick + 1) (terminal_at desk.io count) terminal before now answer) count
+      desk.terms terms
+
+-- a process that is Ready is chosen, if there is one; input and output let calls that wait go on
 abbrev pub Choose : State → State → Type 0
 Choose s t =
     t
     ≡ record s {
-      inner = after_choice no_io s.inner;
-      chosen = option_map (λ (p : Pid). p.0) (choice_of no_io s.inner).chosen;
+      inner = after_choice (io_may_go s.io) s.inner;
+      chosen = option_map (λ (p : Pid). p.0) (choice_of (io_may_go s.io) s.inner).chosen;
     }
 
 -- a slice goes on after an event that ends so: the process neither waits nor has ended

@@ -15,6 +15,7 @@ use Rattle.proc_rules.specs.Turns.{with_turn}
 use Rattle.call_rules.specs.Inner.{Inner, no_own}
 use Rattle.call_rules.specs.ModuleLinks.{Entered}
 use Rattle.call_rules.specs.Program.{Program, program_kind, area_pages, blocks_of_pages, start_regs, start_own}
+use Rattle.io_rules.specs.Io.{first_io}
 use Rattle.machine_model.specs.declared.ends.BootFault.{BootFault}
 use Rattle.machine_model.specs.declared.ends.BootFault.TheVariants.{OutOfMemory, BadModule, NoFirst, TooLarge}
 use Rattle.machine_model.specs.State.{State}
@@ -109,12 +110,19 @@ Refuses file blocks NoFirst =
     × ((entries : List (Option ModuleEntry)) × EntersBoot file (Ok entries) × (first_program entries ≡ None))
 Refuses file blocks OutOfMemory = ⊥
 
--- a machine with so many blocks and these terminals starts a boot file in this state
-pub record Starts (file : List ℕ) (blocks : ℕ) (terms : List TerminalState) (s : State) : Type 0 where
+-- a machine with so many blocks and drives and these terminals starts a boot file in this state
+pub record Starts (file : List ℕ) (blocks drives : ℕ) (terms : List TerminalState) (s : State) : Type 0 where
   pub entries : List (Option ModuleEntry)
   pub number : ℕ
   pub entry : ModuleEntry
   pub memory : MemoryState
   pub has : HasFirst file entries number entry
   pub begins : first_started file blocks entries number entry ≡ Ok memory
-  pub is : s ≡ record { inner = only_process memory (first_start number entry); chosen = None; terms = terms }
+  pub is : s
+      ≡ record {
+        inner = only_process memory (first_start number entry);
+        io = first_io;
+        chosen = None;
+        drives = drives;
+        terms = terms;
+      }

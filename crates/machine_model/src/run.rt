@@ -4,7 +4,8 @@ ghost use Rattle.std.specs.Prelude.{◌≡◌, ℕ, List};
 ghost use Rattle.machine_model.specs.declared.ends.EventEnd.{EventEnd};
 ghost use Rattle.machine_model.specs.declared.ends.SliceEnd.{SliceEnd};
 ghost use Rattle.machine_model.specs.Event.{Event};
-ghost use Rattle.machine_model.specs.Run.{BeginsSlice, Run, Slice};
+ghost use Rattle.machine_model.specs.Run.{BeginsSlice, BreaksTick, Run, Slice, Tick};
+ghost use Rattle.os9_outer.specs.TerminalState.{TerminalState};
 ghost use Rattle.call_rules.specs.declared.proc_call.ProcCall.{ProcCall};
 ghost use Rattle.call_rules.specs.Attempts.{attempted, after_attempt};
 ghost use Rattle.call_rules.specs.End.{ended};
@@ -15,6 +16,9 @@ ghost use Rattle.machine_model.specs.Terminals.{TerminalsOnlyGain};
 /// The terminals of a machine only gain: along its events no key comes back, no count of faults
 /// falls, and what is observed of them stays observed.
 pub fn terminals_only_gain()
+    ensures tick { (s t : State) → Tick s t → TerminalsOnlyGain s.terms t.terms }
+    ensures broken_tick { (s : State) (terms : List TerminalState) → BreaksTick s terms
+        → TerminalsOnlyGain s.terms terms }
     ensures event { (s t : State) (end : EventEnd) → Event s end t
         → TerminalsOnlyGain s.terms t.terms }
     ensures slice { (n : ℕ) (s t : State) (states : List State) (end : SliceEnd)

@@ -14,12 +14,14 @@ use Rattle.call_rules.specs.Choice.{choice_of, after_choice}
 use Rattle.call_rules.specs.Codes.{call_of}
 use Rattle.call_rules.specs.Delivery.{delivered, after_delivery}
 use Rattle.call_rules.specs.Inner.{Inner, no_own, with_records, with_own}
-use Rattle.call_rules.specs.Ready.{Act, attempts, delivers, executes, act_of, no_io}
+use Rattle.call_rules.specs.Ready.{Act, attempts, delivers, executes, act_of}
 use Rattle.call_rules.specs.Rows.{one_process, two_processes, running_with, next_tick}
+use Rattle.io_rules.specs.Io.{first_io}
+use Rattle.io_rules.specs.Waiting.{io_may_go}
 use Rattle.machine_model.specs.declared.ends.SliceEnd.TheVariants.{Ran}
-use Rattle.machine_model.specs.Event.{after_instruction, next_instruction}
+use Rattle.machine_model.specs.Event.{after_instruction, next_instruction, io_after_instruction, io_after_call, before_delivery, io_after_delivery}
 use Rattle.machine_model.specs.Run.{Slice}
-use Rattle.machine_model.specs.State.{State, with_inner}
+use Rattle.machine_model.specs.State.{State}
 
 -- ---- events that touch no terminal
 
@@ -27,11 +29,23 @@ use Rattle.machine_model.specs.State.{State, with_inner}
 abbrev pub result_of : ℕ → Inner → ℕ → CallResult
 result_of code m p = option_map_or (λ call. attempted call m p) (call_of code) (refused E_UNKSVC)
 
--- the processes after one of them does this
-abbrev pub after_act : Act → Inner → ℕ → Inner
-after_act executes m p = after_instruction m p (next_instruction m p)
-after_act (attempts code) m p = after_attempt m p (result_of code m p)
-after_act (delivers signal) m p = after_delivery m p (delivered m p signal)
+-- the state after a process does this
+abbrev pub after_act : Act → State → ℕ → State
+after_act executes s p =
+    record s {
+      inner = after_instruction s.inner p (next_instruction s.inner p);
+      io = io_after_instruction s.io p (next_instruction s.inner p);
+    }
+after_act (attempts code) s p =
+    record s {
+      inner = after_attempt s.inner p (result_of code s.inner p);
+      io = io_after_call code s.io p (result_of code s.inner p);
+    }
+after_act (delivers signal) s p =
+    record s {
+      inner = after_delivery (before_delivery s p) p (delivered (before_delivery s p) p signal);
+      io = io_after_delivery s.io p (delivered (before_delivery s p) p signal);
+    }
 
 -- what the chosen process does next
 abbrev pub next_of : State → Option Act
@@ -39,7 +53,7 @@ next_of s = option_map (act_of s.inner) s.chosen
 
 -- the state after the next event
 abbrev pub after_event : State → State
-after_event s = option_map_or (λ p. with_inner s (after_act (act_of s.inner p) s.inner p)) s.chosen s
+after_event s = option_map_or (λ p. after_act (act_of s.inner p) s p) s.chosen s
 
 -- the state after so many events, the states after each of them, and what the chosen process does in them
 abbrev pub after_events : ℕ → State → State
@@ -59,8 +73,8 @@ acts_from (suc n) s = next_of s ∷ acts_from n (after_event s)
 -- the state in which a slice begins: at the next tick, with its process chosen
 abbrev pub at_choice : State → State
 at_choice s = record s {
-  inner = after_choice no_io (next_tick s.inner);
-  chosen = option_map (λ (p : Pid). p.0) (choice_of no_io (next_tick s.inner)).chosen;
+  inner = after_choice (io_may_go s.io) (next_tick s.inner);
+  chosen = option_map (λ (p : Pid). p.0) (choice_of (io_may_go s.io) (next_tick s.inner)).chosen;
 }
 
 -- the state after a slice of so many events
@@ -84,7 +98,7 @@ alone bytes regs = record (one_process bytes regs) {
 
 -- the machine in this state before a slice
 abbrev pub before_slice : Inner → State
-before_slice m = record { inner = m; chosen = None; terms = [] }
+before_slice m = record { inner = m; io = first_io; chosen = None; drives = 0; terms = [] }
 
 -- NOP, F$ID and two more NOP
 abbrev pub asks_for_id : State

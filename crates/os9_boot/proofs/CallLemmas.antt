@@ -19,8 +19,8 @@ use Rattle.os9_words.specs.Streams.{ChangesErrOnly}
 use Rattle.script_text.specs.declared.script.ScriptKey.{ScriptKey}
 use Rattle.script_text.specs.Script.{keys_of}
 use Rattle.script_text.specs.Slices.{slices_of}
-use Rattle.io_machine.specs.State.{State, living_count}
-use Rattle.io_machine.specs.Run.{status_of}
+use Rattle.machine_model.specs.State.{State, living_count}
+use Rattle.machine_model.specs.Run.{status_of}
 use Rattle.os9_boot.specs.Console.{IsObserved}
 use Rattle.os9_boot.specs.End.{end_line, file_name, status_number}
 use Rattle.os9_boot.specs.declared.status.End.{End}

@@ -10,7 +10,7 @@ use Rattle.os9_words.proofs.Prefixes.{GainsPrefix-front, GainsPrefix-then}
 use Rattle.os9_outer.specs.Stream.{stream_with, emptied, GainsPrefix}
 use Rattle.device_table.proofs.StreamLemmas.{appended-twice}
 use Rattle.os9_outer.specs.TerminalState.{TerminalState, ChangesOneTerminal, fault_counts}
-use Rattle.io_machine.specs.Console.{put_bytes, console_bytes, terminals_emptied, without_bytes}
+use Rattle.machine_model.specs.Console.{put_bytes, console_bytes, terminals_emptied, without_bytes}
 use Rattle.os9_base.specs.Count.{Rose}
 use Rattle.os9_outer.specs.Host.{OnFailed, UnlessFailed}
 use Rattle.os9_outer.specs.declared.host.HostFault.{HostFault}

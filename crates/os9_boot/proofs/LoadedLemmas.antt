@@ -4,8 +4,8 @@ use Rattle.std.proofs.lemmas.List.Elements.{All-cons, All-head, All-tail}
 use Rattle.os9_outer.specs.TerminalState.{TerminalState}
 use Rattle.script_text.specs.declared.script.ScriptKey.{ScriptKey}
 use Rattle.key_loading.specs.Loaded.{keys_for, loaded, loaded_from, with_keys, AreUnloaded}
-use Rattle.io_machine.specs.State.{State, living_count}
-use Rattle.io_machine.specs.Start.{Starts}
+use Rattle.machine_model.specs.State.{State, living_count}
+use Rattle.machine_model.specs.Start.{Starts}
 use Rattle.os9_kernel.specs.declared.kernel.Kernel.{Kernel}
 use Rattle.os9_kernel.specs.Tie.{Represents, Stands}
 use Rattle.os9_boot.specs.declared.run.RunFault.TheVariants as RunFault

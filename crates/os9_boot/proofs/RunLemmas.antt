@@ -9,12 +9,12 @@ use Rattle.os9_words.proofs.Prefixes.{GainsPrefix-then}
 use Rattle.std.proofs.lemmas.List.{take_more}
 use Rattle.device_table.proofs.StreamLemmas.{appended-twice, appended-nothing}
 use Rattle.os9_outer.specs.TerminalState.{TerminalState, fault_counts}
-use Rattle.io_machine.specs.declared.ends.SliceEnd.{SliceEnd}
-use Rattle.io_machine.specs.Console.{terminals_emptied, console_bytes}
-use Rattle.io_machine.specs.Terminals.{TerminalsOnlyGain}
-use Rattle.io_machine.specs.State.{State, living_count, has_living}
-use Rattle.io_machine.specs.Run.{Slice, Run}
-use Rattle.io_machine.proofs.TerminalLaws.{gain-emptied, gains-slice}
+use Rattle.machine_model.specs.declared.ends.SliceEnd.{SliceEnd}
+use Rattle.machine_model.specs.Console.{terminals_emptied, console_bytes}
+use Rattle.machine_model.specs.Terminals.{TerminalsOnlyGain}
+use Rattle.machine_model.specs.State.{State, living_count, has_living}
+use Rattle.machine_model.specs.Run.{Slice, Run}
+use Rattle.machine_model.proofs.TerminalLaws.{gain-emptied, gains-slice}
 use Rattle.os9_kernel.specs.declared.kernel.Kernel.{Kernel}
 use Rattle.os9_kernel.specs.Calls.{HasSlice, StopsSlice}
 use Rattle.os9_kernel.specs.Tie.{Represents, Stands}

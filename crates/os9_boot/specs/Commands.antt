@@ -19,10 +19,10 @@ use Rattle.rbf_model.specs.Faults.{IsFault}
 use Rattle.rbf_check.specs.declared.faults.CheckFault.{CheckFault}
 use Rattle.rbf_check.specs.declared.tree.Tree.{Tree}
 use Rattle.rbf_check.specs.Tree.{is_directory_node}
-use Rattle.io_machine.specs.State.{State}
-use Rattle.io_machine.specs.declared.ends.BootFault.{BootFault}
-use Rattle.io_machine.specs.Start.{Starts, Refuses}
-use Rattle.io_machine.specs.Run.{Run, status_of}
+use Rattle.machine_model.specs.State.{State}
+use Rattle.machine_model.specs.declared.ends.BootFault.{BootFault}
+use Rattle.machine_model.specs.Start.{Starts, Refuses}
+use Rattle.machine_model.specs.Run.{Run, status_of}
 use Rattle.os9_boot.specs.declared.status.End.{End}
 use Rattle.os9_boot.specs.declared.status.End.TheVariants.{Ended, BadImage, BadText}
 use Rattle.os9_boot.specs.declared.status.Input.TheVariants.{Script as ScriptInput, Slices as SlicesInput}

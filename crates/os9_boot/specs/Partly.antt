@@ -11,7 +11,7 @@ use Rattle.os9_words.specs.declared.command.RunWords.{RunWords}
 use Rattle.os9_words.specs.Command.{command_of}
 use Rattle.rbf_model.specs.Geometry.{image_geometry}
 use Rattle.rbf_model.specs.Volume.{DiskVolume, Vol}
-use Rattle.io_machine.specs.State.{State}
+use Rattle.machine_model.specs.State.{State}
 use Rattle.os9_boot.specs.declared.status.End.{End}
 use Rattle.os9_boot.specs.declared.status.End.TheVariants.{NoMemory}
 use Rattle.os9_boot.specs.Commands.{StartsLoaded, script_of, counts_of}

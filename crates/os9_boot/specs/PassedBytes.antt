@@ -4,7 +4,7 @@ use Rattle.os9_outer.specs.Host.{OnFailed, UnlessFailed}
 use Rattle.os9_outer.specs.Stream.{stream_with, GainsPrefix}
 use Rattle.os9_outer.specs.TerminalState.{fault_counts}
 use Rattle.os9_outer.specs.declared.host.HostFault.{HostFault}
-use Rattle.io_machine.specs.Console.{console_bytes, terminals_emptied}
+use Rattle.machine_model.specs.Console.{console_bytes, terminals_emptied}
 use Rattle.os9_boot.specs.Console.{IsObserved}
 use Rattle.os9_boot.specs.World.{World, HasNoFault, FailsToWrite}
 

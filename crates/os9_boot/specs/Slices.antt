@@ -2,8 +2,8 @@
 use Rattle.std.specs.Prelude.{◌≡◌, ◌⊎◌, ℕ, true, Some, Result, List, take, slice_get, OnOk, OnErr, All}
 use Rattle.os9_outer.specs.Stream.{stream_with, GainsPrefix}
 use Rattle.os9_outer.specs.TerminalState.{fault_counts}
-use Rattle.io_machine.specs.State.{State, has_living}
-use Rattle.io_machine.specs.Run.{Run}
+use Rattle.machine_model.specs.State.{State, has_living}
+use Rattle.machine_model.specs.Run.{Run}
 use Rattle.os9_kernel.specs.declared.kernel.Kernel.{Kernel}
 use Rattle.os9_kernel.specs.Calls.{StopsSlice}
 use Rattle.os9_kernel.specs.Tie.{Represents}

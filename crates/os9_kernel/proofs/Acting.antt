@@ -7,9 +7,9 @@ use Rattle.call_rules.specs.Inner.{Inner}
 use Rattle.call_rules.specs.Ready.{Act as MachineAct, act_of}
 use Rattle.io_rules.specs.Io.{Io}
 use Rattle.proc_state.specs.Tie.{Represents as RepresentsProcesses}
-use Rattle.io_machine.specs.declared.ends.EventEnd.{EventEnd}
-use Rattle.io_machine.specs.Event.{Acts, Event, cost, cost_of}
-use Rattle.io_machine.specs.State.{State}
+use Rattle.machine_model.specs.declared.ends.EventEnd.{EventEnd}
+use Rattle.machine_model.specs.Event.{Acts, Event, cost, cost_of}
+use Rattle.machine_model.specs.State.{State}
 use Rattle.kept_laws.specs.Running.{IsRunning}
 use Rattle.kept_laws.proofs.RunningLaws.{event-running}
 use Rattle.os9_kernel.specs.declared.act.Act.{Act}

@@ -20,9 +20,9 @@ use Rattle.io_rules.specs.Io.{Io, kept_at}
 use Rattle.io_rules.specs.Processes.{io_started}
 use Rattle.proc_calls.specs.Telling.{LivesOn}
 use Rattle.call_rules.specs.CallResult.{CallResult, done, refused, waits, ends}
-use Rattle.io_machine.specs.declared.ends.EventEnd.TheVariants.{Ran, NoMemory}
-use Rattle.io_machine.specs.Event.{call_event_end, io_after_call}
-use Rattle.io_isolation.proofs.OthersKept.{free-is, living-record}
+use Rattle.machine_model.specs.declared.ends.EventEnd.TheVariants.{Ran, NoMemory}
+use Rattle.machine_model.specs.Event.{call_event_end, io_after_call}
+use Rattle.isolation_laws.proofs.OthersKept.{free-is, living-record}
 use Rattle.kept_laws.specs.Kept.{AreKept}
 use Rattle.proc_state.specs.declared.state.ProcState.{ProcState}
 use Rattle.proc_state.specs.Tie.{Represents as RepresentsProcesses}

@@ -19,10 +19,10 @@ use Rattle.proc_state.specs.Delivery.{delivery_end as call_end}
 use Rattle.io_rules.specs.Io.{Io}
 use Rattle.io_rules.specs.Processes.{io_ended}
 use Rattle.io_rules.specs.Waiting.{io_interrupted}
-use Rattle.io_machine.specs.declared.ends.EventEnd.TheVariants.{Ran, Ended}
-use Rattle.io_machine.specs.Event.{broken_off, delivery_end, io_after_delivery}
+use Rattle.machine_model.specs.declared.ends.EventEnd.TheVariants.{Ran, Ended}
+use Rattle.machine_model.specs.Event.{broken_off, delivery_end, io_after_delivery}
 use Rattle.os9_kernel.proofs.Columns.{record-put}
-use Rattle.io_machine.proofs.Ticks.{ended-tick}
+use Rattle.machine_model.proofs.Ticks.{ended-tick}
 
 -- ---- how a delivery ends
 

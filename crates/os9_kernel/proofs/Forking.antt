@@ -14,7 +14,7 @@ use Rattle.call_rules.specs.Inner.{Inner, regs_at, cells_at, with_regs_of}
 use Rattle.call_rules.specs.ModuleLinks.{Entered, found_entry}
 use Rattle.call_rules.specs.Program.{Program, area_pages, asks_for_program, blocks_of_pages, most_pages, program_kind, program_name, reads_program}
 use Rattle.call_rules.specs.UserBytes.{user_bytes}
-use Rattle.io_isolation.proofs.OthersKept.{living-within, record-put}
+use Rattle.isolation_laws.proofs.OthersKept.{living-within, record-put}
 
 -- ---- a child is given the standard paths
 

@@ -13,8 +13,8 @@ use Rattle.io_rules.specs.Attempts.{result_by, result_of}
 use Rattle.io_rules.specs.Codes.{io_call_of}
 use Rattle.io_rules.specs.Step.{IoEffect, IoEnd, answers, fails, keeps}
 use Rattle.io_rules.specs.declared.io_call.IoCall.{IoCall}
-use Rattle.io_machine.specs.declared.ends.EventEnd.TheVariants as Event
-use Rattle.io_machine.specs.State.{State}
+use Rattle.machine_model.specs.declared.ends.EventEnd.TheVariants as Event
+use Rattle.machine_model.specs.State.{State}
 use Rattle.io_dispatch.specs.Staying.{MayAttempt}
 use Rattle.io_dispatch.proofs.RunningCalls.{may-attempt}
 use Rattle.os9_kernel.specs.declared.act.Act.TheVariants.{Attempt}

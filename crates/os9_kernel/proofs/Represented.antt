@@ -12,8 +12,8 @@ use Rattle.proc_state.specs.declared.state.ProcState.{ProcState}
 use Rattle.proc_state.specs.Tie.{Represents}
 use Rattle.proc_state.proofs.Entered.{represented}
 use Rattle.os9_outer.specs.TerminalState.{TerminalState}
-use Rattle.io_machine.specs.Console.{terminals_emptied}
-use Rattle.io_machine.specs.State.{State}
+use Rattle.machine_model.specs.Console.{terminals_emptied}
+use Rattle.machine_model.specs.State.{State}
 use Rattle.kept_laws.specs.Running.{AreOnTerminals}
 use Rattle.os9_kernel.specs.declared.kernel.Kernel.{Kernel}
 use Rattle.os9_kernel.specs.Next.{next_of}

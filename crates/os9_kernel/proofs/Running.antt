@@ -8,10 +8,10 @@ use Rattle.proc_model.specs.MemoryChanges.{written}
 use Rattle.proc_rules.specs.Records.{IsLiving, record_at, is_waiting}
 use Rattle.call_rules.specs.Inner.{Inner, own_at, regs_at}
 use Rattle.call_rules.specs.Ready.{Act as MachineAct, executes, act_of, next_act}
-use Rattle.io_machine.specs.declared.ends.EventEnd.{EventEnd}
-use Rattle.io_machine.specs.declared.ends.EventEnd.TheVariants.{Ran}
-use Rattle.io_machine.specs.Event.{Acts, Event, cost, next_instruction, after_instruction, io_after_instruction, instruction_end}
-use Rattle.io_machine.specs.State.{State}
+use Rattle.machine_model.specs.declared.ends.EventEnd.{EventEnd}
+use Rattle.machine_model.specs.declared.ends.EventEnd.TheVariants.{Ran}
+use Rattle.machine_model.specs.Event.{Acts, Event, cost, next_instruction, after_instruction, io_after_instruction, instruction_end}
+use Rattle.machine_model.specs.State.{State}
 use Rattle.os9_kernel.specs.Slice.{Events, last, more}
 use Rattle.os9_kernel.proofs.Executing.{AreDone, none, first, next_outcome}
 use Rattle.os9_kernel.proofs.Columns.{inner_at, inner_at-same, inner_at-then, inner_at-regs, lives-set, living-within, record-put}

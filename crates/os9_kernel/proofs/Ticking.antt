@@ -7,8 +7,8 @@ use Rattle.io_rules.specs.Arrivals.{Arrivals, ArrivesFrom, Desk}
 use Rattle.io_rules.specs.Io.{Io}
 use Rattle.key_arrivals.specs.Keys.{PollBreaks, desk}
 use Rattle.proc_state.specs.Tie.{Represents as RepresentsProcesses, inner_of}
-use Rattle.io_machine.specs.Run.{BreaksTick, Tick, desk_of}
-use Rattle.io_machine.specs.State.{State}
+use Rattle.machine_model.specs.Run.{BreaksTick, Tick, desk_of}
+use Rattle.machine_model.specs.State.{State}
 use Rattle.kept_laws.proofs.RunningLaws.{tick-running}
 use Rattle.os9_kernel.specs.declared.kernel.Kernel.{Kernel}
 use Rattle.os9_kernel.specs.Tie.{Represents, ticks}

@@ -12,10 +12,10 @@ use Rattle.call_rules.specs.End.{ended}
 use Rattle.call_rules.specs.Inner.{Inner, own_at, regs_at, with_own}
 use Rattle.call_rules.specs.Ready.{executes, act_of}
 use Rattle.io_rules.specs.Processes.{io_ended}
-use Rattle.io_machine.specs.declared.ends.EventEnd.{EventEnd}
-use Rattle.io_machine.specs.declared.ends.EventEnd.TheVariants.{Ran, Ended}
-use Rattle.io_machine.specs.Event.{Event, cost}
-use Rattle.io_machine.specs.State.{State}
+use Rattle.machine_model.specs.declared.ends.EventEnd.{EventEnd}
+use Rattle.machine_model.specs.declared.ends.EventEnd.TheVariants.{Ran, Ended}
+use Rattle.machine_model.specs.Event.{Event, cost}
+use Rattle.machine_model.specs.State.{State}
 use Rattle.os9_kernel.specs.Slice.{Events, last}
 use Rattle.os9_kernel.proofs.Columns.{inner_at, inner_at-then}
 use Rattle.os9_kernel.proofs.Executing.{next_outcome, follow-done}

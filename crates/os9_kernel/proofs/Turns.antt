@@ -3,11 +3,11 @@ use Rattle.std.proofs.Common.{◌≡◌, ℕ, ◌+◌, ◌-◌, ◌<◌, false, 
 use Rattle.std.specs.Prelude.{MatchOption}
 use Rattle.os9_base.specs.declared.registers.Pid.{Pid}
 use Rattle.os9_outer.specs.TerminalState.{TerminalState}
-use Rattle.io_machine.specs.declared.ends.EventEnd.{EventEnd}
-use Rattle.io_machine.specs.declared.ends.SliceEnd.TheVariants.{Idle, Ran}
-use Rattle.io_machine.specs.Event.{Event, cost, cost_of}
-use Rattle.io_machine.specs.Run.{Steps, FirstSteps, Slice, Tick, Choose, is_going}
-use Rattle.io_machine.specs.State.{State}
+use Rattle.machine_model.specs.declared.ends.EventEnd.{EventEnd}
+use Rattle.machine_model.specs.declared.ends.SliceEnd.TheVariants.{Idle, Ran}
+use Rattle.machine_model.specs.Event.{Event, cost, cost_of}
+use Rattle.machine_model.specs.Run.{Steps, FirstSteps, Slice, Tick, Choose, is_going}
+use Rattle.machine_model.specs.State.{State}
 use Rattle.os9_kernel.specs.declared.act.Act.{Act}
 use Rattle.os9_kernel.specs.declared.kernel.Kernel.{Kernel}
 use Rattle.os9_kernel.specs.Calls.{HasEvent}

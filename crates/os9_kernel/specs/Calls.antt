@@ -2,11 +2,11 @@
 use Rattle.std.specs.Prelude.{◌≡◌, ◌≢◌, ◌⊎◌, ℕ, ◌+◌, Result, IsOk, IsErr, List}
 use Rattle.os9_base.specs.declared.call.OutOfMemory.{OutOfMemory}
 use Rattle.os9_outer.specs.TerminalState.{TerminalState, fault_counts}
-use Rattle.io_machine.specs.declared.ends.EventEnd.{EventEnd}
-use Rattle.io_machine.specs.declared.ends.SliceEnd.{SliceEnd}
-use Rattle.io_machine.specs.Event.{Event}
-use Rattle.io_machine.specs.Run.{BeginsSlice, BreaksTick, Slice, Tick}
-use Rattle.io_machine.specs.State.{State}
+use Rattle.machine_model.specs.declared.ends.EventEnd.{EventEnd}
+use Rattle.machine_model.specs.declared.ends.SliceEnd.{SliceEnd}
+use Rattle.machine_model.specs.Event.{Event}
+use Rattle.machine_model.specs.Run.{BeginsSlice, BreaksTick, Slice, Tick}
+use Rattle.machine_model.specs.State.{State}
 use Rattle.os9_kernel.specs.declared.kernel.Kernel.{Kernel}
 use Rattle.os9_kernel.specs.Puts.{PutsByte}
 use Rattle.os9_kernel.specs.Tie.{Represents, IsGoing, ticks}

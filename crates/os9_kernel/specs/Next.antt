@@ -6,8 +6,8 @@ use Rattle.proc_rules.specs.Records.{IsLiving, IsProcess, record_at, is_waiting}
 use Rattle.call_rules.specs.Inner.{no_own}
 use Rattle.call_rules.specs.Ready.{Act as MachineAct, attempts, delivers, executes, next_act}
 use Rattle.proc_state.specs.declared.state.ProcState.{ProcState}
-use Rattle.io_machine.specs.declared.ends.EventEnd.{EventEnd}
-use Rattle.io_machine.specs.State.{State}
+use Rattle.machine_model.specs.declared.ends.EventEnd.{EventEnd}
+use Rattle.machine_model.specs.State.{State}
 use Rattle.os9_kernel.specs.declared.act.Act.{Act}
 use Rattle.os9_kernel.specs.declared.act.Act.TheVariants.{Attempt, Delivery, Instruction}
 use Rattle.os9_kernel.specs.declared.kernel.Kernel.{Kernel}

@@ -4,7 +4,7 @@ use Rattle.call_rules.specs.Ready.{attempts, act_of}
 use Rattle.io_rules.specs.Attempts.{caller_of, step_of}
 use Rattle.io_rules.specs.Codes.{io_call_of}
 use Rattle.io_rules.specs.declared.io_call.IoCall.{IoCall}
-use Rattle.io_machine.specs.State.{State}
+use Rattle.machine_model.specs.State.{State}
 use Rattle.stream_calls.specs.Trying.{PutsSome}
 
 -- the chosen process attempts a call on a path next, and has a byte to put on a terminal

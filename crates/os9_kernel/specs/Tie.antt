@@ -6,7 +6,7 @@ use Rattle.proc_rules.specs.Records.{IsLiving, record_at}
 use Rattle.call_rules.specs.Inner.{no_own}
 use Rattle.proc_state.specs.declared.state.ProcState.{ProcState}
 use Rattle.proc_state.specs.Tie.{Represents as RepresentsProcesses}
-use Rattle.io_machine.specs.State.{State}
+use Rattle.machine_model.specs.State.{State}
 use Rattle.kept_laws.specs.Running.{IsRunning}
 use Rattle.os9_kernel.specs.declared.kernel.Kernel.{Kernel}
 

@@ -16,7 +16,7 @@ ghost use Rattle.os9_kernel.specs.Tie.{HasState, pending};
 use crate::act::Act;
 use crate::kernel::Kernel;
 use call_rules::proc_call::ProcCall;
-use io_machine::ends::EventEnd;
+use machine_model::ends::EventEnd;
 use os9_base::call::CallEnd;
 use os9_base::calls::F_FORK;
 use os9_base::errors::E_UNKSVC;

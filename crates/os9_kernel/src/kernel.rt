@@ -1,15 +1,15 @@
 ghost use Rattle.std.specs.Prelude.{◌≡◌, ◌<◌, ℕ, List, IfSome, option_map, vec_len};
 ghost use Rattle.os9_outer.specs.TerminalState.{TerminalState, terminal_states};
-ghost use Rattle.io_machine.specs.State.{State, living_count};
-ghost use Rattle.io_machine.specs.Run.{Choose};
+ghost use Rattle.machine_model.specs.State.{State, living_count};
+ghost use Rattle.machine_model.specs.Run.{Choose};
 ghost use Rattle.os9_kernel.specs.Calls.{HasEvent, HasSlice, HasTick};
 ghost use Rattle.os9_kernel.specs.Tie.{Represents, Stands, IsGoing, ticks};
 
 use crate::act::Act;
 use device_table::devices::Devices;
-use io_machine::ends::{EventEnd, SliceEnd};
 use io_state::state::IoState;
 use key_arrivals::keys::arrive_keys;
+use machine_model::ends::{EventEnd, SliceEnd};
 use os9_base::call::OutOfMemory;
 use os9_base::limits::LAST_TICK;
 use os9_base::registers::Pid;

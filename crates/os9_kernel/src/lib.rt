@@ -1,8 +1,8 @@
 //! The kernel: its start, and slices of events, each of which is one of the abstract machine.
 #![tactic(auto)]
 
-pub use io_machine::ends::{BootFault, EventEnd, SliceEnd};
 pub use kernel::Kernel;
+pub use machine_model::ends::{BootFault, EventEnd, SliceEnd};
 pub use new::Config;
 
 mod act;

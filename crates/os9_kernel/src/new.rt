@@ -2,14 +2,14 @@
 
 ghost use Rattle.std.specs.Prelude.{◌≡◌, ◌≢◌, ◌<◌, ◌≤◌, ℕ, List, IfOk, IfErr, OnOk, length};
 ghost use Rattle.os9_outer.specs.TerminalState.{TerminalState};
-ghost use Rattle.io_machine.specs.declared.ends.BootFault.{BootFault};
-ghost use Rattle.io_machine.specs.Start.{Starts, Refuses};
-ghost use Rattle.io_machine.specs.State.{State};
+ghost use Rattle.machine_model.specs.declared.ends.BootFault.{BootFault};
+ghost use Rattle.machine_model.specs.Start.{Starts, Refuses};
+ghost use Rattle.machine_model.specs.State.{State};
 ghost use Rattle.os9_kernel.specs.Tie.{Represents, ticks};
 
 use crate::kernel::Kernel;
-use io_machine::ends::BootFault;
 use io_state::state::IoState;
+use machine_model::ends::BootFault;
 use process_start::start;
 use std::alloc::Global;
 

@@ -7,7 +7,7 @@ ghost use Rattle.call_rules.specs.End.{ended};
 ghost use Rattle.call_rules.specs.Inner.{Inner, own_at, with_own};
 ghost use Rattle.io_rules.specs.Processes.{io_ended};
 ghost use Rattle.io_rules.specs.Waiting.{interrupted_count, io_interrupted};
-ghost use Rattle.io_machine.specs.Event.{broken_off};
+ghost use Rattle.machine_model.specs.Event.{broken_off};
 
 use crate::kernel::Kernel;
 use os9_base::registers::{Pid, Regs};

@@ -9,7 +9,7 @@ ghost use Rattle.os9_kernel.specs.Tie.{IsGoing, Stands};
 use crate::act::Act;
 use crate::kernel::Kernel;
 use device_table::devices::Devices;
-use io_machine::ends::{EventEnd, SliceEnd};
+use machine_model::ends::{EventEnd, SliceEnd};
 use os9_base::registers::Pid;
 use os9_outer::terminal::CharDriver;
 

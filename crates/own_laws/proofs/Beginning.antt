@@ -58,7 +58,7 @@ entered-group {group = group} {is_boot = is_boot} {entries = entries} (entered {
 
 -- ---- the start
 
-module _ (file : List ℕ) (blocks : ℕ) (terms : List TerminalState) (s : State) (starts : Starts file blocks terms s) where
+module _ (file : List ℕ) (blocks drives : ℕ) (terms : List TerminalState) (s : State) (starts : Starts file blocks drives terms s) where
   abbrev booted : MemoryState
   booted = boot_memory file blocks starts.entries
 
@@ -149,5 +149,5 @@ module _ (file : List ℕ) (blocks : ℕ) (terms : List TerminalState) (s : Stat
       (subst (λ memory. IsOfArea (only_process memory (first_start starts.number starts.entry)) 2 object → IsOwn (only_process memory (first_start starts.number starts.entry)) 2 object) (sym begins.memory)
       (λ of. area-own object of.0 of.1 of.2))
 
-pub start-own : (file : List ℕ) (blocks : ℕ) (terms : List TerminalState) (s : State) → Starts file blocks terms s → (object : ℕ) → IsOfArea s.inner 2 object → IsOwn s.inner 2 object
-start-own file blocks terms s starts object = start-area file blocks terms s starts object
+pub start-own : (file : List ℕ) (blocks drives : ℕ) (terms : List TerminalState) (s : State) → Starts file blocks drives terms s → (object : ℕ) → IsOfArea s.inner 2 object → IsOwn s.inner 2 object
+start-own file blocks drives terms s starts object = start-area file blocks drives terms s starts object

@@ -3,7 +3,7 @@ use Rattle.std.proofs.Common.{◌≡◌, ◌≢◌, ◌⊎◌, ℕ, ◌-◌, ◌
 use Rattle.std.specs.Prelude.{MatchBool}
 use Rattle.std.proofs.lemmas.Bool.{cases_lt, cases_eq, false≢true}
 use Rattle.std.proofs.lemmas.Option.{none-some, slice_get-get_or, slice_get_past}
-use Rattle.proc_model.specs.Memory.{map_at}
+use Rattle.proc_model.specs.Memory.{MemoryState, map_at}
 use Rattle.proc_model.specs.ModuleList.{ModuleEntry, module_entry_at}
 use Rattle.proc_model.specs.Slots.{NamesBlock}
 use Rattle.proc_rules.specs.declared.record.Record.{Record}
@@ -13,14 +13,15 @@ use Rattle.call_rules.specs.Ready.{Act, attempts, delivers, executes, act_of}
 use Rattle.machine_model.specs.declared.ends.EventEnd.{EventEnd}
 use Rattle.machine_model.specs.declared.ends.SliceEnd.{SliceEnd}
 use Rattle.machine_model.specs.Event.{Acts, Event, cost}
-use Rattle.machine_model.specs.Run.{Steps, Slice, is_going}
+use Rattle.machine_model.specs.Run.{Steps, Slice, Tick, is_going}
 use Rattle.machine_model.specs.State.{State}
 use Rattle.isolation_laws.specs.Modules.{StaysEntered, ModuleComesOf}
 use Rattle.isolation_laws.specs.Objects.{IsOfModule, IsNewOrShared}
 use Rattle.isolation_laws.specs.Others.{Stays, ComesOf, HasRecord}
 use Rattle.isolation_laws.specs.Isolation.{LeavesOthers}
 use Rattle.own_laws.specs.Own.{IsOwn, KeepsOwnObject}
-use Rattle.machine_laws.proofs.Faultless.{begun, Begun, begun-slice}
+use Rattle.kept_laws.proofs.RunningLaws.{SignalsLeave, tick-leaves}
+use Rattle.machine_laws.proofs.Faultless.{begun, Begun, BegunSlice, begun-slice}
 use Rattle.isolation_laws.proofs.OthersKept.{living-record}
 use Rattle.isolation_laws.proofs.EventsKept.{event-leaves}
 
@@ -129,7 +130,7 @@ own-event s t end q p object chosen differ event lives own =
 acts-chosen : (act : Act) (s : State) (p : ℕ) (end : EventEnd) (t : State) → Acts act s p end t → t.chosen ≡ s.chosen
 acts-chosen executes s p end t (ends, is) = ap (λ (t : State). t.chosen) is
 acts-chosen (delivers signal) s p end t (ends, is) = ap (λ (t : State). t.chosen) is
-acts-chosen (attempts code) s p end t (result, terms, answer, ends, is) = ap (λ (t : State). t.chosen) is
+acts-chosen (attempts code) s p end t (result, io, terms, answer, ends, is) = ap (λ (t : State). t.chosen) is
 
 event-chosen : (s t : State) (end : EventEnd) → Event s end t → t.chosen ≡ s.chosen
 event-chosen s t end (p, chosen, lives, acts) = acts-chosen (act_of s.inner p) s p end t acts
@@ -162,18 +163,39 @@ own-steps left s (m ∷ ms) t q p object chosen differ (some, end, event, steps)
     rest false later first (over, is) =
         subst (λ (t : State). KeepsOwnObject m.inner p object t.inner) (sym is) (own-same m.inner p object first.lives first.own)
 
+-- keys that arrive change no memory, and make no record
+own-tick : (s t : State) (p object : ℕ) → Tick s t → IsLiving s.inner.records p → IsOwn s.inner p object → KeepsOwnObject s.inner p object t.inner
+own-tick s t p object ticks lives own =
+    let left : SignalsLeave s.inner t.inner = tick-leaves s t ticks in
+    record {
+      lives = left.lives p lives;
+      own = record {
+        appeared =
+            subst (λ (memory : MemoryState). object < length memory.objects) (sym left.memory) own.appeared;
+        named =
+            subst (λ (memory : MemoryState). NamesBlock (map_at memory p) object) (sym left.memory) own.named;
+        alone =
+            λ q differ has names. own.alone q differ (left.had q has.0 has.1) (subst (λ (memory : MemoryState). NamesBlock (map_at memory q) object) left.memory names);
+        in_no_module =
+            λ shared. own.in_no_module (subst (λ (memory : MemoryState). IsOfModule memory object) left.memory shared);
+      };
+      bytes = ap (λ (memory : MemoryState). slice_get memory.objects object) left.memory;
+    }
+
 -- the choice of a process changes no memory and no record
 pub own-slice : (n : ℕ) (s : State) (states : List State) (end : SliceEnd) (t : State) (p object : ℕ) → Slice n s states end t → t.chosen ≢ Some p → IsLiving s.inner.records p → IsOwn s.inner p object → KeepsOwnObject s.inner p object t.inner
-own-slice n s states end t p object slice other lives own =
-    by_chosen (begun s).chosen refl (begun-slice n s states end t slice)
+own-slice n s states end t p object slice other lives own = by_tick (begun-slice n s states end t slice)
   where
-    begins : IsOwn (begun s).inner p object
-    begins = record { appeared = own.appeared; named = own.named; alone = own.alone; in_no_module = own.in_no_module }
-
-    by_chosen : (who : Option ℕ) → (begun s).chosen ≡ who → Begun n (begun s) who states end t → KeepsOwnObject s.inner p object t.inner
-    by_chosen None is (idle, none, last) =
-        subst (λ (t : State). KeepsOwnObject s.inner p object t.inner) (sym last) (record { lives = lives; own = begins; bytes = refl })
-    by_chosen (Some q) is (ran, steps) =
-        let differ : p ≢ q = λ same. other (steps-chosen n (begun s) states t steps ∙ is ∙ ap Some (sym same)) in
-        let kept : KeepsOwnObject (begun s).inner p object t.inner = own-steps n (begun s) states t q p object is differ steps lives begins in
+    by_chosen : (ticked : State) → IsLiving ticked.inner.records p → IsOwn (begun ticked).inner p object → (who : Option ℕ) → (begun ticked).chosen ≡ who → Begun n (begun ticked) who states end t → KeepsOwnObject ticked.inner p object t.inner
+    by_chosen ticked living begins None is (idle, none, last) =
+        subst (λ (t : State). KeepsOwnObject ticked.inner p object t.inner) (sym last) (record { lives = living; own = begins; bytes = refl })
+    by_chosen ticked living begins (Some q) is (ran, steps) =
+        let differ : p ≢ q = λ same. other (steps-chosen n (begun ticked) states t steps ∙ is ∙ ap Some (sym same)) in
+        let kept : KeepsOwnObject (begun ticked).inner p object t.inner = own-steps n (begun ticked) states t q p object is differ steps living begins in
         record { lives = kept.lives; own = kept.own; bytes = kept.bytes }
+
+    by_tick : BegunSlice n s states end t → KeepsOwnObject s.inner p object t.inner
+    by_tick it =
+        let first : KeepsOwnObject s.inner p object it.ticked.inner = own-tick s it.ticked p object it.ticks lives own in
+        own-then s.inner it.ticked.inner t.inner p object first
+        (by_chosen it.ticked first.lives (record { appeared = first.own.appeared; named = first.own.named; alone = first.own.alone; in_no_module = first.own.in_no_module }) (begun it.ticked).chosen refl it.rest)

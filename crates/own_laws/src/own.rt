@@ -26,8 +26,8 @@ pub fn what_appears_is_its_own()
         → Appears s.inner.memory t.inner.memory object → IsOwn t.inner p object }
     ensures appeared { (s t : State) (end : EventEnd) → Event s end t → NameAppeared s.inner
         → NameAppeared t.inner }
-    ensures start { (file : List ℕ) (blocks : ℕ) (terms : List TerminalState) (s : State)
-        → Starts file blocks terms s → NameAppeared s.inner }
+    ensures start { (file : List ℕ) (blocks drives : ℕ) (terms : List TerminalState)
+        (s : State) → Starts file blocks drives terms s → NameAppeared s.inner }
 {}
 
 /// What is a process's own, as a block of its data area, stays its own with the same bytes in each
@@ -50,8 +50,8 @@ pub fn what_is_its_own_is_left_to_a_process()
 /// them, nor does a module. That holds of the first process from the start on, and of two processes
 /// beside each other.
 pub fn data_areas_are_own()
-    ensures start { (file : List ℕ) (blocks : ℕ) (terms : List TerminalState) (s : State)
-        → Starts file blocks terms s
+    ensures start { (file : List ℕ) (blocks drives : ℕ) (terms : List TerminalState)
+        (s : State) → Starts file blocks drives terms s
         → (object : ℕ) → IsOfArea s.inner 2 object → IsOwn s.inner 2 object }
     ensures first { (bytes : List ℕ) (one other : Regs)
         → IsOwn (two_processes bytes one other) 2 0 }

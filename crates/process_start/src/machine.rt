@@ -3,17 +3,17 @@
 ghost use Rattle.std.specs.Prelude.{◌≡◌, ◌≢◌, ℕ, ◌≤◌, List, IsSome, IfOk, IfErr, OnOk, length};
 ghost use Rattle.guest_memory.specs.Tie.{modules_of};
 ghost use Rattle.os9_outer.specs.TerminalState.{TerminalState};
-ghost use Rattle.io_machine.specs.declared.ends.BootFault.{BootFault};
+ghost use Rattle.machine_model.specs.declared.ends.BootFault.{BootFault};
 ghost use Rattle.proc_model.specs.ModuleList.{module_entry_at};
-ghost use Rattle.io_machine.specs.Start.{Starts, Refuses};
-ghost use Rattle.io_machine.specs.State.{State};
+ghost use Rattle.machine_model.specs.Start.{Starts, Refuses};
+ghost use Rattle.machine_model.specs.State.{State};
 ghost use Rattle.proc_state.specs.First.{first_inner};
 ghost use Rattle.proc_state.specs.Tie.{Represents};
 ghost use Rattle.process_start.specs.Beginning.{HasFirstIn};
 
 use crate::boot::enter_boot;
 use crate::first::{begin, first_program};
-use io_machine::ends::BootFault;
+use machine_model::ends::BootFault;
 use os9_base::limits::MOST_GROUP_BYTES;
 use proc_model::module::ModId;
 use proc_state::state::ProcState;

@@ -15,7 +15,7 @@ use Rattle.machine_rows.proofs.rows.a_call_is_attempted_after_its_instruction.Go
 pub returns-clause-last : goal.returns-clause-last
 unfolding step_of window reading row outcome_of effect_of base_page ten_page
 returns-clause-last c = record {
-  slice = (_, _, refl, refl, (refl, (omega arith, Ran, (event-is (at_choice asks_for_id) 2 refl refl executes Ran refl tt refl), (omega arith, Ran, (event-is (after_events 1 (at_choice asks_for_id)) 2 refl refl executes Ran refl tt refl), (refl, refl)))));
+  slice = (_, _, (_, refl, refl), refl, (refl, (omega arith, Ran, (event-is (at_choice asks_for_id) 2 refl refl executes Ran refl tt refl), (omega arith, Ran, (event-is (after_events 1 (at_choice asks_for_id)) 2 refl refl executes Ran refl tt refl), (refl, refl)))));
   chosen = refl;
   does = refl;
 }
@@ -23,7 +23,7 @@ returns-clause-last c = record {
 pub returns-clause-next : goal.returns-clause-next
 unfolding step_of window reading row outcome_of effect_of base_page ten_page
 returns-clause-next c = record {
-  slice = (_, _, refl, refl, (refl, (omega arith, Ran, (event-is (at_choice (after_slice 2 asks_for_id)) 2 refl refl (attempts F_ID) Ran refl (Call.Id, refl) refl), (omega arith, Ran, (event-is (after_events 1 (at_choice (after_slice 2 asks_for_id))) 2 refl refl executes Ran refl tt refl), (refl, refl)))));
+  slice = (_, _, (_, refl, refl), refl, (refl, (omega arith, Ran, (event-is (at_choice (after_slice 2 asks_for_id)) 2 refl refl (attempts F_ID) Ran refl (Call.Id, refl) refl), (omega arith, Ran, (event-is (after_events 1 (at_choice (after_slice 2 asks_for_id))) 2 refl refl executes Ran refl tt refl), (refl, refl)))));
   chosen = refl;
   does = refl;
 }
@@ -31,7 +31,7 @@ returns-clause-next c = record {
 pub returns-clause-within : goal.returns-clause-within
 unfolding step_of window reading row outcome_of effect_of base_page ten_page
 returns-clause-within c = record {
-  slice = (_, _, refl, refl, (refl, (omega arith, Ran, (event-is (at_choice asks_for_id) 2 refl refl executes Ran refl tt refl), (omega arith, Ran, (event-is (after_events 1 (at_choice asks_for_id)) 2 refl refl executes Ran refl tt refl), (omega arith, Ran, (event-is (after_events 2 (at_choice asks_for_id)) 2 refl refl (attempts F_ID) Ran refl (Call.Id, refl) refl), (omega arith, Ran, (event-is (after_events 3 (at_choice asks_for_id)) 2 refl refl executes Ran refl tt refl), (refl, refl)))))));
+  slice = (_, _, (_, refl, refl), refl, (refl, (omega arith, Ran, (event-is (at_choice asks_for_id) 2 refl refl executes Ran refl tt refl), (omega arith, Ran, (event-is (after_events 1 (at_choice asks_for_id)) 2 refl refl executes Ran refl tt refl), (omega arith, Ran, (event-is (after_events 2 (at_choice asks_for_id)) 2 refl refl (attempts F_ID) Ran refl (Call.Id, refl) refl), (omega arith, Ran, (event-is (after_events 3 (at_choice asks_for_id)) 2 refl refl executes Ran refl tt refl), (refl, refl)))))));
   chosen = refl;
   does = refl;
 }

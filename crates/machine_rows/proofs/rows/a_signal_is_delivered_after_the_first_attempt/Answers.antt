@@ -15,7 +15,7 @@ use Rattle.machine_rows.proofs.rows.a_signal_is_delivered_after_the_first_attemp
 pub returns : goal.returns
 unfolding step_of window reading row outcome_of effect_of base_page ten_page
 returns c = record {
-  slice = (_, _, refl, refl, (refl, (omega arith, Ran, (event-is (at_choice signalled_in_call) 2 refl refl (attempts F_ID) Ran refl (Call.Id, refl) refl), (omega arith, Ran, (event-is (after_events 1 (at_choice signalled_in_call)) 2 refl refl (delivers 7) Ran refl tt refl), (omega arith, Ran, (event-is (after_events 2 (at_choice signalled_in_call)) 2 refl refl executes Ran refl tt refl), (refl, refl))))));
+  slice = (_, _, (_, refl, refl), refl, (refl, (omega arith, Ran, (event-is (at_choice signalled_in_call) 2 refl refl (attempts F_ID) Ran refl (Call.Id, refl) refl), (omega arith, Ran, (event-is (after_events 1 (at_choice signalled_in_call)) 2 refl refl (delivers 7) Ran refl tt refl), (omega arith, Ran, (event-is (after_events 2 (at_choice signalled_in_call)) 2 refl refl executes Ran refl tt refl), (refl, refl))))));
   chosen = refl;
   does = refl;
 }

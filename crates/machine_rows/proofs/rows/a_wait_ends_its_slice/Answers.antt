@@ -15,14 +15,14 @@ use Rattle.machine_rows.proofs.rows.a_wait_ends_its_slice.Goals as goal
 pub returns-clause-waits : goal.returns-clause-waits
 unfolding step_of window reading row outcome_of effect_of base_page ten_page
 returns-clause-waits c = record {
-  slice = (_, _, refl, refl, (refl, (omega arith, Ran, (event-is (at_choice falls_asleep) 2 refl refl executes Ran refl tt refl), (omega arith, Waits, (event-is (after_events 1 (at_choice falls_asleep)) 2 refl refl (attempts F_SLEEP) Waits refl (Call.Sleep, refl) refl), (refl, refl)))));
+  slice = (_, _, (_, refl, refl), refl, (refl, (omega arith, Ran, (event-is (at_choice falls_asleep) 2 refl refl executes Ran refl tt refl), (omega arith, Waits, (event-is (after_events 1 (at_choice falls_asleep)) 2 refl refl (attempts F_SLEEP) Waits refl (Call.Sleep, refl) refl), (refl, refl)))));
   chosen = refl;
   does = refl;
 }
 
 pub returns-clause-idle : goal.returns-clause-idle
 unfolding step_of window reading row outcome_of effect_of base_page ten_page
-returns-clause-idle c = (_, _, refl, refl, (refl, refl, refl))
+returns-clause-idle c = (_, _, (_, refl, refl), refl, (refl, refl, refl))
 
 pub returns-clause-age : goal.returns-clause-age
 unfolding step_of window reading row outcome_of effect_of base_page ten_page

@@ -13,7 +13,7 @@ use Rattle.machine_rows.proofs.rows.an_unnamed_slot_ends_the_process.Goals as go
 pub returns-clause-ends : goal.returns-clause-ends
 unfolding step_of window reading row outcome_of effect_of base_page byte_operand place_of
 returns-clause-ends c = record {
-  slice = (_, _, refl, refl, (refl, (omega arith, Ended, (event-is (at_choice loads_unnamed) 2 refl refl executes Ended refl tt refl), (refl, refl))));
+  slice = (_, _, (_, refl, refl), refl, (refl, (omega arith, Ended, (event-is (at_choice loads_unnamed) 2 refl refl executes Ended refl tt refl), (refl, refl))));
   chosen = refl;
   does = refl;
 }

@@ -13,7 +13,7 @@ use Rattle.machine_rows.proofs.rows.equals_are_chosen_in_turns.Goals as goal
 pub returns-clause-first : goal.returns-clause-first
 unfolding step_of window reading row outcome_of effect_of base_page ten_page
 returns-clause-first c = record {
-  slice = (_, _, refl, refl, (refl, (omega arith, Ran, (event-is (at_choice two_running) 2 refl refl executes Ran refl tt refl), (refl, refl))));
+  slice = (_, _, (_, refl, refl), refl, (refl, (omega arith, Ran, (event-is (at_choice two_running) 2 refl refl executes Ran refl tt refl), (refl, refl))));
   chosen = refl;
   does = refl;
 }
@@ -21,7 +21,7 @@ returns-clause-first c = record {
 pub returns-clause-second : goal.returns-clause-second
 unfolding step_of window reading row outcome_of effect_of base_page ten_page
 returns-clause-second c = record {
-  slice = (_, _, refl, refl, (refl, (omega arith, Ran, (event-is (at_choice (after_slice 1 two_running)) 3 refl refl executes Ran refl tt refl), (refl, refl))));
+  slice = (_, _, (_, refl, refl), refl, (refl, (omega arith, Ran, (event-is (at_choice (after_slice 1 two_running)) 3 refl refl executes Ran refl tt refl), (refl, refl))));
   chosen = refl;
   does = refl;
 }
@@ -29,7 +29,7 @@ returns-clause-second c = record {
 pub returns-clause-first_again : goal.returns-clause-first_again
 unfolding step_of window reading row outcome_of effect_of base_page ten_page
 returns-clause-first_again c = record {
-  slice = (_, _, refl, refl, (refl, (omega arith, Ran, (event-is (at_choice (after_slice 1 (after_slice 1 two_running))) 2 refl refl executes Ran refl tt refl), (refl, refl))));
+  slice = (_, _, (_, refl, refl), refl, (refl, (omega arith, Ran, (event-is (at_choice (after_slice 1 (after_slice 1 two_running))) 2 refl refl executes Ran refl tt refl), (refl, refl))));
   chosen = refl;
   does = refl;
 }

@@ -2,7 +2,7 @@ use Rattle.std.proofs.Common.{◌≡◌, ◌≤◌, take, All}
 use Rattle.std.specs.Vec.{vec_len}
 use Rattle.os9_outer.specs.Stream.{stream_with}
 use Rattle.os9_outer.specs.TerminalState.{terminal_states}
-use Rattle.io_machine.specs.Console.{console_bytes}
+use Rattle.machine_model.specs.Console.{console_bytes}
 use Rattle.os9_boot.specs.Console.{IsObserved}
 use Rattle.os9_boot.specs.World.{HasNoFault, world_of}
 use Rattle.os9_boot.proofs.ConsoleLemmas.{emptied_front}

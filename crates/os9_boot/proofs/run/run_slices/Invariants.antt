@@ -1,7 +1,7 @@
 use Rattle.std.proofs.Common.{◌≡◌, ◌+◌, ◌-◌, ◌<◌, [], take, length, All}
 use Rattle.std.specs.Vec.{vec_len}
 use Rattle.os9_outer.specs.TerminalState.{terminal_states}
-use Rattle.io_machine.specs.State.{State}
+use Rattle.machine_model.specs.State.{State}
 use Rattle.os9_kernel.specs.Tie.{Represents, Stands, ticks}
 use Rattle.os9_boot.specs.Console.{IsObserved}
 use Rattle.os9_boot.specs.World.{HasNoFault, world_of}

@@ -1,7 +1,7 @@
 use Rattle.std.proofs.Common.{[]}
 use Rattle.std.proofs.lemmas.Result.{err_from_is_err_and}
-use Rattle.io_machine.specs.Start.{boot_memory}
-use Rattle.io_machine.proofs.StartLaws.{never-both}
+use Rattle.machine_model.specs.Start.{boot_memory}
+use Rattle.machine_model.proofs.StartLaws.{never-both}
 use Rattle.process_start.proofs.Starting.{starts-so, starts-at, refuses-so}
 use Rattle.process_start.proofs.machine.start.Goals as goal
 

@@ -5,8 +5,8 @@ use Rattle.call_rules.specs.Choice.{choice_of, after_choice}
 use Rattle.call_rules.specs.IoReady.{has_io}
 use Rattle.io_rules.specs.Io.{Io}
 use Rattle.io_rules.specs.Waiting.{io_may_go}
-use Rattle.io_machine.specs.Run.{Choose}
-use Rattle.io_machine.specs.State.{State}
+use Rattle.machine_model.specs.Run.{Choose}
+use Rattle.machine_model.specs.State.{State}
 use Rattle.kept_laws.proofs.RunningLaws.{choice-running}
 use Rattle.proc_state.specs.Tie.{Represents as RepresentsProcesses}
 use Rattle.os9_kernel.proofs.Choosing.{asks-living}

@@ -8,7 +8,7 @@ use Rattle.call_rules.specs.Inner.{Inner, no_own, own_at}
 use Rattle.io_rules.specs.Io.{Io}
 use Rattle.io_rules.specs.Processes.{io_ended}
 use Rattle.io_rules.specs.Waiting.{interrupted_count}
-use Rattle.io_machine.specs.Event.{before_delivery, broken_off, delivery_end, io_after_delivery}
+use Rattle.machine_model.specs.Event.{before_delivery, broken_off, delivery_end, io_after_delivery}
 use Rattle.proc_state.specs.Tie.{Represents as RepresentsProcesses}
 use Rattle.os9_base.specs.declared.registers.Pid.{Pid}
 use Rattle.os9_kernel.specs.declared.act.Act.TheVariants.{Delivery}

@@ -2,9 +2,9 @@ use Rattle.std.proofs.Common.{◌≡◌, false, refl, sym, ap, ◌∙◌, subst,
 use Rattle.std.specs.Vec.{vec_len}
 use Rattle.os9_outer.specs.TerminalState.{fault_counts, terminal_states}
 use Rattle.os9_kernel.specs.Tie.{Represents}
-use Rattle.io_machine.specs.declared.ends.EventEnd.{EventEnd}
-use Rattle.io_machine.specs.declared.ends.EventEnd.TheVariants.{Ran, Waits, Ended, NoMemory}
-use Rattle.io_machine.specs.Run.{is_going}
+use Rattle.machine_model.specs.declared.ends.EventEnd.{EventEnd}
+use Rattle.machine_model.specs.declared.ends.EventEnd.TheVariants.{Ran, Waits, Ended, NoMemory}
+use Rattle.machine_model.specs.Run.{is_going}
 use Rattle.os9_kernel.proofs.Turns.{turn-continues, turn-begins, turn-ends, used-up, begun-here}
 use Rattle.os9_kernel.proofs.kernel.Kernel.events.Goals as goal
 

@@ -1,7 +1,7 @@
 use Rattle.std.proofs.Common.{◌≡◌, ◌+◌, ◌*◌}
 use Rattle.std.specs.Vec.{vec_len}
 use Rattle.os9_outer.specs.TerminalState.{terminal_states}
-use Rattle.io_machine.specs.State.{State}
+use Rattle.machine_model.specs.State.{State}
 use Rattle.os9_kernel.specs.Tie.{Represents, Stands, IsGoing, ticks, pending}
 use Rattle.os9_kernel.specs.Slice.{BeginsFrom, ContinuesFrom}
 use Rattle.os9_kernel.proofs.kernel.Kernel.events.Given as goal

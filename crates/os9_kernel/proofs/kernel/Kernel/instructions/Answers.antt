@@ -19,7 +19,7 @@ use Rattle.os9_kernel.proofs.Acting.{acts-so, chosen-is, lives-there, events-run
 use Rattle.os9_kernel.proofs.Columns.{inner_at}
 use Rattle.os9_kernel.proofs.Pending.{at_most-three, pending-is}
 use Rattle.os9_kernel.proofs.Represented.{some-inner, tick-kept}
-use Rattle.io_machine.proofs.Ticks.{ended-tick}
+use Rattle.machine_model.proofs.Ticks.{ended-tick}
 use Rattle.os9_kernel.proofs.Turning.{all-done, some-left, turn-next, turn-call, turn-abort}
 use Rattle.os9_kernel.proofs.kernel.Kernel.instructions.Goals as goal
 use Rattle.os9_kernel.proofs.kernel.Kernel.instructions.Goals.{After-set_regs}

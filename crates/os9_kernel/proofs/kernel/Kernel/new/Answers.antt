@@ -1,5 +1,5 @@
 use Rattle.std.proofs.Common.{sym, ap, ◌∙◌}
-use Rattle.io_machine.specs.State.{State}
+use Rattle.machine_model.specs.State.{State}
 use Rattle.kept_laws.proofs.RunningLaws.{start-running}
 use Rattle.os9_kernel.proofs.kernel.Kernel.new.Goals as goal
 

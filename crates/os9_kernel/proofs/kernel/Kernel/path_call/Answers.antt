@@ -7,8 +7,8 @@ use Rattle.call_rules.specs.Attempts.{after_attempt}
 use Rattle.call_rules.specs.Inner.{Inner}
 use Rattle.io_rules.specs.Attempts.{IoAttempts, caller_of, step_of}
 use Rattle.io_rules.specs.Io.{Io}
-use Rattle.io_machine.specs.declared.ends.EventEnd.{EventEnd}
-use Rattle.io_machine.specs.State.{State}
+use Rattle.machine_model.specs.declared.ends.EventEnd.{EventEnd}
+use Rattle.machine_model.specs.State.{State}
 use Rattle.proc_state.specs.Tie.{Represents as RepresentsProcesses}
 use Rattle.stream_calls.specs.Moving.{AreTerminals}
 use Rattle.stream_calls.specs.Trying.{PutsSome}

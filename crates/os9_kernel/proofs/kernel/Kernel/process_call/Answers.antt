@@ -6,8 +6,8 @@ use Rattle.call_rules.specs.Attempts.{attempted, after_attempt}
 use Rattle.proc_rules.specs.Records.{IsLiving}
 use Rattle.call_rules.specs.Inner.{Inner, no_own}
 use Rattle.io_rules.specs.Io.{Io}
-use Rattle.io_machine.specs.Event.{io_after_call}
-use Rattle.io_machine.specs.State.{State}
+use Rattle.machine_model.specs.Event.{io_after_call}
+use Rattle.machine_model.specs.State.{State}
 use Rattle.proc_state.specs.declared.state.ProcState.{ProcState}
 use Rattle.proc_state.specs.Tie.{Represents as RepresentsProcesses}
 use Rattle.os9_kernel.specs.declared.act.Act.TheVariants.{Attempt}
@@ -17,7 +17,7 @@ use Rattle.os9_kernel.proofs.Acting.{event-then, io-is, terms-are}
 use Rattle.os9_kernel.proofs.Calling.{code-names, end-tied, goes-on, has-number, HasNumber, io-tied, lives-so, may-begin, never-wants}
 use Rattle.os9_kernel.proofs.Pending.{attempt-lowers}
 use Rattle.os9_kernel.proofs.Represented.{some-inner, tick-kept, no-call, places-there}
-use Rattle.io_machine.proofs.Ticks.{attempt-tick}
+use Rattle.machine_model.proofs.Ticks.{attempt-tick}
 use Rattle.os9_kernel.proofs.kernel.Kernel.process_call.Goals as goal
 use Rattle.os9_kernel.proofs.kernel.Kernel.process_call.Goals.{After-attempt-end}
 

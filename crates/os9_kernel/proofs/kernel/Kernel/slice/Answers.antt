@@ -2,8 +2,8 @@ use Rattle.std.proofs.Common.{◌≡◌, Some, None, option_map, [], refl, sym, 
 use Rattle.std.specs.Vec.{vec_len}
 use Rattle.os9_base.specs.declared.registers.Pid.{Pid}
 use Rattle.os9_outer.specs.TerminalState.{terminal_states}
-use Rattle.io_machine.specs.declared.ends.SliceEnd.{SliceEnd}
-use Rattle.io_machine.specs.Run.{Slice}
+use Rattle.machine_model.specs.declared.ends.SliceEnd.{SliceEnd}
+use Rattle.machine_model.specs.Run.{Slice}
 use Rattle.os9_kernel.specs.Tie.{Represents}
 use Rattle.os9_kernel.proofs.Turns.{slice-idle, slice-ran}
 use Rattle.os9_kernel.proofs.kernel.Kernel.slice.Goals as goal

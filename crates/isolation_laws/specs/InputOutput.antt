@@ -13,8 +13,8 @@ use Rattle.io_rules.specs.Codes.{direction_of}
 use Rattle.io_rules.specs.Io.{OpenPath, terminal_at, kept_at, open_path}
 use Rattle.io_rules.specs.Waiting.{pid}
 use Rattle.io_rules.specs.declared.io_call.Direction.TheVariants.{Writing}
-use Rattle.io_machine.specs.State.{State}
-use Rattle.io_isolation.specs.Others.{AttemptsCall}
+use Rattle.machine_model.specs.State.{State}
+use Rattle.isolation_laws.specs.Others.{AttemptsCall}
 
 -- F$Fork makes a process, and gives it the standard paths of its parent
 pub record IsGivenPaths (s : State) (p q : ℕ) (numbers : List (Option SysPath)) : Type 0 where

@@ -23,9 +23,9 @@ use Rattle.io_rules.specs.Terminals.{ReadsTerminal, WritesTerminal, request_of, 
 use Rattle.io_rules.specs.Waiting.{pid}
 use Rattle.io_rules.specs.declared.io_call.Direction.TheVariants.{Writing}
 use Rattle.io_rules.specs.declared.io_call.IoCall.{IoCall}
-use Rattle.io_isolation.specs.InputOutput.{KeepsReading}
-use Rattle.io_isolation.proofs.StepWalk.{StepGives, Walk, step-gives}
-use Rattle.io_isolation.proofs.PathsKept.{PathsLeft, left-same, left-begin, left-dup, IoLeft, io-same, io-then, io-paths, io-pipes, io-closed, reading-set}
+use Rattle.isolation_laws.specs.InputOutput.{KeepsReading}
+use Rattle.isolation_laws.proofs.StepWalk.{StepGives, Walk, step-gives}
+use Rattle.isolation_laws.proofs.PathsKept.{PathsLeft, left-same, left-begin, left-dup, IoLeft, io-same, io-then, io-paths, io-pipes, io-closed, reading-set}
 
 -- ---- what an attempt does
 

@@ -37,14 +37,14 @@ use Rattle.io_rules.specs.Processes.{io_started}
 use Rattle.io_rules.specs.Waiting.{pid}
 use Rattle.io_rules.specs.declared.io_call.Direction.TheVariants.{Writing}
 use Rattle.io_rules.specs.declared.io_call.IoCall.{IoCall}
-use Rattle.io_machine.specs.declared.ends.EventEnd.{EventEnd}
-use Rattle.io_machine.specs.Event.{Acts, Event, before_delivery, io_after_call, io_after_delivery, io_after_instruction, next_instruction}
-use Rattle.io_machine.specs.State.{State}
-use Rattle.io_isolation.specs.InputOutput.{FailsInWrite, IsGivenPaths, KeepsReading, LeavesIo}
-use Rattle.io_isolation.specs.Others.{AttemptsCall}
-use Rattle.io_isolation.proofs.IoKept.{EffectLeft, FailsOn, does-left, step-left}
-use Rattle.io_isolation.proofs.OthersKept.{free-is, living-record, living-within, record-put}
-use Rattle.io_isolation.proofs.PathsKept.{IoLeft, PathsLeft, io-ended, io-interrupted, io-same, left-numbers}
+use Rattle.machine_model.specs.declared.ends.EventEnd.{EventEnd}
+use Rattle.machine_model.specs.Event.{Acts, Event, before_delivery, io_after_call, io_after_delivery, io_after_instruction, next_instruction}
+use Rattle.machine_model.specs.State.{State}
+use Rattle.isolation_laws.specs.InputOutput.{FailsInWrite, IsGivenPaths, KeepsReading, LeavesIo}
+use Rattle.isolation_laws.specs.Others.{AttemptsCall}
+use Rattle.isolation_laws.proofs.IoKept.{EffectLeft, FailsOn, does-left, step-left}
+use Rattle.isolation_laws.proofs.OthersKept.{free-is, living-record, living-within, record-put}
+use Rattle.isolation_laws.proofs.PathsKept.{IoLeft, PathsLeft, io-ended, io-interrupted, io-same, left-numbers}
 
 -- ---- open paths
 

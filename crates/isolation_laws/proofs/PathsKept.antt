@@ -22,7 +22,7 @@ use Rattle.io_rules.specs.Close.{after_close, without_path, without_target}
 use Rattle.io_rules.specs.Io.{Io, terminal_at, kept_at, with_call, with_paths, with_pipes, with_terminal}
 use Rattle.io_rules.specs.Processes.{closed_below, closed_if_open, io_ended, without_user}
 use Rattle.io_rules.specs.Waiting.{io_interrupted, pid, wait_target, without_unfinished}
-use Rattle.io_isolation.specs.InputOutput.{KeepsReading}
+use Rattle.isolation_laws.specs.InputOutput.{KeepsReading}
 
 -- ---- paths
 

@@ -1,6 +1,0 @@
-use Rattle.io_isolation.proofs.IoEvents.{io-event-leaves}
-use Rattle.io_isolation.proofs.EventsKept.{event-leaves, instruction-same}
-use Rattle.io_isolation.proofs.isolation.an_event_leaves_what_it_does_not_name.Goals as goal
-
-pub returns : goal.returns
-returns c = record { event = event-leaves; io = io-event-leaves; instruction = instruction-same }

@@ -1,6 +1,0 @@
-//! The abstract machine: its states, one event of it, a slice, a whole run and the start.
-#![tactic(auto)]
-
-pub mod ends;
-pub mod run;
-pub mod start;

@@ -1,4 +1,0 @@
-pub mod Appearing
-pub mod Beginning
-pub mod OwnKept
-pub mod OwnRows
