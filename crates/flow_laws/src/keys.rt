@@ -13,9 +13,9 @@ ghost use Rattle.flow_laws.specs.Keys.{EventKeys, HasAhead, KeyMove, KeysArrive,
 
 /// The keys of a terminal arrive in ticks, in order, and go into the type-ahead, but for those that
 /// send a signal or find it full. Only a read whose path was opened on the terminal takes keys out
-/// of it, from its front, while no other process's read is unfinished, and they make its line. It is
-/// dropped where the read is broken off. So over a slice and a run each key that came into the
-/// type-ahead is used by one read, in order, or still stands there.
+/// of it, from its front, while no other process's read is unfinished, and they make its line, or it
+/// is dropped. Over a slice and a run the keys that came into the type-ahead are, in order, those
+/// that some steps of the machine used and those that stand there still.
 pub fn each_key_is_used_once()
     ensures start { (file : List ℕ) (blocks drives : ℕ) (terms : List TerminalState) (s : State)
         (n : ℕ) → Starts file blocks drives terms s → n < 4 → HasAhead n s }

@@ -12,9 +12,9 @@ ghost use Rattle.flow_laws.specs.Flow.{AllLive, Passes, PassesThrough};
 /// While a pipe lives, an event moves bytes into it or out of it only as an attempt of a call on it
 /// does: a read takes them from its front and stores them where its process sees them, and a write
 /// puts them in at its end, which are the next ones of those that its process sends. A call that is
-/// done answers how many they were. So over a slice and a run in which the pipe lives, what the
-/// readers got, one after another, is a front of what it held and the writers put in, and the rest is
-/// what it holds.
+/// done answers how many they were. So over a slice and a run in which the pipe lives from the
+/// beginning on, what the readers got, one after another, is a front of what it held and the writers
+/// put in, and the rest is what it holds.
 pub fn what_is_read_of_a_pipe_is_what_was_written()
     ensures event { (s t : State) (end : EventEnd) (n : ℕ) → Event s end t → IsPipe s.io.pipes n
         → IsPipe t.io.pipes n → Passes n s t }

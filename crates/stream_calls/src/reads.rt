@@ -38,8 +38,9 @@ use pipe_calls::reads::{read_pipe, read_pipe_line};
 use proc_state::state::ProcState;
 
 /// I$Read: reads bytes (System Programmer's Manual, I$Read). Takes the path in A, the address of the
-/// buffer in X and its most bytes in Y; answers the count in Y. A read of a terminal or a pipe waits
-/// until a byte is there. Registers and bytes stay where it is refused or waits.
+/// buffer in X and its most bytes in Y; answers the count in Y. A read of a pipe waits until a
+/// byte is there, one of a terminal until a carriage return or the smaller of Y and 256 bytes were
+/// moved. Registers and bytes stay where it is refused or waits.
 ///
 /// # Errors
 ///
@@ -70,7 +71,7 @@ pub fn i_read(s: &mut ProcState, io: &mut IoState, devices: &mut Devices, p: Pid
 
 /// I$ReadLn: reads a line (System Programmer's Manual, I$ReadLn). Takes the path in A, the address of
 /// the buffer in X and its most bytes in Y; answers the count in Y, a carriage return counted. It
-/// waits until the line has ended, or has as many bytes as it asks for.
+/// waits on a terminal until a carriage return, on a pipe until that or Y bytes were moved.
 ///
 /// # Errors
 ///
