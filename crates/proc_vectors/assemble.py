@@ -118,15 +118,16 @@ def module(operand, lines):
     kind, attributes = number(kind), number(attributes)
     marked = name[:-1].encode() + bytes([ord(name[-1]) | 0x80])
     header = 13 if kind >> 4 == 1 else 9
-    labels = {}
-    for _ in range(4):  # the short form of an offset from PC is known once the labels are
+    labels, known = {}, None
+    while labels != known:  # the short form of an offset from PC is known once the labels are
+        known = dict(labels)
         body, start = b"", header + len(marked)
         for label, word, rest in lines:
             at = start + len(body)
             if label:
                 labels[label] = at
             if word:
-                body += instruction(word, rest, at, labels)
+                body += instruction(word, rest, at, known)
     size = start + len(body) + 3
     data = bytes([0x87, 0xCD]) + size.to_bytes(2, "big") + header.to_bytes(2, "big") + bytes([kind, attributes])
     parity = 0xFF

@@ -4,23 +4,38 @@ use std::alloc::{AllocError, Global};
 /// The most zero bytes that a row has behind its file of modules.
 const MOST_ZEROS: usize = 65_536;
 
+/// The most times that bytes stand in a field.
+const MOST_TIMES: usize = 1_000_001;
+
+/// A call of a terminal that fails.
+#[derive(Debug, Drop)]
+pub(crate) struct FailingCall {
+    /// 0 of TERM, 1 to 3 of T1 to T3.
+    pub(crate) terminal: u8,
+    /// Its number among the calls of `key` and `put` of that terminal, from 1.
+    pub(crate) call: u64,
+}
+
 /// A command line with its files, and what the program answers to it.
 #[derive(Drop)]
 pub(crate) struct Row {
-    /// The words, separated by single spaces. They name the files `modules` and `slices`.
+    /// The words, separated by single spaces. They name the files `modules`, `slices` and `script`.
     pub(crate) words: String,
     pub(crate) modules: Vec<u8>,
     pub(crate) slices: Vec<u8>,
+    pub(crate) script: Vec<u8>,
     pub(crate) status: u8,
     pub(crate) out: Vec<u8>,
     /// The line on the error stream, without its line feed; none where it is empty.
     pub(crate) err: String,
+    /// The calls of terminals that fail in the run.
+    pub(crate) failing: Vec<FailingCall>,
 }
 
-/// The row of a line: the words, the file of modules in hexadecimal digits, the number of zero bytes
-/// behind it, the slice text and the key script in hexadecimal digits, the status, the bytes written
-/// in hexadecimal digits and the line on the error stream, separated by tabs, with `-` for what is
-/// empty. None where it has other fields, or keys.
+/// The row of a line: the words, the file of modules, the number of zero bytes behind it, the slice
+/// text, the script of keys, the status, the bytes written, the line on the error stream and the
+/// calls of terminals that fail, separated by tabs, with `-` for what is empty. Bytes are hexadecimal
+/// digits (`bytes`). The last field may be missing. None where the line has other fields.
 pub(crate) fn parse(alloc: Global, line: &str) -> Result<Option<Row>, AllocError> {
     let mut fields = line.split('\t');
     let Some(words) = fields.next() else {
@@ -29,7 +44,7 @@ pub(crate) fn parse(alloc: Global, line: &str) -> Result<Option<Row>, AllocError
     let (Some(modules), Some(zeros)) = (fields.next(), fields.next()) else {
         return Ok(None);
     };
-    let (Some(slices), Some("-")) = (fields.next(), fields.next()) else {
+    let (Some(slices), Some(script)) = (fields.next(), fields.next()) else {
         return Ok(None);
     };
     let (Some(status), Some(out), Some(err)) = (fields.next(), fields.next(), fields.next()) else {
@@ -41,7 +56,10 @@ pub(crate) fn parse(alloc: Global, line: &str) -> Result<Option<Row>, AllocError
     let (Some(mut modules), Some(slices)) = (bytes(alloc, modules)?, bytes(alloc, slices)?) else {
         return Ok(None);
     };
-    let Some(out) = bytes(alloc, out)? else {
+    let (Some(script), Some(out)) = (bytes(alloc, script)?, bytes(alloc, out)?) else {
+        return Ok(None);
+    };
+    let Some(failing) = failing_calls(alloc, fields.next().unwrap_or("-"))? else {
         return Ok(None);
     };
     for _ in 0..zeros.min(MOST_ZEROS) {
@@ -51,9 +69,11 @@ pub(crate) fn parse(alloc: Global, line: &str) -> Result<Option<Row>, AllocError
         words: String::from_str(alloc, words)?,
         modules,
         slices,
+        script,
         status,
         out,
         err: String::from_str(alloc, text(err))?,
+        failing,
     }))
 }
 
@@ -62,11 +82,71 @@ fn text(field: &str) -> &str {
     if field == "-" { "" } else { field }
 }
 
-/// The bytes of a field, or None where it is no hexadecimal digits.
+/// The bytes of a field, or None where it is no hexadecimal digits. Its pieces are separated by
+/// commas; a piece `DIGITS*N` is its bytes N times, and no bytes where N is no number.
 fn bytes(alloc: Global, field: &str) -> Result<Option<Vec<u8>>, AllocError> {
-    match decode(alloc, text(field)) {
+    let mut all = Vec::new(alloc);
+    for piece in text(field).split(',') {
+        let (digits, times) = match piece.split_once('*') {
+            Some((digits, times)) => (digits, times.parse::<usize>().unwrap_or(0)),
+            None => (piece, 1),
+        };
+        let Some(decoded) = decoded(alloc, digits)? else {
+            return Ok(None);
+        };
+        push_times(&mut all, decoded.as_slice(), times)?;
+    }
+    Ok(Some(all))
+}
+
+/// The bytes of hexadecimal digits, or None where they are none.
+fn decoded(alloc: Global, digits: &str) -> Result<Option<Vec<u8>>, AllocError> {
+    match decode(alloc, digits) {
         Ok(bytes) => Ok(Some(bytes)),
         Err(FromHexError::OutOfMemory) => Err(AllocError),
         Err(_) => Ok(None),
+    }
+}
+
+/// Puts bytes behind others so many times.
+fn push_times(all: &mut Vec<u8>, bytes: &[u8], times: usize) -> Result<(), AllocError> {
+    for _ in 0..times.min(MOST_TIMES) {
+        all.extend_from_slice(bytes)?;
+    }
+    Ok(())
+}
+
+/// The calls of a field such as `TERM 5,T1 2`, or None where it is no such list.
+fn failing_calls(alloc: Global, field: &str) -> Result<Option<Vec<FailingCall>>, AllocError> {
+    let mut calls = Vec::new(alloc);
+    if text(field).is_empty() {
+        return Ok(Some(calls));
+    }
+    for words in field.split(',') {
+        let Some(call) = failing_call(words) else {
+            return Ok(None);
+        };
+        calls.push(call)?;
+    }
+    Ok(Some(calls))
+}
+
+/// The call of words such as `TERM 5`.
+fn failing_call(words: &str) -> Option<FailingCall> {
+    let (name, number) = words.split_once(' ')?;
+    Some(FailingCall {
+        terminal: terminal(name)?,
+        call: number.parse::<u64>().ok()?,
+    })
+}
+
+/// The number of the terminal of a name.
+fn terminal(name: &str) -> Option<u8> {
+    match name {
+        "TERM" => Some(0),
+        "T1" => Some(1),
+        "T2" => Some(2),
+        "T3" => Some(3),
+        _ => None,
     }
 }

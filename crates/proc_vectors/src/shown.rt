@@ -1,14 +1,21 @@
-ghost use Rattle.std.specs.Prelude.{◌≡◌, true, bytes_eq};
+ghost use Rattle.std.specs.Prelude.{◌≡◌, true, bytes_eq, [], IfOk};
 ghost use Rattle.std.specs.Bool.{OnTrue};
+ghost use Rattle.key_loading.specs.Loaded.{AreUnloaded};
+ghost use Rattle.os9_outer.specs.TerminalState.{terminal_states};
 
 use crate::row::Row;
 use device_table::devices::Devices;
 use os9_boot::os9_main;
+use os9_outer::drive::BlockDriver;
 use os9_outer::host_file::HostFile;
 use os9_outer::mem_host::MemHost;
-use os9_outer::sure_tty::SureTty;
+use os9_outer::script_tty::ScriptTty;
+use os9_outer::sure_drive::SureDrive;
 use os9_outer::terminal::CharDriver;
 use std::alloc::{AllocError, Global};
+
+/// D0 to D3.
+const DRIVES: u8 = 4;
 
 /// What a run shows.
 #[derive(Drop)]
@@ -37,16 +44,12 @@ pub(crate) fn run(alloc: Global, row: &Row) -> Result<Shown, AllocError> {
     let mut files = Vec::new(alloc);
     files.push(file(alloc, "modules", row.modules.as_slice())?)?;
     files.push(file(alloc, "slices", row.slices.as_slice())?)?;
+    files.push(file(alloc, "script", row.script.as_slice())?)?;
     let mut words = Vec::new(alloc);
     for word in row.words.as_str().split(' ') {
         words.push(String::from_str(alloc, word)?)?;
     }
-    let mut terms: Vec<Box<dyn CharDriver>> = Vec::new(alloc);
-    terms.push(Box::new(alloc, SureTty::new(alloc))?)?;
-    let mut devices = Devices {
-        drives: Vec::new(alloc),
-        terms,
-    };
+    let mut devices = devices(alloc, row)?;
     let mut host = MemHost::new(alloc, files, Vec::new(alloc));
     let status = os9_main(alloc, words.as_slice(), &mut host, &mut devices);
     Ok(Shown {
@@ -54,6 +57,41 @@ pub(crate) fn run(alloc: Global, row: &Row) -> Result<Shown, AllocError> {
         out: Vec::from_slice(alloc, host.out_bytes.as_slice())?,
         err: Vec::from_slice(alloc, host.err_bytes.as_slice())?,
     })
+}
+
+/// The drives, which have no image, and the terminals.
+fn devices(alloc: Global, row: &Row) -> Result<Devices, AllocError>
+    ensures unloaded { IfOk result (λ devices. AreUnloaded
+        (terminal_states ⟦<dyn CharDriver as CharDriver>⟧ devices.terms.items)) }
+{
+    let mut drives: Vec<Box<dyn BlockDriver>> = Vec::new(alloc);
+    for _ in 0..DRIVES {
+        drives.push(Box::new(alloc, SureDrive::new())?)?;
+    }
+    let mut terms: Vec<Box<dyn CharDriver>> = Vec::new(alloc);
+    terms.push(Box::new(alloc, terminal(alloc, row, 0)?)?)?;
+    terms.push(Box::new(alloc, terminal(alloc, row, 1)?)?)?;
+    terms.push(Box::new(alloc, terminal(alloc, row, 2)?)?)?;
+    terms.push(Box::new(alloc, terminal(alloc, row, 3)?)?)?;
+    Ok(Devices { drives, terms })
+}
+
+/// The terminal of a number, whose calls fail as the row says.
+fn terminal(alloc: Global, row: &Row, number: u8) -> Result<ScriptTty, AllocError>
+    ensures no_keys { IfOk result (λ tty. ⟦<ScriptTty as CharDriver>⟧.keys_left tty ≡ []) }
+{
+    Ok(ScriptTty::new(alloc, plan(alloc, row, number)?))
+}
+
+/// The calls of a terminal that fail.
+fn plan(alloc: Global, row: &Row, terminal: u8) -> Result<Vec<u64>, AllocError> {
+    let mut calls = Vec::new(alloc);
+    for failing in row.failing.as_slice() {
+        if failing.terminal == terminal {
+            calls.push(failing.call)?;
+        }
+    }
+    Ok(calls)
 }
 
 fn file(alloc: Global, name: &str, bytes: &[u8]) -> Result<HostFile, AllocError> {
