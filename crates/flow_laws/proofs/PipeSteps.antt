@@ -253,7 +253,7 @@ module _ (call : IoCall) (caller : Caller) (io : Io) (n : ℕ) where
       bytes = [];
       front = front-is Ans.End;
       seen = inl refl;
-      counts = tt;
+      counts = refl;
     }
     read-takes way at regs Ans.NoReader few = record {
       way = way;
@@ -261,7 +261,7 @@ module _ (call : IoCall) (caller : Caller) (io : Io) (n : ℕ) where
       bytes = [];
       front = front-is Ans.NoReader;
       seen = inl refl;
-      counts = tt;
+      counts = refl;
     }
 
     line-takes : direction_of_call call ≡ Some Reading → stored_from call caller.regs (moved_before io caller.process.0) ≡ caller.regs.x + now.moved → ((count : ℕ) → read_answers call caller io count ≡ count_regs caller (moved_before io caller.process.0 + count)) → (alone : Bool) (answer : PipeAns) → moved_count answer ≤ length (pipe_bytes io n) → Takes call caller io n (read_line_leaves caller io n now alone answer)
@@ -296,7 +296,7 @@ module _ (call : IoCall) (caller : Caller) (io : Io) (n : ℕ) where
     }
       where
         over : (none : Bool) → ReadCounts call caller io 0 (if none then fails E_EOF else answers (count_regs caller now.moved))
-        over true = tt
+        over true = refl
         over false = ap (count_regs caller) none-more ∙ sym (regs 0)
     line-takes way at regs alone Ans.NoReader few = record {
       way = way;
@@ -304,7 +304,7 @@ module _ (call : IoCall) (caller : Caller) (io : Io) (n : ℕ) where
       bytes = [];
       front = front-is Ans.NoReader;
       seen = inl refl;
-      counts = tt;
+      counts = refl;
     }
 
     module _ (way : direction_of_call call ≡ Some Writing) (sent : List ℕ) (sends : sent_by call caller io ≡ Some sent) (regs : Regs) (answered : regs ≡ write_answers call caller (length sent)) (all : now.count ≡ in_all io caller.process.0 (length sent)) where

@@ -1,5 +1,5 @@
 -- What events move through a pipe (Level Two manual, "Pipes").
-use Rattle.std.specs.Prelude.{◌≡◌, ◌⊎◌, ℕ, ◌+◌, ⊤, Option, Some, None, List, [], ◌++◌, length, map, take, drop}
+use Rattle.std.specs.Prelude.{◌≡◌, ◌⊎◌, ℕ, ◌+◌, ⊤, Option, Some, None, List, [], ◌∷◌, ◌++◌, length, map, take, drop}
 use Rattle.std.specs.List.{AllByRecursion, filter_map, flat_map}
 use Rattle.std.specs.Option.{option_map_or}
 use Rattle.os9_base.specs.declared.registers.Regs.{Regs}
@@ -65,11 +65,11 @@ abbrev pub write_answers : IoCall → Caller → ℕ → Regs
 write_answers Call.PErr caller count = caller.regs
 write_answers call caller count = count_regs caller count
 
--- a read that took so many bytes ends so: where it waits it has moved so many more, and where it is done it answers
--- them
+-- a read that took so many bytes ends so: where it waits it has moved so many more, where it is done it answers them,
+-- and where it is refused it took none
 abbrev pub ReadCounts : IoCall → Caller → Io → ℕ → IoEnd → Type 0
 ReadCounts call caller io count (answers regs) = regs ≡ read_answers call caller io count
-ReadCounts call caller io count (fails number) = ⊤
+ReadCounts call caller io count (fails number) = count ≡ 0
 ReadCounts call caller io count (keeps kept) = kept.moved ≡ moved_before io caller.process.0 + count
 
 -- a write that sends these bytes and put in so many ends so: where it waits it has moved so many more, and where it is
@@ -133,6 +133,20 @@ IsPassing n it = (end : EventEnd) × Event it.before end it.after × MovesThroug
 
 -- ---- runs
 
+-- What a run leaves from one event to the next: ticks, choices and the host, who takes what terminals were given, leave
+-- pipes, paths, the calls that wait, memory and registers.
+pub record Rests (m s : State) : Type 0 where
+  pub pipes : s.io.pipes ≡ m.io.pipes
+  pub paths : s.io.paths ≡ m.io.paths
+  pub calls : s.io.calls ≡ m.io.calls
+  pub memory : s.inner.memory ≡ m.inner.memory
+  pub regs : (p : ℕ) → regs_at s.inner p ≡ regs_at m.inner p
+
+-- each of these events begins where the one before it ended, the first one in s, and t is where the last one ended
+abbrev pub Linked : State → List Passing → State → Type 0
+Linked s [] t = Rests s t
+Linked s (it ∷ events) t = Rests s it.before × Linked it.after events t
+
 -- the pipe lives in each of these states
 abbrev pub AllLive : ℕ → List State → Type 0
 AllLive n states = AllByRecursion (λ (s : State). IsPipe s.io.pipes n) states
@@ -146,6 +160,7 @@ moved_by events = filter_map (λ it. it.moved) events
 pub record PassesThrough (n : ℕ) (s : State) (states : List State) (t : State) : Type 0 where
   pub events : List Passing
   pub through : map (λ it. it.after) events ≡ states
+  pub linked : Linked s events t
   pub each : AllByRecursion (IsPassing n) events
   pub flow : Flows (moved_by events) (pipe_bytes s.io n) (pipe_bytes t.io n)
   pub in_order : pipe_bytes s.io n ++ flat_map came_in (moved_by events)

@@ -1,20 +1,18 @@
 //! Pipes over a run: what is read is what was written, in order.
 
-ghost use Rattle.std.specs.Prelude.{ℕ, List};
+ghost use Rattle.std.specs.Prelude.{ℕ, List, ◌++◌};
 ghost use Rattle.io_model.specs.Pipe.{IsPipe};
 ghost use Rattle.machine_model.specs.declared.ends.EventEnd.{EventEnd};
 ghost use Rattle.machine_model.specs.declared.ends.SliceEnd.{SliceEnd};
 ghost use Rattle.machine_model.specs.Event.{Event};
-ghost use Rattle.machine_model.specs.Run.{Run, Slice};
+ghost use Rattle.machine_model.specs.Run.{BeginsSlice, FirstSteps, Run, Slice, Steps};
 ghost use Rattle.machine_model.specs.State.{State};
 ghost use Rattle.flow_laws.specs.Flow.{AllLive, Passes, PassesThrough};
 
 /// While a pipe lives, an event moves bytes into it or out of it only as an attempt of a call on it
 /// does: a read takes them from its front and stores them where its process sees them, and a write
 /// puts them in at its end, which are the next ones of those that its process sends. A call that is
-/// done answers how many they were. So over a slice and a run in which the pipe lives from the
-/// beginning on, what the readers got, one after another, is a front of what it held and the writers
-/// put in, and the rest is what it holds.
+/// done answers how many they were, and a read that is refused took none.
 pub fn what_is_read_of_a_pipe_is_what_was_written()
     ensures event { (s t : State) (end : EventEnd) (n : ℕ) → Event s end t → IsPipe s.io.pipes n
         → IsPipe t.io.pipes n → Passes n s t }
@@ -24,4 +22,22 @@ pub fn what_is_read_of_a_pipe_is_what_was_written()
     ensures run { (slices written : List ℕ) (s t : State) (states : List State) (n : ℕ)
         → Run slices s states written t → IsPipe s.io.pipes n → AllLive n states
         → PassesThrough n s states t }
+{}
+
+/// A pipe may be opened by an event of a slice, and go with another one. So what passes through it
+/// passes from any state in which it lives: over the rest of a slice, over the first events of
+/// such a rest or of a slice, and over parts of a run that follow one another.
+pub fn a_pipe_passes_bytes_as_long_as_it_lives()
+    ensures rest { (left : ℕ) (s t : State) (states : List State) (n : ℕ)
+        → Steps left s states t → IsPipe s.io.pipes n → AllLive n states
+        → PassesThrough n s states t }
+    ensures first { (left : ℕ) (s t : State) (states : List State) (n : ℕ)
+        → FirstSteps left s states t → IsPipe s.io.pipes n → AllLive n states
+        → PassesThrough n s states t }
+    ensures begun { (size : ℕ) (s t : State) (states : List State) (n : ℕ)
+        → BeginsSlice size s states t → IsPipe s.io.pipes n → AllLive n states
+        → PassesThrough n s states t }
+    ensures parts { (n : ℕ) (s m t : State) (first later : List State)
+        → PassesThrough n s first m → PassesThrough n m later t
+        → PassesThrough n s (first ++ later) t }
 {}
