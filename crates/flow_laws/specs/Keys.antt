@@ -1,5 +1,5 @@
 -- What becomes of the keys of a terminal (Level Two manual, SCF).
-use Rattle.std.specs.Prelude.{◌≡◌, ◌⊎◌, ℕ, ◌-◌, ◌<◌, ◌≤◌, min, false, Option, Some, None, List, [], ◌++◌, length, slice_get, take}
+use Rattle.std.specs.Prelude.{◌≡◌, ◌⊎◌, ℕ, ◌-◌, ◌<◌, ◌≤◌, min, false, Option, Some, None, List, [], ◌∷◌, ◌++◌, length, slice_get, take}
 use Rattle.std.specs.List.{AllByRecursion, filter_map, flat_map}
 use Rattle.std.specs.Option.{option_map_or}
 use Rattle.os9_base.specs.declared.registers.Regs.{Regs}
@@ -130,11 +130,31 @@ through_ahead n s stay = None
 abbrev pub ahead_moves : ℕ → List KeyStep → List Movement
 ahead_moves n steps = filter_map (λ it. through_ahead n it.before it.move) steps
 
--- What becomes of the keys of a terminal from one state to another: those that arrive are the next ones that were to
--- come; all that reads use, one after another, is the front of the type-ahead and of what has come into it, and the
--- rest is what it has.
-pub record KeysPass (n : ℕ) (s t : State) : Type 0 where
+-- What a run leaves from one step to the next: a choice, and the host, who takes what terminals were given, leave the
+-- kernel's input and output, the keys to come, and all of the processes but the order of choice.
+pub record Stands (m s : State) : Type 0 where
+  pub io : s.io ≡ m.io
+  pub come : (n : ℕ) → keys_to_come s n ≡ keys_to_come m n
+  pub inner : s.inner ≡ record m.inner { order = s.inner.order }
+
+-- each of these steps begins where the one before it ended, the first one in s, and t is where the last one ended
+abbrev pub FollowOn : State → List KeyStep → State → Type 0
+FollowOn s [] t = Stands s t
+FollowOn s (it ∷ steps) t = Stands s it.before × FollowOn it.after steps t
+
+-- the state after a step, if that is an event
+abbrev pub after_event : KeyMove → State → Option State
+after_event (arrive keys) after = None
+after_event (use_up keys) after = Some after
+after_event stay after = Some after
+
+-- What becomes of the keys of a terminal from one state to another, by ticks and the events that lead through these:
+-- those that arrive are the next ones that were to come; all that reads use, one after another, is the front of the
+-- type-ahead and of what has come into it, and the rest is what it has.
+pub record KeysPass (n : ℕ) (s : State) (states : List State) (t : State) : Type 0 where
   pub steps : List KeyStep
+  pub through : filter_map (λ it. after_event it.move it.after) steps ≡ states
+  pub linked : FollowOn s steps t
   pub each : AllByRecursion (IsKeyStep n) steps
   pub come : keys_to_come s n ≡ flat_map (λ it. arrived_by it.move) steps ++ keys_to_come t n
   pub flow : Flows (ahead_moves n steps) (ahead_at s n) (ahead_at t n)

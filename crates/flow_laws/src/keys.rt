@@ -15,7 +15,7 @@ ghost use Rattle.flow_laws.specs.Keys.{EventKeys, HasAhead, KeyMove, KeysArrive,
 /// send a signal or find it full. Only a read whose path was opened on the terminal takes keys out
 /// of it, from its front, while no other process's read is unfinished, and they make its line, or it
 /// is dropped. Over a slice and a run the keys that came into the type-ahead are, in order, those
-/// that some steps of the machine used and those that stand there still.
+/// that its events used and those that stand there still.
 pub fn each_key_is_used_once()
     ensures start { (file : List ℕ) (blocks drives : ℕ) (terms : List TerminalState) (s : State)
         (n : ℕ) → Starts file blocks drives terms s → n < 4 → HasAhead n s }
@@ -24,7 +24,8 @@ pub fn each_key_is_used_once()
     ensures tick { (s t : State) (n : ℕ) → Tick s t → HasAhead n s
         → (keys : List Key) × KeysArrive n s keys t × HasAhead n t }
     ensures slice { (size : ℕ) (s t : State) (states : List State) (end : SliceEnd) (n : ℕ)
-        → Slice size s states end t → HasAhead n s → KeysPass n s t × HasAhead n t }
+        → Slice size s states end t → HasAhead n s → KeysPass n s states t × HasAhead n t }
     ensures run { (slices written : List ℕ) (s t : State) (states : List State) (n : ℕ)
-        → Run slices s states written t → HasAhead n s → KeysPass n s t × HasAhead n t }
+        → Run slices s states written t → HasAhead n s
+        → KeysPass n s states t × HasAhead n t }
 {}
