@@ -1,16 +1,17 @@
 -- What becomes of the keys of a terminal in a tick, and in an event.
 use Rattle.std.proofs.Common.{◌≡◌, ◌≢◌, ◌⊎◌, ℕ, zero, suc, ◌+◌, ◌<◌, ◌≤◌, ◌==◌, Bool, true, false, Option, Some, None, Result, Ok, Err, List, [], ◌∷◌, ◌++◌, length, slice_get, slice_set, refl, sym, ap, ◌∙◌, subst, inl, inr, arith, append_assoc}
-use Rattle.std.specs.Prelude.{MatchBool, MatchOption, slice_index_or, if◌then◌else◌}
+use Rattle.std.specs.Prelude.{MatchOption, slice_index_or, if◌then◌else◌}
 use Rattle.std.specs.Option.{option_map_or}
-use Rattle.std.proofs.lemmas.Bool.{cases_eq, cases_lt}
+use Rattle.std.proofs.lemmas.Bool.{cases_eq, cases_lt, eqb-true}
 use Rattle.std.proofs.lemmas.List.{get_or-set_same, get_or-set_other, get_or_past, get_or-map, length-append, length-map, length-set}
 use Rattle.std.proofs.lemmas.Option.{none-some, same_Some}
 use Rattle.os9_base.specs.declared.calls.TheConstants.{F_FORK}
-use Rattle.os9_base.specs.declared.errors.TheConstants.{E_UNKSVC}
+use Rattle.os9_base.specs.declared.errors.TheConstants.{E_EOF, E_UNKSVC, E_WRITE}
 use Rattle.os9_base.specs.declared.registers.Pid.{Pid}
 use Rattle.os9_outer.specs.TerminalState.{TerminalState, ChangesOneTerminal}
 use Rattle.os9_outer.specs.declared.terminal.Key.{Key}
 use Rattle.cpu_model.specs.Step.{Outcome, Done, Calls, Aborts}
+use Rattle.proc_model.specs.MemoryChanges.{stored}
 use Rattle.call_rules.specs.declared.proc_call.ProcCall.{ProcCall}
 use Rattle.call_rules.specs.Attempts.{after_attempt, attempted}
 use Rattle.call_rules.specs.CallResult.{CallResult, done, waits, ends}
@@ -18,10 +19,10 @@ use Rattle.call_rules.specs.Codes.{call_of}
 use Rattle.call_rules.specs.Delivery.{delivered}
 use Rattle.call_rules.specs.Inner.{Inner, regs_at}
 use Rattle.call_rules.specs.Ready.{Act, attempts, delivers, executes, act_of}
-use Rattle.io_model.specs.Edit.{Edited, Editing, Typing, after_key, cleared, goes_on, typing}
+use Rattle.io_model.specs.Edit.{Edited, Editing, Typing, after_key, cleared, goes_on, typing, used_up}
 use Rattle.io_model.proofs.EditLemmas.{typing-append, uses-front}
 use Rattle.io_model.specs.Path.{closed_desc, paths_after_close, slot_of}
-use Rattle.io_model.specs.Terminal.{Terminal, Attempted, BreaksOff, Reads, Writes, attempt_by, forgotten, is_process, is_refused, is_taken, key_effect, kept_waiting, new_terminal, read_attempt, reader, released, typed, typed_attempt, without_reading}
+use Rattle.io_model.specs.Terminal.{Terminal, Attempted, BreaksOff, Reads, Writes, attempt_by, forgotten, is_process, is_taken, key_effect, kept_waiting, new_terminal, read_attempt, reader, released, stored_bytes, typed, typed_attempt, without_reading}
 use Rattle.io_model.specs.declared.edit.LineEnd.{LineEnd}
 use Rattle.io_model.specs.declared.edit.LineEnd.TheVariants.{EndOfFile, Line}
 use Rattle.io_model.specs.declared.path.Desc.{Desc}
@@ -32,68 +33,111 @@ use Rattle.io_model.specs.declared.path.TheConstants.{PROCESS_PATHS}
 use Rattle.io_model.specs.declared.terminal.Progress.{Progress}
 use Rattle.io_model.specs.declared.terminal.ReadKind.{ReadKind}
 use Rattle.io_model.specs.declared.terminal.Reading.{Reading}
-use Rattle.io_rules.specs.Attempts.{Does, IoAttempts, caller_of, step_of}
+use Rattle.io_rules.specs.Attempts.{Does, IoAttempts, caller_of, result_by, step_of}
 use Rattle.io_rules.specs.Close.{after_close, without_path, without_target}
-use Rattle.io_rules.specs.Codes.{io_call_of}
+use Rattle.io_rules.specs.Codes.{direction_of_call, io_call_of}
 use Rattle.io_rules.specs.Io.{Io, OpenPath, open_path, terminal_at, with_paths, with_terminal}
+use Rattle.io_rules.specs.Pipes.{count_regs}
 use Rattle.io_rules.specs.Processes.{closed_below, closed_if_open, io_ended, io_started, without_user}
-use Rattle.io_rules.specs.Step.{Caller, IoEffect, IoEnd, IoStep, refused, comes, reads, writes, TerminalRead, TerminalWrite}
-use Rattle.io_rules.specs.Terminals.{ReadsTerminal, request_of, write_ends}
+use Rattle.io_rules.specs.Step.{Caller, IoEffect, IoEnd, IoStep, answers, fails, keeps, refused, comes, reads, writes, TerminalRead, TerminalWrite}
+use Rattle.io_rules.specs.Terminals.{ReadsTerminal, read_ends, read_leaves, request_of, write_ends}
 use Rattle.io_rules.specs.Waiting.{io_interrupted, pid, wait_target, without_unfinished}
+use Rattle.io_rules.specs.declared.io_call.Direction.TheVariants.{Writing}
 use Rattle.io_rules.specs.declared.io_call.IoCall.{IoCall}
 use Rattle.machine_model.specs.declared.ends.EventEnd.{EventEnd}
-use Rattle.machine_model.specs.Event.{Acts, Event, before_delivery, io_after_call, io_after_delivery, io_after_instruction, next_instruction}
+use Rattle.machine_model.specs.declared.ends.EventEnd.TheVariants.{Ended}
+use Rattle.machine_model.specs.Event.{Acts, Event, before_delivery, call_event_end, delivery_end, instruction_end, io_after_call, io_after_delivery, io_after_instruction, next_instruction}
 use Rattle.machine_model.specs.State.{State}
 use Rattle.isolation_laws.proofs.StepWalk.{StepGives, step-gives}
-use Rattle.flow_laws.specs.Keys.{EventKeys, HasAhead, KeyMove, ahead_at, keys_to_come, read_call, reading_of, stay, use_up}
+use Rattle.flow_laws.specs.Flow.{EndsIn}
+use Rattle.flow_laws.specs.Keys.{DropsLine, EventKeys, HasAhead, KeyMove, LineGoes, LineStays, ReadEnds, ReaderStops, WriteFails, ahead_at, keys_to_come, read_call, reading_of, stay, use_up}
 use Rattle.flow_laws.proofs.KeyReads.{IsReadOn, StepReads, step-reads}
+use Rattle.flow_laws.proofs.KeyWrites.{OnTerminal, StepWrites, step-writes}
 
 -- ---- one terminal of many
 
--- the type-ahead stays, and the terminals are as many
-record AheadLeft (n : ℕ) (old new : Io) : Type 0 where
-  pub ahead : (terminal_at new n).ahead ≡ (terminal_at old n).ahead
+-- the type-ahead stays, and the line too, or it is dropped for a cause
+record TermLeft (Cause : Type 0) (old new : Terminal) : Type 0 where
+  pub ahead : new.ahead ≡ old.ahead
+  pub line : LineStays old new ⊎ Cause × LineGoes old.line new
+
+term-same : (Cause : Type 0) (old new : Terminal) → new ≡ old → TermLeft Cause old new
+term-same Cause old new is = record {
+  ahead = ap (λ (t : Terminal). t.ahead) is;
+  line = inl (record { line = ap (λ (t : Terminal). t.line) is; reading = ap (λ (t : Terminal). t.reading) is });
+}
+
+term-for : (A B : Type 0) (old new : Terminal) → (A → B) → TermLeft A old new → TermLeft B old new
+term-for A B old new causes it = record { ahead = it.ahead; line = by_line it.line }
+  where
+    by_line : LineStays old new ⊎ A × LineGoes old.line new → LineStays old new ⊎ B × LineGoes old.line new
+    by_line (inl stays) = inl stays
+    by_line (inr (cause, goes)) = inr (causes cause, goes)
+
+-- and the terminals are as many
+record AheadLeft (Cause : Type 0) (n : ℕ) (old new : Io) : Type 0 where
+  pub terminal : TermLeft Cause (terminal_at old n) (terminal_at new n)
   pub places : length new.terminals ≡ length old.terminals
 
-left-same : (n : ℕ) (old new : Io) → new.terminals ≡ old.terminals → AheadLeft n old new
-left-same n old new same =
-    record { ahead = ap (λ (terminals : List Terminal). (slice_index_or terminals n new_terminal).ahead) same; places = ap (length {A = Terminal}) same }
+left-same : (Cause : Type 0) (n : ℕ) (old new : Io) → new.terminals ≡ old.terminals → AheadLeft Cause n old new
+left-same Cause n old new same = record {
+  terminal =
+      term-same Cause (terminal_at old n) (terminal_at new n) (ap (λ (terminals : List Terminal). slice_index_or terminals n new_terminal) same);
+  places = ap (length {A = Terminal}) same;
+}
 
-left-then : (n : ℕ) (a b c : Io) → AheadLeft n a b → AheadLeft n b c → AheadLeft n a c
-left-then n a b c one two = record { ahead = two.ahead ∙ one.ahead; places = two.places ∙ one.places }
+left-for : (A B : Type 0) (n : ℕ) (old new : Io) → (A → B) → AheadLeft A n old new → AheadLeft B n old new
+left-for A B n old new causes it =
+    record { terminal = term-for A B (terminal_at old n) (terminal_at new n) causes it.terminal; places = it.places }
 
-left-set : (n : ℕ) (io : Io) (m : ℕ) (terminal : Terminal) → terminal.ahead ≡ (terminal_at io m).ahead → AheadLeft n io (with_terminal io m terminal)
-left-set n io m terminal same =
-    record { ahead = by_place (cases_eq n m); places = length-set io.terminals m terminal }
+left-set : (Cause : ℕ → Type 0) (n : ℕ) (io : Io) (m : ℕ) (terminal : Terminal) → TermLeft (Cause m) (terminal_at io m) terminal → AheadLeft (Cause n) n io (with_terminal io m terminal)
+left-set Cause n io m terminal it =
+    record { terminal = by_place (cases_eq n m); places = length-set io.terminals m terminal }
   where
-    at_it : (terminal_at (with_terminal io m terminal) m).ahead ≡ (terminal_at io m).ahead
+    at_it : TermLeft (Cause m) (terminal_at io m) (terminal_at (with_terminal io m terminal) m)
     at_it =
         elim (cases_lt m (length io.terminals)) [
-          | inl within ↦ ap (λ (t : Terminal). t.ahead) (get_or-set_same io.terminals m terminal new_terminal within) ∙ same
-          | inr past ↦ ap (λ (t : Terminal). t.ahead) (get_or_past (with_terminal io m terminal).terminals m new_terminal (rw length-set past) ∙ sym (get_or_past io.terminals m new_terminal past))
+          | inl within ↦ subst (TermLeft (Cause m) (terminal_at io m)) (sym (get_or-set_same io.terminals m terminal new_terminal within)) it
+          | inr past ↦ term-same (Cause m) (terminal_at io m) (terminal_at (with_terminal io m terminal) m) (get_or_past (with_terminal io m terminal).terminals m new_terminal (rw length-set past) ∙ sym (get_or_past io.terminals m new_terminal past))
         ]
 
-    by_place : (n ≡ m) ⊎ (n ≢ m) → (terminal_at (with_terminal io m terminal) n).ahead ≡ (terminal_at io n).ahead
+    by_place : (n ≡ m) ⊎ (n ≢ m) → TermLeft (Cause n) (terminal_at io n) (terminal_at (with_terminal io m terminal) n)
     by_place (inl is) =
-        subst (λ (n : ℕ). (terminal_at (with_terminal io m terminal) n).ahead ≡ (terminal_at io n).ahead) (sym is) at_it
+        subst (λ (n : ℕ). TermLeft (Cause n) (terminal_at io n) (terminal_at (with_terminal io m terminal) n)) (sym is) at_it
     by_place (inr apart) =
-        ap (λ (t : Terminal). t.ahead) (get_or-set_other io.terminals m n terminal new_terminal apart)
+        term-same (Cause n) (terminal_at io n) (terminal_at (with_terminal io m terminal) n) (get_or-set_other io.terminals m n terminal new_terminal apart)
 
 -- ---- what a process closes and lets go of
 
-released-ahead : (p : Pid) (t : Terminal) → (released p t).ahead ≡ t.ahead
-released-ahead p t = by_reader (option_map_or (is_process p) (reader t) false)
-  where
-    by_reader : (it : Bool) → (if it then without_reading t else t).ahead ≡ t.ahead
-    by_reader true = refl
-    by_reader false = refl
+-- the unfinished read of a terminal is this process's
+abbrev IsReader : Io → ℕ → ℕ → Type 0
+IsReader io p n = reader (terminal_at io n) ≡ Some (pid p)
 
-forgotten-ahead : (p : Pid) (t : Terminal) → (forgotten p t).ahead ≡ t.ahead
-forgotten-ahead p t = by_user (option_map_or (is_process p) t.user false)
+released-left : (p : ℕ) (t : Terminal) → TermLeft (reader t ≡ Some (pid p)) t (released (pid p) t)
+released-left p t = by_reader (reader t) refl
   where
-    by_user : (it : Bool) → (if it then record (released p t) { user = None } else released p t).ahead ≡ t.ahead
-    by_user true = released-ahead p t
-    by_user false = released-ahead p t
+    by_it : (q : Pid) → reader t ≡ Some q → (it : Bool) → (p == q.0) ≡ it → TermLeft (reader t ≡ Some (pid p)) t (if it then without_reading t else t)
+    by_it q is true same = record {
+      ahead = refl;
+      line =
+          inr (is ∙ ap (λ (k : ℕ). Some (pid k)) (sym (eqb-true p q.0 same)), record { line = refl; reading = refl });
+    }
+    by_it q is false apart = term-same (reader t ≡ Some (pid p)) t t refl
+
+    by_reader : (who : Option Pid) → reader t ≡ who → TermLeft (reader t ≡ Some (pid p)) t (if option_map_or (is_process (pid p)) who false then without_reading t else t)
+    by_reader None is = term-same (reader t ≡ Some (pid p)) t t refl
+    by_reader (Some q) is = by_it q is (p == q.0) refl
+
+forgotten-term : (p : ℕ) (t : Terminal) → TermLeft (reader t ≡ Some (pid p)) t (forgotten (pid p) t)
+forgotten-term p t = by_user (option_map_or (is_process (pid p)) t.user false)
+  where
+    by_line : LineStays t (released (pid p) t) ⊎ (reader t ≡ Some (pid p)) × LineGoes t.line (released (pid p) t) → LineStays t (record (released (pid p) t) { user = None }) ⊎ (reader t ≡ Some (pid p)) × LineGoes t.line (record (released (pid p) t) { user = None })
+    by_line (inl stays) = inl (record { line = stays.line; reading = stays.reading })
+    by_line (inr (reads_it, goes)) = inr (reads_it, record { line = goes.line; reading = goes.reading })
+
+    by_user : (it : Bool) → TermLeft (reader t ≡ Some (pid p)) t (if it then record (released (pid p) t) { user = None } else released (pid p) t)
+    by_user true = record { ahead = (released-left p t).ahead; line = by_line (released-left p t).line }
+    by_user false = released-left p t
 
 closed-terminals : (io : Io) (p k : ℕ) → (after_close io p k).terminals ≡ io.terminals
 closed-terminals io p k = by_gone (closed_desc io.paths p k)
@@ -117,64 +161,60 @@ all-closed io p zero = refl
 all-closed io p (suc k) =
     closed-if (closed_below io p k) p k (slot_of (closed_below io p k).paths p k) ∙ all-closed io p k
 
-forgotten-left : (n : ℕ) (io : Io) (p : ℕ) → AheadLeft n io (without_user io p)
+forgotten-left : (n : ℕ) (io : Io) (p : ℕ) → AheadLeft (IsReader io p n) n io (without_user io p)
 forgotten-left n io p = record {
-  ahead =
+  terminal =
       elim (cases_lt n (length io.terminals)) [
-        | inl within ↦ ap (λ (t : Terminal). t.ahead) (get_or-map (forgotten (pid p)) io.terminals n new_terminal new_terminal within) ∙ forgotten-ahead (pid p) (terminal_at io n)
-        | inr past ↦ ap (λ (t : Terminal). t.ahead) (get_or_past (without_user io p).terminals n new_terminal (rw length-map past) ∙ sym (get_or_past io.terminals n new_terminal past))
+        | inl within ↦ subst (TermLeft (IsReader io p n) (terminal_at io n)) (sym (get_or-map (forgotten (pid p)) io.terminals n new_terminal new_terminal within)) (forgotten-term p (terminal_at io n))
+        | inr past ↦ term-same (IsReader io p n) (terminal_at io n) (terminal_at (without_user io p) n) (get_or_past (without_user io p).terminals n new_terminal (rw length-map past) ∙ sym (get_or_past io.terminals n new_terminal past))
       ];
   places = simp length-map;
 }
 
-ended-left : (n : ℕ) (io : Io) (p : ℕ) → AheadLeft n io (io_ended io p)
+-- the terminals are those that an end finds, after all was closed
+closed-from : (n p : ℕ) (io closed : Io) (new : Io) → closed.terminals ≡ io.terminals → AheadLeft (IsReader closed p n) n closed new → AheadLeft (IsReader io p n) n io new
+closed-from n p io closed new same it = record {
+  terminal =
+      subst (λ (t : Terminal). TermLeft (reader t ≡ Some (pid p)) t (terminal_at new n)) (ap (λ (terminals : List Terminal). slice_index_or terminals n new_terminal) same) it.terminal;
+  places = it.places ∙ ap (length {A = Terminal}) same;
+}
+
+ended-left : (n : ℕ) (io : Io) (p : ℕ) → AheadLeft (IsReader io p n) n io (io_ended io p)
 ended-left n io p =
-    let closed : AheadLeft n io (closed_below io p PROCESS_PATHS) = left-same n io (closed_below io p PROCESS_PATHS) (all-closed io p PROCESS_PATHS) in
-    let freed : AheadLeft n (closed_below io p PROCESS_PATHS) (without_user (closed_below io p PROCESS_PATHS) p) = forgotten-left n (closed_below io p PROCESS_PATHS) p in
-    record { ahead = freed.ahead ∙ closed.ahead; places = freed.places ∙ closed.places }
+    let closed : Io = closed_below io p PROCESS_PATHS in
+    let freed : AheadLeft (IsReader closed p n) n closed (without_user closed p) = forgotten-left n closed p in
+    let it : AheadLeft (IsReader io p n) n io (without_user closed p) = closed-from n p io closed (without_user closed p) (all-closed io p PROCESS_PATHS) freed in
+    record { terminal = it.terminal; places = it.places }
 
-unfinished-left : (n : ℕ) (io : Io) (p : ℕ) (target : Option Target) → AheadLeft n io (without_unfinished io p target)
-unfinished-left n io p None = record { ahead = refl; places = refl }
-unfinished-left n io p (Some (File drive sector)) = record { ahead = refl; places = refl }
-unfinished-left n io p (Some (Folder drive sector)) = record { ahead = refl; places = refl }
+unfinished-left : (n : ℕ) (io : Io) (p : ℕ) (target : Option Target) → AheadLeft (IsReader io p n) n io (without_unfinished io p target)
+unfinished-left n io p None = left-same (IsReader io p n) n io io refl
+unfinished-left n io p (Some (File drive sector)) = left-same (IsReader io p n) n io io refl
+unfinished-left n io p (Some (Folder drive sector)) = left-same (IsReader io p n) n io io refl
 unfinished-left n io p (Some (Term terminal)) =
-    left-set n io terminal (released (pid p) (terminal_at io terminal)) (released-ahead (pid p) (terminal_at io terminal))
-unfinished-left n io p (Some (Pipe pipe)) = record { ahead = refl; places = refl }
+    left-set (IsReader io p) n io terminal (released (pid p) (terminal_at io terminal)) (released-left p (terminal_at io terminal))
+unfinished-left n io p (Some (Pipe pipe)) = left-same (IsReader io p n) n io io refl
 
-interrupted-left : (n : ℕ) (io : Io) (p : ℕ) → AheadLeft n io (io_interrupted io p)
+interrupted-left : (n : ℕ) (io : Io) (p : ℕ) → AheadLeft (IsReader io p n) n io (io_interrupted io p)
 interrupted-left n io p =
-    let it = unfinished-left n io p (wait_target io p) in record { ahead = it.ahead; places = it.places }
+    let it = unfinished-left n io p (wait_target io p) in record { terminal = it.terminal; places = it.places }
 
 -- ---- a read
 
+-- how an attempt of a read ends that stores these bytes, where its keys made this of its line
+abbrev Ends : Caller → Typing → Reading → Terminal → List ℕ → IoEnd → Type 0
+Ends caller made request new bytes (answers regs) =
+    (made.end ≡ Some Line) × (regs ≡ count_regs caller (length made.line.bytes)) × (bytes ≡ made.line.bytes) × LineGoes made.line new
+Ends caller made request new bytes (fails number) =
+    ((made.end ≡ Some EndOfFile) × (number ≡ E_EOF) ⊎ (number ≡ E_WRITE)) × LineGoes made.line new
+Ends caller made request new bytes (keeps kept) =
+    (made.end ≡ None) × (new.line ≡ made.line) × (new.reading ≡ Some request) × (bytes ≡ [])
+
 -- an attempt of a read uses these keys
-record Uses (request : Reading) (old new : Terminal) (keys : List ℕ) : Type 0 where
+record Uses (caller : Caller) (request : Reading) (old new : Terminal) (keys bytes : List ℕ) (end : IoEnd) : Type 0 where
   pub alone : is_taken request.process old ≡ false
   pub front : old.ahead ≡ keys ++ new.ahead
-  pub line : (new.line ≡ (typed request old.line keys).line) ⊎ (new.line ≡ cleared (typed request old.line keys).line)
-
--- an attempt that types keys
-typed-uses : (request : Reading) (old : Terminal) → is_taken request.process old ≡ false → (keys : List ℕ) × Uses request old (typed_attempt request old).terminal keys
-typed-uses request old alone =
-    let used = uses-front (key_effect request) old.line old.ahead in (
-      used.0,
-      record {
-        alone = alone;
-        front = used.1 ∙ ap (λ (left : List ℕ). used.0 ++ left) (sym (left-is (typed request old.line old.ahead).end (typed request old.line old.ahead)));
-        line =
-            line-is (typed request old.line old.ahead).end (typed request old.line old.ahead) (typed request old.line used.0).line (sym (ap (λ (it : Typing). it.line) used.2));
-      },
-    )
-  where
-    left-is : (end : Option LineEnd) (it : Typing) → (attempt_by end it request).terminal.ahead ≡ it.left
-    left-is None it = refl
-    left-is (Some EndOfFile) it = refl
-    left-is (Some Line) it = refl
-
-    line-is : (end : Option LineEnd) (it : Typing) (line : Editing) → it.line ≡ line → ((attempt_by end it request).terminal.line ≡ line) ⊎ ((attempt_by end it request).terminal.line ≡ cleared line)
-    line-is None it line is = inl is
-    line-is (Some EndOfFile) it line is = inr (ap cleared is)
-    line-is (Some Line) it line is = inr (ap cleared is)
+  pub used : (typed request old.line keys).left ≡ []
+  pub ends : Ends caller (typed request old.line keys) request new bytes end
 
 -- keys up to one whose echo failed
 broken-line : (step : Editing → ℕ → Edited) (line : Editing) (front : List ℕ) (key : ℕ) → (typing step line front).end ≡ None → (typing step line (front ++ key ∷ [])).line ≡ (step (typing step line front).line key).line
@@ -187,28 +227,90 @@ broken-line step line front key unfinished =
     by_end None = refl
     by_end (Some end) = refl
 
-broken-uses : (request : Reading) (old new : Terminal) (before now : TerminalState) → is_taken request.process old ≡ false → (it : BreaksOff request old new before now) → Uses request old new (it.front ++ it.key ∷ [])
-broken-uses request old new before now alone it = record {
+broken-left : (step : Editing → ℕ → Edited) (line : Editing) (front : List ℕ) (key : ℕ) → (typing step line front).end ≡ None → (typing step line (front ++ key ∷ [])).left ≡ []
+broken-left step line front key unfinished =
+    ap (λ (it : Typing). it.left) (typing-append step line front (key ∷ []))
+    ∙ ap (λ (end : Option LineEnd). (goes_on end step (typing step line front) (key ∷ [])).left) unfinished
+    ∙ by_end (step (typing step line front).line key).end
+  where
+    by_end : (end : Option LineEnd) → (after_key end (step (typing step line front).line key) [] (typing step (step (typing step line front).line key).line [])).left ≡ []
+    by_end None = refl
+    by_end (Some end) = refl
+
+broken-uses : (caller : Caller) (request : Reading) (old new : Terminal) (before now : TerminalState) (bytes : List ℕ) → is_taken request.process old ≡ false → (it : BreaksOff request old new before now) → Uses caller request old new (it.front ++ it.key ∷ []) bytes (fails E_WRITE)
+broken-uses caller request old new before now bytes alone it = record {
   alone = alone;
   front =
       it.keys ∙ sym (append_assoc it.front (it.key ∷ []) it.rest) ∙ ap (λ (left : List ℕ). (it.front ++ it.key ∷ []) ++ left) (sym (ap (λ (t : Terminal). t.ahead) it.terminal));
-  line =
-      inr (ap (λ (t : Terminal). t.line) it.terminal ∙ ap cleared (sym (broken-line (key_effect request) old.line it.front it.key it.unfinished)));
+  used = broken-left (key_effect request) old.line it.front it.key it.unfinished;
+  ends = (
+    inr refl,
+    record {
+      line =
+          ap (λ (t : Terminal). t.line) it.terminal ∙ ap cleared (sym (broken-line (key_effect request) old.line it.front it.key it.unfinished));
+      reading = ap (λ (t : Terminal). t.reading) it.terminal;
+    },
+  );
 }
 
-read-uses : (request : Reading) (answer : Progress) (old new : Terminal) (before now : TerminalState) → Reads request answer old new before now → (new.ahead ≡ old.ahead) ⊎ ((keys : List ℕ) × Uses request old new keys)
-read-uses request answer old new before now it = by_refusal (is_refused answer) it.outcome it.turn
-  where
-    by_turn : (taken : Bool) → is_taken request.process old ≡ taken → new ≡ (if taken then kept_waiting request old else typed_attempt request old).terminal → (new.ahead ≡ old.ahead) ⊎ ((keys : List ℕ) × Uses request old new keys)
-    by_turn true is at = inl (ap (λ (t : Terminal). t.ahead) at)
-    by_turn false is at =
-        let used = typed-uses request old is in
-        inr (used.0, subst (λ (t : Terminal). Uses request old t used.0) (sym at) used.1)
+module _ (caller : Caller) (read : TerminalRead) (old new : Terminal) (end : IoEnd) where
+  abbrev asked : Reading
+  asked = request_of caller read
 
-    by_refusal : (refusal : Bool) → MatchBool refusal (BreaksOff request old new before now) (Attempted (read_attempt request old) answer new before now) → (refusal ≡ true → is_taken request.process old ≡ false) → (new.ahead ≡ old.ahead) ⊎ ((keys : List ℕ) × Uses request old new keys)
-    by_refusal true broken turn =
-        inr (broken.front ++ broken.key ∷ [], broken-uses request old new before now (turn refl) broken)
-    by_refusal false whole turn = by_turn (is_taken request.process old) refl whole.terminal
+  -- by how the line ended
+  over-ends : (full made : Typing) (bytes : List ℕ) → made ≡ used_up full → (over : Option LineEnd) → full.end ≡ over → read_ends caller read (attempt_by over full asked).answer ≡ Some end → new ≡ (attempt_by over full asked).terminal → bytes ≡ (attempt_by over full asked).stored → Ends caller made asked new bytes end
+  over-ends full made bytes is None over answered at stores_them =
+      subst (Ends caller made asked new bytes) (same_Some (keeps read.call) end answered)
+      (ap (λ (it : Typing). it.end) is ∙ over, ap (λ (t : Terminal). t.line) at ∙ sym (ap (λ (it : Typing). it.line) is), ap (λ (t : Terminal). t.reading) at, stores_them)
+  over-ends full made bytes is (Some EndOfFile) over answered at stores_them =
+      subst (Ends caller made asked new bytes) (same_Some (fails E_EOF) end answered)
+      (inl (ap (λ (it : Typing). it.end) is ∙ over, refl), record { line = ap (λ (t : Terminal). t.line) at ∙ sym (ap (λ (it : Typing). cleared it.line) is); reading = ap (λ (t : Terminal). t.reading) at })
+  over-ends full made bytes is (Some Line) over answered at stores_them =
+      subst (Ends caller made asked new bytes) (same_Some (answers (count_regs caller (length full.line.bytes))) end answered)
+      (ap (λ (it : Typing). it.end) is ∙ over, ap (λ (it : Typing). count_regs caller (length it.line.bytes)) (sym is), stores_them ∙ ap (λ (it : Typing). it.line.bytes) (sym is), record { line = ap (λ (t : Terminal). t.line) at ∙ sym (ap (λ (it : Typing). cleared it.line) is); reading = ap (λ (t : Terminal). t.reading) at })
+
+  -- an attempt that types keys
+  typed-uses : (bytes : List ℕ) → is_taken asked.process old ≡ false → read_ends caller read (typed_attempt asked old).answer ≡ Some end → new ≡ (typed_attempt asked old).terminal → bytes ≡ (typed_attempt asked old).stored → (keys : List ℕ) × Uses caller asked old new keys bytes end
+  typed-uses bytes alone answered at stores_them =
+      let used = uses-front (key_effect asked) old.line old.ahead in (
+        used.0,
+        record {
+          alone = alone;
+          front =
+              used.1 ∙ ap (λ (left : List ℕ). used.0 ++ left) (sym (ap (λ (t : Terminal). t.ahead) at ∙ left-is (typed asked old.line old.ahead).end (typed asked old.line old.ahead)));
+          used = ap (λ (it : Typing). it.left) used.2;
+          ends =
+              over-ends (typed asked old.line old.ahead) (typed asked old.line used.0) bytes used.2 (typed asked old.line old.ahead).end refl answered at stores_them;
+        },
+      )
+    where
+      left-is : (over : Option LineEnd) (it : Typing) → (attempt_by over it asked).terminal.ahead ≡ it.left
+      left-is None it = refl
+      left-is (Some EndOfFile) it = refl
+      left-is (Some Line) it = refl
+
+  abbrev Came : List ℕ → Type 0
+  Came bytes = TermLeft ⊥ old new ⊎ ((keys : List ℕ) × Uses caller asked old new keys bytes end)
+
+  whole-uses : (answer : Progress) (before now : TerminalState) (bytes : List ℕ) → Attempted (read_attempt asked old) answer new before now → read_ends caller read answer ≡ Some end → bytes ≡ (read_attempt asked old).stored → Came bytes
+  whole-uses answer before now bytes it answered stores_them =
+      by_turn (is_taken asked.process old) refl (subst (λ (answer : Progress). read_ends caller read answer ≡ Some end) it.answer_is answered) it.terminal stores_them
+    where
+      by_turn : (taken : Bool) → is_taken asked.process old ≡ taken → read_ends caller read (if taken then kept_waiting asked old else typed_attempt asked old).answer ≡ Some end → new ≡ (if taken then kept_waiting asked old else typed_attempt asked old).terminal → bytes ≡ (if taken then kept_waiting asked old else typed_attempt asked old).stored → Came bytes
+      by_turn true is answered at stores_them =
+          inl (record { ahead = ap (λ (t : Terminal). t.ahead) at; line = inl (record { line = ap (λ (t : Terminal). t.line) at; reading = ap (λ (t : Terminal). t.reading) at }) })
+      by_turn false is answered at stores_them = inr (typed-uses bytes is answered at stores_them)
+
+  read-uses : (answer : Progress) (before now : TerminalState) → Reads asked answer old new before now → read_ends caller read answer ≡ Some end → Came (stored_bytes answer asked old)
+  read-uses (Progress.Done count) before now it answered =
+      whole-uses (Progress.Done count) before now (read_attempt asked old).stored it.outcome answered refl
+  read-uses Progress.Wait before now it answered =
+      whole-uses Progress.Wait before now (read_attempt asked old).stored it.outcome answered refl
+  read-uses Progress.End before now it answered =
+      whole-uses Progress.End before now (read_attempt asked old).stored it.outcome answered refl
+  read-uses Progress.Fault before now it answered =
+      inr (it.outcome.front ++ it.outcome.key ∷ [], subst (Uses caller asked old new (it.outcome.front ++ it.outcome.key ∷ []) []) (same_Some (fails E_WRITE) end answered) (broken-uses caller asked old new before now [] (it.turn refl) it.outcome))
+  read-uses Progress.NoMemory before now it answered = absurd (none-some end answered)
 
 -- ---- the keys to come
 
@@ -228,51 +330,66 @@ come-one change m n before after same (old, new, found, is, changed) =
 
 -- ---- an attempt of a call on paths
 
--- what an attempt makes of the keys of a terminal
-abbrev Moved : IoCall → Caller → Io → ℕ → Io → Type 0
-Moved call caller io n new =
-    AheadLeft n io new
-    ⊎ ((kind : ReadKind) × (call ≡ read_call kind) × ((opened : OpenPath) × (open_path io caller.process.0 caller.regs.a ≡ Some opened) × (opened.desc.target ≡ Term n)) × (length new.terminals ≡ length io.terminals) × ((keys : List ℕ) × Uses (reading_of kind io caller.process.0 caller.regs) (terminal_at io n) (terminal_at new n) keys))
+-- a write on a terminal is refused
+abbrev WriteRefused : IoCall → Caller → Io → IoEnd → ℕ → Type 0
+WriteRefused call caller io end n =
+    (direction_of_call call ≡ Some Writing) × OnTerminal call caller io n × (end ≡ fails E_WRITE)
 
-write-ahead : (write : TerminalWrite) (end : IoEnd) (process : Pid) (answer : Progress) (old new : Terminal) (before now : TerminalState) → write_ends write answer ≡ Some end → Writes process write.put write.count answer old new before now → new.ahead ≡ old.ahead
-write-ahead write end process (Progress.Done count) old new before now is it =
-    ap (λ (t : Terminal). t.ahead) it.outcome.terminal
-write-ahead write end process Progress.Wait old new before now is it = absurd (none-some end is)
-write-ahead write end process Progress.End old new before now is it = absurd (none-some end is)
-write-ahead write end process Progress.Fault old new before now is it =
-    ap (λ (t : Terminal). t.ahead) it.outcome.terminal
-write-ahead write end process Progress.NoMemory old new before now is it = absurd (none-some end is)
+-- what an attempt makes of the keys of a terminal
+abbrev Moved : IoCall → Caller → Io → ℕ → IoEffect → Type 0
+Moved call caller io n effect =
+    AheadLeft (WriteRefused call caller io effect.end n) n io effect.io
+    ⊎ ((kind : ReadKind) × (call ≡ read_call kind) × ((opened : OpenPath) × (open_path io caller.process.0 caller.regs.a ≡ Some opened) × (opened.desc.target ≡ Term n)) × (length effect.io.terminals ≡ length io.terminals) × (effect.at ≡ caller.regs.x) × ((keys : List ℕ) × Uses caller (reading_of kind io caller.process.0 caller.regs) (terminal_at io n) (terminal_at effect.io n) keys effect.bytes effect.end))
+
+write-left : (write : TerminalWrite) (end : IoEnd) (Cause : Type 0) → (end ≡ fails E_WRITE → Cause) → (process : Pid) (answer : Progress) (old new : Terminal) (before now : TerminalState) → write_ends write answer ≡ Some end → Writes process write.put write.count answer old new before now → TermLeft Cause old new
+write-left write end Cause causes process (Progress.Done count) old new before now is it = record {
+  ahead = ap (λ (t : Terminal). t.ahead) it.outcome.terminal;
+  line =
+      inl (record { line = ap (λ (t : Terminal). t.line) it.outcome.terminal; reading = ap (λ (t : Terminal). t.reading) it.outcome.terminal });
+}
+write-left write end Cause causes process Progress.Wait old new before now is it = absurd (none-some end is)
+write-left write end Cause causes process Progress.End old new before now is it = absurd (none-some end is)
+write-left write end Cause causes process Progress.Fault old new before now is it = record {
+  ahead = ap (λ (t : Terminal). t.ahead) it.outcome.terminal;
+  line =
+      inr (causes (sym (same_Some (fails E_WRITE) end is)), record { line = ap (λ (t : Terminal). t.line) it.outcome.terminal; reading = ap (λ (t : Terminal). t.reading) it.outcome.terminal });
+}
+write-left write end Cause causes process Progress.NoMemory old new before now is it = absurd (none-some end is)
 
 module _ (call : IoCall) (caller : Caller) (io : Io) (n : ℕ) (within : n < length io.terminals) (before after : List TerminalState) where
-  read-moves : (read : TerminalRead) (effect : IoEffect) (kind : ReadKind) → call ≡ read_call kind → IsReadOn kind caller io read → ReadsTerminal caller io read effect before after → Moved call caller io n effect.io
+  read-moves : (read : TerminalRead) (effect : IoEffect) (kind : ReadKind) → call ≡ read_call kind → IsReadOn kind caller io read → ReadsTerminal caller io read effect before after → Moved call caller io n effect
   read-moves read effect kind call_is on it =
-      subst (λ (effect : IoEffect). Moved call caller io n effect.io) (sym it.effect_is) (by_uses (read-uses (request_of caller read) it.answer (terminal_at io read.terminal) it.new it.device.0 it.device.1 it.device.4))
+      subst (λ (effect : IoEffect). Moved call caller io n effect) (sym it.effect_is) (by_uses (read-uses caller read (terminal_at io read.terminal) it.new it.end it.answer it.device.0 it.device.1 it.device.4 it.ends))
     where
       put : n ≡ read.terminal → terminal_at (with_terminal io read.terminal it.new) n ≡ it.new
       put same =
           ap (λ (m : ℕ). terminal_at (with_terminal io m it.new) n) (sym same) ∙ get_or-set_same io.terminals n it.new new_terminal within
 
-      by_place : (keys : List ℕ) → Uses (request_of caller read) (terminal_at io read.terminal) it.new keys → (n ≡ read.terminal) ⊎ (n ≢ read.terminal) → Moved call caller io n (with_terminal io read.terminal it.new)
+      by_place : (keys : List ℕ) → Uses caller (request_of caller read) (terminal_at io read.terminal) it.new keys (stored_bytes it.answer (request_of caller read) (terminal_at io read.terminal)) it.end → (n ≡ read.terminal) ⊎ (n ≢ read.terminal) → Moved call caller io n (read_leaves caller io read it.answer it.new it.end)
       by_place keys uses (inl same) =
-          inr (kind, call_is, (on.path.0, on.path.1, on.path.2 ∙ ap Term (sym same)), length-set io.terminals read.terminal it.new, (keys, subst (λ (request : Reading). Uses request (terminal_at io n) (terminal_at (with_terminal io read.terminal it.new) n) keys) on.request (subst (λ (t : Terminal). Uses (request_of caller read) (terminal_at io n) t keys) (sym (put same)) (subst (λ (m : ℕ). Uses (request_of caller read) (terminal_at io m) it.new keys) (sym same) uses))))
+          inr (kind, call_is, (on.path.0, on.path.1, on.path.2 ∙ ap Term (sym same)), length-set io.terminals read.terminal it.new, refl, (keys, subst (λ (request : Reading). Uses caller request (terminal_at io n) (terminal_at (with_terminal io read.terminal it.new) n) keys (stored_bytes it.answer (request_of caller read) (terminal_at io read.terminal)) it.end) on.request (subst (λ (t : Terminal). Uses caller (request_of caller read) (terminal_at io n) t keys (stored_bytes it.answer (request_of caller read) (terminal_at io read.terminal)) it.end) (sym (put same)) (subst (λ (m : ℕ). Uses caller (request_of caller read) (terminal_at io m) it.new keys (stored_bytes it.answer (request_of caller read) (terminal_at io read.terminal)) it.end) (sym same) uses))))
       by_place keys uses (inr apart) = inl (record {
-        ahead =
-            ap (λ (t : Terminal). t.ahead) (get_or-set_other io.terminals read.terminal n it.new new_terminal apart);
+        terminal =
+            term-same (WriteRefused call caller io it.end n) (terminal_at io n) (terminal_at (with_terminal io read.terminal it.new) n) (get_or-set_other io.terminals read.terminal n it.new new_terminal apart);
         places = length-set io.terminals read.terminal it.new;
       })
 
-      by_uses : (it.new.ahead ≡ (terminal_at io read.terminal).ahead) ⊎ ((keys : List ℕ) × Uses (request_of caller read) (terminal_at io read.terminal) it.new keys) → Moved call caller io n (with_terminal io read.terminal it.new)
-      by_uses (inl same) = inl (left-set n io read.terminal it.new same)
+      never : (Cause : Type 0) → ⊥ → Cause
+      never Cause none = absurd none
+
+      by_uses : TermLeft ⊥ (terminal_at io read.terminal) it.new ⊎ ((keys : List ℕ) × Uses caller (request_of caller read) (terminal_at io read.terminal) it.new keys (stored_bytes it.answer (request_of caller read) (terminal_at io read.terminal)) it.end) → Moved call caller io n (read_leaves caller io read it.answer it.new it.end)
+      by_uses (inl same) =
+          inl (left-set (WriteRefused call caller io it.end) n io read.terminal it.new (term-for ⊥ (WriteRefused call caller io it.end read.terminal) (terminal_at io read.terminal) it.new (never (WriteRefused call caller io it.end read.terminal)) same))
       by_uses (inr (keys, uses)) = by_place keys uses (cases_eq n read.terminal)
 
-  does-moves : (step : IoStep) (effect : IoEffect) → StepGives call (λ (new : Io). new.terminals ≡ io.terminals) caller io step → StepReads call caller io step → Does step caller io effect before after → Moved call caller io n effect.io
-  does-moves (refused number) effect gives facts (is, same) =
-      inl (left-same n io effect.io (ap (λ (effect : IoEffect). effect.io.terminals) is))
-  does-moves (comes it) effect gives facts (is, same) =
-      inl (left-same n io effect.io (ap (λ (effect : IoEffect). effect.io.terminals) is ∙ gives))
-  does-moves (reads read) effect gives (kind, call_is, on) does = read-moves read effect kind call_is on does
-  does-moves (writes write) effect gives facts it =
-      inl (subst (λ (effect : IoEffect). AheadLeft n io effect.io) (sym it.effect_is) (left-set n io write.terminal it.new (write-ahead write it.end caller.process it.answer (terminal_at io write.terminal) it.new it.device.0 it.device.1 it.ends it.device.4)))
+  does-moves : (step : IoStep) (effect : IoEffect) → StepGives call (λ (new : Io). new.terminals ≡ io.terminals) caller io step → StepReads call caller io step → StepWrites call caller io step → Does step caller io effect before after → Moved call caller io n effect
+  does-moves (refused number) effect gives facts on (is, same) =
+      inl (left-same (WriteRefused call caller io effect.end n) n io effect.io (ap (λ (effect : IoEffect). effect.io.terminals) is))
+  does-moves (comes it) effect gives facts on (is, same) =
+      inl (left-same (WriteRefused call caller io effect.end n) n io effect.io (ap (λ (effect : IoEffect). effect.io.terminals) is ∙ gives))
+  does-moves (reads read) effect gives (kind, call_is, on) none does = read-moves read effect kind call_is on does
+  does-moves (writes write) effect gives facts on it =
+      inl (subst (λ (effect : IoEffect). AheadLeft (WriteRefused call caller io effect.end n) n io effect.io) (sym it.effect_is) (left-set (WriteRefused call caller io it.end) n io write.terminal it.new (write-left write it.end (WriteRefused call caller io it.end write.terminal) (λ refuses_it. (gives.0, on, refuses_it)) caller.process it.answer (terminal_at io write.terminal) it.new it.device.0 it.device.1 it.ends it.device.4)))
 
   -- no key to come is taken
   does-come : (step : IoStep) (effect : IoEffect) → Does step caller io effect before after → come_of after n ≡ come_of before n
@@ -287,8 +404,8 @@ module _ (call : IoCall) (caller : Caller) (io : Io) (n : ℕ) (within : n < len
 
 module _ (s : State) (p n : ℕ) (chosen : s.chosen ≡ Some p) (has : HasAhead n s) where
   -- what an event makes of them
-  abbrev Comes : State → Type 0
-  Comes t = (move : KeyMove) × EventKeys n s move t × HasAhead n t
+  abbrev Comes : EventEnd → State → Type 0
+  Comes end t = (move : KeyMove) × EventKeys n s end move t × HasAhead n t
 
   -- the terminal is there still, and has no more keys
   has-then : (t : State) → length t.io.terminals ≡ length s.io.terminals → length (ahead_at t n) ≤ length (ahead_at s n) → HasAhead n t
@@ -297,14 +414,28 @@ module _ (s : State) (p n : ℕ) (chosen : s.chosen ≡ Some p) (has : HasAhead 
       let few = has.few in
       record { within = omega (arith, places, within); few = omega (arith, fewer, few) }
 
-  left : (t : State) → AheadLeft n s.io t.io → keys_to_come t n ≡ keys_to_come s n → Comes t
-  left t it come =
-      let same : length (ahead_at t n) ≡ length (ahead_at s n) = ap (length {A = ℕ}) it.ahead in
-      (stay, record { ahead = it.ahead; come = come }, has-then t it.places (omega (arith, same)))
+  abbrev Causes : EventEnd → State → Type 0
+  Causes end t = ReaderStops n p s end ⊎ WriteFails n p s t
 
-  module _ (code : ℕ) (call : IoCall) (result : CallResult) (io : Io) (terms : List TerminalState) (inner : Inner) (next : act_of s.inner p ≡ attempts code) (coded : io_call_of code ≡ Some call) (attempt : IoAttempts call s.inner s.io s.drives p result io s.terms terms) where
+  left : (end : EventEnd) (t : State) → AheadLeft (Causes end t) n s.io t.io → keys_to_come t n ≡ keys_to_come s n → Comes end t
+  left end t it come =
+      let same : length (ahead_at t n) ≡ length (ahead_at s n) = ap (length {A = ℕ}) it.terminal.ahead in (
+        stay,
+        record { ahead = it.terminal.ahead; come = come; line = by_line it.terminal.line },
+        has-then t it.places (omega (arith, same)),
+      )
+    where
+      by_line : LineStays (terminal_at s.io n) (terminal_at t.io n) ⊎ Causes end t × LineGoes (terminal_at s.io n).line (terminal_at t.io n) → LineStays (terminal_at s.io n) (terminal_at t.io n) ⊎ DropsLine n s end t
+      by_line (inl stays) = inl stays
+      by_line (inr (cause, goes)) = inr (record { process = p; chosen = chosen; cause = cause; goes = goes })
+
+  -- the process that reads has stopped
+  stopped : (end : EventEnd) (t : State) → AheadLeft (ReaderStops n p s end) n s.io t.io → keys_to_come t n ≡ keys_to_come s n → Comes end t
+  stopped end t it come = left end t (left-for (ReaderStops n p s end) (Causes end t) n s.io t.io (λ stops. inl stops) it) come
+
+  module _ (code : ℕ) (call : IoCall) (result : CallResult) (io : Io) (terms : List TerminalState) (next : act_of s.inner p ≡ attempts code) (coded : io_call_of code ≡ Some call) (attempt : IoAttempts call s.inner s.io s.drives p result io s.terms terms) (end : EventEnd) where
     abbrev last : State
-    last = record s { inner = inner; io = io; terms = terms }
+    last = record s { inner = after_attempt s.inner p result; io = io; terms = terms }
 
     terminals-then : io.terminals ≡ attempt.effect.io.terminals
     terminals-then = ap (λ (io : Io). io.terminals) attempt.state
@@ -316,82 +447,136 @@ module _ (s : State) (p n : ℕ) (chosen : s.chosen ≡ Some p) (has : HasAhead 
     come-then =
         does-come call (caller_of s.inner p) s.io n has.within s.terms terms (step_of call s.inner p s.io s.drives s.terms) attempt.effect attempt.does
 
-    by_moved : Moved call (caller_of s.inner p) s.io n attempt.effect.io → Comes last
-    by_moved (inl it) = left last (record {
-      ahead = ap (λ (t : Terminal). t.ahead) terminal-then ∙ it.ahead;
+    ends-in : (Counts : IoEnd → Type 0) → Counts attempt.effect.end → EndsIn s p Counts last
+    ends-in Counts counts = record {
+      effect = attempt.effect;
+      inner = ap (after_attempt s.inner p) attempt.result_is;
+      io = attempt.state;
+      counts = counts;
+    }
+
+    goes-then : (line : Editing) → LineGoes line (terminal_at attempt.effect.io n) → LineGoes line (terminal_at io n)
+    goes-then line goes = record {
+      line = ap (λ (t : Terminal). t.line) terminal-then ∙ goes.line;
+      reading = ap (λ (t : Terminal). t.reading) terminal-then ∙ goes.reading;
+    }
+
+    -- how its read ends
+    read-ends : (request : Reading) (made : Typing) (over : IoEnd) → attempt.effect.at ≡ (regs_at s.inner p).x → result ≡ result_by over s.inner p attempt.effect → Ends (caller_of s.inner p) made request (terminal_at attempt.effect.io n) attempt.effect.bytes over → ReadEnds n s p request made last over
+    read-ends request made (answers regs) at is (ended, counted, bytes, goes) = (
+      ended,
+      counted,
+      ap (λ (result : CallResult). (after_attempt s.inner p result).memory) is ∙ (λ i. stored s.inner.memory p (at i) (bytes i)),
+      goes-then made.line goes,
+    )
+    read-ends request made (fails number) at is (cause, goes) =
+        (cause, goes-then made.line goes, ap (λ (result : CallResult). (after_attempt s.inner p result).memory) is)
+    read-ends request made (keeps kept) at is (unfinished, line, reading, none) = (
+      unfinished,
+      ap (λ (t : Terminal). t.line) terminal-then ∙ line,
+      ap (λ (t : Terminal). t.reading) terminal-then ∙ reading,
+      ap (λ (result : CallResult). (after_attempt s.inner p result).memory) is ∙ ap (stored s.inner.memory p attempt.effect.at) none,
+    )
+
+    by_moved : Moved call (caller_of s.inner p) s.io n attempt.effect → Comes end last
+    by_moved (inl it) = left end last (record {
+      terminal =
+          subst (TermLeft (Causes end last) (terminal_at s.io n)) (sym terminal-then) (term-for (WriteRefused call (caller_of s.inner p) s.io attempt.effect.end n) (Causes end last) (terminal_at s.io n) (terminal_at attempt.effect.io n) write-fails it.terminal);
       places = ap (length {A = Terminal}) terminals-then ∙ it.places;
     }) come-then
-    by_moved (inr (kind, call_is, path, places, (keys, uses))) =
+      where
+        write-fails : WriteRefused call (caller_of s.inner p) s.io attempt.effect.end n → Causes end last
+        write-fails (way, path, refuses_it) = inr (record {
+          call = call;
+          attempted = (code, next, coded);
+          way_is = way;
+          path = path;
+          ends = ends-in (λ over. over ≡ fails E_WRITE) refuses_it;
+        })
+    by_moved (inr (kind, call_is, path, places, at, (keys, uses))) =
         let front : ahead_at s n ≡ keys ++ ahead_at last n = uses.front ∙ ap (λ (t : Terminal). keys ++ t.ahead) (sym terminal-then) in
-        let fewer : length (ahead_at s n) ≡ length keys + length (ahead_at last n) = ap (length {A = ℕ}) front ∙ length-append keys (ahead_at last n) in (
+        let fewer : length (ahead_at s n) ≡ length keys + length (ahead_at last n) = ap (length {A = ℕ}) front ∙ length-append keys (ahead_at last n) in
+        let request : Reading = reading_of kind s.io p (regs_at s.inner p) in
+        let made : Typing = typed request (terminal_at s.io n).line keys in (
           use_up keys,
           record {
             process = p;
             chosen = chosen;
             kind = kind;
             attempt = record { attempted = (code, next, coded ∙ ap Some call_is); path = path };
-            request = reading_of kind s.io p (regs_at s.inner p);
+            request = request;
             request_is = refl;
             alone = uses.alone;
             front = front;
-            line = by_line uses.line;
+            used = uses.used;
+            ends =
+                ends-in (ReadEnds n s p request made last) (read-ends request made attempt.effect.end at attempt.result_is uses.ends);
             come = come-then;
           },
           has-then last (ap (length {A = Terminal}) terminals-then ∙ places) (omega (arith, fewer)),
         )
-      where
-        request : Reading
-        request = reading_of kind s.io p (regs_at s.inner p)
 
-        by_line : ((terminal_at attempt.effect.io n).line ≡ (typed request (terminal_at s.io n).line keys).line) ⊎ ((terminal_at attempt.effect.io n).line ≡ cleared (typed request (terminal_at s.io n).line keys).line) → ((terminal_at io n).line ≡ (typed request (terminal_at s.io n).line keys).line) ⊎ ((terminal_at io n).line ≡ cleared (typed request (terminal_at s.io n).line keys).line)
-        by_line (inl is) = inl (ap (λ (t : Terminal). t.line) terminal-then ∙ is)
-        by_line (inr is) = inr (ap (λ (t : Terminal). t.line) terminal-then ∙ is)
-
-    io-comes : Comes last
+    io-comes : Comes end last
     io-comes =
         by_moved (does-moves call (caller_of s.inner p) s.io n has.within s.terms terms (step_of call s.inner p s.io s.drives s.terms) attempt.effect gives
-        (step-reads call (λ (new : Io). new.terminals ≡ s.io.terminals) (caller_of s.inner p) s.io s.drives (length s.terms) gives) attempt.does)
+        (step-reads call (λ (new : Io). new.terminals ≡ s.io.terminals) (caller_of s.inner p) s.io s.drives (length s.terms) gives)
+        (step-writes call (λ (new : Io). new.terminals ≡ s.io.terminals) (caller_of s.inner p) s.io s.drives (length s.terms) gives) attempt.does)
       where
         gives : StepGives call (λ (new : Io). new.terminals ≡ s.io.terminals) (caller_of s.inner p) s.io (step_of call s.inner p s.io s.drives s.terms)
         gives =
             step-gives call (λ (new : Io). new.terminals ≡ s.io.terminals) (caller_of s.inner p) s.io s.drives (length s.terms) (record { same = refl; pipes = λ pipes. refl; dup = refl; close = closed-terminals s.io p (regs_at s.inner p).a; on_terminal = λ terminal there. refl; on_pipe = λ pipe free. refl })
 
-  after-call : (code : ℕ) (result : CallResult) → AheadLeft n s.io (io_after_call code s.io p result)
-  after-call code (CallResult.refused number) = record { ahead = refl; places = refl }
-  after-call code (waits t) = record { ahead = refl; places = refl }
-  after-call code (ends status) = ended-left n s.io p
-  after-call code (done t) = by_fork (code == F_FORK)
-    where
-      by_fork : (fork : Bool) → AheadLeft n s.io (if fork then io_started s.io p (regs_at t p).a else s.io)
-      by_fork true = record { ahead = refl; places = refl }
-      by_fork false = record { ahead = refl; places = refl }
+  -- ---- by what the process does
 
-  after-instruction : (outcome : Outcome) → AheadLeft n s.io (io_after_instruction s.io p outcome)
-  after-instruction (Done effect) = record { ahead = refl; places = refl }
-  after-instruction (Calls code regs) = record { ahead = refl; places = refl }
-  after-instruction (Aborts status) = ended-left n s.io p
+  module _ (end : EventEnd) where
+    abbrev Leaves : Io → Type 0
+    Leaves io = AheadLeft (ReaderStops n p s end) n s.io io
 
-  after-delivery : (result : Result Inner ℕ) → AheadLeft n s.io (io_after_delivery s.io p result)
-  after-delivery (Ok t) = interrupted-left n s.io p
-  after-delivery (Err status) = ended-left n s.io p
+    unchanged-by : (io : Io) → io.terminals ≡ s.io.terminals → Leaves io
+    unchanged-by io same = left-same (ReaderStops n p s end) n s.io io same
 
-  by-io : (code : ℕ) (call : Option IoCall) (result : CallResult) (io : Io) (terms : List TerminalState) (inner : Inner) → act_of s.inner p ≡ attempts code → io_call_of code ≡ call → MatchOption call ((result ≡ CallResult.refused E_UNKSVC) × (io ≡ s.io) × (terms ≡ s.terms)) (λ call. IoAttempts call s.inner s.io s.drives p result io s.terms terms) → Comes (record s { inner = inner; io = io; terms = terms })
-  by-io code None result io terms inner next coded (is, same, unchanged) =
-      left (record s { inner = inner; io = io; terms = terms }) (left-same n s.io io (ap (λ (io : Io). io.terminals) same)) (ap (λ (terms : List TerminalState). come_of terms n) unchanged)
-  by-io code (Some call) result io terms inner next coded attempt =
-      io-comes code call result io terms inner next coded attempt
+    ended-by : end ≡ Ended → Leaves (io_ended s.io p)
+    ended-by over =
+        left-for (IsReader s.io p n) (ReaderStops n p s end) n s.io (io_ended s.io p) (λ reads_it. record { reads = reads_it; stops = inl over }) (ended-left n s.io p)
 
-  by-call : (code : ℕ) (call : Option ProcCall) (result : CallResult) (io : Io) (terms : List TerminalState) (inner : Inner) → act_of s.inner p ≡ attempts code → call_of code ≡ call → MatchOption call (MatchOption (io_call_of code) ((result ≡ CallResult.refused E_UNKSVC) × (io ≡ s.io) × (terms ≡ s.terms)) (λ call. IoAttempts call s.inner s.io s.drives p result io s.terms terms)) (λ call. (result ≡ attempted call s.inner p) × (io ≡ io_after_call code s.io p result) × (terms ≡ s.terms)) → Comes (record s { inner = inner; io = io; terms = terms })
-  by-call code None result io terms inner next coded answer = by-io code (io_call_of code) result io terms inner next refl answer
-  by-call code (Some call) result io terms inner next coded (is, io_is, unchanged) =
-      left (record s { inner = inner; io = io; terms = terms }) (subst (AheadLeft n s.io) (sym io_is) (after-call code result)) (ap (λ (terms : List TerminalState). come_of terms n) unchanged)
+    after-call : (code : ℕ) (result : CallResult) → end ≡ call_event_end result → Leaves (io_after_call code s.io p result)
+    after-call code (CallResult.refused number) over = unchanged-by s.io refl
+    after-call code (waits t) over = unchanged-by s.io refl
+    after-call code (ends status) over = ended-by over
+    after-call code (done t) over = by_fork (code == F_FORK)
+      where
+        by_fork : (fork : Bool) → Leaves (if fork then io_started s.io p (regs_at t p).a else s.io)
+        by_fork true = unchanged-by (io_started s.io p (regs_at t p).a) refl
+        by_fork false = unchanged-by s.io refl
 
-  acts-come : (act : Act) (end : EventEnd) (t : State) → act_of s.inner p ≡ act → Acts act s p end t → Comes t
-  acts-come executes end t next (over, is) = subst Comes (sym is) (left _ (after-instruction (next_instruction s.inner p)) refl)
-  acts-come (delivers signal) end t next (over, is) =
-      subst Comes (sym is) (left _ (after-delivery (delivered (before_delivery s p) p signal)) refl)
-  acts-come (attempts code) end t next (result, io, terms, answer, over, is) =
-      subst Comes (sym is) (by-call code (call_of code) result io terms (after_attempt s.inner p result) next refl answer)
+    after-instruction : (outcome : Outcome) → end ≡ instruction_end outcome → Leaves (io_after_instruction s.io p outcome)
+    after-instruction (Done effect) over = unchanged-by s.io refl
+    after-instruction (Calls code regs) over = unchanged-by s.io refl
+    after-instruction (Aborts status) over = ended-by over
 
-pub event-keys : (s t : State) (end : EventEnd) (n : ℕ) → Event s end t → HasAhead n s → (move : KeyMove) × EventKeys n s move t × HasAhead n t
-event-keys s t end n (p, chosen, lives, acts) has = acts-come s p n chosen has (act_of s.inner p) end t refl acts
+    after-delivery : (signal : ℕ) → act_of s.inner p ≡ delivers signal → (result : Result Inner ℕ) → end ≡ delivery_end result → Leaves (io_after_delivery s.io p result)
+    after-delivery signal next (Ok t) over =
+        left-for (IsReader s.io p n) (ReaderStops n p s end) n s.io (io_interrupted s.io p) (λ reads_it. record { reads = reads_it; stops = inr (signal, next) }) (interrupted-left n s.io p)
+    after-delivery signal next (Err status) over = ended-by over
+
+    by-io : (code : ℕ) (call : Option IoCall) (result : CallResult) (io : Io) (terms : List TerminalState) → act_of s.inner p ≡ attempts code → io_call_of code ≡ call → MatchOption call ((result ≡ CallResult.refused E_UNKSVC) × (io ≡ s.io) × (terms ≡ s.terms)) (λ call. IoAttempts call s.inner s.io s.drives p result io s.terms terms) → Comes end (record s { inner = after_attempt s.inner p result; io = io; terms = terms })
+    by-io code None result io terms next coded (is, same, unchanged) =
+        stopped end (record s { inner = after_attempt s.inner p result; io = io; terms = terms }) (unchanged-by io (ap (λ (io : Io). io.terminals) same)) (ap (λ (terms : List TerminalState). come_of terms n) unchanged)
+    by-io code (Some call) result io terms next coded attempt = io-comes code call result io terms next coded attempt end
+
+    by-call : (code : ℕ) (call : Option ProcCall) (result : CallResult) (io : Io) (terms : List TerminalState) → end ≡ call_event_end result → act_of s.inner p ≡ attempts code → call_of code ≡ call → MatchOption call (MatchOption (io_call_of code) ((result ≡ CallResult.refused E_UNKSVC) × (io ≡ s.io) × (terms ≡ s.terms)) (λ call. IoAttempts call s.inner s.io s.drives p result io s.terms terms)) (λ call. (result ≡ attempted call s.inner p) × (io ≡ io_after_call code s.io p result) × (terms ≡ s.terms)) → Comes end (record s { inner = after_attempt s.inner p result; io = io; terms = terms })
+    by-call code None result io terms over next coded answer =
+        by-io code (io_call_of code) result io terms next refl answer
+    by-call code (Some call) result io terms over next coded (is, io_is, unchanged) =
+        stopped end (record s { inner = after_attempt s.inner p result; io = io; terms = terms }) (subst Leaves (sym io_is) (after-call code result over)) (ap (λ (terms : List TerminalState). come_of terms n) unchanged)
+
+    acts-come : (act : Act) (t : State) → act_of s.inner p ≡ act → Acts act s p end t → Comes end t
+    acts-come executes t next (over, is) =
+        subst (Comes end) (sym is) (stopped end _ (after-instruction (next_instruction s.inner p) over) refl)
+    acts-come (delivers signal) t next (over, is) =
+        subst (Comes end) (sym is) (stopped end _ (after-delivery signal next (delivered (before_delivery s p) p signal) over) refl)
+    acts-come (attempts code) t next (result, io, terms, answer, over, is) =
+        subst (Comes end) (sym is) (by-call code (call_of code) result io terms over next refl answer)
+
+pub event-keys : (s t : State) (end : EventEnd) (n : ℕ) → Event s end t → HasAhead n s → (move : KeyMove) × EventKeys n s end move t × HasAhead n t
+event-keys s t end n (p, chosen, lives, acts) has = acts-come s p n chosen has end (act_of s.inner p) t refl acts

@@ -24,7 +24,7 @@ use Rattle.machine_model.specs.Event.{Event, cost}
 use Rattle.machine_model.specs.Run.{Choose, Run, Slice, Steps, Tick, desk_of, is_going}
 use Rattle.machine_model.specs.Start.{Starts}
 use Rattle.machine_model.specs.State.{State, has_living}
-use Rattle.flow_laws.specs.Keys.{EventKeys, FollowOn, HasAhead, IsKeyStep, KeyMove, KeyStep, KeysArrive, KeysPass, Stands, after_event, ahead_at, ahead_moves, arrive, arrived_by, keys_to_come, stay, use_up}
+use Rattle.flow_laws.specs.Keys.{EventKeys, FollowOn, HasAhead, IsKeyStep, KeyMove, KeyStep, KeysArrive, KeysPass, LineStays, Stands, after_event, ahead_at, ahead_moves, arrive, arrived_by, keys_to_come, stay, use_up}
 use Rattle.flow_laws.proofs.KeyEvents.{come_of, event-keys}
 
 -- ---- a tick
@@ -102,6 +102,7 @@ module _ (n tick : ℕ) where
   record Polled (old new : Desk) : Type 0 where
     pub keys : List Key
     pub come : come_of old.terms n ≡ keys ++ come_of new.terms n
+    pub line : LineStays (terminal_at old.io n) (terminal_at new.io n)
     pub ahead : (terminal_at new.io n).ahead ≡ (terminal_at old.io n).ahead ++ take (TYPE_AHEAD - length (terminal_at old.io n).ahead) (typed_bytes (key_bytes keys))
     pub places : length new.io.terminals ≡ length old.io.terminals
 
@@ -113,6 +114,10 @@ module _ (n tick : ℕ) where
         keys = it.taken;
         come =
             come-found old.terms n here.device.0 here.device.2 ∙ it.in_order ∙ ap (λ (keys : List Key). it.taken ++ keys) (sym (ap (λ (terms : List TerminalState). come_of terms n) here.device.3 ∙ come-put old.terms n here.device.0 here.device.1 here.device.2));
+        line = record {
+          line = ap (λ (t : Terminal). t.line) (at ∙ it.kept);
+          reading = ap (λ (t : Terminal). t.reading) (at ∙ it.kept);
+        };
         ahead =
             ap (λ (t : Terminal). t.ahead) (at ∙ it.kept) ∙ fits (terminal_at old.io n).ahead (typed_bytes (key_bytes it.taken)) few;
         places = poll-places n old new here;
@@ -122,6 +127,10 @@ module _ (n tick : ℕ) where
   arrivals-polled m zero old new within few is = record {
     keys = [];
     come = ap (λ (desk : Desk). come_of desk.terms n) (sym is);
+    line = record {
+      line = ap (λ (desk : Desk). (terminal_at desk.io n).line) is;
+      reading = ap (λ (desk : Desk). (terminal_at desk.io n).reading) is;
+    };
     ahead =
         ap (λ (desk : Desk). (terminal_at desk.io n).ahead) is ∙ sym (append-nil (terminal_at old.io n).ahead) ∙ ap (λ (none : List ℕ). (terminal_at old.io n).ahead ++ none) (sym (take-none (TYPE_AHEAD - length (terminal_at old.io n).ahead)));
     places = ap (λ (desk : Desk). length desk.io.terminals) is;
@@ -136,6 +145,10 @@ module _ (n tick : ℕ) where
           record {
             keys = first.keys;
             come = first.come ∙ ap (λ (keys : List Key). first.keys ++ keys) (sym rest.come);
+            line = record {
+              line = ap (λ (t : Terminal). t.line) rest.terminal ∙ first.line.line;
+              reading = ap (λ (t : Terminal). t.reading) rest.terminal ∙ first.line.reading;
+            };
             ahead = ap (λ (t : Terminal). t.ahead) rest.terminal ∙ first.ahead;
             places = rest.places ∙ first.places;
           }
@@ -146,6 +159,10 @@ module _ (n tick : ℕ) where
           record {
             keys = rest.keys;
             come = sym first.come ∙ rest.come;
+            line = record {
+              line = rest.line.line ∙ ap (λ (t : Terminal). t.line) first.terminal;
+              reading = rest.line.reading ∙ ap (λ (t : Terminal). t.reading) first.terminal;
+            };
             ahead =
                 rest.ahead ∙ ap (λ (ahead : List ℕ). ahead ++ take (TYPE_AHEAD - length ahead) (typed_bytes (key_bytes rest.keys))) same;
             places = rest.places ∙ first.places;
@@ -159,6 +176,10 @@ tick-keys s t n (desk, arrives, is) has =
         come =
             it.come ∙ ap (λ (terms : List TerminalState). it.keys ++ come_of terms n) (sym (ap (λ (t : State). t.terms) is));
         kept = ap (λ (t : State). ahead_at t n) is ∙ it.ahead;
+        line = record {
+          line = ap (λ (t : State). (terminal_at t.io n).line) is ∙ it.line.line;
+          reading = ap (λ (t : State). (terminal_at t.io n).reading) is ∙ it.line.reading;
+        };
       },
       record {
         within =
@@ -232,7 +253,7 @@ keeps-tick n s m states t keys ticks arrives (it, has) = (
   has,
 )
 
-keeps-event : (n : ℕ) (s m : State) (states : List State) (t : State) (end : EventEnd) (move : KeyMove) → Event s end m → EventKeys n s move m → Keeps n m states t → Keeps n s (m ∷ states) t
+keeps-event : (n : ℕ) (s m : State) (states : List State) (t : State) (end : EventEnd) (move : KeyMove) → Event s end m → EventKeys n s end move m → Keeps n m states t → Keeps n s (m ∷ states) t
 keeps-event n s m states t end (arrive keys) event moved (it, has) = absurd moved
 keeps-event n s m states t end (use_up keys) event uses (it, has) = (
   passes n s (m ∷ states) t (record { before = s; move = use_up keys; after = m } ∷ it.steps) (ap (λ (states : List State). m ∷ states) it.through) (stands-same s, it.linked)

@@ -2,27 +2,37 @@
 use Rattle.std.specs.Prelude.{◌≡◌, ◌⊎◌, ℕ, ◌-◌, ◌<◌, ◌≤◌, min, false, Option, Some, None, List, [], ◌∷◌, ◌++◌, length, slice_get, take}
 use Rattle.std.specs.List.{AllByRecursion, filter_map, flat_map}
 use Rattle.std.specs.Option.{option_map_or}
+use Rattle.os9_base.specs.declared.errors.TheConstants.{E_EOF, E_WRITE}
 use Rattle.os9_base.specs.declared.registers.Regs.{Regs}
 use Rattle.os9_outer.specs.declared.terminal.Key.{Key}
+use Rattle.proc_model.specs.MemoryChanges.{stored}
 use Rattle.call_rules.specs.Inner.{regs_at}
-use Rattle.call_rules.specs.Ready.{attempts, act_of}
-use Rattle.io_model.specs.Edit.{cleared}
+use Rattle.call_rules.specs.Ready.{attempts, delivers, act_of}
+use Rattle.io_model.specs.Edit.{Editing, Typing, cleared}
 use Rattle.io_model.specs.Pipe.{Flows, In, Movement, Out, came_in, went_out}
-use Rattle.io_model.specs.Terminal.{is_taken, key_bytes, typed, typed_bytes}
+use Rattle.io_model.specs.Terminal.{Terminal, is_taken, key_bytes, reader, typed, typed_bytes}
+use Rattle.io_model.specs.declared.edit.LineEnd.TheVariants.{EndOfFile, Line}
 use Rattle.io_model.specs.declared.path.Target.TheVariants.{Term}
 use Rattle.io_model.specs.declared.terminal.ReadKind.{ReadKind}
 use Rattle.io_model.specs.declared.terminal.ReadKind.TheVariants.{Bytes, WholeLine}
 use Rattle.io_model.specs.declared.terminal.Reading.{Reading}
 use Rattle.io_model.specs.declared.terminal.TheConstants.{TYPE_AHEAD}
-use Rattle.io_rules.specs.Codes.{io_call_of}
+use Rattle.io_rules.specs.Again.{path_number}
+use Rattle.io_rules.specs.Attempts.{caller_of}
+use Rattle.io_rules.specs.Codes.{direction_of_call, io_call_of}
 use Rattle.io_rules.specs.Io.{Io, OpenPath, kept_at, open_path, terminal_at}
+use Rattle.io_rules.specs.Pipes.{count_regs}
+use Rattle.io_rules.specs.Step.{IoEnd, answers, fails, keeps}
 use Rattle.io_rules.specs.Waiting.{pid}
+use Rattle.io_rules.specs.declared.io_call.Direction.TheVariants.{Writing}
 use Rattle.io_rules.specs.declared.io_call.IoCall.{IoCall}
 use Rattle.io_rules.specs.declared.io_call.IoCall.TheVariants as Call
 use Rattle.machine_model.specs.declared.ends.EventEnd.{EventEnd}
+use Rattle.machine_model.specs.declared.ends.EventEnd.TheVariants.{Ended}
 use Rattle.machine_model.specs.Event.{Event}
 use Rattle.machine_model.specs.Run.{Tick}
 use Rattle.machine_model.specs.State.{State}
+use Rattle.flow_laws.specs.Flow.{EndsIn}
 
 -- the keys of a terminal that are still to come
 abbrev pub keys_to_come : State → ℕ → List Key
@@ -41,10 +51,48 @@ pub record HasAhead (n : ℕ) (s : State) : Type 0 where
 abbrev pub gained : State → ℕ → List Key → List ℕ
 gained s n keys = take (TYPE_AHEAD - length (ahead_at s n)) (typed_bytes (key_bytes keys))
 
+-- ---- the line that is typed
+
+-- it stays, and whose read it is
+pub record LineStays (old new : Terminal) : Type 0 where
+  pub line : new.line ≡ old.line
+  pub reading : new.reading ≡ old.reading
+
+-- it is dropped, with its read; the last finished line is what it was
+pub record LineGoes (last : Editing) (new : Terminal) : Type 0 where
+  pub line : new.line ≡ cleared last
+  pub reading : new.reading ≡ None
+
+-- the process whose read is unfinished ends in this event, or it is where a signal is delivered to it
+pub record ReaderStops (n p : ℕ) (s : State) (end : EventEnd) : Type 0 where
+  pub reads : reader (terminal_at s.io n) ≡ Some (pid p)
+  pub stops : (end ≡ Ended) ⊎ ((signal : ℕ) × (act_of s.inner p ≡ delivers signal))
+
+-- a process attempts a write, whose path was opened on this terminal, and which is refused because the terminal failed
+pub record WriteFails (n p : ℕ) (s t : State) : Type 0 where
+  pub call : IoCall
+  pub attempted : (code : ℕ) × (act_of s.inner p ≡ attempts code) × (io_call_of code ≡ Some call)
+  pub way_is : direction_of_call call ≡ Some Writing
+  pub path : (opened : OpenPath) × (open_path s.io p (path_number call (regs_at s.inner p)) ≡ Some opened)
+      × (opened.desc.target ≡ Term n)
+  pub ends : EndsIn s p (λ end. end ≡ fails E_WRITE) t
+
+-- an event of the chosen process drops it, and why
+pub record DropsLine (n : ℕ) (s : State) (end : EventEnd) (t : State) : Type 0 where
+  pub process : ℕ
+  pub chosen : s.chosen ≡ Some process
+  pub cause : ReaderStops n process s end ⊎ WriteFails n process s t
+  pub goes : LineGoes (terminal_at s.io n).line (terminal_at t.io n)
+
+-- ---- ticks
+
 -- these keys arrive in a tick
 pub record KeysArrive (n : ℕ) (s : State) (keys : List Key) (t : State) : Type 0 where
   pub come : keys_to_come s n ≡ keys ++ keys_to_come t n
   pub kept : ahead_at t n ≡ ahead_at s n ++ gained s n keys
+  pub line : LineStays (terminal_at s.io n) (terminal_at t.io n)
+
+-- ---- events
 
 -- the call that reads so
 abbrev pub read_call : ReadKind → IoCall
@@ -67,8 +115,23 @@ pub record ReadsFrom (s : State) (p n : ℕ) (kind : ReadKind) : Type 0 where
   pub path : (opened : OpenPath) × (open_path s.io p (regs_at s.inner p).a ≡ Some opened)
       × (opened.desc.target ≡ Term n)
 
--- a read of the chosen process uses these keys, the next ones of the type-ahead: its line is what they make of it, and
--- is cleared where the read is over or is broken off
+-- An attempt of a read that used keys ends so, by what they made of its line. Where they ended the line, its bytes are
+-- stored and it answers their count; where it is refused, the end of the file was typed or the terminal failed, and
+-- the line is dropped; where they did not end it, the line stays with the read, and the call waits.
+abbrev pub ReadEnds : ℕ → State → ℕ → Reading → Typing → State → IoEnd → Type 0
+ReadEnds n s p request made t (answers regs) =
+    (made.end ≡ Some Line) × (regs ≡ count_regs (caller_of s.inner p) (length made.line.bytes))
+    × (t.inner.memory ≡ stored s.inner.memory p (regs_at s.inner p).x made.line.bytes)
+    × LineGoes made.line (terminal_at t.io n)
+ReadEnds n s p request made t (fails number) =
+    ((made.end ≡ Some EndOfFile) × (number ≡ E_EOF) ⊎ (number ≡ E_WRITE))
+    × LineGoes made.line (terminal_at t.io n) × (t.inner.memory ≡ s.inner.memory)
+ReadEnds n s p request made t (keeps kept) =
+    (made.end ≡ None) × ((terminal_at t.io n).line ≡ made.line) × ((terminal_at t.io n).reading ≡ Some request)
+    × (t.inner.memory ≡ s.inner.memory)
+
+-- a read of the chosen process uses these keys, the next ones of the type-ahead: its line is what all of them make of
+-- it, none lies behind its end
 pub record UsesKeys (n : ℕ) (s : State) (keys : List ℕ) (t : State) : Type 0 where
   pub process : ℕ
   pub chosen : s.chosen ≡ Some process
@@ -78,14 +141,15 @@ pub record UsesKeys (n : ℕ) (s : State) (keys : List ℕ) (t : State) : Type 0
   pub request_is : request ≡ reading_of kind s.io process (regs_at s.inner process)
   pub alone : is_taken request.process (terminal_at s.io n) ≡ false
   pub front : ahead_at s n ≡ keys ++ ahead_at t n
-  pub line : ((terminal_at t.io n).line ≡ (typed request (terminal_at s.io n).line keys).line)
-      ⊎ ((terminal_at t.io n).line ≡ cleared (typed request (terminal_at s.io n).line keys).line)
+  pub used : (typed request (terminal_at s.io n).line keys).left ≡ []
+  pub ends : EndsIn s process (ReadEnds n s process request (typed request (terminal_at s.io n).line keys) t) t
   pub come : keys_to_come t n ≡ keys_to_come s n
 
--- no key arrives, and none is used
-pub record KeysStay (n : ℕ) (s t : State) : Type 0 where
+-- no key arrives, and none is used; the line stays, or it is dropped for a cause
+pub record KeysStay (n : ℕ) (s : State) (end : EventEnd) (t : State) : Type 0 where
   pub ahead : ahead_at t n ≡ ahead_at s n
   pub come : keys_to_come t n ≡ keys_to_come s n
+  pub line : LineStays (terminal_at s.io n) (terminal_at t.io n) ⊎ DropsLine n s end t
 
 -- what becomes of keys in a step of a run
 pub data KeyMove : Type 0 where
@@ -97,10 +161,10 @@ pub data KeyMove : Type 0 where
   stay : KeyMove
 
 -- an event uses keys, or leaves them
-abbrev pub EventKeys : ℕ → State → KeyMove → State → Type 0
-EventKeys n s (arrive keys) t = ⊥
-EventKeys n s (use_up keys) t = UsesKeys n s keys t
-EventKeys n s stay t = KeysStay n s t
+abbrev pub EventKeys : ℕ → State → EventEnd → KeyMove → State → Type 0
+EventKeys n s end (arrive keys) t = ⊥
+EventKeys n s end (use_up keys) t = UsesKeys n s keys t
+EventKeys n s end stay t = KeysStay n s end t
 
 -- ---- runs
 
@@ -113,7 +177,7 @@ pub record KeyStep : Type 0 where
 abbrev pub IsKeyStep : ℕ → KeyStep → Type 0
 IsKeyStep n it =
     ((keys : List Key) × (it.move ≡ arrive keys) × Tick it.before it.after × KeysArrive n it.before keys it.after)
-    ⊎ ((end : EventEnd) × Event it.before end it.after × EventKeys n it.before it.move it.after)
+    ⊎ ((end : EventEnd) × Event it.before end it.after × EventKeys n it.before end it.move it.after)
 
 -- the keys that arrive in a step
 abbrev pub arrived_by : KeyMove → List Key
