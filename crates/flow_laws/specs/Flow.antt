@@ -1,19 +1,22 @@
 -- What events move through a pipe (Level Two manual, "Pipes").
-use Rattle.std.specs.Prelude.{◌≡◌, ◌⊎◌, ℕ, ◌+◌, ⊤, Option, Some, None, List, [], ◌∷◌, ◌++◌, length, map, take, drop}
+use Rattle.std.specs.Prelude.{◌≡◌, ◌≢◌, ◌⊎◌, ℕ, ◌+◌, ◌-◌, ⊤, Option, Some, None, List, [], ◌∷◌, ◌++◌, length, map, take, drop}
 use Rattle.std.specs.List.{AllByRecursion, filter_map, flat_map}
 use Rattle.std.specs.Option.{option_map_or}
+use Rattle.os9_base.specs.declared.calls.TheConstants.{I_READ}
 use Rattle.os9_base.specs.declared.registers.Regs.{Regs}
 use Rattle.proc_model.specs.MemoryChanges.{stored}
 use Rattle.call_rules.specs.Attempts.{after_attempt}
-use Rattle.call_rules.specs.Inner.{regs_at}
-use Rattle.call_rules.specs.Ready.{attempts, act_of}
+use Rattle.call_rules.specs.Delivery.{frame_bytes, stack_top}
+use Rattle.call_rules.specs.Inner.{Inner, regs_at}
+use Rattle.call_rules.specs.Ready.{attempts, delivers, act_of}
 use Rattle.call_rules.specs.UserBytes.{user_bytes}
 use Rattle.io_model.specs.Pipe.{Flows, IsPipe, Movement, In, Out, came_in, went_out}
+use Rattle.io_model.specs.declared.kept.Kept.{Kept}
 use Rattle.io_model.specs.declared.path.Target.TheVariants.{Pipe}
 use Rattle.io_rules.specs.Again.{path_number}
 use Rattle.io_rules.specs.Attempts.{caller_of, io_after, result_of}
 use Rattle.io_rules.specs.Codes.{direction_of_call, io_call_of}
-use Rattle.io_rules.specs.Io.{Io, OpenPath, kept_at, open_path, pipe_bytes}
+use Rattle.io_rules.specs.Io.{Io, OpenPath, kept_at, open_path, pipe_bytes, target_of}
 use Rattle.io_rules.specs.Pipes.{count_regs}
 use Rattle.io_rules.specs.Step.{Caller, IoEffect, IoEnd, answers, fails, keeps}
 use Rattle.io_rules.specs.Write.{error_line, line_bytes}
@@ -130,6 +133,22 @@ pub record Passing : Type 0 where
 
 abbrev pub IsPassing : ℕ → Passing → Type 0
 IsPassing n it = (end : EventEnd) × Event it.before end it.after × MovesThrough n it.before it.moved it.after
+
+-- ---- signals
+
+-- a signal is delivered to a process whose call, another one than I$Read, waits on this pipe
+pub record IsBrokenOff (n : ℕ) (s : State) (p : ℕ) (kept : Kept) : Type 0 where
+  pub chosen : s.chosen ≡ Some p
+  pub signal : (number : ℕ) × (act_of s.inner p ≡ delivers number)
+  pub call : kept_at s.io p ≡ Some kept
+  pub on : target_of s.io kept.path ≡ Some (Pipe n)
+  pub counts : kept.code ≢ I_READ
+
+-- the registers that are pushed for the routine of its intercept have in Y how many bytes the call has moved
+pub record TellsMoved (before : Inner) (p moved : ℕ) (after : Inner) : Type 0 where
+  pub regs : Regs
+  pub told : regs.y ≡ moved
+  pub frame : after.memory ≡ stored before.memory p (stack_top (regs_at before p).s - 12) (frame_bytes regs)
 
 -- ---- runs
 
