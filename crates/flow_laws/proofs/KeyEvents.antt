@@ -5,6 +5,7 @@ use Rattle.std.specs.Option.{option_map_or}
 use Rattle.std.proofs.lemmas.Bool.{cases_eq, cases_lt, eqb-true}
 use Rattle.std.proofs.lemmas.List.{get_or-set_same, get_or-set_other, get_or_past, get_or-map, length-append, length-map, length-set}
 use Rattle.std.proofs.lemmas.Option.{none-some, same_Some}
+use Rattle.os9_base.specs.Count.{Rose}
 use Rattle.os9_base.specs.declared.calls.TheConstants.{F_FORK}
 use Rattle.os9_base.specs.declared.errors.TheConstants.{E_EOF, E_UNKSVC, E_WRITE}
 use Rattle.os9_base.specs.declared.registers.Pid.{Pid}
@@ -201,20 +202,20 @@ interrupted-left n io p =
 -- ---- a read
 
 -- how an attempt of a read ends that stores these bytes, where its keys made this of its line
-abbrev Ends : Caller → Typing → Reading → Terminal → List ℕ → IoEnd → Type 0
-Ends caller made request new bytes (answers regs) =
+abbrev Ends : Type 0 → Caller → Typing → Reading → Terminal → List ℕ → IoEnd → Type 0
+Ends Fails caller made request new bytes (answers regs) =
     (made.end ≡ Some Line) × (regs ≡ count_regs caller (length made.line.bytes)) × (bytes ≡ made.line.bytes) × LineGoes made.line new
-Ends caller made request new bytes (fails number) =
-    ((made.end ≡ Some EndOfFile) × (number ≡ E_EOF) ⊎ (number ≡ E_WRITE)) × LineGoes made.line new
-Ends caller made request new bytes (keeps kept) =
+Ends Fails caller made request new bytes (fails number) =
+    ((made.end ≡ Some EndOfFile) × (number ≡ E_EOF) ⊎ (number ≡ E_WRITE) × Fails) × LineGoes made.line new
+Ends Fails caller made request new bytes (keeps kept) =
     (made.end ≡ None) × (new.line ≡ made.line) × (new.reading ≡ Some request) × (bytes ≡ [])
 
 -- an attempt of a read uses these keys
-record Uses (caller : Caller) (request : Reading) (old new : Terminal) (keys bytes : List ℕ) (end : IoEnd) : Type 0 where
+record Uses (Fails : Type 0) (caller : Caller) (request : Reading) (old new : Terminal) (keys bytes : List ℕ) (end : IoEnd) : Type 0 where
   pub alone : is_taken request.process old ≡ false
   pub front : old.ahead ≡ keys ++ new.ahead
   pub used : (typed request old.line keys).left ≡ []
-  pub ends : Ends caller (typed request old.line keys) request new bytes end
+  pub ends : Ends Fails caller (typed request old.line keys) request new bytes end
 
 -- keys up to one whose echo failed
 broken-line : (step : Editing → ℕ → Edited) (line : Editing) (front : List ℕ) (key : ℕ) → (typing step line front).end ≡ None → (typing step line (front ++ key ∷ [])).line ≡ (step (typing step line front).line key).line
@@ -237,14 +238,14 @@ broken-left step line front key unfinished =
     by_end None = refl
     by_end (Some end) = refl
 
-broken-uses : (caller : Caller) (request : Reading) (old new : Terminal) (before now : TerminalState) (bytes : List ℕ) → is_taken request.process old ≡ false → (it : BreaksOff request old new before now) → Uses caller request old new (it.front ++ it.key ∷ []) bytes (fails E_WRITE)
-broken-uses caller request old new before now bytes alone it = record {
+broken-uses : (Fails : Type 0) (caller : Caller) (request : Reading) (old new : Terminal) (before now : TerminalState) (bytes : List ℕ) → Fails → is_taken request.process old ≡ false → (it : BreaksOff request old new before now) → Uses Fails caller request old new (it.front ++ it.key ∷ []) bytes (fails E_WRITE)
+broken-uses Fails caller request old new before now bytes failed alone it = record {
   alone = alone;
   front =
       it.keys ∙ sym (append_assoc it.front (it.key ∷ []) it.rest) ∙ ap (λ (left : List ℕ). (it.front ++ it.key ∷ []) ++ left) (sym (ap (λ (t : Terminal). t.ahead) it.terminal));
   used = broken-left (key_effect request) old.line it.front it.key it.unfinished;
   ends = (
-    inr refl,
+    inr (refl, failed),
     record {
       line =
           ap (λ (t : Terminal). t.line) it.terminal ∙ ap cleared (sym (broken-line (key_effect request) old.line it.front it.key it.unfinished));
@@ -253,24 +254,24 @@ broken-uses caller request old new before now bytes alone it = record {
   );
 }
 
-module _ (caller : Caller) (read : TerminalRead) (old new : Terminal) (end : IoEnd) where
+module _ (Fails : Type 0) (caller : Caller) (read : TerminalRead) (old new : Terminal) (end : IoEnd) where
   abbrev asked : Reading
   asked = request_of caller read
 
   -- by how the line ended
-  over-ends : (full made : Typing) (bytes : List ℕ) → made ≡ used_up full → (over : Option LineEnd) → full.end ≡ over → read_ends caller read (attempt_by over full asked).answer ≡ Some end → new ≡ (attempt_by over full asked).terminal → bytes ≡ (attempt_by over full asked).stored → Ends caller made asked new bytes end
+  over-ends : (full made : Typing) (bytes : List ℕ) → made ≡ used_up full → (over : Option LineEnd) → full.end ≡ over → read_ends caller read (attempt_by over full asked).answer ≡ Some end → new ≡ (attempt_by over full asked).terminal → bytes ≡ (attempt_by over full asked).stored → Ends Fails caller made asked new bytes end
   over-ends full made bytes is None over answered at stores_them =
-      subst (Ends caller made asked new bytes) (same_Some (keeps read.call) end answered)
+      subst (Ends Fails caller made asked new bytes) (same_Some (keeps read.call) end answered)
       (ap (λ (it : Typing). it.end) is ∙ over, ap (λ (t : Terminal). t.line) at ∙ sym (ap (λ (it : Typing). it.line) is), ap (λ (t : Terminal). t.reading) at, stores_them)
   over-ends full made bytes is (Some EndOfFile) over answered at stores_them =
-      subst (Ends caller made asked new bytes) (same_Some (fails E_EOF) end answered)
+      subst (Ends Fails caller made asked new bytes) (same_Some (fails E_EOF) end answered)
       (inl (ap (λ (it : Typing). it.end) is ∙ over, refl), record { line = ap (λ (t : Terminal). t.line) at ∙ sym (ap (λ (it : Typing). cleared it.line) is); reading = ap (λ (t : Terminal). t.reading) at })
   over-ends full made bytes is (Some Line) over answered at stores_them =
-      subst (Ends caller made asked new bytes) (same_Some (answers (count_regs caller (length full.line.bytes))) end answered)
+      subst (Ends Fails caller made asked new bytes) (same_Some (answers (count_regs caller (length full.line.bytes))) end answered)
       (ap (λ (it : Typing). it.end) is ∙ over, ap (λ (it : Typing). count_regs caller (length it.line.bytes)) (sym is), stores_them ∙ ap (λ (it : Typing). it.line.bytes) (sym is), record { line = ap (λ (t : Terminal). t.line) at ∙ sym (ap (λ (it : Typing). cleared it.line) is); reading = ap (λ (t : Terminal). t.reading) at })
 
   -- an attempt that types keys
-  typed-uses : (bytes : List ℕ) → is_taken asked.process old ≡ false → read_ends caller read (typed_attempt asked old).answer ≡ Some end → new ≡ (typed_attempt asked old).terminal → bytes ≡ (typed_attempt asked old).stored → (keys : List ℕ) × Uses caller asked old new keys bytes end
+  typed-uses : (bytes : List ℕ) → is_taken asked.process old ≡ false → read_ends caller read (typed_attempt asked old).answer ≡ Some end → new ≡ (typed_attempt asked old).terminal → bytes ≡ (typed_attempt asked old).stored → (keys : List ℕ) × Uses Fails caller asked old new keys bytes end
   typed-uses bytes alone answered at stores_them =
       let used = uses-front (key_effect asked) old.line old.ahead in (
         used.0,
@@ -290,7 +291,7 @@ module _ (caller : Caller) (read : TerminalRead) (old new : Terminal) (end : IoE
       left-is (Some Line) it = refl
 
   abbrev Came : List ℕ → Type 0
-  Came bytes = TermLeft ⊥ old new ⊎ ((keys : List ℕ) × Uses caller asked old new keys bytes end)
+  Came bytes = TermLeft ⊥ old new ⊎ ((keys : List ℕ) × Uses Fails caller asked old new keys bytes end)
 
   whole-uses : (answer : Progress) (before now : TerminalState) (bytes : List ℕ) → Attempted (read_attempt asked old) answer new before now → read_ends caller read answer ≡ Some end → bytes ≡ (read_attempt asked old).stored → Came bytes
   whole-uses answer before now bytes it answered stores_them =
@@ -301,18 +302,18 @@ module _ (caller : Caller) (read : TerminalRead) (old new : Terminal) (end : IoE
           inl (record { ahead = ap (λ (t : Terminal). t.ahead) at; line = inl (record { line = ap (λ (t : Terminal). t.line) at; reading = ap (λ (t : Terminal). t.reading) at }) })
       by_turn false is answered at stores_them = inr (typed-uses bytes is answered at stores_them)
 
-  read-uses : (answer : Progress) (before now : TerminalState) → Reads asked answer old new before now → read_ends caller read answer ≡ Some end → Came (stored_bytes answer asked old)
-  read-uses (Progress.Done count) before now it answered =
+  read-uses : (answer : Progress) (before now : TerminalState) → (Rose before.faults now.faults → Fails) → Reads asked answer old new before now → read_ends caller read answer ≡ Some end → Came (stored_bytes answer asked old)
+  read-uses (Progress.Done count) before now failed it answered =
       whole-uses (Progress.Done count) before now (read_attempt asked old).stored it.outcome answered refl
-  read-uses Progress.Wait before now it answered =
+  read-uses Progress.Wait before now failed it answered =
       whole-uses Progress.Wait before now (read_attempt asked old).stored it.outcome answered refl
-  read-uses Progress.End before now it answered =
+  read-uses Progress.End before now failed it answered =
       whole-uses Progress.End before now (read_attempt asked old).stored it.outcome answered refl
-  read-uses Progress.Fault before now it answered =
-      inr (it.outcome.front ++ it.outcome.key ∷ [], subst (Uses caller asked old new (it.outcome.front ++ it.outcome.key ∷ []) []) (same_Some (fails E_WRITE) end answered) (broken-uses caller asked old new before now [] (it.turn refl) it.outcome))
-  read-uses Progress.NoMemory before now it answered = absurd (none-some end answered)
+  read-uses Progress.Fault before now failed it answered =
+      inr (it.outcome.front ++ it.outcome.key ∷ [], subst (Uses Fails caller asked old new (it.outcome.front ++ it.outcome.key ∷ []) []) (same_Some (fails E_WRITE) end answered) (broken-uses Fails caller asked old new before now [] (failed it.driver.faults) (it.turn refl) it.outcome))
+  read-uses Progress.NoMemory before now failed it answered = absurd (none-some end answered)
 
--- ---- the keys to come
+-- ---- the keys to come, and the faults
 
 abbrev pub come_of : List TerminalState → ℕ → List Key
 come_of terms n = option_map_or (λ (terminal : TerminalState). terminal.keys) (slice_get terms n) []
@@ -328,68 +329,87 @@ come-one : (change : TerminalState → TerminalState → Type 0) (m n : ℕ) (be
 come-one change m n before after same (old, new, found, is, changed) =
     ap (λ (terms : List TerminalState). come_of terms n) is ∙ come-set before m n old new found (same old new changed)
 
+abbrev faults_of : List TerminalState → ℕ → ℕ
+faults_of terms n = option_map_or (λ (terminal : TerminalState). terminal.faults) (slice_get terms n) 0
+
+put-found : (terms : List TerminalState) (n : ℕ) (old new : TerminalState) → slice_get terms n ≡ Some old → slice_get (slice_set terms n new) n ≡ Some new
+put-found [] n old new is = absurd (none-some old is)
+put-found (x ∷ terms) zero old new is = refl
+put-found (x ∷ terms) (suc n) old new is = put-found terms n old new is
+
+-- the count of one terminal rose
+rose-one : (change : TerminalState → TerminalState → Type 0) (m : ℕ) (before after : List TerminalState) → (it : ChangesOneTerminal change m before after) → Rose it.0.faults it.1.faults → Rose (faults_of before m) (faults_of after m)
+rose-one change m before after (old, new, found, is, changed) rose =
+    let count : Option TerminalState → ℕ = λ place. option_map_or (λ (terminal : TerminalState). terminal.faults) place 0 in
+    subst (λ (k : ℕ). Rose k (faults_of after m)) (sym (ap count found))
+    (subst (λ (k : ℕ). Rose old.faults k) (sym (ap (λ (terms : List TerminalState). faults_of terms m) is ∙ ap count (put-found before m old new found))) rose)
+
 -- ---- an attempt of a call on paths
 
+-- a terminal of these failed
+abbrev Failed : List TerminalState → List TerminalState → ℕ → Type 0
+Failed before after n = Rose (faults_of before n) (faults_of after n)
+
 -- a write on a terminal is refused
-abbrev WriteRefused : IoCall → Caller → Io → IoEnd → ℕ → Type 0
-WriteRefused call caller io end n =
-    (direction_of_call call ≡ Some Writing) × OnTerminal call caller io n × (end ≡ fails E_WRITE)
+abbrev WriteRefused : IoCall → Caller → Io → IoEnd → List TerminalState → List TerminalState → ℕ → Type 0
+WriteRefused call caller io end before after n =
+    (direction_of_call call ≡ Some Writing) × OnTerminal call caller io n × (end ≡ fails E_WRITE) × Failed before after n
 
 -- what an attempt makes of the keys of a terminal
-abbrev Moved : IoCall → Caller → Io → ℕ → IoEffect → Type 0
-Moved call caller io n effect =
-    AheadLeft (WriteRefused call caller io effect.end n) n io effect.io
-    ⊎ ((kind : ReadKind) × (call ≡ read_call kind) × ((opened : OpenPath) × (open_path io caller.process.0 caller.regs.a ≡ Some opened) × (opened.desc.target ≡ Term n)) × (length effect.io.terminals ≡ length io.terminals) × (effect.at ≡ caller.regs.x) × ((keys : List ℕ) × Uses caller (reading_of kind io caller.process.0 caller.regs) (terminal_at io n) (terminal_at effect.io n) keys effect.bytes effect.end))
+abbrev Moved : IoCall → Caller → Io → ℕ → List TerminalState → List TerminalState → IoEffect → Type 0
+Moved call caller io n before after effect =
+    AheadLeft (WriteRefused call caller io effect.end before after n) n io effect.io
+    ⊎ ((kind : ReadKind) × (call ≡ read_call kind) × ((opened : OpenPath) × (open_path io caller.process.0 caller.regs.a ≡ Some opened) × (opened.desc.target ≡ Term n)) × (length effect.io.terminals ≡ length io.terminals) × (effect.at ≡ caller.regs.x) × ((keys : List ℕ) × Uses (Failed before after n) caller (reading_of kind io caller.process.0 caller.regs) (terminal_at io n) (terminal_at effect.io n) keys effect.bytes effect.end))
 
-write-left : (write : TerminalWrite) (end : IoEnd) (Cause : Type 0) → (end ≡ fails E_WRITE → Cause) → (process : Pid) (answer : Progress) (old new : Terminal) (before now : TerminalState) → write_ends write answer ≡ Some end → Writes process write.put write.count answer old new before now → TermLeft Cause old new
-write-left write end Cause causes process (Progress.Done count) old new before now is it = record {
+write-left : (write : TerminalWrite) (end : IoEnd) (Cause : Type 0) → (process : Pid) (answer : Progress) (old new : Terminal) (before now : TerminalState) → (end ≡ fails E_WRITE → Rose before.faults now.faults → Cause) → write_ends write answer ≡ Some end → Writes process write.put write.count answer old new before now → TermLeft Cause old new
+write-left write end Cause process (Progress.Done count) old new before now causes is it = record {
   ahead = ap (λ (t : Terminal). t.ahead) it.outcome.terminal;
   line =
       inl (record { line = ap (λ (t : Terminal). t.line) it.outcome.terminal; reading = ap (λ (t : Terminal). t.reading) it.outcome.terminal });
 }
-write-left write end Cause causes process Progress.Wait old new before now is it = absurd (none-some end is)
-write-left write end Cause causes process Progress.End old new before now is it = absurd (none-some end is)
-write-left write end Cause causes process Progress.Fault old new before now is it = record {
+write-left write end Cause process Progress.Wait old new before now causes is it = absurd (none-some end is)
+write-left write end Cause process Progress.End old new before now causes is it = absurd (none-some end is)
+write-left write end Cause process Progress.Fault old new before now causes is it = record {
   ahead = ap (λ (t : Terminal). t.ahead) it.outcome.terminal;
   line =
-      inr (causes (sym (same_Some (fails E_WRITE) end is)), record { line = ap (λ (t : Terminal). t.line) it.outcome.terminal; reading = ap (λ (t : Terminal). t.reading) it.outcome.terminal });
+      inr (causes (sym (same_Some (fails E_WRITE) end is)) it.driver.faults, record { line = ap (λ (t : Terminal). t.line) it.outcome.terminal; reading = ap (λ (t : Terminal). t.reading) it.outcome.terminal });
 }
-write-left write end Cause causes process Progress.NoMemory old new before now is it = absurd (none-some end is)
+write-left write end Cause process Progress.NoMemory old new before now causes is it = absurd (none-some end is)
 
 module _ (call : IoCall) (caller : Caller) (io : Io) (n : ℕ) (within : n < length io.terminals) (before after : List TerminalState) where
-  read-moves : (read : TerminalRead) (effect : IoEffect) (kind : ReadKind) → call ≡ read_call kind → IsReadOn kind caller io read → ReadsTerminal caller io read effect before after → Moved call caller io n effect
+  read-moves : (read : TerminalRead) (effect : IoEffect) (kind : ReadKind) → call ≡ read_call kind → IsReadOn kind caller io read → ReadsTerminal caller io read effect before after → Moved call caller io n before after effect
   read-moves read effect kind call_is on it =
-      subst (λ (effect : IoEffect). Moved call caller io n effect) (sym it.effect_is) (by_uses (read-uses caller read (terminal_at io read.terminal) it.new it.end it.answer it.device.0 it.device.1 it.device.4 it.ends))
+      subst (λ (effect : IoEffect). Moved call caller io n before after effect) (sym it.effect_is) (by_uses (read-uses (Failed before after read.terminal) caller read (terminal_at io read.terminal) it.new it.end it.answer it.device.0 it.device.1 (rose-one (Reads (request_of caller read) it.answer (terminal_at io read.terminal) it.new) read.terminal before after it.device) it.device.4 it.ends))
     where
       put : n ≡ read.terminal → terminal_at (with_terminal io read.terminal it.new) n ≡ it.new
       put same =
           ap (λ (m : ℕ). terminal_at (with_terminal io m it.new) n) (sym same) ∙ get_or-set_same io.terminals n it.new new_terminal within
 
-      by_place : (keys : List ℕ) → Uses caller (request_of caller read) (terminal_at io read.terminal) it.new keys (stored_bytes it.answer (request_of caller read) (terminal_at io read.terminal)) it.end → (n ≡ read.terminal) ⊎ (n ≢ read.terminal) → Moved call caller io n (read_leaves caller io read it.answer it.new it.end)
+      by_place : (keys : List ℕ) → Uses (Failed before after read.terminal) caller (request_of caller read) (terminal_at io read.terminal) it.new keys (stored_bytes it.answer (request_of caller read) (terminal_at io read.terminal)) it.end → (n ≡ read.terminal) ⊎ (n ≢ read.terminal) → Moved call caller io n before after (read_leaves caller io read it.answer it.new it.end)
       by_place keys uses (inl same) =
-          inr (kind, call_is, (on.path.0, on.path.1, on.path.2 ∙ ap Term (sym same)), length-set io.terminals read.terminal it.new, refl, (keys, subst (λ (request : Reading). Uses caller request (terminal_at io n) (terminal_at (with_terminal io read.terminal it.new) n) keys (stored_bytes it.answer (request_of caller read) (terminal_at io read.terminal)) it.end) on.request (subst (λ (t : Terminal). Uses caller (request_of caller read) (terminal_at io n) t keys (stored_bytes it.answer (request_of caller read) (terminal_at io read.terminal)) it.end) (sym (put same)) (subst (λ (m : ℕ). Uses caller (request_of caller read) (terminal_at io m) it.new keys (stored_bytes it.answer (request_of caller read) (terminal_at io read.terminal)) it.end) (sym same) uses))))
+          inr (kind, call_is, (on.path.0, on.path.1, on.path.2 ∙ ap Term (sym same)), length-set io.terminals read.terminal it.new, refl, (keys, subst (λ (request : Reading). Uses (Failed before after n) caller request (terminal_at io n) (terminal_at (with_terminal io read.terminal it.new) n) keys (stored_bytes it.answer (request_of caller read) (terminal_at io read.terminal)) it.end) on.request (subst (λ (t : Terminal). Uses (Failed before after n) caller (request_of caller read) (terminal_at io n) t keys (stored_bytes it.answer (request_of caller read) (terminal_at io read.terminal)) it.end) (sym (put same)) (subst (λ (m : ℕ). Uses (Failed before after m) caller (request_of caller read) (terminal_at io m) it.new keys (stored_bytes it.answer (request_of caller read) (terminal_at io read.terminal)) it.end) (sym same) uses))))
       by_place keys uses (inr apart) = inl (record {
         terminal =
-            term-same (WriteRefused call caller io it.end n) (terminal_at io n) (terminal_at (with_terminal io read.terminal it.new) n) (get_or-set_other io.terminals read.terminal n it.new new_terminal apart);
+            term-same (WriteRefused call caller io it.end before after n) (terminal_at io n) (terminal_at (with_terminal io read.terminal it.new) n) (get_or-set_other io.terminals read.terminal n it.new new_terminal apart);
         places = length-set io.terminals read.terminal it.new;
       })
 
       never : (Cause : Type 0) → ⊥ → Cause
       never Cause none = absurd none
 
-      by_uses : TermLeft ⊥ (terminal_at io read.terminal) it.new ⊎ ((keys : List ℕ) × Uses caller (request_of caller read) (terminal_at io read.terminal) it.new keys (stored_bytes it.answer (request_of caller read) (terminal_at io read.terminal)) it.end) → Moved call caller io n (read_leaves caller io read it.answer it.new it.end)
+      by_uses : TermLeft ⊥ (terminal_at io read.terminal) it.new ⊎ ((keys : List ℕ) × Uses (Failed before after read.terminal) caller (request_of caller read) (terminal_at io read.terminal) it.new keys (stored_bytes it.answer (request_of caller read) (terminal_at io read.terminal)) it.end) → Moved call caller io n before after (read_leaves caller io read it.answer it.new it.end)
       by_uses (inl same) =
-          inl (left-set (WriteRefused call caller io it.end) n io read.terminal it.new (term-for ⊥ (WriteRefused call caller io it.end read.terminal) (terminal_at io read.terminal) it.new (never (WriteRefused call caller io it.end read.terminal)) same))
+          inl (left-set (WriteRefused call caller io it.end before after) n io read.terminal it.new (term-for ⊥ (WriteRefused call caller io it.end before after read.terminal) (terminal_at io read.terminal) it.new (never (WriteRefused call caller io it.end before after read.terminal)) same))
       by_uses (inr (keys, uses)) = by_place keys uses (cases_eq n read.terminal)
 
-  does-moves : (step : IoStep) (effect : IoEffect) → StepGives call (λ (new : Io). new.terminals ≡ io.terminals) caller io step → StepReads call caller io step → StepWrites call caller io step → Does step caller io effect before after → Moved call caller io n effect
+  does-moves : (step : IoStep) (effect : IoEffect) → StepGives call (λ (new : Io). new.terminals ≡ io.terminals) caller io step → StepReads call caller io step → StepWrites call caller io step → Does step caller io effect before after → Moved call caller io n before after effect
   does-moves (refused number) effect gives facts on (is, same) =
-      inl (left-same (WriteRefused call caller io effect.end n) n io effect.io (ap (λ (effect : IoEffect). effect.io.terminals) is))
+      inl (left-same (WriteRefused call caller io effect.end before after n) n io effect.io (ap (λ (effect : IoEffect). effect.io.terminals) is))
   does-moves (comes it) effect gives facts on (is, same) =
-      inl (left-same (WriteRefused call caller io effect.end n) n io effect.io (ap (λ (effect : IoEffect). effect.io.terminals) is ∙ gives))
+      inl (left-same (WriteRefused call caller io effect.end before after n) n io effect.io (ap (λ (effect : IoEffect). effect.io.terminals) is ∙ gives))
   does-moves (reads read) effect gives (kind, call_is, on) none does = read-moves read effect kind call_is on does
   does-moves (writes write) effect gives facts on it =
-      inl (subst (λ (effect : IoEffect). AheadLeft (WriteRefused call caller io effect.end n) n io effect.io) (sym it.effect_is) (left-set (WriteRefused call caller io it.end) n io write.terminal it.new (write-left write it.end (WriteRefused call caller io it.end write.terminal) (λ refuses_it. (gives.0, on, refuses_it)) caller.process it.answer (terminal_at io write.terminal) it.new it.device.0 it.device.1 it.ends it.device.4)))
+      inl (subst (λ (effect : IoEffect). AheadLeft (WriteRefused call caller io effect.end before after n) n io effect.io) (sym it.effect_is) (left-set (WriteRefused call caller io it.end before after) n io write.terminal it.new (write-left write it.end (WriteRefused call caller io it.end before after write.terminal) caller.process it.answer (terminal_at io write.terminal) it.new it.device.0 it.device.1 (λ refuses_it failed. (gives.0, on, refuses_it, rose-one (Writes caller.process write.put write.count it.answer (terminal_at io write.terminal) it.new) write.terminal before after it.device failed)) it.ends it.device.4)))
 
   -- no key to come is taken
   does-come : (step : IoStep) (effect : IoEffect) → Does step caller io effect before after → come_of after n ≡ come_of before n
@@ -462,7 +482,7 @@ module _ (s : State) (p n : ℕ) (chosen : s.chosen ≡ Some p) (has : HasAhead 
     }
 
     -- how its read ends
-    read-ends : (request : Reading) (made : Typing) (over : IoEnd) → attempt.effect.at ≡ (regs_at s.inner p).x → result ≡ result_by over s.inner p attempt.effect → Ends (caller_of s.inner p) made request (terminal_at attempt.effect.io n) attempt.effect.bytes over → ReadEnds n s p request made last over
+    read-ends : (request : Reading) (made : Typing) (over : IoEnd) → attempt.effect.at ≡ (regs_at s.inner p).x → result ≡ result_by over s.inner p attempt.effect → Ends (Failed s.terms terms n) (caller_of s.inner p) made request (terminal_at attempt.effect.io n) attempt.effect.bytes over → ReadEnds n s p request made last over
     read-ends request made (answers regs) at is (ended, counted, bytes, goes) = (
       ended,
       counted,
@@ -478,20 +498,21 @@ module _ (s : State) (p n : ℕ) (chosen : s.chosen ≡ Some p) (has : HasAhead 
       ap (λ (result : CallResult). (after_attempt s.inner p result).memory) is ∙ ap (stored s.inner.memory p attempt.effect.at) none,
     )
 
-    by_moved : Moved call (caller_of s.inner p) s.io n attempt.effect → Comes end last
+    by_moved : Moved call (caller_of s.inner p) s.io n s.terms terms attempt.effect → Comes end last
     by_moved (inl it) = left end last (record {
       terminal =
-          subst (TermLeft (Causes end last) (terminal_at s.io n)) (sym terminal-then) (term-for (WriteRefused call (caller_of s.inner p) s.io attempt.effect.end n) (Causes end last) (terminal_at s.io n) (terminal_at attempt.effect.io n) write-fails it.terminal);
+          subst (TermLeft (Causes end last) (terminal_at s.io n)) (sym terminal-then) (term-for (WriteRefused call (caller_of s.inner p) s.io attempt.effect.end s.terms terms n) (Causes end last) (terminal_at s.io n) (terminal_at attempt.effect.io n) write-fails it.terminal);
       places = ap (length {A = Terminal}) terminals-then ∙ it.places;
     }) come-then
       where
-        write-fails : WriteRefused call (caller_of s.inner p) s.io attempt.effect.end n → Causes end last
-        write-fails (way, path, refuses_it) = inr (record {
+        write-fails : WriteRefused call (caller_of s.inner p) s.io attempt.effect.end s.terms terms n → Causes end last
+        write-fails (way, path, refuses_it, failed) = inr (record {
           call = call;
           attempted = (code, next, coded);
           way_is = way;
           path = path;
           ends = ends-in (λ over. over ≡ fails E_WRITE) refuses_it;
+          faults = failed;
         })
     by_moved (inr (kind, call_is, path, places, at, (keys, uses))) =
         let front : ahead_at s n ≡ keys ++ ahead_at last n = uses.front ∙ ap (λ (t : Terminal). keys ++ t.ahead) (sym terminal-then) in

@@ -2,6 +2,7 @@
 use Rattle.std.specs.Prelude.{◌≡◌, ◌⊎◌, ℕ, ◌-◌, ◌<◌, ◌≤◌, min, false, Option, Some, None, List, [], ◌∷◌, ◌++◌, length, slice_get, take}
 use Rattle.std.specs.List.{AllByRecursion, filter_map, flat_map}
 use Rattle.std.specs.Option.{option_map_or}
+use Rattle.os9_base.specs.Count.{Rose}
 use Rattle.os9_base.specs.declared.errors.TheConstants.{E_EOF, E_WRITE}
 use Rattle.os9_base.specs.declared.registers.Regs.{Regs}
 use Rattle.os9_outer.specs.declared.terminal.Key.{Key}
@@ -37,6 +38,10 @@ use Rattle.flow_laws.specs.Flow.{EndsIn}
 -- the keys of a terminal that are still to come
 abbrev pub keys_to_come : State → ℕ → List Key
 keys_to_come s n = option_map_or (λ terminal. terminal.keys) (slice_get s.terms n) []
+
+-- how often it has failed
+abbrev pub faults_at : State → ℕ → ℕ
+faults_at s n = option_map_or (λ terminal. terminal.faults) (slice_get s.terms n) 0
 
 -- its type-ahead: the keys that have arrived, and that no read has used
 abbrev pub ahead_at : State → ℕ → List ℕ
@@ -76,6 +81,7 @@ pub record WriteFails (n p : ℕ) (s t : State) : Type 0 where
   pub path : (opened : OpenPath) × (open_path s.io p (path_number call (regs_at s.inner p)) ≡ Some opened)
       × (opened.desc.target ≡ Term n)
   pub ends : EndsIn s p (λ end. end ≡ fails E_WRITE) t
+  pub faults : Rose (faults_at s n) (faults_at t n)
 
 -- an event of the chosen process drops it, and why
 pub record DropsLine (n : ℕ) (s : State) (end : EventEnd) (t : State) : Type 0 where
@@ -124,7 +130,7 @@ ReadEnds n s p request made t (answers regs) =
     × (t.inner.memory ≡ stored s.inner.memory p (regs_at s.inner p).x made.line.bytes)
     × LineGoes made.line (terminal_at t.io n)
 ReadEnds n s p request made t (fails number) =
-    ((made.end ≡ Some EndOfFile) × (number ≡ E_EOF) ⊎ (number ≡ E_WRITE))
+    ((made.end ≡ Some EndOfFile) × (number ≡ E_EOF) ⊎ (number ≡ E_WRITE) × Rose (faults_at s n) (faults_at t n))
     × LineGoes made.line (terminal_at t.io n) × (t.inner.memory ≡ s.inner.memory)
 ReadEnds n s p request made t (keeps kept) =
     (made.end ≡ None) × ((terminal_at t.io n).line ≡ made.line) × ((terminal_at t.io n).reading ≡ Some request)
