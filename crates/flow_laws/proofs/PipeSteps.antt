@@ -2,7 +2,7 @@
 use Rattle.std.proofs.Common.{◌≡◌, ◌≢◌, ◌⊎◌, ℕ, ◌+◌, ◌<◌, ◌≤◌, ◌==◌, not, Bool, true, false, Option, Some, None, IsSome, is_none, Result, Ok, Err, List, [], ◌++◌, length, take, drop, position, get_or, refl, sym, ap, ◌∙◌, subst, inl, inr, arith}
 use Rattle.std.specs.Prelude.{min, option_map, unwrap_or, ◌||◌, if◌then◌else◌}
 use Rattle.std.specs.Option.{option_map_or}
-use Rattle.std.proofs.lemmas.Bool.{cases_eq, cases_lt, eqb-true, false≢true}
+use Rattle.std.proofs.lemmas.Bool.{cases_eq, cases_lt, eq-eqb, eqb-true, false≢true}
 use Rattle.std.proofs.lemmas.Grind.{get_or_after_one}
 use Rattle.std.proofs.lemmas.List.{get_or-set_same, get_or-set_other, get_or_past, length-set, length-take-le, take-append-drop}
 use Rattle.std.proofs.lemmas.List.Quantifiers.{position-Some}
@@ -317,6 +317,10 @@ module _ (call : IoCall) (caller : Caller) (io : Io) (n : ℕ) where
       behind-is answer =
           held-put io.pipes n (pipe_bytes io n ++ bytes_moved answer (drop now.moved sent)) lives
 
+      -- one that moves none has as many left
+      none-left : moved_before io caller.process.0 < in_all io caller.process.0 (length sent) → moved_before io caller.process.0 + 0 ≢ in_all io caller.process.0 (length sent)
+      none-left before same = omega (arith, before, same)
+
       write-puts : (alone : Bool) (answer : PipeAns) → moved_count answer ≤ length (drop now.moved sent) → Puts call caller io n (write_leaves io n now alone (drop now.moved sent) regs answer)
       write-puts alone (Ans.Done count) few = record {
         way = way;
@@ -334,14 +338,14 @@ module _ (call : IoCall) (caller : Caller) (io : Io) (n : ℕ) where
 
           counts : (complete single : Bool) → is_complete (moved_on now count) ≡ complete → WriteCounts call caller io sent (length (take count (drop now.moved sent))) (if complete then answers regs else (if single then fails E_WRITE else keeps (moved_on now count)))
           counts true single is = (sym more ∙ eqb-true (now.moved + count) now.count is ∙ all, answered)
-          counts false true is = tt
+          counts false true is = λ before same. false≢true (sym is ∙ eq-eqb (now.moved + count) now.count (more ∙ same ∙ sym all))
           counts false false is = more
       write-puts alone Ans.Wait few =
           record { way = way; path = path; bytes = []; behind = behind-is Ans.Wait; sent = sent; sends = sends; next = refl; counts = none-more }
       write-puts alone Ans.End few =
-          record { way = way; path = path; bytes = []; behind = behind-is Ans.End; sent = sent; sends = sends; next = refl; counts = tt }
+          record { way = way; path = path; bytes = []; behind = behind-is Ans.End; sent = sent; sends = sends; next = refl; counts = none-left }
       write-puts alone Ans.NoReader few =
-          record { way = way; path = path; bytes = []; behind = behind-is Ans.NoReader; sent = sent; sends = sends; next = refl; counts = tt }
+          record { way = way; path = path; bytes = []; behind = behind-is Ans.NoReader; sent = sent; sends = sends; next = refl; counts = none-left }
 
 -- ---- on any pipe
 

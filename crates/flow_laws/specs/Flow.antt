@@ -1,5 +1,5 @@
 -- What events move through a pipe (Level Two manual, "Pipes").
-use Rattle.std.specs.Prelude.{◌≡◌, ◌≢◌, ◌⊎◌, ℕ, ◌+◌, ◌-◌, ⊤, Option, Some, None, List, [], ◌∷◌, ◌++◌, length, map, take, drop}
+use Rattle.std.specs.Prelude.{◌≡◌, ◌≢◌, ◌⊎◌, ℕ, ◌+◌, ◌-◌, ◌<◌, Option, Some, None, List, [], ◌∷◌, ◌++◌, length, map, take, drop}
 use Rattle.std.specs.List.{AllByRecursion, filter_map, flat_map}
 use Rattle.std.specs.Option.{option_map_or}
 use Rattle.os9_base.specs.declared.calls.TheConstants.{I_READ}
@@ -75,13 +75,15 @@ ReadCounts call caller io count (answers regs) = regs ≡ read_answers call call
 ReadCounts call caller io count (fails number) = count ≡ 0
 ReadCounts call caller io count (keeps kept) = kept.moved ≡ moved_before io caller.process.0 + count
 
--- a write that sends these bytes and put in so many ends so: where it waits it has moved so many more, and where it is
--- done it has moved all, and answers their count
+-- a write that sends these bytes and put in so many ends so: where it waits it has moved so many more, where it is done
+-- it has moved all, and answers their count, and where it is refused that had bytes left to move, it has some left still
 abbrev pub WriteCounts : IoCall → Caller → Io → List ℕ → ℕ → IoEnd → Type 0
 WriteCounts call caller io sent count (answers regs) =
     (moved_before io caller.process.0 + count ≡ in_all io caller.process.0 (length sent))
     × (regs ≡ write_answers call caller (length sent))
-WriteCounts call caller io sent count (fails number) = ⊤
+WriteCounts call caller io sent count (fails number) =
+    moved_before io caller.process.0 < in_all io caller.process.0 (length sent)
+    → moved_before io caller.process.0 + count ≢ in_all io caller.process.0 (length sent)
 WriteCounts call caller io sent count (keeps kept) = kept.moved ≡ moved_before io caller.process.0 + count
 
 -- an attempt of a process that ends in this way leads to this state
