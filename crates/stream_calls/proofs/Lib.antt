@@ -2,6 +2,7 @@ pub mod DeviceLemmas
 pub mod EchoLemmas
 pub mod LineLemmas
 pub mod MovingLemmas
+pub mod ReadingLemmas
 pub mod SendingLemmas
 pub mod StepLemmas
 pub mod TryingLemmas

@@ -1,3 +1,4 @@
 pub mod Moving
+pub mod Reading
 pub mod Sending
 pub mod Trying

@@ -3,6 +3,7 @@
 
 mod ends;
 mod modes;
+mod moving;
 pub mod reads;
 mod sending;
 mod terminals;

@@ -1,6 +1,6 @@
 //! I$Write, I$WritLn and F$PErr (System Programmer's Manual, I$Write, I$WritLn and F$PErr).
 
-ghost use Rattle.std.specs.Prelude.{◌≡◌, ◌≢◌, ℕ, ◌<◌, IfSome, option_map, take, vec_len};
+ghost use Rattle.std.specs.Prelude.{◌≡◌, ◌≢◌, ℕ, ◌<◌, IfSome, None, option_map, take, vec_len};
 ghost use Rattle.os9_outer.specs.TerminalState.{terminal_states};
 ghost use Rattle.proc_rules.specs.Records.{IsLiving, record_at};
 ghost use Rattle.call_rules.specs.Inner.{Inner};
@@ -12,9 +12,11 @@ ghost use Rattle.io_state.specs.Again.{IsAgain};
 ghost use Rattle.io_state.specs.Attempt.{Attempts};
 ghost use Rattle.proc_state.specs.Tie.{IsSame, Represents};
 ghost use Rattle.stream_calls.specs.Moving.{AreTerminals};
+ghost use Rattle.stream_calls.specs.Reading.{IsRead};
 ghost use Rattle.stream_calls.specs.Trying.{WantsMemory};
 
 use crate::ends::{refuse, tell};
+use crate::moving::read_moving;
 use crate::sending::{WriteKind, send};
 use device_table::devices::Devices;
 use io_state::state::IoState;
@@ -51,13 +53,15 @@ pub fn i_write(s: &mut ProcState, io: &mut IoState, devices: &mut Devices, p: Pi
     ensures count { vec_len devices.new.terms ≡ vec_len devices.old.terms }
 {
     let regs = s.table.regs(p);
-    if !s.read_bytes(p, regs.x, regs.y) {
-        return refuse(io, p, E_BPADDR);
+    match read_moving(s, io, p, regs.a, regs.x, regs.y) {
+        None => refuse(io, p, E_BPADDR),
+        Some(y) => {
+            let bytes = &s.buffer[..y as usize];
+            let end = send(io, devices, p, regs, WriteKind::Bytes, bytes);
+            tell(s, p, end, regs);
+            end
+        }
     }
-    let bytes = &s.buffer[..regs.y as usize];
-    let end = send(io, devices, p, regs, WriteKind::Bytes, bytes);
-    tell(s, p, end, regs);
-    end
 }
 
 /// I$WritLn: writes a line (System Programmer's Manual, I$WritLn). Takes the path in A, the address
@@ -131,12 +135,15 @@ pub fn f_perr(s: &mut ProcState, io: &mut IoState, devices: &mut Devices, p: Pid
 }
 
 /// Reads the line that an I$WritLn moves into the front of the buffer, and answers its length: a
-/// further attempt moves as many bytes as the first one found. None where one of them is in no
-/// named slot or past `FFFF`.
+/// further attempt moves as many bytes as the first one found, and reads on a pipe only what it may
+/// move. None where one of them is in no named slot or past `FFFF`.
 fn read_line_now(s: &mut ProcState, io: &IoState, p: Pid, regs: Regs) -> Option<u16>
     requires { p.0 < 33 }
     ensures line { (m : Inner) → Represents s.old m → regs ≡ (caller_of m p.0).regs
-        → line_bytes (caller_of m p.0) (kept_at io.now p.0)
+        → IsRead io.now p.0 regs.a (line_bytes (caller_of m p.0) (kept_at io.now p.0)) result
+        s.new.buffer.items }
+    ensures first { (m : Inner) → Represents s.old m → regs ≡ (caller_of m p.0).regs
+        → kept_at io.now p.0 ≡ None → line_bytes (caller_of m p.0) None
         ≡ option_map (λ count. take count s.new.buffer.items) result }
     ensures kept { IfSome result
         (λ count. IfSome (kept_at io.now p.0) (λ kept. kept.count ≡ count)) }
@@ -147,13 +154,7 @@ fn read_line_now(s: &mut ProcState, io: &IoState, p: Pid, regs: Regs) -> Option<
             None => None,
             Some(count) => Some(count as u16),
         },
-        Some(kept) => {
-            if s.read_bytes(p, regs.x, kept.count) {
-                Some(kept.count)
-            } else {
-                None
-            }
-        }
+        Some(kept) => read_moving(s, io, p, regs.a, regs.x, kept.count),
     }
 }
 
