@@ -1,3 +1,4 @@
 pub mod Causing
 pub mod EndKeys
 pub mod Refusing
+pub mod RefusedEvents

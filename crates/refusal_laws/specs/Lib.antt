@@ -1,2 +1,3 @@
 pub mod Causes
+pub mod RefusedEvents
 pub mod Refusals

@@ -193,6 +193,18 @@ pub record FindsNoReader (call : IoCall) (caller : Caller) (io new : Io) (before
 
 -- ---- an attempt that is refused
 
+-- what is left after 211
+abbrev pub LeftAtEnd : IoCall → Caller → Io → Io → List TerminalState → List TerminalState → Type 0
+LeftAtEnd call caller io new before after =
+    FindsNoByte call caller io new before after ⊎ EndsAtKey call caller io new before after
+
+-- what is left after 245
+abbrev pub LeftAtFault : IoCall → Caller → Io → Io → List TerminalState → List TerminalState → Type 0
+LeftAtFault call caller io new before after =
+    EchoFails call caller io new before after
+    ⊎ WriteFails call caller io new before after
+    ⊎ FindsNoReader call caller io new before after
+
 -- an attempt of a call on paths by a process that is refused with this number
 pub record Refusal : Type 0 where
   pub call : IoCall
@@ -214,18 +226,12 @@ caller_in it = caller_of it.inner it.process
 abbrev pub KeepsAll : Refusal → Type 0
 KeepsAll it = ChangesNothing it.process it.io it.new it.terms it.left
 
--- what is left after 211
+-- what is left after 211, and after 245
 abbrev pub LeavesAtEnd : Refusal → Type 0
-LeavesAtEnd it =
-    FindsNoByte it.call (caller_in it) it.io it.new it.terms it.left
-    ⊎ EndsAtKey it.call (caller_in it) it.io it.new it.terms it.left
+LeavesAtEnd it = LeftAtEnd it.call (caller_in it) it.io it.new it.terms it.left
 
--- what is left after 245
 abbrev pub LeavesAtFault : Refusal → Type 0
-LeavesAtFault it =
-    EchoFails it.call (caller_in it) it.io it.new it.terms it.left
-    ⊎ WriteFails it.call (caller_in it) it.io it.new it.terms it.left
-    ⊎ FindsNoReader it.call (caller_in it) it.io it.new it.terms it.left
+LeavesAtFault it = LeftAtFault it.call (caller_in it) it.io it.new it.terms it.left
 
 -- the number has its cause
 abbrev pub HasCause : Refusal → Type 0

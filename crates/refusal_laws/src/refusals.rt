@@ -5,6 +5,10 @@ ghost use Rattle.os9_base.specs.declared.errors.TheConstants.{E_EOF, E_WRITE};
 ghost use Rattle.call_rules.specs.Attempts.{after_attempt};
 ghost use Rattle.call_rules.specs.CallResult.{refused};
 ghost use Rattle.call_rules.specs.Inner.{Inner};
+ghost use Rattle.machine_model.specs.declared.ends.EventEnd.TheVariants.{Ran};
+ghost use Rattle.machine_model.specs.Event.{Event};
+ghost use Rattle.machine_model.specs.State.{State};
+ghost use Rattle.refusal_laws.specs.RefusedEvents.{IsRefused, LeavesMachine};
 ghost use Rattle.refusal_laws.specs.Refusals.{HasCause, KeepsAll, LeavesAtEnd, LeavesAtFault, LeavesProcesses, Refusal};
 
 /// A refused call leaves memory and the processes as they were, but for B and the condition codes
@@ -27,4 +31,13 @@ pub fn refusals_change_nothing()
 /// `refusals_change_nothing` has it, and any other as its definition says.
 pub fn refusals_have_their_causes()
     ensures { (it : Refusal) → it.number ≢ E_EOF → it.number ≢ E_WRITE → HasCause it }
+{}
+
+/// An attempt of any call that is refused is an event of the machine, and leaves it as it was, but
+/// for B and the condition codes of the caller, whose call is over, and for what
+/// `refusals_change_nothing` lists of a call on paths.
+pub fn refused_events_change_nothing()
+    ensures event { (s t : State) (code number : ℕ) → IsRefused s code number t → Event s Ran t }
+    ensures machine { (s t : State) (code number : ℕ) → (it : IsRefused s code number t)
+        → LeavesMachine s it.process code number t }
 {}
