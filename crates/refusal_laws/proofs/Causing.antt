@@ -1,6 +1,6 @@
 -- What each call on paths does where it is refused: each call by its code.
 use Rattle.std.proofs.Common.{◌≡◌, ◌⊎◌, ℕ, zero, suc, ◌+◌, ◌≤◌, ◌==◌, not, Bool, true, false, Option, Some, None, IsSome, Result, Ok, Err, List, [], ◌∷◌, ◌++◌, length, take, drop, refl, sym, ap, ◌∙◌, subst, inl, inr, arith}
-use Rattle.std.specs.Prelude.{IfSome, is_none, min, option_map, option_and_then, unwrap_or, ◌||◌, slice_set, if◌then◌else◌}
+use Rattle.std.specs.Prelude.{IfSome, is_some, is_none, min, option_map, option_and_then, unwrap_or, ◌||◌, slice_set, if◌then◌else◌}
 use Rattle.std.specs.Option.{option_map_or}
 use Rattle.std.proofs.lemmas.Bool.{cases_lt, eqb-true, eqb-false, false≢true}
 use Rattle.std.proofs.lemmas.List.{length-append, length-drop, length-take-le, set-get_or, take_min}
@@ -47,6 +47,7 @@ use Rattle.io_rules.specs.Step.{Caller, IoEnd, IoStep, answers, fails, keeps, re
 use Rattle.io_rules.specs.Terminals.{request_of}
 use Rattle.io_rules.specs.Transfer.{call_now, first_call, on_path, unless_nothing}
 use Rattle.io_rules.specs.Write.{Sending, error_line, line_bytes, sends_on, sent_bytes, sent_error, sent_line, writes_target}
+use Rattle.io_rules.specs.declared.io_call.Direction.{Direction}
 use Rattle.io_rules.specs.declared.io_call.Direction.TheVariants.{Reading, Writing}
 use Rattle.io_rules.specs.declared.io_call.IoCall.{IoCall}
 use Rattle.io_rules.specs.declared.io_call.IoCall.TheVariants as Call
@@ -187,7 +188,7 @@ module _ (call : IoCall) (caller : Caller) (io : Io) (drives terms : ℕ) where
     LeadKnown list (nowhere number) = Cause number
 
     full : (number path : Option ℕ) → free_number io.paths caller.process.0 ≡ number → free_path io.paths ≡ path → option_and_then (λ (n : ℕ). option_map (λ (s : ℕ). n) path) number ≡ None → IsFull call caller io drives terms
-    full None path number_is path_is none = numbers number_is
+    full None path number_is path_is none = numbers (inr some) number_is
     full (Some number) None number_is path_is none = paths some path_is
     full (Some number) (Some path) number_is path_is none = absurd (none-some number (sym none))
 
@@ -374,9 +375,9 @@ module _ (call : IoCall) (caller : Caller) (io : Io) (drives terms : ℕ) where
 
     read-target-known : (opened : OpenPath) → open_path io caller.process.0 (path_number call caller.regs) ≡ Some opened → (target : Target) → opened.desc.target ≡ target → Known (reads_target kind caller io (call_now caller io code opened caller.regs.y) target)
     read-target-known opened names (File drive sector) is =
-        unknown_service refl (inr (drive, sector, inl (record { opened = opened; names = names; target_is = is })))
+        unknown_service refl (inr (record { moves = ap (is_some {T = Direction}) way; drive = drive; sector = sector; on = inl (record { opened = opened; names = names; target_is = is }) }))
     read-target-known opened names (Folder drive sector) is =
-        unknown_service refl (inr (drive, sector, inr (record { opened = opened; names = names; target_is = is })))
+        unknown_service refl (inr (record { moves = ap (is_some {T = Direction}) way; drive = drive; sector = sector; on = inr (record { opened = opened; names = names; target_is = is }) }))
     read-target-known opened names (Term terminal) is = (
       record { opened = opened; names = names; target_is = is },
       record { kind = kind_is; process = refl; most = ap (λ (count : ℕ). min count TYPE_AHEAD) (now-asked code opened) },
@@ -398,7 +399,7 @@ module _ (call : IoCall) (caller : Caller) (io : Io) (drives terms : ℕ) where
 
   -- ---- writes
 
-  module _ (by_number : search_of call ≡ None) (sending : Sending) (sends : sent_by call caller io ≡ Some sending.bytes) (puts : sending.put ≡ put_by call sending.bytes) (asks : IsAgain call caller.regs io caller.process.0 → Asks caller io sending.bytes) (code : ℕ) where
+  module _ (by_number : search_of call ≡ None) (moves : IsSome (direction_of_call call)) (sending : Sending) (sends : sent_by call caller io ≡ Some sending.bytes) (puts : sending.put ≡ put_by call sending.bytes) (asks : IsAgain call caller.regs io caller.process.0 → Asks caller io sending.bytes) (code : ℕ) where
     module _ (opened : OpenPath) (names : open_path io caller.process.0 (path_number call caller.regs) ≡ Some opened) where
       abbrev now : Kept
       now = call_now caller io code opened (length sending.bytes)
@@ -454,9 +455,9 @@ module _ (call : IoCall) (caller : Caller) (io : Io) (drives terms : ℕ) where
 
       write-target-known : (target : Target) → opened.desc.target ≡ target → Known (writes_target sending caller io now target)
       write-target-known (File drive sector) is =
-          unknown_service refl (inr (drive, sector, inl (record { opened = opened; names = names; target_is = is })))
+          unknown_service refl (inr (record { moves = moves; drive = drive; sector = sector; on = inl (record { opened = opened; names = names; target_is = is }) }))
       write-target-known (Folder drive sector) is =
-          unknown_service refl (inr (drive, sector, inr (record { opened = opened; names = names; target_is = is })))
+          unknown_service refl (inr (record { moves = moves; drive = drive; sector = sector; on = inr (record { opened = opened; names = names; target_is = is }) }))
       write-target-known (Term terminal) is =
           (record { opened = opened; names = names; target_is = is }, (sending.bytes, sends, puts))
       write-target-known (Pipe pipe) is =
@@ -466,13 +467,13 @@ module _ (call : IoCall) (caller : Caller) (io : Io) (drives terms : ℕ) where
       sends-known = write-target-known opened.desc.target refl
 
   -- the bytes are there, and are sent
-  send-known : (by_number : search_of call ≡ None) (at_a : path_number call caller.regs ≡ caller.regs.a) (sending : List ℕ → Sending) (code : ℕ) (sent : Option (List ℕ)) → ((bytes : List ℕ) → (sending bytes).bytes ≡ bytes) → (sent_by call caller io ≡ sent) → ((bytes : List ℕ) → (sending bytes).put ≡ put_by call (sending bytes).bytes) → ((bytes : List ℕ) → sent ≡ Some bytes → IsAgain call caller.regs io caller.process.0 → Asks caller io bytes) → (sent ≡ None → IsUnreadable call caller io) → ((opened : OpenPath) → open_path io caller.process.0 (path_number call caller.regs) ≡ Some opened → can_write opened.desc.mode ≡ false → LacksMode call caller io) → Known (needs sent E_BPADDR (λ bytes. on_path caller io caller.regs.a can_write (λ opened. unless_nothing caller io (sends_on (sending bytes) code caller io opened))))
-  send-known by_number at_a sending code sent same sends puts asks unreadable mode =
+  send-known : (by_number : search_of call ≡ None) (moves : IsSome (direction_of_call call)) (at_a : path_number call caller.regs ≡ caller.regs.a) (sending : List ℕ → Sending) (code : ℕ) (sent : Option (List ℕ)) → ((bytes : List ℕ) → (sending bytes).bytes ≡ bytes) → (sent_by call caller io ≡ sent) → ((bytes : List ℕ) → (sending bytes).put ≡ put_by call (sending bytes).bytes) → ((bytes : List ℕ) → sent ≡ Some bytes → IsAgain call caller.regs io caller.process.0 → Asks caller io bytes) → (sent ≡ None → IsUnreadable call caller io) → ((opened : OpenPath) → open_path io caller.process.0 (path_number call caller.regs) ≡ Some opened → can_write opened.desc.mode ≡ false → LacksMode call caller io) → Known (needs sent E_BPADDR (λ bytes. on_path caller io caller.regs.a can_write (λ opened. unless_nothing caller io (sends_on (sending bytes) code caller io opened))))
+  send-known by_number moves at_a sending code sent same sends puts asks unreadable mode =
       of-needs sent E_BPADDR (λ bytes. on_path caller io caller.regs.a can_write (λ opened. unless_nothing caller io (sends_on (sending bytes) code caller io opened)))
       (λ none. bad_address refl (unreadable none))
       (λ bytes is. on-path-known by_number caller.regs.a at_a can_write (λ opened. unless_nothing caller io (sends_on (sending bytes) code caller io opened)) mode
       (λ opened names. nothing-known (caller.regs.y == 0) (sends_on (sending bytes) code caller io opened)
-      (sends-known by_number (sending bytes) (sends ∙ is ∙ ap Some (sym (same bytes))) (puts bytes) (λ again. subst (Asks caller io) (sym (same bytes)) (asks bytes is again)) code opened names)))
+      (sends-known by_number moves (sending bytes) (sends ∙ is ∙ ap Some (sym (same bytes))) (puts bytes) (λ again. subst (Asks caller io) (sym (same bytes)) (asks bytes is again)) code opened names)))
 
 -- ---- each call
 
@@ -488,7 +489,7 @@ module _ (caller : Caller) (io : Io) (drives terms : ℕ) where
       of-needs Call.Dup caller io drives terms (slot_of io.paths caller.process.0 caller.regs.a) E_BPNUM (λ path. needs (free_number io.paths caller.process.0) E_PTHFUL (λ number. done (record caller.regs { a = number }) (with_paths io (paths_after_dup io.paths caller.process.0 caller.regs.a))))
       (slot-none Call.Dup caller io drives terms refl caller.regs.a refl)
       (λ path is. of-needs Call.Dup caller io drives terms (free_number io.paths caller.process.0) E_PTHFUL (λ number. done (record caller.regs { a = number }) (with_paths io (paths_after_dup io.paths caller.process.0 caller.regs.a)))
-      (λ none. path_table_full refl (numbers none))
+      (λ none. path_table_full refl (numbers (inl refl) none))
       (λ number free. done-known Call.Dup caller io drives terms (record caller.regs { a = number }) (with_paths io (paths_after_dup io.paths caller.process.0 caller.regs.a))))
 
   close-known : Known Call.Close caller io drives terms (io_step Call.Close caller io drives terms)
@@ -536,7 +537,7 @@ module _ (caller : Caller) (io : Io) (drives terms : ℕ) where
   error-known =
       on-path-known Call.PErr caller io drives terms refl STANDARD_ERROR refl can_write (λ opened. sends_on (sent_error caller) F_PERR caller io opened)
       (λ opened names lacks. (Writing, opened, refl, names, cannot-write opened.desc.mode lacks))
-      (λ opened names. sends-known Call.PErr caller io drives terms refl (sent_error caller) refl refl (asks-by Call.PErr caller io (error_line caller.regs.b) (λ kept is count. count)) F_PERR opened names)
+      (λ opened names. sends-known Call.PErr caller io drives terms refl refl (sent_error caller) refl refl (asks-by Call.PErr caller io (error_line caller.regs.b) (λ kept is count. count)) F_PERR opened names)
 
 -- what an attempt of each call does
 pub step-known : (call : IoCall) (caller : Caller) (io : Io) (drives terms : ℕ) → Known call caller io drives terms (io_step call caller io drives terms)
@@ -556,12 +557,12 @@ step-known Call.ReadLn caller io drives terms =
     read-known Call.ReadLn caller io drives terms refl refl refl WholeLine refl I_READLN (λ none. none)
     (λ opened names lacks. (Reading, opened, refl, names, cannot-read caller io drives terms opened.desc.mode lacks))
 step-known Call.Write caller io drives terms =
-    send-known Call.Write caller io drives terms refl refl (sent_bytes caller) I_WRITE (user_bytes caller.cells caller.regs.x caller.regs.y) (λ bytes. refl) refl (λ bytes. refl)
+    send-known Call.Write caller io drives terms refl refl refl (sent_bytes caller) I_WRITE (user_bytes caller.cells caller.regs.x caller.regs.y) (λ bytes. refl) refl (λ bytes. refl)
     (λ bytes is. asks-by Call.Write caller io bytes (λ kept kept_is count. count ∙ sym (user-length caller.cells caller.regs.x caller.regs.y bytes is)))
     (λ none. none)
     (λ opened names lacks. (Writing, opened, refl, names, cannot-write caller io drives terms opened.desc.mode lacks))
 step-known Call.WritLn caller io drives terms =
-    send-known Call.WritLn caller io drives terms refl refl (sent_line caller) I_WRITLN (line_bytes caller (kept_at io caller.process.0)) (λ bytes. refl) refl (λ bytes. refl)
+    send-known Call.WritLn caller io drives terms refl refl refl (sent_line caller) I_WRITLN (line_bytes caller (kept_at io caller.process.0)) (λ bytes. refl) refl (λ bytes. refl)
     (λ bytes is. asks-by Call.WritLn caller io bytes (λ kept kept_is count. sym (user-length caller.cells caller.regs.x kept.count bytes (subst (λ (place : Option Kept). line_bytes caller place ≡ Some bytes) kept_is is))))
     (λ none. none)
     (λ opened names lacks. (Writing, opened, refl, names, cannot-write caller io drives terms opened.desc.mode lacks))

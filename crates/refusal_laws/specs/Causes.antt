@@ -57,10 +57,14 @@ IsNoDrive Device.Pipe = ⊤
 
 -- ---- the cause of each number
 
+-- the call gives a path a number
+abbrev pub GivesNumber : IoCall → Type 0
+GivesNumber call = (call ≡ Call.Dup) ⊎ IsSome (search_of call)
+
 -- 200: the sixteen numbers of the process are in use; of a call that opens a path also the 64 paths, or the sixteen
 -- pipes
 pub data IsFull (call : IoCall) (caller : Caller) (io : Io) (drives terms : ℕ) : Type 0 where
-  numbers : free_number io.paths caller.process.0 ≡ None → IsFull call caller io drives terms
+  numbers : GivesNumber call → free_number io.paths caller.process.0 ≡ None → IsFull call caller io drives terms
   paths : IsSome (search_of call) → free_path io.paths ≡ None → IsFull call caller io drives terms
   pipes : (search : Search) (list : PathList) → LooksFor call caller search list
       → device_at drives terms list ≡ Some Device.Pipe → free_pipe io.pipes ≡ None → IsFull call caller io drives terms
@@ -91,10 +95,12 @@ HasNoStatus Call.GetStt code = ((code ≡ SS_OPT) ⊎ (code ≡ SS_READY) ⊎ (c
 HasNoStatus Call.SetStt code = ⊤
 HasNoStatus call code = ⊥
 
--- a path that was opened on a file or a directory, which no call opens
-abbrev pub IsOnDisk : IoCall → Caller → Io → Type 0
-IsOnDisk call caller io =
-    (drive : ℕ) × (sector : ℕ) × (IsOn call caller io (File drive sector) ⊎ IsOn call caller io (Folder drive sector))
+-- a read or a write of a path that was opened on a file or a directory, as no call opens one
+pub record IsOnDisk (call : IoCall) (caller : Caller) (io : Io) : Type 0 where
+  pub moves : IsSome (direction_of_call call)
+  pub drive : ℕ
+  pub sector : ℕ
+  pub on : IsOn call caller io (File drive sector) ⊎ IsOn call caller io (Folder drive sector)
 
 -- 210: a byte that has to be read or written is in no named slot or past FFFF
 abbrev pub IsUnreadable : IoCall → Caller → Io → Type 0
