@@ -2,7 +2,7 @@
 use Rattle.std.proofs.Common.{◌≡◌, ◌≢◌, ◌⊎◌, ℕ, zero, suc, ◌+◌, ◌<◌, ◌≤◌, ◌==◌, Bool, true, false, Option, Some, None, Result, Ok, Err, List, [], ◌∷◌, ◌++◌, length, slice_get, slice_set, refl, sym, ap, ◌∙◌, subst, inl, inr, arith, append_assoc}
 use Rattle.std.specs.Prelude.{MatchOption, slice_index_or, if◌then◌else◌}
 use Rattle.std.specs.Option.{option_map_or}
-use Rattle.std.proofs.lemmas.Bool.{cases_eq, cases_lt, eqb-true}
+use Rattle.std.proofs.lemmas.Bool.{cases_eq, cases_lt, eq-eqb, eqb-true}
 use Rattle.std.proofs.lemmas.List.{get_or-set_same, get_or-set_other, get_or_past, get_or-map, length-append, length-map, length-set}
 use Rattle.std.proofs.lemmas.Option.{none-some, same_Some}
 use Rattle.os9_base.specs.Count.{Rose}
@@ -46,7 +46,7 @@ use Rattle.io_rules.specs.Waiting.{io_interrupted, pid, wait_target, without_unf
 use Rattle.io_rules.specs.declared.io_call.Direction.TheVariants.{Writing}
 use Rattle.io_rules.specs.declared.io_call.IoCall.{IoCall}
 use Rattle.machine_model.specs.declared.ends.EventEnd.{EventEnd}
-use Rattle.machine_model.specs.declared.ends.EventEnd.TheVariants.{Ended}
+use Rattle.machine_model.specs.declared.ends.EventEnd.TheVariants.{Ended, Ran, Waits}
 use Rattle.machine_model.specs.Event.{Acts, Event, before_delivery, call_event_end, delivery_end, instruction_end, io_after_call, io_after_delivery, io_after_instruction, next_instruction}
 use Rattle.machine_model.specs.State.{State}
 use Rattle.isolation_laws.proofs.StepWalk.{StepGives, step-gives}
@@ -186,6 +186,29 @@ ended-left n io p =
     let freed : AheadLeft (IsReader closed p n) n closed (without_user closed p) = forgotten-left n closed p in
     let it : AheadLeft (IsReader io p n) n io (without_user closed p) = closed-from n p io closed (without_user closed p) (all-closed io p PROCESS_PATHS) freed in
     record { terminal = it.terminal; places = it.places }
+
+-- the read of a process that ends is dropped
+forgotten-drops : (p : ℕ) (t : Terminal) → reader t ≡ Some (pid p) → (forgotten (pid p) t).reading ≡ None
+forgotten-drops p t is = by_user (option_map_or (is_process (pid p)) t.user false)
+  where
+    released-drops : (released (pid p) t).reading ≡ None
+    released-drops =
+        ap (λ (who : Option Pid). (if option_map_or (is_process (pid p)) who false then without_reading t else t).reading) is
+        ∙ ap (λ (it : Bool). (if it then without_reading t else t).reading) (eq-eqb p p refl)
+
+    by_user : (it : Bool) → (if it then record (released (pid p) t) { user = None } else released (pid p) t).reading ≡ None
+    by_user true = released-drops
+    by_user false = released-drops
+
+ended-drops : (n : ℕ) (io : Io) (p : ℕ) → IsReader io p n → (terminal_at (io_ended io p) n).reading ≡ None
+ended-drops n io p is =
+    elim (cases_lt n (length closed.terminals)) [
+      | inl within ↦ ap (λ (t : Terminal). t.reading) (get_or-map (forgotten (pid p)) closed.terminals n new_terminal new_terminal within) ∙ forgotten-drops p (terminal_at closed n) (ap (λ (terminals : List Terminal). reader (slice_index_or terminals n new_terminal)) (all-closed io p PROCESS_PATHS) ∙ is)
+      | inr past ↦ ap (λ (t : Terminal). t.reading) (get_or_past (without_user closed p).terminals n new_terminal (rw length-map past))
+    ]
+  where
+    closed : Io
+    closed = closed_below io p PROCESS_PATHS
 
 unfinished-left : (n : ℕ) (io : Io) (p : ℕ) (target : Option Target) → AheadLeft (IsReader io p n) n io (without_unfinished io p target)
 unfinished-left n io p None = left-same (IsReader io p n) n io io refl
@@ -422,6 +445,12 @@ module _ (call : IoCall) (caller : Caller) (io : Io) (n : ℕ) (within : n < len
 
 -- ---- an event
 
+ran-ended : Ran ≡ Ended → ⊥
+ran-ended is = cc
+
+waits-ended : Waits ≡ Ended → ⊥
+waits-ended is = cc
+
 module _ (s : State) (p n : ℕ) (chosen : s.chosen ≡ Some p) (has : HasAhead n s) where
   -- what an event makes of them
   abbrev Comes : EventEnd → State → Type 0
@@ -437,11 +466,15 @@ module _ (s : State) (p n : ℕ) (chosen : s.chosen ≡ Some p) (has : HasAhead 
   abbrev Causes : EventEnd → State → Type 0
   Causes end t = ReaderStops n p s end ⊎ WriteFails n p s t
 
-  left : (end : EventEnd) (t : State) → AheadLeft (Causes end t) n s.io t.io → keys_to_come t n ≡ keys_to_come s n → Comes end t
-  left end t it come =
+  -- where the process ends, its read is dropped
+  abbrev Drops : EventEnd → Io → Type 0
+  Drops end io = end ≡ Ended → IsReader s.io p n → (terminal_at io n).reading ≡ None
+
+  left : (end : EventEnd) (t : State) → AheadLeft (Causes end t) n s.io t.io → Drops end t.io → keys_to_come t n ≡ keys_to_come s n → Comes end t
+  left end t it drops come =
       let same : length (ahead_at t n) ≡ length (ahead_at s n) = ap (length {A = ℕ}) it.terminal.ahead in (
         stay,
-        record { ahead = it.terminal.ahead; come = come; line = by_line it.terminal.line },
+        record { ahead = it.terminal.ahead; come = come; line = by_line it.terminal.line; over = over },
         has-then t it.places (omega (arith, same)),
       )
     where
@@ -449,11 +482,16 @@ module _ (s : State) (p n : ℕ) (chosen : s.chosen ≡ Some p) (has : HasAhead 
       by_line (inl stays) = inl stays
       by_line (inr (cause, goes)) = inr (record { process = p; chosen = chosen; cause = cause; goes = goes })
 
-  -- the process that reads has stopped
-  stopped : (end : EventEnd) (t : State) → AheadLeft (ReaderStops n p s end) n s.io t.io → keys_to_come t n ≡ keys_to_come s n → Comes end t
-  stopped end t it come = left end t (left-for (ReaderStops n p s end) (Causes end t) n s.io t.io (λ stops. inl stops) it) come
+      over : (q : ℕ) → s.chosen ≡ Some q → reader (terminal_at s.io n) ≡ Some (pid q) → end ≡ Ended → (terminal_at t.io n).reading ≡ None
+      over q chosen_is reads_it ended_it =
+          drops ended_it (reads_it ∙ ap (λ (k : ℕ). Some (pid k)) (same_Some q p (sym chosen_is ∙ chosen)))
 
-  module _ (code : ℕ) (call : IoCall) (result : CallResult) (io : Io) (terms : List TerminalState) (next : act_of s.inner p ≡ attempts code) (coded : io_call_of code ≡ Some call) (attempt : IoAttempts call s.inner s.io s.drives p result io s.terms terms) (end : EventEnd) where
+  -- the process that reads has stopped
+  stopped : (end : EventEnd) (t : State) → AheadLeft (ReaderStops n p s end) n s.io t.io → Drops end t.io → keys_to_come t n ≡ keys_to_come s n → Comes end t
+  stopped end t it drops come =
+      left end t (left-for (ReaderStops n p s end) (Causes end t) n s.io t.io (λ stops. inl stops) it) drops come
+
+  module _ (code : ℕ) (call : IoCall) (result : CallResult) (io : Io) (terms : List TerminalState) (next : act_of s.inner p ≡ attempts code) (coded : io_call_of code ≡ Some call) (attempt : IoAttempts call s.inner s.io s.drives p result io s.terms terms) (end : EventEnd) (over : end ≡ call_event_end result) where
     abbrev last : State
     last = record s { inner = after_attempt s.inner p result; io = io; terms = terms }
 
@@ -503,8 +541,13 @@ module _ (s : State) (p n : ℕ) (chosen : s.chosen ≡ Some p) (has : HasAhead 
       terminal =
           subst (TermLeft (Causes end last) (terminal_at s.io n)) (sym terminal-then) (term-for (WriteRefused call (caller_of s.inner p) s.io attempt.effect.end s.terms terms n) (Causes end last) (terminal_at s.io n) (terminal_at attempt.effect.io n) write-fails it.terminal);
       places = ap (length {A = Terminal}) terminals-then ∙ it.places;
-    }) come-then
+    }) (λ ended_it reads_it. absurd (goes-on-ended attempt.effect.end attempt.result_is ended_it)) come-then
       where
+        goes-on-ended : (it : IoEnd) → result ≡ result_by it s.inner p attempt.effect → end ≡ Ended → ⊥
+        goes-on-ended (answers regs) is ended_it = ran-ended (sym (over ∙ ap call_event_end is) ∙ ended_it)
+        goes-on-ended (fails number) is ended_it = ran-ended (sym (over ∙ ap call_event_end is) ∙ ended_it)
+        goes-on-ended (keeps kept) is ended_it = waits-ended (sym (over ∙ ap call_event_end is) ∙ ended_it)
+
         write-fails : WriteRefused call (caller_of s.inner p) s.io attempt.effect.end s.terms terms n → Causes end last
         write-fails (way, path, refuses_it, failed) = inr (record {
           call = call;
@@ -580,22 +623,37 @@ module _ (s : State) (p n : ℕ) (chosen : s.chosen ≡ Some p) (has : HasAhead 
         left-for (IsReader s.io p n) (ReaderStops n p s end) n s.io (io_interrupted s.io p) (λ reads_it. record { reads = reads_it; stops = inr (signal, next) }) (interrupted-left n s.io p)
     after-delivery signal next (Err status) over = ended-by over
 
-    by-io : (code : ℕ) (call : Option IoCall) (result : CallResult) (io : Io) (terms : List TerminalState) → act_of s.inner p ≡ attempts code → io_call_of code ≡ call → MatchOption call ((result ≡ CallResult.refused E_UNKSVC) × (io ≡ s.io) × (terms ≡ s.terms)) (λ call. IoAttempts call s.inner s.io s.drives p result io s.terms terms) → Comes end (record s { inner = after_attempt s.inner p result; io = io; terms = terms })
-    by-io code None result io terms next coded (is, same, unchanged) =
-        stopped end (record s { inner = after_attempt s.inner p result; io = io; terms = terms }) (unchanged-by io (ap (λ (io : Io). io.terminals) same)) (ap (λ (terms : List TerminalState). come_of terms n) unchanged)
-    by-io code (Some call) result io terms next coded attempt = io-comes code call result io terms next coded attempt end
+    call-drops : (code : ℕ) (result : CallResult) → end ≡ call_event_end result → Drops end (io_after_call code s.io p result)
+    call-drops code (CallResult.refused number) over = λ ended_it reads_it. absurd (ran-ended (sym over ∙ ended_it))
+    call-drops code (waits t) over = λ ended_it reads_it. absurd (waits-ended (sym over ∙ ended_it))
+    call-drops code (ends status) over = λ ended_it reads_it. ended-drops n s.io p reads_it
+    call-drops code (done t) over = λ ended_it reads_it. absurd (ran-ended (sym over ∙ ended_it))
+
+    instruction-drops : (outcome : Outcome) → end ≡ instruction_end outcome → Drops end (io_after_instruction s.io p outcome)
+    instruction-drops (Done effect) over = λ ended_it reads_it. absurd (ran-ended (sym over ∙ ended_it))
+    instruction-drops (Calls code regs) over = λ ended_it reads_it. absurd (ran-ended (sym over ∙ ended_it))
+    instruction-drops (Aborts status) over = λ ended_it reads_it. ended-drops n s.io p reads_it
+
+    delivery-drops : (result : Result Inner ℕ) → end ≡ delivery_end result → Drops end (io_after_delivery s.io p result)
+    delivery-drops (Ok t) over = λ ended_it reads_it. absurd (ran-ended (sym over ∙ ended_it))
+    delivery-drops (Err status) over = λ ended_it reads_it. ended-drops n s.io p reads_it
+
+    by-io : (code : ℕ) (call : Option IoCall) (result : CallResult) (io : Io) (terms : List TerminalState) → end ≡ call_event_end result → act_of s.inner p ≡ attempts code → io_call_of code ≡ call → MatchOption call ((result ≡ CallResult.refused E_UNKSVC) × (io ≡ s.io) × (terms ≡ s.terms)) (λ call. IoAttempts call s.inner s.io s.drives p result io s.terms terms) → Comes end (record s { inner = after_attempt s.inner p result; io = io; terms = terms })
+    by-io code None result io terms over next coded (is, same, unchanged) =
+        stopped end (record s { inner = after_attempt s.inner p result; io = io; terms = terms }) (unchanged-by io (ap (λ (io : Io). io.terminals) same)) (λ ended_it reads_it. absurd (ran-ended (sym (over ∙ ap call_event_end is) ∙ ended_it))) (ap (λ (terms : List TerminalState). come_of terms n) unchanged)
+    by-io code (Some call) result io terms over next coded attempt = io-comes code call result io terms next coded attempt end over
 
     by-call : (code : ℕ) (call : Option ProcCall) (result : CallResult) (io : Io) (terms : List TerminalState) → end ≡ call_event_end result → act_of s.inner p ≡ attempts code → call_of code ≡ call → MatchOption call (MatchOption (io_call_of code) ((result ≡ CallResult.refused E_UNKSVC) × (io ≡ s.io) × (terms ≡ s.terms)) (λ call. IoAttempts call s.inner s.io s.drives p result io s.terms terms)) (λ call. (result ≡ attempted call s.inner p) × (io ≡ io_after_call code s.io p result) × (terms ≡ s.terms)) → Comes end (record s { inner = after_attempt s.inner p result; io = io; terms = terms })
     by-call code None result io terms over next coded answer =
-        by-io code (io_call_of code) result io terms next refl answer
+        by-io code (io_call_of code) result io terms over next refl answer
     by-call code (Some call) result io terms over next coded (is, io_is, unchanged) =
-        stopped end (record s { inner = after_attempt s.inner p result; io = io; terms = terms }) (subst Leaves (sym io_is) (after-call code result over)) (ap (λ (terms : List TerminalState). come_of terms n) unchanged)
+        stopped end (record s { inner = after_attempt s.inner p result; io = io; terms = terms }) (subst Leaves (sym io_is) (after-call code result over)) (subst (Drops end) (sym io_is) (call-drops code result over)) (ap (λ (terms : List TerminalState). come_of terms n) unchanged)
 
     acts-come : (act : Act) (t : State) → act_of s.inner p ≡ act → Acts act s p end t → Comes end t
     acts-come executes t next (over, is) =
-        subst (Comes end) (sym is) (stopped end _ (after-instruction (next_instruction s.inner p) over) refl)
+        subst (Comes end) (sym is) (stopped end _ (after-instruction (next_instruction s.inner p) over) (instruction-drops (next_instruction s.inner p) over) refl)
     acts-come (delivers signal) t next (over, is) =
-        subst (Comes end) (sym is) (stopped end _ (after-delivery signal next (delivered (before_delivery s p) p signal) over) refl)
+        subst (Comes end) (sym is) (stopped end _ (after-delivery signal next (delivered (before_delivery s p) p signal) over) (delivery-drops (delivered (before_delivery s p) p signal) over) refl)
     acts-come (attempts code) t next (result, io, terms, answer, over, is) =
         subst (Comes end) (sym is) (by-call code (call_of code) result io terms over next refl answer)
 

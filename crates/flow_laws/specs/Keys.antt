@@ -151,11 +151,14 @@ pub record UsesKeys (n : ℕ) (s : State) (keys : List ℕ) (t : State) : Type 0
   pub ends : EndsIn s process (ReadEnds n s process request (typed request (terminal_at s.io n).line keys) t) t
   pub come : keys_to_come t n ≡ keys_to_come s n
 
--- no key arrives, and none is used; the line stays, or it is dropped for a cause
+-- no key arrives, and none is used; the line stays, or it is dropped for a cause, and where the reader ends, it is
+-- dropped
 pub record KeysStay (n : ℕ) (s : State) (end : EventEnd) (t : State) : Type 0 where
   pub ahead : ahead_at t n ≡ ahead_at s n
   pub come : keys_to_come t n ≡ keys_to_come s n
   pub line : LineStays (terminal_at s.io n) (terminal_at t.io n) ⊎ DropsLine n s end t
+  pub over : (p : ℕ) → s.chosen ≡ Some p → reader (terminal_at s.io n) ≡ Some (pid p) → end ≡ Ended
+      → (terminal_at t.io n).reading ≡ None
 
 -- what becomes of keys in a step of a run
 pub data KeyMove : Type 0 where
