@@ -51,7 +51,7 @@ use Rattle.machine_model.specs.Event.{Acts, Event, before_delivery, call_event_e
 use Rattle.machine_model.specs.State.{State}
 use Rattle.isolation_laws.proofs.StepWalk.{StepGives, step-gives}
 use Rattle.flow_laws.specs.Flow.{EndsIn}
-use Rattle.flow_laws.specs.Keys.{DropsLine, EventKeys, HasAhead, KeyMove, LineGoes, LineStays, ReadEnds, ReaderStops, WriteFails, ahead_at, keys_to_come, read_call, reading_of, stay, use_up}
+use Rattle.flow_laws.specs.Keys.{DropsLine, EventKeys, HasAhead, KeyMove, LineGoes, LineStays, ReadEnds, ReaderStops, StopsReading, WriteFails, ahead_at, keys_to_come, read_call, reading_of, stay, use_up}
 use Rattle.flow_laws.proofs.KeyReads.{IsReadOn, StepReads, step-reads}
 use Rattle.flow_laws.proofs.KeyWrites.{OnTerminal, StepWrites, step-writes}
 
@@ -188,17 +188,26 @@ ended-left n io p =
     record { terminal = it.terminal; places = it.places }
 
 -- the read of a process that ends is dropped
+released-drops : (p : ℕ) (t : Terminal) → reader t ≡ Some (pid p) → (released (pid p) t).reading ≡ None
+released-drops p t is =
+    ap (λ (who : Option Pid). (if option_map_or (is_process (pid p)) who false then without_reading t else t).reading) is
+    ∙ ap (λ (it : Bool). (if it then without_reading t else t).reading) (eq-eqb p p refl)
+
 forgotten-drops : (p : ℕ) (t : Terminal) → reader t ≡ Some (pid p) → (forgotten (pid p) t).reading ≡ None
 forgotten-drops p t is = by_user (option_map_or (is_process (pid p)) t.user false)
   where
-    released-drops : (released (pid p) t).reading ≡ None
-    released-drops =
-        ap (λ (who : Option Pid). (if option_map_or (is_process (pid p)) who false then without_reading t else t).reading) is
-        ∙ ap (λ (it : Bool). (if it then without_reading t else t).reading) (eq-eqb p p refl)
-
     by_user : (it : Bool) → (if it then record (released (pid p) t) { user = None } else released (pid p) t).reading ≡ None
-    by_user true = released-drops
-    by_user false = released-drops
+    by_user true = released-drops p t is
+    by_user false = released-drops p t is
+
+-- and of one whose call on the terminal is broken off
+interrupted-drops : (n : ℕ) (io : Io) (p : ℕ) → wait_target io p ≡ Some (Term n) → IsReader io p n → (terminal_at (io_interrupted io p) n).reading ≡ None
+interrupted-drops n io p waits_on is =
+    ap (λ (target : Option Target). (terminal_at (without_unfinished io p target) n).reading) waits_on
+    ∙ elim (cases_lt n (length io.terminals)) [
+      | inl within ↦ ap (λ (t : Terminal). t.reading) (get_or-set_same io.terminals n (released (pid p) (terminal_at io n)) new_terminal within) ∙ released-drops p (terminal_at io n) is
+      | inr past ↦ ap (λ (t : Terminal). t.reading) (get_or_past (with_terminal io n (released (pid p) (terminal_at io n))).terminals n new_terminal (rw length-set past))
+    ]
 
 ended-drops : (n : ℕ) (io : Io) (p : ℕ) → IsReader io p n → (terminal_at (io_ended io p) n).reading ≡ None
 ended-drops n io p is =
@@ -451,6 +460,12 @@ ran-ended is = cc
 waits-ended : Waits ≡ Ended → ⊥
 waits-ended is = cc
 
+attempts-delivers : (code signal : ℕ) → attempts code ≡ delivers signal → ⊥
+attempts-delivers code signal is = cc
+
+executes-delivers : (signal : ℕ) → executes ≡ delivers signal → ⊥
+executes-delivers signal is = cc
+
 module _ (s : State) (p n : ℕ) (chosen : s.chosen ≡ Some p) (has : HasAhead n s) where
   -- what an event makes of them
   abbrev Comes : EventEnd → State → Type 0
@@ -466,9 +481,18 @@ module _ (s : State) (p n : ℕ) (chosen : s.chosen ≡ Some p) (has : HasAhead 
   abbrev Causes : EventEnd → State → Type 0
   Causes end t = ReaderStops n p s end ⊎ WriteFails n p s t
 
-  -- where the process ends, its read is dropped
+  -- where the process stops reading, its read is dropped
   abbrev Drops : EventEnd → Io → Type 0
-  Drops end io = end ≡ Ended → IsReader s.io p n → (terminal_at io n).reading ≡ None
+  Drops end io = StopsReading n p s end → IsReader s.io p n → (terminal_at io n).reading ≡ None
+
+  -- a process that attempts a call, or executes, and does not end, goes on reading
+  attempt-reads : (end : EventEnd) (code : ℕ) → act_of s.inner p ≡ attempts code → (end ≡ Ended → ⊥) → StopsReading n p s end → ⊥
+  attempt-reads end code next going (inl ended_it) = going ended_it
+  attempt-reads end code next going (inr (signal, is, on)) = attempts-delivers code signal (sym next ∙ is)
+
+  instruction-reads : (end : EventEnd) → act_of s.inner p ≡ executes → (end ≡ Ended → ⊥) → StopsReading n p s end → ⊥
+  instruction-reads end next going (inl ended_it) = going ended_it
+  instruction-reads end next going (inr (signal, is, on)) = executes-delivers signal (sym next ∙ is)
 
   left : (end : EventEnd) (t : State) → AheadLeft (Causes end t) n s.io t.io → Drops end t.io → keys_to_come t n ≡ keys_to_come s n → Comes end t
   left end t it drops come =
@@ -482,9 +506,10 @@ module _ (s : State) (p n : ℕ) (chosen : s.chosen ≡ Some p) (has : HasAhead 
       by_line (inl stays) = inl stays
       by_line (inr (cause, goes)) = inr (record { process = p; chosen = chosen; cause = cause; goes = goes })
 
-      over : (q : ℕ) → s.chosen ≡ Some q → reader (terminal_at s.io n) ≡ Some (pid q) → end ≡ Ended → (terminal_at t.io n).reading ≡ None
-      over q chosen_is reads_it ended_it =
-          drops ended_it (reads_it ∙ ap (λ (k : ℕ). Some (pid k)) (same_Some q p (sym chosen_is ∙ chosen)))
+      over : (q : ℕ) → s.chosen ≡ Some q → reader (terminal_at s.io n) ≡ Some (pid q) → StopsReading n q s end → (terminal_at t.io n).reading ≡ None
+      over q chosen_is reads_it stops =
+          let same : q ≡ p = same_Some q p (sym chosen_is ∙ chosen) in
+          drops (subst (λ (q : ℕ). StopsReading n q s end) same stops) (reads_it ∙ ap (λ (k : ℕ). Some (pid k)) same)
 
   -- the process that reads has stopped
   stopped : (end : EventEnd) (t : State) → AheadLeft (ReaderStops n p s end) n s.io t.io → Drops end t.io → keys_to_come t n ≡ keys_to_come s n → Comes end t
@@ -541,7 +566,7 @@ module _ (s : State) (p n : ℕ) (chosen : s.chosen ≡ Some p) (has : HasAhead 
       terminal =
           subst (TermLeft (Causes end last) (terminal_at s.io n)) (sym terminal-then) (term-for (WriteRefused call (caller_of s.inner p) s.io attempt.effect.end s.terms terms n) (Causes end last) (terminal_at s.io n) (terminal_at attempt.effect.io n) write-fails it.terminal);
       places = ap (length {A = Terminal}) terminals-then ∙ it.places;
-    }) (λ ended_it reads_it. absurd (goes-on-ended attempt.effect.end attempt.result_is ended_it)) come-then
+    }) (λ stops reads_it. absurd (attempt-reads end code next (goes-on-ended attempt.effect.end attempt.result_is) stops)) come-then
       where
         goes-on-ended : (it : IoEnd) → result ≡ result_by it s.inner p attempt.effect → end ≡ Ended → ⊥
         goes-on-ended (answers regs) is ended_it = ran-ended (sym (over ∙ ap call_event_end is) ∙ ended_it)
@@ -623,35 +648,47 @@ module _ (s : State) (p n : ℕ) (chosen : s.chosen ≡ Some p) (has : HasAhead 
         left-for (IsReader s.io p n) (ReaderStops n p s end) n s.io (io_interrupted s.io p) (λ reads_it. record { reads = reads_it; stops = inr (signal, next) }) (interrupted-left n s.io p)
     after-delivery signal next (Err status) over = ended-by over
 
-    call-drops : (code : ℕ) (result : CallResult) → end ≡ call_event_end result → Drops end (io_after_call code s.io p result)
-    call-drops code (CallResult.refused number) over = λ ended_it reads_it. absurd (ran-ended (sym over ∙ ended_it))
-    call-drops code (waits t) over = λ ended_it reads_it. absurd (waits-ended (sym over ∙ ended_it))
-    call-drops code (ends status) over = λ ended_it reads_it. ended-drops n s.io p reads_it
-    call-drops code (done t) over = λ ended_it reads_it. absurd (ran-ended (sym over ∙ ended_it))
+    runs-on : (it : EventEnd) → end ≡ it → (it ≡ Ended → ⊥) → end ≡ Ended → ⊥
+    runs-on it over going ended_it = going (sym over ∙ ended_it)
 
-    instruction-drops : (outcome : Outcome) → end ≡ instruction_end outcome → Drops end (io_after_instruction s.io p outcome)
-    instruction-drops (Done effect) over = λ ended_it reads_it. absurd (ran-ended (sym over ∙ ended_it))
-    instruction-drops (Calls code regs) over = λ ended_it reads_it. absurd (ran-ended (sym over ∙ ended_it))
-    instruction-drops (Aborts status) over = λ ended_it reads_it. ended-drops n s.io p reads_it
+    call-drops : (code : ℕ) → act_of s.inner p ≡ attempts code → (result : CallResult) → end ≡ call_event_end result → Drops end (io_after_call code s.io p result)
+    call-drops code next (CallResult.refused number) over =
+        λ stops reads_it. absurd (attempt-reads end code next (runs-on Ran over ran-ended) stops)
+    call-drops code next (waits t) over =
+        λ stops reads_it. absurd (attempt-reads end code next (runs-on Waits over waits-ended) stops)
+    call-drops code next (ends status) over = λ stops reads_it. ended-drops n s.io p reads_it
+    call-drops code next (done t) over =
+        λ stops reads_it. absurd (attempt-reads end code next (runs-on Ran over ran-ended) stops)
+
+    instruction-drops : act_of s.inner p ≡ executes → (outcome : Outcome) → end ≡ instruction_end outcome → Drops end (io_after_instruction s.io p outcome)
+    instruction-drops next (Done effect) over =
+        λ stops reads_it. absurd (instruction-reads end next (runs-on Ran over ran-ended) stops)
+    instruction-drops next (Calls code regs) over =
+        λ stops reads_it. absurd (instruction-reads end next (runs-on Ran over ran-ended) stops)
+    instruction-drops next (Aborts status) over = λ stops reads_it. ended-drops n s.io p reads_it
 
     delivery-drops : (result : Result Inner ℕ) → end ≡ delivery_end result → Drops end (io_after_delivery s.io p result)
-    delivery-drops (Ok t) over = λ ended_it reads_it. absurd (ran-ended (sym over ∙ ended_it))
-    delivery-drops (Err status) over = λ ended_it reads_it. ended-drops n s.io p reads_it
+    delivery-drops (Ok t) over = by_stop
+      where
+        by_stop : Drops end (io_interrupted s.io p)
+        by_stop (inl ended_it) reads_it = absurd (runs-on Ran over ran-ended ended_it)
+        by_stop (inr (signal, is, on)) reads_it = interrupted-drops n s.io p on reads_it
+    delivery-drops (Err status) over = λ stops reads_it. ended-drops n s.io p reads_it
 
     by-io : (code : ℕ) (call : Option IoCall) (result : CallResult) (io : Io) (terms : List TerminalState) → end ≡ call_event_end result → act_of s.inner p ≡ attempts code → io_call_of code ≡ call → MatchOption call ((result ≡ CallResult.refused E_UNKSVC) × (io ≡ s.io) × (terms ≡ s.terms)) (λ call. IoAttempts call s.inner s.io s.drives p result io s.terms terms) → Comes end (record s { inner = after_attempt s.inner p result; io = io; terms = terms })
     by-io code None result io terms over next coded (is, same, unchanged) =
-        stopped end (record s { inner = after_attempt s.inner p result; io = io; terms = terms }) (unchanged-by io (ap (λ (io : Io). io.terminals) same)) (λ ended_it reads_it. absurd (ran-ended (sym (over ∙ ap call_event_end is) ∙ ended_it))) (ap (λ (terms : List TerminalState). come_of terms n) unchanged)
+        stopped end (record s { inner = after_attempt s.inner p result; io = io; terms = terms }) (unchanged-by io (ap (λ (io : Io). io.terminals) same)) (λ stops reads_it. absurd (attempt-reads end code next (runs-on Ran (over ∙ ap call_event_end is) ran-ended) stops)) (ap (λ (terms : List TerminalState). come_of terms n) unchanged)
     by-io code (Some call) result io terms over next coded attempt = io-comes code call result io terms next coded attempt end over
 
     by-call : (code : ℕ) (call : Option ProcCall) (result : CallResult) (io : Io) (terms : List TerminalState) → end ≡ call_event_end result → act_of s.inner p ≡ attempts code → call_of code ≡ call → MatchOption call (MatchOption (io_call_of code) ((result ≡ CallResult.refused E_UNKSVC) × (io ≡ s.io) × (terms ≡ s.terms)) (λ call. IoAttempts call s.inner s.io s.drives p result io s.terms terms)) (λ call. (result ≡ attempted call s.inner p) × (io ≡ io_after_call code s.io p result) × (terms ≡ s.terms)) → Comes end (record s { inner = after_attempt s.inner p result; io = io; terms = terms })
     by-call code None result io terms over next coded answer =
         by-io code (io_call_of code) result io terms over next refl answer
     by-call code (Some call) result io terms over next coded (is, io_is, unchanged) =
-        stopped end (record s { inner = after_attempt s.inner p result; io = io; terms = terms }) (subst Leaves (sym io_is) (after-call code result over)) (subst (Drops end) (sym io_is) (call-drops code result over)) (ap (λ (terms : List TerminalState). come_of terms n) unchanged)
+        stopped end (record s { inner = after_attempt s.inner p result; io = io; terms = terms }) (subst Leaves (sym io_is) (after-call code result over)) (subst (Drops end) (sym io_is) (call-drops code next result over)) (ap (λ (terms : List TerminalState). come_of terms n) unchanged)
 
     acts-come : (act : Act) (t : State) → act_of s.inner p ≡ act → Acts act s p end t → Comes end t
     acts-come executes t next (over, is) =
-        subst (Comes end) (sym is) (stopped end _ (after-instruction (next_instruction s.inner p) over) (instruction-drops (next_instruction s.inner p) over) refl)
+        subst (Comes end) (sym is) (stopped end _ (after-instruction (next_instruction s.inner p) over) (instruction-drops next (next_instruction s.inner p) over) refl)
     acts-come (delivers signal) t next (over, is) =
         subst (Comes end) (sym is) (stopped end _ (after-delivery signal next (delivered (before_delivery s p) p signal) over) (delivery-drops (delivered (before_delivery s p) p signal) over) refl)
     acts-come (attempts code) t next (result, io, terms, answer, over, is) =

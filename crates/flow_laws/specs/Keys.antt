@@ -24,7 +24,7 @@ use Rattle.io_rules.specs.Codes.{direction_of_call, io_call_of}
 use Rattle.io_rules.specs.Io.{Io, OpenPath, kept_at, open_path, terminal_at}
 use Rattle.io_rules.specs.Pipes.{count_regs}
 use Rattle.io_rules.specs.Step.{IoEnd, answers, fails, keeps}
-use Rattle.io_rules.specs.Waiting.{pid}
+use Rattle.io_rules.specs.Waiting.{pid, wait_target}
 use Rattle.io_rules.specs.declared.io_call.Direction.TheVariants.{Writing}
 use Rattle.io_rules.specs.declared.io_call.IoCall.{IoCall}
 use Rattle.io_rules.specs.declared.io_call.IoCall.TheVariants as Call
@@ -151,13 +151,18 @@ pub record UsesKeys (n : ℕ) (s : State) (keys : List ℕ) (t : State) : Type 0
   pub ends : EndsIn s process (ReadEnds n s process request (typed request (terminal_at s.io n).line keys) t) t
   pub come : keys_to_come t n ≡ keys_to_come s n
 
--- no key arrives, and none is used; the line stays, or it is dropped for a cause, and where the reader ends, it is
--- dropped
+-- the process ends in this event, or it is where a signal is delivered to it whose call waits on this terminal
+abbrev pub StopsReading : ℕ → ℕ → State → EventEnd → Type 0
+StopsReading n p s end =
+    (end ≡ Ended)
+    ⊎ ((signal : ℕ) × (act_of s.inner p ≡ delivers signal) × (wait_target s.io p ≡ Some (Term n)))
+
+-- no key arrives, and none is used; the line stays, or it is dropped for a cause, and it is where the reader stops
 pub record KeysStay (n : ℕ) (s : State) (end : EventEnd) (t : State) : Type 0 where
   pub ahead : ahead_at t n ≡ ahead_at s n
   pub come : keys_to_come t n ≡ keys_to_come s n
   pub line : LineStays (terminal_at s.io n) (terminal_at t.io n) ⊎ DropsLine n s end t
-  pub over : (p : ℕ) → s.chosen ≡ Some p → reader (terminal_at s.io n) ≡ Some (pid p) → end ≡ Ended
+  pub over : (p : ℕ) → s.chosen ≡ Some p → reader (terminal_at s.io n) ≡ Some (pid p) → StopsReading n p s end
       → (terminal_at t.io n).reading ≡ None
 
 -- what becomes of keys in a step of a run
