@@ -76,7 +76,7 @@ ReadCounts call caller io count (fails number) = count ≡ 0
 ReadCounts call caller io count (keeps kept) = kept.moved ≡ moved_before io caller.process.0 + count
 
 -- a write that sends these bytes and put in so many ends so: where it waits it has moved so many more, where it is done
--- it has moved all, and answers their count, and where it is refused that had bytes left to move, it has some left still
+-- it has moved all, and answers their count, and where one is refused that had bytes left, it has some left still
 abbrev pub WriteCounts : IoCall → Caller → Io → List ℕ → ℕ → IoEnd → Type 0
 WriteCounts call caller io sent count (answers regs) =
     (moved_before io caller.process.0 + count ≡ in_all io caller.process.0 (length sent))
