@@ -1,20 +1,19 @@
 -- What the calls of a kernel leave, on a machine with so many drives; the terminals are those before and after.
 use Rattle.std.specs.Prelude.{◌≡◌, ◌≢◌, ◌⊎◌, ℕ, ◌+◌, Result, IsOk, IsErr, List}
 use Rattle.os9_base.specs.declared.call.OutOfMemory.{OutOfMemory}
-use Rattle.os9_outer.specs.TerminalState.{TerminalState, fault_counts}
+use Rattle.os9_outer.specs.TerminalState.{TerminalState}
 use Rattle.machine_model.specs.declared.ends.EventEnd.{EventEnd}
 use Rattle.machine_model.specs.declared.ends.SliceEnd.{SliceEnd}
 use Rattle.machine_model.specs.Event.{Event}
 use Rattle.machine_model.specs.Run.{BeginsSlice, BreaksTick, Slice, Tick}
 use Rattle.machine_model.specs.State.{State}
 use Rattle.os9_kernel.specs.declared.kernel.Kernel.{Kernel}
-use Rattle.os9_kernel.specs.Puts.{PutsByte}
+use Rattle.os9_kernel.specs.Breaks.{BreaksEvent}
 use Rattle.os9_kernel.specs.Tie.{Represents, IsGoing, ticks}
 
--- an event that was not done, since memory is out: the process has a byte to put, and no terminal failed
+-- an event that was not done, since memory is out: it is broken off
 abbrev pub WantsMemory : Kernel → ℕ → List TerminalState → List TerminalState → Type 0
-WantsMemory old drives before after =
-    ((s : State) → Represents old drives before s → PutsByte s) × (fault_counts after ≡ fault_counts before)
+WantsMemory old drives before after = (s : State) → Represents old drives before s → BreaksEvent s after
 
 -- a tick
 pub record HasTick (drives : ℕ) (old new : Kernel) (before after : List TerminalState)
@@ -37,13 +36,10 @@ pub record HasEvent (drives : ℕ) (old new : Kernel) (before after : List Termi
     pub going : end ≡ EventEnd.Ran → IsGoing new
     pub count : end ≢ EventEnd.NoMemory → ticks new ≡ ticks old
 
--- memory is out in a slice of so many instructions: its tick is broken off; or after its first events the process has a
--- byte to put, and no terminal failed since
+-- memory is out in a slice of so many instructions: its tick is broken off, or the event behind its first ones
 abbrev pub StopsSlice : ℕ → State → List TerminalState → Type 0
 StopsSlice n s after =
-    BreaksTick s after
-    ⊎ ((states : List State) × (t : State) × BeginsSlice n s states t × PutsByte t
-    × (fault_counts t.terms ≡ fault_counts after))
+    BreaksTick s after ⊎ ((states : List State) × (t : State) × BeginsSlice n s states t × BreaksEvent t after)
 
 -- a slice of so many instructions
 pub record HasSlice (n drives : ℕ) (old new : Kernel) (before after : List TerminalState) (end : SliceEnd) : Type 0

@@ -1,13 +1,13 @@
 -- Slices in pieces.
 use Rattle.std.specs.Prelude.{◌≡◌, ◌≢◌, ℕ, ◌+◌, ◌-◌, ◌<◌, List}
-use Rattle.os9_outer.specs.TerminalState.{TerminalState, fault_counts}
+use Rattle.os9_outer.specs.TerminalState.{TerminalState}
 use Rattle.machine_model.specs.declared.ends.EventEnd.{EventEnd}
 use Rattle.machine_model.specs.declared.ends.SliceEnd.{SliceEnd}
 use Rattle.machine_model.specs.Event.{Event, cost}
 use Rattle.machine_model.specs.Run.{Steps, FirstSteps}
 use Rattle.machine_model.specs.State.{State}
 use Rattle.os9_kernel.specs.declared.kernel.Kernel.{Kernel}
-use Rattle.os9_kernel.specs.Puts.{PutsByte}
+use Rattle.os9_kernel.specs.Breaks.{BreaksEvent}
 use Rattle.os9_kernel.specs.Tie.{Represents, ticks}
 
 -- Events one after another, while so many instructions are left before each: so many are executed, all go on but
@@ -34,8 +34,7 @@ pub record HasEvents (left drives : ℕ) (old new : Kernel) (before after : List
     pub step : end ≢ SliceEnd.NoMemory → (s : State) → Represents old drives before s
         → (states : List State) × (t : State) × Steps left s states t × Represents new drives after t
     pub ran : end ≢ SliceEnd.NoMemory → end ≡ SliceEnd.Ran
-    -- memory is out: after the first of them the process has a byte to put, and no terminal failed since
+    -- memory is out: the event behind the first of them is broken off
     pub part : end ≡ SliceEnd.NoMemory → (s : State) → Represents old drives before s
-        → (states : List State) × (t : State) × FirstSteps left s states t × PutsByte t
-        × (fault_counts t.terms ≡ fault_counts after)
+        → (states : List State) × (t : State) × FirstSteps left s states t × BreaksEvent t after
     pub count : end ≢ SliceEnd.NoMemory → ticks new ≡ ticks old

@@ -1,8 +1,8 @@
 -- What an attempt on a terminal comes to.
-use Rattle.std.proofs.Common.{◌≡◌, ◌∙◌, ℕ, zero, suc, Option, Some, List, [], ◌∷◌, slice_get, slice_set, ap, sym, refl, subst}
+use Rattle.std.proofs.Common.{◌≡◌, ◌∙◌, ℕ, Option, Some, List, ap, sym, refl, subst}
 use Rattle.os9_base.specs.declared.call.CallEnd.{CallEnd}
 use Rattle.os9_base.specs.declared.registers.Regs.{Regs}
-use Rattle.os9_outer.specs.TerminalState.{TerminalState, ChangesOneTerminal, fault_counts}
+use Rattle.os9_outer.specs.TerminalState.{TerminalState, ChangesOneTerminal}
 use Rattle.call_rules.specs.Inner.{Inner, regs_at}
 use Rattle.io_model.specs.Terminal.{Reads, stored_bytes}
 use Rattle.io_model.specs.declared.kept.Kept.{Kept}
@@ -12,21 +12,11 @@ use Rattle.io_rules.specs.Attempts.{caller_of, kept_in, result_by}
 use Rattle.io_rules.specs.Io.{Io, terminal_at, with_call, with_terminal}
 use Rattle.io_rules.specs.Step.{IoEnd, TerminalRead, reads, stores}
 use Rattle.io_rules.specs.Terminals.{read_ends, read_leaves, request_of}
-use Rattle.io_state.proofs.WaitLemmas.{some-same}
 use Rattle.io_state.specs.Terminals.{kept_after}
 use Rattle.proc_state.specs.Tie.{Comes}
 use Rattle.proc_state.specs.declared.state.ProcState.{ProcState}
 use Rattle.stream_calls.specs.Trying.{EndsBy, Tries, WantsMemory}
-use Rattle.stream_calls.proofs.EchoLemmas.{echo-some}
 use Rattle.stream_calls.proofs.TryingLemmas.{never-wants, tries-takes}
-
--- the counts of faults stay where one terminal changed whose count stayed
-pub faults-same : (terms : List TerminalState) (n : ℕ) (old new : TerminalState) → slice_get terms n ≡ Some old → new.faults ≡ old.faults → fault_counts (slice_set terms n new) ≡ fault_counts terms
-faults-same [] n old new there same = refl
-faults-same (t ∷ terms) zero old new there same =
-    ap (λ (count : ℕ). count ∷ fault_counts terms) (same ∙ ap (λ (it : TerminalState). it.faults) (sym (some-same t old there)))
-faults-same (t ∷ terms) (suc n) old new there same =
-    ap (λ (counts : List ℕ). t.faults ∷ counts) (faults-same terms n old new there same)
 
 module _ (m : Inner) (io : Io) (p : ℕ) (processes : ProcState) (new : Io) (before after : List TerminalState) (read : TerminalRead) (regs : Regs) (taken : List ℕ) (end : CallEnd) where
   -- a read that the terminal answered so, and that has this end
@@ -52,8 +42,5 @@ module _ (m : Inner) (io : Io) (p : ℕ) (processes : ProcState) (new : Io) (bef
   tries-read End same device stored_is state ends = ended End _ refl refl same device stored_is state ends
   tries-read Fault same device stored_is state ends = ended Fault _ refl refl same device stored_is state ends
   tries-read NoMemory same device stored_is state ends =
-      let wants : WantsMemory (reads read) (caller_of m p) io before after = record {
-        puts = echo-some (request_of (caller_of m p) read) (terminal_at io read.terminal) (terminal_at new read.terminal) device.0 device.1 device.4.outcome (device.4.turn refl);
-        faults = ap (λ (terms : List TerminalState). fault_counts terms) device.3 ∙ faults-same before read.terminal device.0 device.1 device.2 device.4.driver.faults;
-      } in
+      let wants : WantsMemory (reads read) (caller_of m p) io before after = (terminal_at new read.terminal, device) in
       subst (λ (e : CallEnd). Tries (reads read) m io p e processes new before after) (sym ends) wants

@@ -1,5 +1,4 @@
 pub mod DeviceLemmas
-pub mod EchoLemmas
 pub mod LineLemmas
 pub mod MovingLemmas
 pub mod ReadingLemmas

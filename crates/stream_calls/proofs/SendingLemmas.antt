@@ -7,7 +7,7 @@ use Rattle.os9_base.specs.declared.call.CallEnd.TheVariants as End
 use Rattle.os9_base.specs.declared.errors.TheConstants.{E_BPADDR, E_WRITE}
 use Rattle.os9_base.specs.declared.registers.Pid.{Pid}
 use Rattle.os9_base.specs.declared.registers.Regs.{Regs}
-use Rattle.os9_outer.specs.TerminalState.{TerminalState, ChangesOneTerminal, fault_counts}
+use Rattle.os9_outer.specs.TerminalState.{TerminalState, ChangesOneTerminal}
 use Rattle.call_rules.specs.Inner.{Inner, cells_at, regs_at}
 use Rattle.call_rules.specs.UserBytes.{user_bytes}
 use Rattle.io_model.specs.Path.{desc_of, slot_of}
@@ -39,7 +39,6 @@ use Rattle.io_state.specs.Sound.{IsIo, IsNoRead, target_at}
 use Rattle.pipe_calls.specs.Leaving.{IsTold, ReadsNoTerminal, Settles}
 use Rattle.proc_state.specs.Tie.{Comes}
 use Rattle.proc_state.specs.declared.state.ProcState.{ProcState}
-use Rattle.stream_calls.proofs.DeviceLemmas.{faults-same}
 use Rattle.stream_calls.proofs.LineLemmas.{IsSentLine}
 use Rattle.stream_calls.proofs.MovingLemmas.{opened-parts}
 use Rattle.stream_calls.proofs.TryingLemmas.{tries-needs-some, tries-same}
@@ -205,10 +204,7 @@ module _ (caller : Caller) (io new : Io) (n : ℕ) (put : List ℕ) (count : ℕ
         state = state;
       })
   put-ends Progress.NoMemory end device state ends =
-      let wants : WantsMemory (writes write) caller io before after = record {
-        puts = let part = device.4.outcome.part in omega (arith, part.1);
-        faults = ap (λ (terms : List TerminalState). fault_counts terms) device.3 ∙ faults-same before n device.0 device.1 device.2 device.4.driver.faults;
-      } in
+      let wants : WantsMemory (writes write) caller io before after = (terminal_at new n, device) in
       subst (λ (e : CallEnd). Sends (writes write) caller io regs e new before after) (sym ends) wants
 
   -- by what the terminal answered, which took all the bytes

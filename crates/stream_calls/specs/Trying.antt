@@ -1,10 +1,11 @@
 -- What an attempt of a read or a write leaves, and what it leaves where memory is wanting.
-use Rattle.std.specs.Prelude.{◌≡◌, ℕ, ◌<◌, Option, Some, None, List, length}
+use Rattle.std.specs.Prelude.{◌≡◌, ℕ, Option, Some, None, List}
 use Rattle.os9_base.specs.declared.call.CallEnd.{CallEnd}
 use Rattle.os9_base.specs.declared.call.CallEnd.TheVariants.{Done, Error, Wait, Ended, NoMemory}
-use Rattle.os9_outer.specs.TerminalState.{TerminalState, fault_counts}
+use Rattle.os9_outer.specs.TerminalState.{TerminalState, ChangesOneTerminal}
 use Rattle.call_rules.specs.Inner.{Inner}
-use Rattle.io_model.specs.Terminal.{read_attempt}
+use Rattle.io_model.specs.Terminal.{Terminal, Reads, Writes}
+use Rattle.io_model.specs.declared.terminal.Progress.TheVariants as Answer
 use Rattle.io_rules.specs.Attempts.{Does, caller_of, io_after, result_by, result_of}
 use Rattle.io_rules.specs.Io.{Io, terminal_at}
 use Rattle.io_rules.specs.Step.{Caller, IoEffect, IoEnd, IoStep, stores, refused, comes, reads, writes}
@@ -20,18 +21,18 @@ pub record Takes (step : IoStep) (m : Inner) (io : Io) (p : ℕ) (end : CallEnd)
   pub comes : Comes m p (result_of m p effect) end processes
   pub state : new ≡ io_after p effect
 
--- an attempt has a byte to put on a terminal: a key that it is due to take has an echo, or it writes a byte at least
-abbrev pub PutsSome : IoStep → Caller → Io → Type 0
-PutsSome (refused number) caller io = ⊥
-PutsSome (comes effect) caller io = ⊥
-PutsSome (reads read) caller io =
-    0 < length (read_attempt (request_of caller read) (terminal_at io read.terminal)).echo
-PutsSome (writes write) caller io = 0 < length write.put
-
--- memory is wanting: an attempt had a byte to put on a terminal, and no terminal failed
-pub record WantsMemory (step : IoStep) (caller : Caller) (io : Io) (before after : List TerminalState) : Type 0 where
-  pub puts : PutsSome step caller io
-  pub faults : fault_counts after ≡ fault_counts before
+-- A byte that an attempt put on a terminal found no memory: its terminal is as the read or the write left it, and no
+-- other one has changed.
+abbrev pub WantsMemory : IoStep → Caller → Io → List TerminalState → List TerminalState → Type 0
+WantsMemory (refused number) caller io before after = ⊥
+WantsMemory (comes effect) caller io before after = ⊥
+WantsMemory (reads read) caller io before after =
+    (new : Terminal) × ChangesOneTerminal
+    (Reads (request_of caller read) Answer.NoMemory (terminal_at io read.terminal) new) read.terminal before after
+WantsMemory (writes write) caller io before after =
+    (new : Terminal) × ChangesOneTerminal
+    (Writes caller.process write.put write.count Answer.NoMemory (terminal_at io write.terminal) new) write.terminal
+    before after
 
 -- an attempt of a process ends so, with these processes, this state and these terminals then
 abbrev pub Tries : IoStep → Inner → Io → ℕ → CallEnd → ProcState → Io → List TerminalState → List TerminalState → Type 0

@@ -1,6 +1,6 @@
 use Rattle.std.proofs.Common.{◌≡◌, false, refl, sym, ap, ◌∙◌, subst, inl, inr, ◌⊎◌, arith}
 use Rattle.std.specs.Vec.{vec_len}
-use Rattle.os9_outer.specs.TerminalState.{fault_counts, terminal_states}
+use Rattle.os9_outer.specs.TerminalState.{terminal_states}
 use Rattle.os9_kernel.specs.Tie.{Represents}
 use Rattle.machine_model.specs.declared.ends.EventEnd.{EventEnd}
 use Rattle.machine_model.specs.declared.ends.EventEnd.TheVariants.{Ran, Waits, Ended, NoMemory}
@@ -57,9 +57,8 @@ returns-in-NoMemory-clause-events g c =
       ran = λ e. absurd (e refl);
       part = λ _ s tied.
           let (m, there, continues, begins) = c.loop-left.invariant.tied s tied in
-          let (puts, unfaulted) = turn.memory c.in-NoMemory.is in
           let (all, first) = begun-here c.args.n c.loop-left.left s m (omega arith) begins in
-          (all, m, first, puts m there, ap fault_counts (ap (λ s. s.terms) there.is) ∙ sym unfaulted);
+          (all, m, first, turn.memory c.in-NoMemory.is m there);
       count = λ e. absurd (e refl);
     }
 

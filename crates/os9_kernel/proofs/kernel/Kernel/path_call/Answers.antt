@@ -11,7 +11,7 @@ use Rattle.machine_model.specs.declared.ends.EventEnd.{EventEnd}
 use Rattle.machine_model.specs.State.{State}
 use Rattle.proc_state.specs.Tie.{Represents as RepresentsProcesses}
 use Rattle.stream_calls.specs.Moving.{AreTerminals}
-use Rattle.stream_calls.specs.Trying.{PutsSome}
+use Rattle.stream_calls.specs.Trying.{WantsMemory}
 use Rattle.os9_kernel.specs.declared.act.Act.TheVariants.{Attempt}
 use Rattle.os9_kernel.specs.Ends.{event_end_of}
 use Rattle.os9_kernel.proofs.Acting.{acts-so, chosen-is, event-then}
@@ -63,20 +63,17 @@ returns-clause-event g c =
             c.event_end.ensures ∙ ap event_end_of same ∙ end-tied it.result,
             refl,
           );
-      memory = λ out.
-          let is = wants-so c.attempt-end.result (sym c.event_end.ensures ∙ out) in (
-            λ s tied. record {
-              p = p.0;
-              chosen = chosen-is old p act next drives before s tied;
-              code = c.args.code;
-              act = acts-so old p act next drives before s tied;
-              call = c.args.call;
-              is_call = c.requires.codes.1;
-              puts =
-                  subst (λ (x : State). PutsSome (step_of c.args.call s.inner p.0 x.io x.drives x.terms) (caller_of s.inner p.0) x.io) (sym tied.is) (c.attempt-end.ensures.memory s.inner tied.inner is).puts;
-            },
-            (c.attempt-end.ensures.memory s0.inner tied0.inner is).faults,
-          );
+      memory = λ out s tied.
+          let is = wants-so c.attempt-end.result (sym c.event_end.ensures ∙ out) in record {
+            p = p.0;
+            chosen = chosen-is old p act next drives before s tied;
+            code = c.args.code;
+            act = acts-so old p act next drives before s tied;
+            call = c.args.call;
+            is_call = c.requires.codes.1;
+            wants =
+                subst (λ (x : State). WantsMemory (step_of c.args.call s.inner p.0 x.io x.drives x.terms) (caller_of s.inner p.0) x.io x.terms after) (sym tied.is) (c.attempt-end.ensures.memory s.inner tied.inner is);
+          };
       going = λ ran. (p, c.tell_end.ensures.chosen ∙ next.chosen, lives-so c.attempt-end.result new.processes.table p.0 (sym c.event_end.ensures ∙ ran) c.tell_end.ensures.lives);
       count = λ ran.
           let it = c.attempt-end.ensures.call s0.inner tied0.inner (other ran) in

@@ -38,7 +38,7 @@ returns-in-Some-clause-slice g c =
       part = λ out s tied.
           let (ticked, ticks, there) = c.tick.ensures.tick.step (rw c.in-Ok.is refl) s tied in
           let (chosen, chooses, now, who) = c.choose-chosen.ensures.step _ _ ticked there in
-          let (all, t, first, puts, counts) = events.part out chosen (subst (λ drives. Represents c.choose-chosen.new.self (vec_len drives) (terminal_states (λ table. (g.dyn-2.0.entry table).1) c.tick.new.devices.terms.items) chosen) (sym c.tick.ensures.drives_kept) now) in
-          inr (all, t, (ticked, chosen, ticks, chooses, first), puts, counts);
+          let (all, t, first, breaks) = events.part out chosen (subst (λ drives. Represents c.choose-chosen.new.self (vec_len drives) (terminal_states (λ table. (g.dyn-2.0.entry table).1) c.tick.new.devices.terms.items) chosen) (sym c.tick.ensures.drives_kept) now) in
+          inr (all, t, (ticked, chosen, ticks, chooses, first), breaks);
       count = λ other. events.count other ∙ c.choose-chosen.ensures.count ∙ c.tick.ensures.tick.count;
     }
