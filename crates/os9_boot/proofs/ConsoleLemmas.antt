@@ -9,13 +9,13 @@ use Rattle.std.proofs.lemmas.Option.{get_or_from_slice_get}
 use Rattle.os9_words.proofs.Prefixes.{GainsPrefix-front, GainsPrefix-then}
 use Rattle.os9_outer.specs.Stream.{stream_with, emptied, GainsPrefix}
 use Rattle.device_table.proofs.StreamLemmas.{appended-twice}
-use Rattle.os9_outer.specs.TerminalState.{TerminalState, ChangesOneTerminal, fault_counts}
+use Rattle.os9_outer.specs.TerminalState.{TerminalState, ChangesOneTerminal}
 use Rattle.machine_model.specs.Console.{put_bytes, console_bytes, terminals_emptied, without_bytes}
 use Rattle.os9_base.specs.Count.{Rose}
 use Rattle.os9_outer.specs.Host.{OnFailed, UnlessFailed}
 use Rattle.os9_outer.specs.declared.host.HostFault.{HostFault}
 use Rattle.os9_outer.specs.declared.host.HostFault.TheVariants.{Failed, OutOfMemory}
-use Rattle.os9_boot.specs.Console.{TakesBytes, IsObserved}
+use Rattle.os9_boot.specs.Console.{TakesBytes, IsObserved, emptied_front}
 use Rattle.os9_boot.specs.World.{World, HasNoFault, FailsToWrite}
 
 -- what was taken from a terminal's driver was taken from the terminal
@@ -26,10 +26,6 @@ Takes-from bytes old new handed none keys faults =
       handed_over = handed;
       none_left = ap (λ k. by k new.put new.faults) keys ∙ ap (λ p. by old.keys p new.faults) none ∙ ap (λ f. by old.keys (emptied old.put) f) faults;
     }
-
--- the terminals, of which the first so many were emptied
-abbrev pub emptied_front : ℕ → List TerminalState → List TerminalState
-emptied_front n screens = map without_bytes (take n screens) ++ drop n screens
 
 told_bytes : (bytes : List ℕ) (put : Option (List ℕ)) → IsSome put → IfSome put (λ put. bytes ≡ put) → bytes ≡ unwrap_or put []
 told_bytes bytes None told is = cc
@@ -71,16 +67,10 @@ pub prefix-on_error : {Value Fault : Type 0} (answer : Result Value Fault) (n : 
 prefix-on_error (Ok value) n bytes screens now first before after passed so_far gained = tt
 prefix-on_error (Err fault) n bytes screens now first before after passed so_far gained = prefix-here n bytes screens now first before after passed so_far gained
 
--- ---- no terminal fails where its bytes are taken
-
-pub faults-emptied : (terms : List TerminalState) → fault_counts (terminals_emptied terms) ≡ fault_counts terms
-faults-emptied [] = refl
-faults-emptied (terminal ∷ terms) = ap (λ rest. terminal.faults ∷ rest) (faults-emptied terms)
-
-pub faults-front : (n : ℕ) (terms : List TerminalState) → fault_counts (emptied_front n terms) ≡ fault_counts terms
-faults-front zero terms = refl
-faults-front (suc n) [] = refl
-faults-front (suc n) (terminal ∷ terms) = ap (λ rest. terminal.faults ∷ rest) (faults-front n terms)
+-- so many terminals gave their bytes
+pub left-on_error : {Value Fault : Type 0} (answer : Result Value Fault) (count : ℕ) (screens now : List TerminalState) → now ≡ emptied_front count screens → OnErr answer ((count : ℕ) × (now ≡ emptied_front count screens))
+left-on_error (Ok value) count screens now is = tt
+left-on_error (Err fault) count screens now is = (count, is)
 
 -- ---- what a write to the output says of a longer call
 

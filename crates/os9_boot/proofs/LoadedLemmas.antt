@@ -47,8 +47,10 @@ partly-from slices s before after drives terms ran = record {
   written = ran.written;
   reached = ran.reached;
   run = ran.run;
+  n = ran.n;
+  next = ran.next;
+  lives = ran.lives;
   stopped = ran.stopped;
-  output = ran.output;
 }
 
 -- the kernel of a boot file stands, and the terminals were loaded

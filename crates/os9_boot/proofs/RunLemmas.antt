@@ -1,14 +1,12 @@
 -- Slices, one after another, make a run.
-use Rattle.std.proofs.Common.{◌≡◌, ◌≢◌, not, ℕ, ◌+◌, Bool, true, false, Option, Some, List, [], ◌∷◌, ◌++◌, get_or, slice_get, refl, sym, ap, ◌∙◌, ◌<◌, take, length, append_assoc, append-nil, All, inl, inr}
+use Rattle.std.proofs.Common.{◌≡◌, ◌≢◌, not, ℕ, ◌+◌, Bool, true, false, Option, Some, List, [], ◌∷◌, ◌++◌, get_or, slice_get, refl, sym, subst, ap, ◌∙◌, ◌<◌, take, length, append_assoc, append-nil, All, inl, inr}
 use Rattle.std.specs.Prelude.{MatchBool}
 use Rattle.std.proofs.lemmas.Bool.{ne_eqb}
 use Rattle.std.proofs.lemmas.List.Elements.{All-cons, All-head, All-tail}
 use Rattle.os9_outer.specs.Stream.{stream_with, GainsPrefix}
-use Rattle.os9_words.proofs.PieceLemmas.{GainsPrefix-whole}
-use Rattle.os9_words.proofs.Prefixes.{GainsPrefix-then}
-use Rattle.std.proofs.lemmas.List.{take_more}
+use Rattle.std.proofs.lemmas.Option.{slice_get-get_or}
 use Rattle.device_table.proofs.StreamLemmas.{appended-twice, appended-nothing}
-use Rattle.os9_outer.specs.TerminalState.{TerminalState, fault_counts}
+use Rattle.os9_outer.specs.TerminalState.{TerminalState}
 use Rattle.machine_model.specs.declared.ends.SliceEnd.{SliceEnd}
 use Rattle.machine_model.specs.Console.{terminals_emptied, console_bytes}
 use Rattle.machine_model.specs.Terminals.{TerminalsOnlyGain}
@@ -19,10 +17,9 @@ use Rattle.os9_kernel.specs.declared.kernel.Kernel.{Kernel}
 use Rattle.os9_kernel.specs.Calls.{HasSlice, StopsSlice}
 use Rattle.os9_kernel.specs.Tie.{Represents, Stands}
 use Rattle.os9_kernel.proofs.Represented.{represents-emptied}
-use Rattle.os9_boot.specs.Console.{IsObserved}
+use Rattle.os9_boot.specs.Console.{IsObserved, emptied_front}
 use Rattle.os9_boot.specs.Slices.{RunsPartly}
-use Rattle.os9_boot.specs.World.{World}
-use Rattle.os9_boot.proofs.ConsoleLemmas.{faults-emptied}
+use Rattle.os9_boot.specs.World.{World, HasNoFault}
 
 -- ---- what is observed stays observed
 
@@ -142,21 +139,23 @@ pub reaches-all : (drives : ℕ) (first out : Option (List ℕ)) (slices : List 
 reaches-all drives first out slices s kernel terms (m, states, written, told, tied, is, so_far) = (states, written, m, so_far, tied, is)
 
 -- if memory was out in a slice, the output holds all that the slices before it wrote
-pub partly-before : (drives : ℕ) (slices : List ℕ) (count n : ℕ) (s : State) (kernel : Kernel) (terms : List TerminalState) (before after : World) → slice_get slices count ≡ Some n → Reaches drives before.out (take count slices) s kernel terms after.out → ((m : State) → Represents kernel drives terms m → living_count m.inner ≢ 0) → ((m : State) → Represents kernel drives terms m → StopsSlice n m after.terms) → RunsPartly slices s before after
-partly-before drives slices count n s kernel terms before after here (m, states, written, told, tied, is, so_far) some begins =
+pub partly-before : (drives : ℕ) (slices : List ℕ) (count n : ℕ) (s : State) (kernel : Kernel) (terms : List TerminalState) (before after : World) → slice_get slices count ≡ Some n → Reaches drives before.out (take count slices) s kernel terms after.out → ((m : State) → Represents kernel drives terms m → living_count m.inner ≢ 0) → ((m : State) → Represents kernel drives terms m → StopsSlice n m after.terms) → HasNoFault before after → RunsPartly slices s before after
+partly-before drives slices count n s kernel terms before after here (m, states, written, told, tied, is, so_far) some begins kept =
     record {
       count = count;
       states = states;
       written = written;
       reached = m;
       run = so_far;
-      stopped = inr (n, here, some-living m (some m tied), begins m tied);
-      output = GainsPrefix-whole before.out written after.out is;
+      n = n;
+      next = here;
+      lives = some-living m (some m tied);
+      stopped = inl (begins m tied, is, kept);
     }
 
--- if a slice was run and its bytes were not all passed on, the output holds a prefix
-pub partly-after : (drives : ℕ) (slices : List ℕ) (count : ℕ) (s : State) (kernel later : Kernel) (terms mid : List TerminalState) (before after : World) (out : Option (List ℕ)) (end : SliceEnd) → count < length slices → Reaches drives before.out (take count slices) s kernel terms out → ((m : State) → Represents kernel drives terms m → living_count m.inner ≢ 0) → ((m : State) → Represents kernel drives terms m → (begun : List State) × (t : State) × Slice (get_or slices count 0) m begun end t × Represents later drives mid t) → (All IsObserved mid → GainsPrefix out (console_bytes mid) after.out) → fault_counts after.terms ≡ fault_counts mid → RunsPartly slices s before after
-partly-after drives slices count s kernel later terms mid before after out end within (m, states, written, told, tied, is, so_far) some steps gained failed =
+-- if a slice was run and its bytes were not all passed on, the output holds those of the slices before it, and a prefix
+pub partly-after : (drives : ℕ) (slices : List ℕ) (count : ℕ) (s : State) (kernel later : Kernel) (terms mid : List TerminalState) (before after : World) (out : Option (List ℕ)) (end : SliceEnd) → count < length slices → Reaches drives before.out (take count slices) s kernel terms out → ((m : State) → Represents kernel drives terms m → living_count m.inner ≢ 0) → ((m : State) → Represents kernel drives terms m → (begun : List State) × (t : State) × Slice (get_or slices count 0) m begun end t × Represents later drives mid t) → (All IsObserved mid → GainsPrefix out (console_bytes mid) after.out) → (taken : ℕ) × (after.terms ≡ emptied_front taken mid) → RunsPartly slices s before after
+partly-after drives slices count s kernel later terms mid before after out end within (m, states, written, told, tied, is, so_far) some steps gained (taken, left) =
     let step = steps m tied in
     let begun : List State = step.0 in
     let t : State = step.1 in
@@ -164,13 +163,22 @@ partly-after drives slices count s kernel later terms mid before after out end w
     let here : m.terms ≡ terms = ap (λ s. s.terms) tied.is in
     let there : t.terms ≡ mid = ap (λ s. s.terms) step.3.is in
     let told_mid : All IsObserved mid = rw (← there) (observed-slice n m begun end t step.2 (rw here told)) in
-    let last : State = record t { terms = terminals_emptied t.terms } in
     record {
-      count = count + 1;
-      states = states ++ begun;
-      written = written ++ console_bytes t.terms;
-      reached = last;
-      run = rw (take_more slices count 0 within) (run-append (take count slices) (n ∷ []) s m last states begun written (console_bytes t.terms) so_far (run-slice n m t begun end (some-living m (some m tied)) step.2));
-      stopped = inl (failed ∙ ap fault_counts (sym there) ∙ sym (faults-emptied t.terms));
-      output = GainsPrefix-then before.out written (console_bytes t.terms) out after.out is (rw there (gained told_mid));
+      count = count;
+      states = states;
+      written = written;
+      reached = m;
+      run = so_far;
+      n = n;
+      next = slice_get-get_or slices count 0 within;
+      lives = some-living m (some m tied);
+      stopped = inr (record {
+        states = begun;
+        end = end;
+        t = t;
+        slice = step.2;
+        output = subst (λ (o : Option (List ℕ)). GainsPrefix o (console_bytes t.terms) after.out) is (rw there (gained told_mid));
+        taken = taken;
+        terminals = left ∙ ap (λ (terms : List TerminalState). emptied_front taken terms) (sym there);
+      });
     }

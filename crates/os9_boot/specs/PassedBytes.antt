@@ -1,11 +1,10 @@
 -- What is left when the bytes of the terminals were passed to the output stream.
-use Rattle.std.specs.Prelude.{◌≡◌, Result, OnOk, OnErr, All}
+use Rattle.std.specs.Prelude.{◌≡◌, ℕ, Result, OnOk, OnErr, All}
 use Rattle.os9_outer.specs.Host.{OnFailed, UnlessFailed}
 use Rattle.os9_outer.specs.Stream.{stream_with, GainsPrefix}
-use Rattle.os9_outer.specs.TerminalState.{fault_counts}
 use Rattle.os9_outer.specs.declared.host.HostFault.{HostFault}
 use Rattle.machine_model.specs.Console.{console_bytes, terminals_emptied}
-use Rattle.os9_boot.specs.Console.{IsObserved}
+use Rattle.os9_boot.specs.Console.{IsObserved, emptied_front}
 use Rattle.os9_boot.specs.World.{World, HasNoFault, FailsToWrite}
 
 pub record PassesBytes {Value : Type 0} (answer : Result Value HostFault) (before after : World) : Type 0 where
@@ -17,8 +16,8 @@ pub record PassesBytes {Value : Type 0} (answer : Result Value HostFault) (befor
   -- else it has gained their beginning
   pub prefix : OnErr answer (All IsObserved before.terms
       → GainsPrefix before.out (console_bytes before.terms) after.out)
-  -- no terminal failed
-  pub terminals_kept : fault_counts after.terms ≡ fault_counts before.terms
+  -- and the bytes of the first terminals were taken
+  pub left : OnErr answer ((count : ℕ) × (after.terms ≡ emptied_front count before.terms))
   -- the host failed last at the output, or not at all
   pub output_fault : OnFailed answer (FailsToWrite before after)
   pub no_fault : UnlessFailed answer (HasNoFault before after)

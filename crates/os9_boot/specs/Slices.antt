@@ -1,29 +1,43 @@
 -- What is left when slices were run.
-use Rattle.std.specs.Prelude.{◌≡◌, ◌⊎◌, ℕ, true, Some, Result, List, take, slice_get, OnOk, OnErr, All}
+use Rattle.std.specs.Prelude.{◌≡◌, ◌⊎◌, ℕ, true, Option, Some, Result, List, take, slice_get, OnOk, OnErr, All}
 use Rattle.os9_outer.specs.Stream.{stream_with, GainsPrefix}
-use Rattle.os9_outer.specs.TerminalState.{fault_counts}
 use Rattle.machine_model.specs.State.{State, has_living}
-use Rattle.machine_model.specs.Run.{Run}
+use Rattle.machine_model.specs.Console.{console_bytes}
+use Rattle.machine_model.specs.Run.{Run, Slice}
+use Rattle.machine_model.specs.declared.ends.SliceEnd.{SliceEnd}
 use Rattle.os9_kernel.specs.declared.kernel.Kernel.{Kernel}
 use Rattle.os9_kernel.specs.Calls.{StopsSlice}
 use Rattle.os9_kernel.specs.Tie.{Represents}
 use Rattle.os9_boot.specs.declared.run.RunFault.{RunFault}
-use Rattle.os9_boot.specs.Console.{IsObserved}
+use Rattle.os9_boot.specs.Console.{IsObserved, emptied_front}
 use Rattle.os9_boot.specs.RunFault.{OnOutputFault, UnlessOutputFault}
 use Rattle.os9_boot.specs.World.{World, HasNoFault, FailsToWrite}
 
+-- A slice was run from this state, and the output did not take all that it wrote: what was out before is followed by the
+-- beginning of that. The bytes of so many terminals were taken, and all else of the terminals is as the slice left it.
+pub record BreaksOutput (n : ℕ) (s : State) (out : Option (List ℕ)) (after : World) : Type 0 where
+  pub states : List State
+  pub end : SliceEnd
+  pub t : State
+  pub slice : Slice n s states end t
+  pub output : GainsPrefix out (console_bytes t.terms) after.out
+  pub taken : ℕ
+  pub terminals : after.terms ≡ emptied_front taken t.terms
+
 -- The machine went on from this state over the first of these slices, and stopped.
 pub record RunsPartly (slices : List ℕ) (s : State) (before after : World) : Type 0 where
-  pub count : ℕ  -- so many slices were run
+  pub count : ℕ  -- so many slices were run, and the output took what they wrote
   pub states : List State  -- the states after their events
   pub written : List ℕ  -- what they wrote
   pub reached : State  -- the state that they came to
   pub run : Run (take count slices) s states written reached
-  -- it stopped after these slices, where each terminal has failed as often; or memory was out within the next one
-  pub stopped : (fault_counts after.terms ≡ fault_counts reached.terms) ⊎ ((n : ℕ) × (slice_get slices count ≡ Some n)
-      × (has_living reached ≡ true) × StopsSlice n reached after.terms)
-  -- the output gained the beginning of what the slices wrote
-  pub output : GainsPrefix before.out written after.out
+  pub n : ℕ  -- the instructions of the next slice
+  pub next : slice_get slices count ≡ Some n
+  pub lives : has_living reached ≡ true
+  -- memory was out within it, and the host did not fail; or the output did not take all that it wrote
+  pub stopped : (StopsSlice n reached after.terms × (after.out ≡ stream_with before.out written)
+      × HasNoFault before after)
+      ⊎ BreaksOutput n reached (stream_with before.out written) after
 
 pub record RunsSlices {Value : Type 0} (slices : List ℕ) (old new : Kernel) (answer : Result Value RunFault)
     (before after : World) : Type 0 where

@@ -2,9 +2,8 @@ use Rattle.std.proofs.Common.{◌+◌, ◌<◌, [], ap, arith, rules, ◌∙◌}
 use Rattle.std.proofs.lemmas.Grind.{common_steps}
 use Rattle.std.proofs.lemmas.List.{length-map}
 use Rattle.std.specs.Vec.{vec_len}
-use Rattle.os9_outer.specs.TerminalState.{fault_counts}
 use Rattle.os9_boot.specs.World.{world_of}
-use Rattle.os9_boot.proofs.ConsoleLemmas.{failed-then, faults-front, kept-then, passes, prefix-on_error, written-more}
+use Rattle.os9_boot.proofs.ConsoleLemmas.{failed-then, kept-then, left-on_error, passes, prefix-on_error, written-more}
 use Rattle.os9_boot.proofs.console.pass_on.Goals as goal
 
 pub loop-n-preserved : goal.loop-n-preserved
@@ -36,7 +35,7 @@ returns-in_err-write_out-clause-passed g c =
       taken = search rules;
       written = search rules;
       prefix = prefix-on_error c.from_residual.result c.loop-n.n c.take_from-bytes.result.items _ _ _ _ _ passed so_far.written (rw (← c.as_slice.ensures.value) wrote.prefix);
-      terminals_kept = ap fault_counts passed.emptied ∙ faults-front (c.loop-n.n + 1) _;
+      left = left-on_error c.from_residual.result (c.loop-n.n + 1) _ _ passed.emptied;
       output_fault = failed-then c.from_residual.result (world_of g.H.Host c.args.host.now 0 []) (world_of g.H.Host c.loop-n.host 0 []) (world_of g.H.Host c.write_out.new.host 0 []) so_far.count (search rules) (search rules) (search rules);
       no_fault = kept-then c.from_residual.result (world_of g.H.Host c.args.host.now 0 []) (world_of g.H.Host c.loop-n.host 0 []) (world_of g.H.Host c.write_out.new.host 0 []) so_far.count (search rules) (search rules) (search rules);
       files_kept = wrote.files_kept ∙ so_far.files;
@@ -49,7 +48,7 @@ returns-clause-passed g c =
       taken = grind (arith, common_steps);
       written = grind (arith, common_steps);
       prefix = search rules;
-      terminals_kept = ap fault_counts so_far.emptied ∙ faults-front c.loop-n.n _;
+      left = tt;
       output_fault = search rules;
       no_fault = so_far.count;
       files_kept = so_far.files;

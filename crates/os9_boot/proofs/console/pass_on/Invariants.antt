@@ -3,9 +3,8 @@ use Rattle.std.specs.Vec.{vec_len}
 use Rattle.os9_outer.specs.Stream.{stream_with}
 use Rattle.os9_outer.specs.TerminalState.{terminal_states}
 use Rattle.machine_model.specs.Console.{console_bytes}
-use Rattle.os9_boot.specs.Console.{IsObserved}
+use Rattle.os9_boot.specs.Console.{IsObserved, emptied_front}
 use Rattle.os9_boot.specs.World.{HasNoFault, world_of}
-use Rattle.os9_boot.proofs.ConsoleLemmas.{emptied_front}
 use Rattle.os9_boot.proofs.console.pass_on.Given as goal
 
 abbrev pub invariant-loop-n : goal.invariant-loop-n

@@ -57,7 +57,7 @@ pub returns-in-NoMemory-clause-ran : goal.returns-in-NoMemory-clause-ran
 returns-in-NoMemory-clause-ran g c = record {
   run = tt;
   partial = λ s told stood.
-      partly-before _ c.args.slices.now c.loop-n.n-index (get_or c.args.slices.now c.loop-n.n-index 0) s c.loop-n.kernel _ _ _ (slice_get-get_or c.args.slices.now c.loop-n.n-index 0 (search rules)) (c.loop-n.invariant.reaches s told stood) (λ m tied none. c.if-living-eq0.false (c.living.ensures _ _ m tied ∙ none)) (λ m tied. (rw c.loop-n.invariant.drives at c.in-NoMemory.ensures.slice).part refl m tied);
+      partly-before _ c.args.slices.now c.loop-n.n-index (get_or c.args.slices.now c.loop-n.n-index 0) s c.loop-n.kernel _ _ _ (slice_get-get_or c.args.slices.now c.loop-n.n-index 0 (search rules)) (c.loop-n.invariant.reaches s told stood) (λ m tied none. c.if-living-eq0.false (c.living.ensures _ _ m tied ∙ none)) (λ m tied. (rw c.loop-n.invariant.drives at c.in-NoMemory.ensures.slice).part refl m tied) c.loop-n.invariant.count;
   output_fault = tt;
   no_fault = c.loop-n.invariant.count;
   files_kept = c.loop-n.invariant.files;
@@ -71,7 +71,7 @@ returns-in-Err-Failed-clause-ran g c =
     record {
       run = tt;
       partial = λ s told stood.
-          partly-after _ c.args.slices.now c.loop-n.n-index s c.loop-n.kernel c.slice.new.self _ _ _ _ _ c.slice.result within (c.loop-n.invariant.reaches s told stood) (λ m tied none. c.if-living-eq0.false (c.living.ensures _ _ m tied ∙ none)) (slice.step (λ e. c.in_default.not-NoMemory e)) passed.prefix passed.terminals_kept;
+          partly-after _ c.args.slices.now c.loop-n.n-index s c.loop-n.kernel c.slice.new.self _ _ _ _ _ c.slice.result within (c.loop-n.invariant.reaches s told stood) (λ m tied none. c.if-living-eq0.false (c.living.ensures _ _ m tied ∙ none)) (slice.step (λ e. c.in_default.not-NoMemory e)) passed.prefix passed.left;
       output_fault = (rw (← c.loop-n.invariant.count.0) passed.output_fault.0, passed.output_fault.1, passed.output_fault.2);
       no_fault = tt;
       files_kept = passed.files_kept ∙ c.loop-n.invariant.files;
@@ -85,7 +85,7 @@ returns-in-Err-OutOfMemory-clause-ran g c =
     record {
       run = tt;
       partial = λ s told stood.
-          partly-after _ c.args.slices.now c.loop-n.n-index s c.loop-n.kernel c.slice.new.self _ _ _ _ _ c.slice.result within (c.loop-n.invariant.reaches s told stood) (λ m tied none. c.if-living-eq0.false (c.living.ensures _ _ m tied ∙ none)) (slice.step (λ e. c.in_default.not-NoMemory e)) passed.prefix passed.terminals_kept;
+          partly-after _ c.args.slices.now c.loop-n.n-index s c.loop-n.kernel c.slice.new.self _ _ _ _ _ c.slice.result within (c.loop-n.invariant.reaches s told stood) (λ m tied none. c.if-living-eq0.false (c.living.ensures _ _ m tied ∙ none)) (slice.step (λ e. c.in_default.not-NoMemory e)) passed.prefix passed.left;
       output_fault = tt;
       no_fault = (passed.no_fault.0 ∙ c.loop-n.invariant.count.0, passed.no_fault.1 ∙ c.loop-n.invariant.count.1, passed.no_fault.2 ∙ c.loop-n.invariant.count.2);
       files_kept = passed.files_kept ∙ c.loop-n.invariant.files;
