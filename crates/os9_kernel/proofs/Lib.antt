@@ -13,3 +13,4 @@ mod Running
 mod Ticking
 mod Turning
 mod Turns
+mod Waiting

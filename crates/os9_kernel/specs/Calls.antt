@@ -9,6 +9,7 @@ use Rattle.machine_model.specs.Run.{BeginsSlice, BreaksTick, Slice, Tick}
 use Rattle.machine_model.specs.State.{State}
 use Rattle.os9_kernel.specs.declared.kernel.Kernel.{Kernel}
 use Rattle.os9_kernel.specs.Breaks.{BreaksEvent}
+use Rattle.os9_kernel.specs.Causes.{WaitsInCall}
 use Rattle.os9_kernel.specs.Tie.{Represents, IsGoing, ticks}
 
 -- an event that was not done, since memory is out: it is broken off
@@ -34,6 +35,7 @@ pub record HasEvent (drives : ℕ) (old new : Kernel) (before after : List Termi
     pub memory : end ≡ EventEnd.NoMemory → WantsMemory old drives before after
     -- the chosen process lives still, where it goes on
     pub going : end ≡ EventEnd.Ran → IsGoing new
+    pub waits : end ≡ EventEnd.Waits → WaitsInCall old new
     pub count : end ≢ EventEnd.NoMemory → ticks new ≡ ticks old
 
 -- memory is out in a slice of so many instructions: its tick is broken off, or the event behind its first ones

@@ -1,5 +1,6 @@
 pub mod Breaks
 pub mod Calls
+pub mod Causes
 pub mod Ends
 pub mod Next
 pub mod Paths

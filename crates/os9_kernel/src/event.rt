@@ -67,6 +67,7 @@ impl Kernel {
         ensures turn { (drives : ℕ) (terms : List TerminalState)
             → HasTurn most drives self.old self.new terms terms result }
         ensures kept { result.end ≢ EventEnd.NoMemory }
+        ensures goes_on { result.end ≢ EventEnd.Waits }
     {
         let mut regs = self.processes.regs(p);
         let ran = self.processes.memory.run(p, &mut regs, most);

@@ -68,6 +68,7 @@ returns-in-Ended-clause-event c drives terms =
           event-then old p act next drives terms s tied new terms _ (after_delivery m p.0 d) c.break_off.ensures.chosen (c.deliver.ensures.tied m c.args.signal (tied_found here s.inner tied.inner) (signal_found here s.inner tied.inner))
           (ends-so d c.deliver.result end c.in-Ended.is ∙ ap (λ (m : Inner). delivery_end (delivered m p.0 c.args.signal)) before, (λ i. record s { inner = after_delivery (before i) p.0 (delivered (before i) p.0 c.args.signal); io = there i; terms = sym (terms-are old p act next drives terms s tied) i }));
       memory = λ is. cc;
+      waits = λ is. cc;
       going = λ is. cc;
       count = λ _. ticks here;
     }
@@ -93,6 +94,7 @@ returns-in_default c =
             event-then old p act next drives terms s tied new terms _ (after_delivery m p.0 d) c.break_off.ensures.chosen (c.deliver.ensures.tied m c.args.signal (tied_found here s.inner tied.inner) (signal_found here s.inner tied.inner))
             (goes-so d c.deliver.result end c.in_default.not-Ended ∙ ap (λ (m : Inner). delivery_end (delivered m p.0 c.args.signal)) before, (λ i. record s { inner = after_delivery (before i) p.0 (delivered (before i) p.0 c.args.signal); io = there i; terms = sym (terms-are old p act next drives terms s tied) i }));
         memory = λ is. cc;
+        waits = λ is. cc;
         going = λ _. (p, c.break_off.ensures.chosen ∙ next.chosen, c.deliver.ensures.lives is_done);
         count = λ _. ticks here;
       };

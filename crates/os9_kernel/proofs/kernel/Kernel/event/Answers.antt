@@ -18,5 +18,6 @@ returns-in-Instruction-clause-event g c =
           (t, single events refl (cost-is old p Instruction next _ _ s tied), there);
       memory = turn.memory;
       going = turn.going;
+      waits = λ is. absurd (c.instructions.ensures.goes_on is);
       count = turn.count;
     }

@@ -1,11 +1,22 @@
-use Rattle.std.proofs.Common.{◌≡◌, ◌≢◌, ℕ, length, refl, sym, ap, ◌∙◌, subst}
+use Rattle.std.proofs.Common.{◌≡◌, ◌≢◌, ℕ, false, Option, Some, None, List, length, refl, sym, ap, ◌∙◌, subst}
 use Rattle.std.specs.Vec.{vec_len}
 use Rattle.std.proofs.lemmas.List.{length-map}
-use Rattle.os9_base.specs.declared.call.CallEnd.TheVariants.{NoMemory}
+use Rattle.std.specs.Prelude.{IfSome, slice_index_or}
+use Rattle.os9_base.specs.declared.call.CallEnd.{CallEnd}
+use Rattle.os9_base.specs.declared.call.CallEnd.TheVariants.{NoMemory, Wait}
+use Rattle.os9_sched.specs.Members.{member_of, wait_at}
+use Rattle.proc_rules.specs.declared.record.Record.{Record}
+use Rattle.proc_rules.specs.Records.{is_waiting, record_at}
+use Rattle.proc_state.specs.Tie.{Comes}
+use Rattle.call_rules.specs.CallResult.{CallResult}
+use Rattle.call_rules.specs.declared.proc_call.ProcCall.{ProcCall}
+use Rattle.io_rules.specs.Waiting.{io_waits_for}
+use Rattle.os9_kernel.specs.Causes.{wait_by}
+use Rattle.os9_kernel.proofs.Waiting.{cause-so, code-held, records-kept, waits-so}
 use Rattle.os9_outer.specs.TerminalState.{terminal_states}
 use Rattle.call_rules.specs.Attempts.{after_attempt}
-use Rattle.call_rules.specs.Inner.{Inner}
-use Rattle.io_rules.specs.Attempts.{IoAttempts, caller_of, step_of}
+use Rattle.call_rules.specs.Inner.{Inner, no_own}
+use Rattle.io_rules.specs.Attempts.{IoAttempts, caller_of, result_of, step_of}
 use Rattle.io_rules.specs.Io.{Io}
 use Rattle.machine_model.specs.declared.ends.EventEnd.{EventEnd}
 use Rattle.machine_model.specs.State.{State}
@@ -73,6 +84,21 @@ returns-clause-event g c =
             is_call = c.requires.codes.1;
             wants =
                 subst (λ (x : State). WantsMemory (step_of c.args.call s.inner p.0 x.io x.drives x.terms) (caller_of s.inner p.0) x.io x.terms after) (sym tied.is) (c.attempt-end.ensures.memory s.inner tied.inner is);
+          };
+      waits = λ is.
+          let waiting = waits-so c.attempt-end.result (sym c.event_end.ensures ∙ is) in
+          let now = c.attempt-end.new.s in
+          let it = c.attempt-end.ensures.call s0.inner tied0.inner (λ out. let no : Wait ≡ NoMemory = sym waiting ∙ out in cc) in
+          let came : Comes s0.inner p.0 (result_of s0.inner p.0 it.attempt.effect) Wait now = subst (λ (result : CallResult). Comes s0.inner p.0 result Wait now) it.attempt.result_is (subst (λ (end : CallEnd). Comes s0.inner p.0 it.result end now) waiting it.comes) in
+          let same : old.processes.table ≡ now.table = sym (records-kept s0.inner p.0 it.attempt.effect now came ∙ ap (λ (m : Inner). m.records) tied0.inner.is) in record {
+            p = p;
+            chosen = next.chosen;
+            code = c.args.code;
+            call = code-held (slice_index_or old.processes.own.items p.0 no_own).call (is_waiting (record_at old.processes.table p.0).life) (record_at old.processes.table p.0).signal c.args.code next.next;
+            first = λ fresh.
+                subst (λ (call : Option ProcCall). IfSome (wait_by call (slice_index_or new.processes.own.items p.0 no_own) (io_waits_for new.io p.0)) (λ wait. wait_at (member_of new.processes.sched.members p.0) ≡ Some wait)) (sym c.requires.codes.0)
+                (subst (λ (io : Io). IfSome (wait_by None (slice_index_or new.processes.own.items p.0 no_own) (io_waits_for io p.0)) (λ wait. wait_at (member_of new.processes.sched.members p.0) ≡ Some wait)) (sym c.tell_end.ensures.io)
+                (cause-so (io_waits_for c.attempt-end.new.io p.0) now new.processes p.0 c.attempt-end.ensures.lives (subst (λ (records : List (Option Record)). is_waiting (record_at records p.0).life ≡ false) same fresh) (c.tell_end.ensures.waits waiting)));
           };
       going = λ ran. (p, c.tell_end.ensures.chosen ∙ next.chosen, lives-so c.attempt-end.result new.processes.table p.0 (sym c.event_end.ensures ∙ ran) c.tell_end.ensures.lives);
       count = λ ran.

@@ -1,9 +1,15 @@
-use Rattle.std.proofs.Common.{◌≡◌, refl, sym, ap, ◌∙◌, subst}
-use Rattle.std.specs.Prelude.{slice_index_or}
+use Rattle.std.proofs.Common.{◌≡◌, Option, Some, refl, sym, ap, ◌∙◌, subst}
+use Rattle.std.specs.Prelude.{IfSome, slice_index_or}
 use Rattle.os9_base.specs.declared.call.CallEnd.{CallEnd}
 use Rattle.proc_calls.specs.Telling.{LivesOn}
 use Rattle.call_rules.specs.Attempts.{attempted, after_attempt}
-use Rattle.proc_rules.specs.Records.{IsLiving}
+use Rattle.os9_sched.specs.Members.{member_of, wait_at}
+use Rattle.call_dispatch.specs.Waits.{waits_for}
+use Rattle.call_rules.specs.declared.proc_call.ProcCall.{ProcCall}
+use Rattle.io_rules.specs.Waiting.{io_waits_for}
+use Rattle.os9_kernel.specs.Causes.{wait_by}
+use Rattle.os9_kernel.proofs.Waiting.{code-held, rests-so, waits-so}
+use Rattle.proc_rules.specs.Records.{IsLiving, is_waiting, record_at}
 use Rattle.call_rules.specs.Inner.{Inner, no_own}
 use Rattle.io_rules.specs.Io.{Io}
 use Rattle.machine_model.specs.Event.{io_after_call}
@@ -61,6 +67,17 @@ returns-clause-event c drives terms =
           let ends = (c.attempt-end.ensures.call m there).1 in
           absurd (never-wants (attempted c.args.call m p.0) (sym (c.event_end.ensures ∙ ap event_end_of ends) ∙ out));
       going = λ ran. (p, c.follow.ensures.chosen ∙ next.chosen, subst (λ (processes : ProcState). IsLiving processes.table p.0) (sym c.follow.ensures.processes) (lives-so c.attempt-end.result c.attempt-end.new.s.table p.0 (sym c.event_end.ensures ∙ ran) c.attempt-end.ensures.lives));
+      waits = λ is.
+          let waiting = waits-so c.attempt-end.result (sym c.event_end.ensures ∙ is) in record {
+            p = p;
+            chosen = next.chosen;
+            code = c.args.code;
+            call = code-held (slice_index_or old.processes.own.items p.0 no_own).call (is_waiting (record_at old.processes.table p.0).life) (record_at old.processes.table p.0).signal c.args.code next.next;
+            first = λ fresh.
+                subst (λ (call : Option ProcCall). IfSome (wait_by call (slice_index_or new.processes.own.items p.0 no_own) (io_waits_for new.io p.0)) (λ wait. wait_at (member_of new.processes.sched.members p.0) ≡ Some wait)) (sym c.requires.is_call)
+                (subst (λ (processes : ProcState). IfSome (waits_for c.args.call (slice_index_or processes.own.items p.0 no_own)) (λ wait. wait_at (member_of processes.sched.members p.0) ≡ Some wait)) (sym c.follow.ensures.processes)
+                (rests-so (waits_for c.args.call (slice_index_or c.attempt-end.new.s.own.items p.0 no_own)) old.processes c.attempt-end.new.s p.0 next.lives fresh (c.attempt-end.ensures.waits waiting)));
+          };
       count = λ _. ap (λ (processes : ProcState). processes.tick) c.follow.ensures.processes ∙ tick-kept old.processes c.attempt-end.new.s (λ (m : Inner). after_attempt m p.0 (attempted c.args.call m p.0)) (λ m there. (c.attempt-end.ensures.call m there).0) (λ m. attempt-tick m p.0 c.args.call);
     }
 

@@ -19,6 +19,7 @@ returns-clause-event c drives terms =
           event-then old p act next drives terms s tied (record { processes = c.refuse.new.self; io = old.io; chosen = old.chosen }) terms _ (after_attempt s.inner p.0 (refused E_UNKSVC)) refl (c.refuse.ensures.tied s.inner tied.inner)
           (refused E_UNKSVC, old.io, terms, rw (c.requires.no_call, c.requires.no_path_call) (refl, sym (io-is old p act next drives terms s tied), sym (terms-are old p act next drives terms s tied)), refl, refl);
       memory = λ is. cc;
+      waits = λ is. cc;
       going = λ _. (p, next.chosen, c.refuse.ensures.lives);
       count = λ _. tick-kept old.processes c.refuse.new.self (λ (m : Inner). goes_on m p.0 (refused_regs (regs_at m p.0) E_UNKSVC)) c.refuse.ensures.tied (λ m. refl);
     }
