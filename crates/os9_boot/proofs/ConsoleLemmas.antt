@@ -1,5 +1,5 @@
 -- The bytes of the terminals, one terminal after another.
-use Rattle.std.proofs.Common.{◌≡◌, ℕ, ◌+◌, ◌<◌, false, Option, Some, None, List, [], ◌∷◌, ◌++◌, zero, suc, refl, length, map, take, drop, slice_set, get_or, sym, ap, ◌∙◌, append-nil, get_or-drop, length-take, All, arith}
+use Rattle.std.proofs.Common.{◌≡◌, ℕ, ◌+◌, ◌<◌, false, Option, Some, None, List, [], ◌++◌, length, map, take, drop, slice_set, get_or, sym, ap, ◌∙◌, append-nil, get_or-drop, length-take, All, arith}
 use Rattle.std.specs.Prelude.{IfSome, IsSome, OnErr, Result, Ok, Err, unwrap_or}
 use Rattle.std.proofs.lemmas.List.{take-append-drop, take_more, get_or-append_right, length-map}
 use Rattle.std.proofs.lemmas.List.Concat.{flat_map-append}
@@ -10,7 +10,7 @@ use Rattle.os9_words.proofs.Prefixes.{GainsPrefix-front, GainsPrefix-then}
 use Rattle.os9_outer.specs.Stream.{stream_with, emptied, GainsPrefix}
 use Rattle.device_table.proofs.StreamLemmas.{appended-twice}
 use Rattle.os9_outer.specs.TerminalState.{TerminalState, ChangesOneTerminal}
-use Rattle.machine_model.specs.Console.{put_bytes, console_bytes, terminals_emptied, without_bytes}
+use Rattle.machine_model.specs.Console.{put_bytes, console_bytes, without_bytes}
 use Rattle.os9_base.specs.Count.{Rose}
 use Rattle.os9_outer.specs.Host.{OnFailed, UnlessFailed}
 use Rattle.os9_outer.specs.declared.host.HostFault.{HostFault}

@@ -1,5 +1,5 @@
 -- Slices, one after another, make a run.
-use Rattle.std.proofs.Common.{◌≡◌, ◌≢◌, not, ℕ, ◌+◌, Bool, true, false, Option, Some, List, [], ◌∷◌, ◌++◌, get_or, slice_get, refl, sym, subst, ap, ◌∙◌, ◌<◌, take, length, append_assoc, append-nil, All, inl, inr}
+use Rattle.std.proofs.Common.{◌≡◌, ◌≢◌, not, ℕ, Bool, true, false, Option, Some, List, [], ◌∷◌, ◌++◌, get_or, slice_get, refl, sym, subst, ap, ◌∙◌, ◌<◌, take, length, append_assoc, append-nil, All, inl, inr}
 use Rattle.std.specs.Prelude.{MatchBool}
 use Rattle.std.proofs.lemmas.Bool.{ne_eqb}
 use Rattle.std.proofs.lemmas.List.Elements.{All-cons, All-head, All-tail}
