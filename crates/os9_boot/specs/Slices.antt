@@ -13,8 +13,9 @@ use Rattle.os9_boot.specs.Console.{IsObserved, emptied_front}
 use Rattle.os9_boot.specs.RunFault.{OnOutputFault, UnlessOutputFault}
 use Rattle.os9_boot.specs.World.{World, HasNoFault, FailsToWrite}
 
--- A slice was run from this state, and the output did not take all that it wrote: what was out before is followed by the
--- beginning of that. The bytes of so many terminals were taken, and all else of the terminals is as the slice left it.
+-- A slice was run from this state, and the output did not take all that it wrote: what was out before is followed by
+-- the beginning of that. The bytes of so many terminals were taken, and all else of the terminals is as the slice left
+-- it.
 pub record BreaksOutput (n : ℕ) (s : State) (out : Option (List ℕ)) (after : World) : Type 0 where
   pub states : List State
   pub end : SliceEnd

@@ -63,8 +63,8 @@ pub record TopCall (words : List (List ℕ)) (before after : World) (err_before 
   -- if no count of faults rose, this is so at every status but 4
   pub complete : ¬ Rose before.faults after.faults → status ≢ 4
       → IfAllObserved before (λ files. PerformsWords files words before after status)
-  -- at 3 and 4 the output has gained nothing, or the beginning of what the command writes, and the terminals are those of
-  -- the run that was begun
+  -- at 3 and 4 the output has gained nothing, or the beginning of what the command writes, and the terminals are those
+  -- of the run that was begun
   pub partial : IsStopped status → IfAllObserved before (λ files. PerformsWordsPartly files words before after status)
   -- 1 comes only for words that are no command
   pub refused_words : status ≡ 1 → command_of words ≡ None
