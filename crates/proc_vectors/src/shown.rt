@@ -1,7 +1,5 @@
 ghost use Rattle.std.specs.Prelude.{◌≡◌, true, bytes_eq, [], IfOk};
 ghost use Rattle.std.specs.Bool.{OnTrue};
-ghost use Rattle.key_loading.specs.Loaded.{AreUnloaded};
-ghost use Rattle.os9_outer.specs.TerminalState.{terminal_states};
 
 use crate::row::Row;
 use device_table::devices::Devices;
@@ -39,31 +37,12 @@ impl Shown {
     }
 }
 
-/// Runs the words of a row over a host in memory that has its files.
+/// Runs the words of a row over a host in memory that has its files, four drives without an image and
+/// four terminals, whose calls fail as the row says.
 pub(crate) fn run(alloc: Global, row: &Row) -> Result<Shown, AllocError> {
-    let mut files = Vec::new(alloc);
-    files.push(file(alloc, "modules", row.modules.as_slice())?)?;
-    files.push(file(alloc, "slices", row.slices.as_slice())?)?;
-    files.push(file(alloc, "script", row.script.as_slice())?)?;
-    let mut words = Vec::new(alloc);
-    for word in row.words.as_str().split(' ') {
-        words.push(String::from_str(alloc, word)?)?;
-    }
-    let mut devices = devices(alloc, row)?;
-    let mut host = MemHost::new(alloc, files, Vec::new(alloc));
-    let status = os9_main(alloc, words.as_slice(), &mut host, &mut devices);
-    Ok(Shown {
-        status,
-        out: Vec::from_slice(alloc, host.out_bytes.as_slice())?,
-        err: Vec::from_slice(alloc, host.err_bytes.as_slice())?,
-    })
-}
-
-/// The drives, which have no image, and the terminals.
-fn devices(alloc: Global, row: &Row) -> Result<Devices, AllocError>
-    ensures unloaded { IfOk result (λ devices. AreUnloaded
-        (terminal_states ⟦<dyn CharDriver as CharDriver>⟧ devices.terms.items)) }
-{
+    let words = words(alloc, row)?;
+    let mut host = MemHost::new(alloc, files(alloc, row)?, Vec::new(alloc));
+    // (a boxed driver may not be handed out, so all are made here)
     let mut drives: Vec<Box<dyn BlockDriver>> = Vec::new(alloc);
     for _ in 0..DRIVES {
         drives.push(Box::new(alloc, SureDrive::new())?)?;
@@ -73,7 +52,31 @@ fn devices(alloc: Global, row: &Row) -> Result<Devices, AllocError>
     terms.push(Box::new(alloc, terminal(alloc, row, 1)?)?)?;
     terms.push(Box::new(alloc, terminal(alloc, row, 2)?)?)?;
     terms.push(Box::new(alloc, terminal(alloc, row, 3)?)?)?;
-    Ok(Devices { drives, terms })
+    let mut devices = Devices { drives, terms };
+    let status = os9_main(alloc, words.as_slice(), &mut host, &mut devices);
+    Ok(Shown {
+        status,
+        out: Vec::from_slice(alloc, host.out_bytes.as_slice())?,
+        err: Vec::from_slice(alloc, host.err_bytes.as_slice())?,
+    })
+}
+
+/// The words of a row.
+fn words(alloc: Global, row: &Row) -> Result<Vec<String>, AllocError> {
+    let mut words = Vec::new(alloc);
+    for word in row.words.as_str().split(' ') {
+        words.push(String::from_str(alloc, word)?)?;
+    }
+    Ok(words)
+}
+
+/// The files of a row, by the names that its words give them.
+fn files(alloc: Global, row: &Row) -> Result<Vec<HostFile>, AllocError> {
+    let mut files = Vec::new(alloc);
+    files.push(file(alloc, "modules", row.modules.as_slice())?)?;
+    files.push(file(alloc, "slices", row.slices.as_slice())?)?;
+    files.push(file(alloc, "script", row.script.as_slice())?)?;
+    Ok(files)
 }
 
 /// The terminal of a number, whose calls fail as the row says.
