@@ -102,6 +102,7 @@ pub record Arrives (tick : ℕ) (old new : Terminal) (before now : TerminalState
   pub every_bell : answer.memory ≡ true → bells + mute ≡ dropped_count old.ahead (key_bytes taken)
   pub last_bell : answer.memory ≡ false → bells + mute + 1 ≡ dropped_count old.ahead (key_bytes taken)
   pub all_taken : answer.memory ≡ true → broken ≡ 0 → due_byte now.keys tick ≡ None
+  pub unbroken : answer.memory ≡ false → broken ≡ 0  -- memory was out, and not the driver
 
 -- what a driver has that holds these keys, has put these bytes and failed so often
 abbrev pub driver_with : List Key → List ℕ → ℕ → TerminalState

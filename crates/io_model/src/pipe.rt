@@ -19,9 +19,9 @@ pub enum PipeAns {
     Done(u16),
     /// No byte can be moved until another process writes or reads.
     Wait,
-    /// The pipe is empty, and no other process will write into it.
+    /// The pipe is empty, and whoever else holds it waits for a byte too.
     End,
-    /// The pipe is full, and no other process will read from it.
+    /// The pipe is full, and whoever else holds it waits for room too.
     NoReader,
 }
 

@@ -660,6 +660,7 @@ module _ (tick : ℕ) (old : Terminal) (before : TerminalState) where
         every_bell = λ memory. omega arith;
         last_bell = λ memory. absurd (false≢true (sym memory));
         all_taken = λ memory whole. cut.none;
+        unbroken = λ memory. absurd cc;
       }
 
 record SomeArrivals (tick n count : ℕ) (old : Desk) : Type 0 where

@@ -131,6 +131,7 @@ polls-none tick sent old before now broken once within keys put faults none_due 
   every_bell = λ memory. omega (arith, within);
   last_bell = λ memory. absurd cc;
   all_taken = λ memory. none_due;
+  unbroken = λ memory. absurd cc;
 }
 
 -- a bell found no memory
@@ -150,6 +151,7 @@ polls-last tick sent key old mid before after k none = record {
   every_bell = λ memory. absurd cc;
   last_bell = λ memory. k.count;
   all_taken = λ memory. absurd cc;
+  unbroken = λ memory. refl;
 }
 
 bells-sum : (b c m n z x y : ℕ) → b + m + 0 ≡ x → c + n ≡ y → b + c + (m + n) ≡ x + y
@@ -190,6 +192,7 @@ polls-cons tick sent key old mid new before after now answer k p =
       every_bell = λ memory. let rest : p.bells + p.mute ≡ dropped_count mid (key_bytes p.taken) = p.every_bell memory in let first : k.bells + k.mute + 0 ≡ dropped_count old (key.byte ∷ []) = k.count in bells-sum k.bells p.bells k.mute p.mute 0 _ _ first rest ∙ sym count;
       last_bell = λ memory. let rest : p.bells + p.mute + 1 ≡ dropped_count mid (key_bytes p.taken) = p.last_bell memory in let first : k.bells + k.mute + 0 ≡ dropped_count old (key.byte ∷ []) = k.count in bells-last k.bells p.bells k.mute p.mute _ _ first rest ∙ sym count;
       all_taken = p.all_taken;
+      unbroken = p.unbroken;
     }
 
 -- the driver gave a key, and it arrived

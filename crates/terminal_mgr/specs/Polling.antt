@@ -37,3 +37,4 @@ pub record Polls (tick : ℕ) (sent : Option ℕ) (old new : List ℕ) (before n
   pub every_bell : answer.memory ≡ true → bells + mute ≡ dropped_count old (key_bytes taken)
   pub last_bell : answer.memory ≡ false → bells + mute + 1 ≡ dropped_count old (key_bytes taken)
   pub all_taken : answer.memory ≡ true → broken ≡ 0 → due_byte now.keys tick ≡ None
+  pub unbroken : answer.memory ≡ false → broken ≡ 0  -- memory was out, and not the driver

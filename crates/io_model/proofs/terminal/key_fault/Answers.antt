@@ -19,6 +19,7 @@ returns-clause-first c = record {
   every_bell = λ memory. refl;
   last_bell = λ memory. absurd cc;
   all_taken = λ memory unbroken. absurd (omega arith);
+  unbroken = λ memory. absurd cc;
 }
 
 pub returns-clause-second : goal.returns-clause-second
@@ -39,4 +40,5 @@ returns-clause-second c =
       every_bell = λ memory. refl;
       last_bell = λ memory. absurd cc;
       all_taken = λ memory unbroken. refl;
+      unbroken = λ memory. absurd cc;
     }
