@@ -13,7 +13,6 @@ use Rattle.rbf_model.specs.Laws.{IsFileSector, IsMapSector, with_directory_entry
 use Rattle.rbf_model.specs.Segments.{has}
 use Rattle.rbf_model.specs.Space.{is_marked, is_whole, own_sectors, has_cluster}
 use Rattle.rbf_model.specs.Volume.{DiskVolume, Vol, in_file}
-use Rattle.rbf_model.specs.Walk.{arrives}
 use Rattle.rbf_model.specs.Writes.{put, put_at, put_file, put_sector}
 use Rattle.rbf_model.proofs.Bytes.{put_here, put_beside, marked_beside, file_at_beside}
 use Rattle.rbf_model.proofs.Change.{put_file_here, put_file_beside, put_file_cases, has_cluster_is}
@@ -23,14 +22,13 @@ use Rattle.rbf_model.proofs.Lifted.{sector_put}
 use Rattle.rbf_model.proofs.Owners.{own_below, own_apart, marks_stay, file_cluster_below}
 use Rattle.rbf_model.proofs.Placed.{news_full}
 use Rattle.rbf_change.specs.Calls.{shape}
-use Rattle.rbf_change.specs.Names.{freed_entry, deletion_end}
+use Rattle.rbf_change.specs.Names.{freed_entry}
 use Rattle.rbf_change.specs.NewFiles.{Deletes}
 use Rattle.rbf_change.specs.Tidy.{IsMapEnd, KeepsMapEnd, MayKeepMapEnd}
 use Rattle.rbf_change.proofs.LawfulWrites.{shape-image}
 use Rattle.rbf_access.specs.Drive.{DriveCounts, MovesCounts}
 use Rattle.rbf_access.specs.MapMarks.{marking_sectors}
 use Rattle.rbf_access.specs.Mounted.{Represents}
-use Rattle.rbf_access.specs.Reading.{OnVolumeFile}
 use Rattle.rbf_access.proofs.ReadFile.{room_for}
 use Rattle.rbf_drop.specs.Dropped.{IsGone, HasGone, OnlyMap, freed, IsDropped, DropEnds}
 use Rattle.rbf_update.specs.Becomes.{RepresentsOne}
@@ -40,7 +38,7 @@ use Rattle.rbf_update.specs.Entries.{sector_of_entry}
 use Rattle.rbf_update.proofs.Puts.{free_stored, without}
 use Rattle.rbf_update.proofs.Stored.{becomes_now}
 use Rattle.rbf_walk.proofs.Stepping.{same_content}
-use Rattle.rbf_dirs.specs.Deleted.{clusters_of, ClearsEntry, IsDeleted, IsDeletedBy, LeavesLost, DeletionStops, lost_now}
+use Rattle.rbf_dirs.specs.Deleted.{ClearsEntry, IsDeleted, IsHalfDeleted}
 
 module _ (media mid : Option (List ℕ)) (d : ℕ) (name : List ℕ) (found : Deletable) (frees : FreesOn media mid d name found) where
   abbrev n : ℕ
@@ -273,9 +271,9 @@ module _ (media mid : Option (List ℕ)) (d : ℕ) (name : List ℕ) (found : De
         end = λ c behind. end c (end_half c behind) ∙ ap (λ t. t && not (has_cluster (shape w) n file c)) (end_mark c behind);
       }
 
-  pub stopped : (new : Option (List ℕ)) (user : ℕ) (execute : Bool) → deletion_end v.files dir name user execute ≡ arrives n → DropEnds w n file mid new → LeavesLost v d n name user execute media new
+  pub half_deleted : (new : Option (List ℕ)) → DropEnds w n file mid new → IsHalfDeleted v d n name media new
   unfolding deletes
-  stopped new user execute allowed drop =
+  half_deleted new drop =
       let same : drop.image ≡ half = same_Some drop.image half (sym drop.was ∙ mid_is) in
       let end : MayKeepMapEnd half drop.now (has_cluster (shape w) n file) = subst (λ i. MayKeepMapEnd i drop.now (has_cluster (shape w) n file)) same drop.end in
       record {
@@ -287,7 +285,6 @@ module _ (media mid : Option (List ℕ)) (d : ℕ) (name : List ℕ) (found : De
         there = file_there;
         after = freed w n file;
         deletes = deletes;
-        allowed = allowed;
         left = drop.left;
         vol = drop.vol;
         lose = drop.lose;
@@ -301,32 +298,31 @@ module _ (media mid : Option (List ℕ)) (d : ℕ) (name : List ℕ) (found : De
 
   -- how many sectors of the map have a mark of its clusters
   pub calls_of_file : (f : Option ℕ) (s t : DriveCounts) → MovesCounts f (marking_sectors (shape w) (has_cluster (shape w) n file)) s t
-      → MovesCounts f (marking_sectors (shape v) (clusters_of (shape v) n (v.files n))) s t
-  calls_of_file f s t moves = subst (λ o. MovesCounts f (marking_sectors (shape v) (clusters_of (shape v) n o)) s t) (sym file_there) moves
-
--- of whichever volume the media represents
-pub calls_on_file : (media mid : Option (List ℕ)) (d : ℕ) (name : List ℕ) (found : Deletable) (frees : FreesOn media mid d name found) (u : DiskVolume) → Represents media u → (f : Option ℕ) (s t : DriveCounts)
-    → ((x : DiskVolume) (g : DiskFile) → IsGone mid x found.descriptor g → MovesCounts f (marking_sectors (shape x) (has_cluster (shape x) found.descriptor g)) s t)
-    → MovesCounts f (marking_sectors (shape u) (clusters_of (shape u) found.descriptor (u.files found.descriptor))) s t
-calls_on_file media mid d name found frees u on f s t moves =
-    subst (λ x. MovesCounts f (marking_sectors (shape x) (clusters_of (shape x) found.descriptor (x.files found.descriptor))) s t)
-    (same_content media (v media mid d name found frees) u (on_before media mid d name found frees) on)
-    (calls_of_file media mid d name found frees f s t (moves (w media mid d name found frees) (file media mid d name found frees) (gone media mid d name found frees)))
+      → (same : DiskFile) → v.files n ≡ Some same → MovesCounts f (marking_sectors (shape v) (has_cluster (shape v) n same)) s t
+  calls_of_file f s t moves same is = subst (λ x. MovesCounts f (marking_sectors (shape v) (has_cluster (shape v) n x)) s t) (same_Some file same (sym file_there ∙ is)) moves
 
 pub has_gone : (media mid : Option (List ℕ)) (d : ℕ) (name : List ℕ) (found : Deletable) → FreesOn media mid d name found → HasGone mid found.descriptor
 has_gone media mid d name found frees = record { content = w media mid d name found frees; file = file media mid d name found frees; gone = gone media mid d name found frees }
 
-pub deleted_on : (media mid new : Option (List ℕ)) (d : ℕ) (name : List ℕ) (found : Deletable) (frees : FreesOn media mid d name found) (u : DiskVolume) → Represents media u
-    → ((x : DiskVolume) (f : DiskFile) → IsGone mid x found.descriptor f → IsDropped x found.descriptor f mid new) → IsDeletedBy u d name media new
-deleted_on media mid new d name found frees u on drops =
-    subst (λ x. IsDeletedBy x d name media new) (same_content media (v media mid d name found frees) u (on_before media mid d name found frees) on)
-    (record { number = found.descriptor; is = deleted media mid d name found frees new (drops (w media mid d name found frees) (file media mid d name found frees) (gone media mid d name found frees)) })
+-- of whichever volume the media represents
+module _ (media mid : Option (List ℕ)) (d : ℕ) (name : List ℕ) (found : Deletable) (frees : FreesOn media mid d name found) (u : DiskVolume) (on_u : Represents media u) where
+  same_volume : v media mid d name found frees ≡ u
+  same_volume = same_content media (v media mid d name found frees) u (on_before media mid d name found frees) on_u
 
-pub stops_on : (media mid new : Option (List ℕ)) (d : ℕ) (name : List ℕ) (user : ℕ) (execute : Bool) (found : Deletable) (frees : FreesOn media mid d name found)
-    → OnVolumeFile media d (λ x f. deletion_end x.files f name user execute ≡ arrives found.descriptor) → (u : DiskVolume) → Represents media u
-    → ((x : DiskVolume) (f : DiskFile) → IsGone mid x found.descriptor f → DropEnds x found.descriptor f mid new) → DeletionStops u d name user execute media new
-stops_on media mid new d name user execute found frees allowed u on drops =
-    let its = frees.at.free.place in
-    subst (λ x. DeletionStops x d name user execute media new) (same_content media (v media mid d name found frees) u (on_before media mid d name found frees) on)
-    (lost_now (stopped media mid d name found frees new user execute (allowed its.content its.dir its.on its.is)
-    (drops (w media mid d name found frees) (file media mid d name found frees) (gone media mid d name found frees))))
+  pub calls_on_file : (same : DiskFile) → u.files found.descriptor ≡ Some same → (f : Option ℕ) (s t : DriveCounts)
+      → ((x : DiskVolume) (g : DiskFile) → IsGone mid x found.descriptor g → MovesCounts f (marking_sectors (shape x) (has_cluster (shape x) found.descriptor g)) s t)
+      → MovesCounts f (marking_sectors (shape u) (has_cluster (shape u) found.descriptor same)) s t
+  calls_on_file same is f s t moves =
+      subst (λ x. (y : DiskFile) → x.files found.descriptor ≡ Some y → MovesCounts f (marking_sectors (shape x) (has_cluster (shape x) found.descriptor y)) s t) same_volume
+      (calls_of_file media mid d name found frees f s t (moves (w media mid d name found frees) (file media mid d name found frees) (gone media mid d name found frees)))
+      same is
+
+  pub deleted_on : (new : Option (List ℕ)) → ((x : DiskVolume) (f : DiskFile) → IsGone mid x found.descriptor f → IsDropped x found.descriptor f mid new) → IsDeleted u d found.descriptor name media new
+  deleted_on new drops =
+      subst (λ x. IsDeleted x d found.descriptor name media new) same_volume
+      (deleted media mid d name found frees new (drops (w media mid d name found frees) (file media mid d name found frees) (gone media mid d name found frees)))
+
+  pub half_deleted_on : (new : Option (List ℕ)) → ((x : DiskVolume) (f : DiskFile) → IsGone mid x found.descriptor f → DropEnds x found.descriptor f mid new) → IsHalfDeleted u d found.descriptor name media new
+  half_deleted_on new ends =
+      subst (λ x. IsHalfDeleted x d found.descriptor name media new) same_volume
+      (half_deleted media mid d name found frees new (ends (w media mid d name found frees) (file media mid d name found frees) (gone media mid d name found frees)))

@@ -1,5 +1,5 @@
 -- A deletion as a whole.
-use Rattle.std.specs.Prelude.{◌≡◌, ◌≢◌, ℕ, ◌+◌, ◌*◌, ◌%◌, ◌&&◌, Bool, false, Option, Some, None, List, [], ◌∷◌, Result, Ok, Err}
+use Rattle.std.specs.Prelude.{◌≡◌, ◌≢◌, ◌⊎◌, ℕ, ◌+◌, ◌*◌, ◌%◌, ◌&&◌, Bool, false, Option, Some, None, List, [], ◌∷◌, Result, Ok, Err}
 use Rattle.rbf_model.specs.File.{DiskFile}
 use Rattle.rbf_model.specs.Geometry.{Geometry, image_geometry, sector}
 use Rattle.rbf_model.specs.Laws.{IsMapSector}
@@ -13,8 +13,10 @@ use Rattle.rbf_change.specs.Names.{deletion_end}
 use Rattle.rbf_change.specs.NewFiles.{Deletes}
 use Rattle.rbf_change.specs.Tidy.{KeepsMapEnd, MayKeepMapEnd}
 use Rattle.rbf_access.specs.MapMarks.{marking_sectors}
+use Rattle.rbf_access.specs.declared.faults.FileFault.{FileFault}
 use Rattle.rbf_access.specs.declared.faults.FileFault.TheVariants.{Device, NoCluster, TooManyRuns}
-use Rattle.rbf_update.specs.Deletions.{deletion_calls}
+use Rattle.rbf_update.specs.Deletions.{IsDeletable, deletion_calls}
+use Rattle.rbf_update.specs.declared.deletion.Deletable.{Deletable}
 use Rattle.rbf_update.specs.Entries.{sector_of_entry}
 use Rattle.rbf_walk.specs.Walk.{calls_on}
 use Rattle.rbf_walk.specs.declared.error.DirError.{DirError}
@@ -41,15 +43,9 @@ pub record IsDeleted (v : DiskVolume) (d n : ℕ) (name : List ℕ) (old new : O
   pub writes : ClearsEntry image now deletes.dir deletes.place
   pub end : KeepsMapEnd image now (has_cluster (shape v) n file)
 
--- some file has
-pub record IsDeletedBy (v : DiskVolume) (d : ℕ) (name : List ℕ) (old new : Option (List ℕ)) : Type 0 where
-  pub number : ℕ
-  pub is : IsDeleted v d number name old new
-
--- a fault came when the entry was free already, in a deletion that the user is allowed: some clusters of the file may
--- be lost, and one of them is still marked
-pub record LeavesLost (v : DiskVolume) (d n : ℕ) (name : List ℕ) (user : ℕ) (execute : Bool) (old new : Option (List ℕ))
-    : Type 0 where
+-- file n has gone from directory d, and a fault came before all of its clusters were free: some may be lost, and one is
+-- still marked
+pub record IsHalfDeleted (v : DiskVolume) (d n : ℕ) (name : List ℕ) (old new : Option (List ℕ)) : Type 0 where
   pub image : List ℕ
   pub now : List ℕ
   pub was : old ≡ Some image
@@ -58,13 +54,42 @@ pub record LeavesLost (v : DiskVolume) (d n : ℕ) (name : List ℕ) (user : ℕ
   pub there : v.files n ≡ Some file
   pub after : DiskVolume
   pub deletes : Deletes v after d n name
-  pub allowed : deletion_end v.files deletes.dir name user execute ≡ arrives n
   pub left : DiskVolume
   pub vol : Vol now left
   pub lose : MayLose after left (λ c. is_whole (shape v) c && has_cluster (shape v) n file c)
   pub unfinished : OneIsMarked now (has_cluster (shape v) n file)
   pub writes : ClearsEntry image now deletes.dir deletes.place
   pub end : MayKeepMapEnd image now (has_cluster (shape v) n file)
+
+-- each answer of a deletion of file n, and what it leaves: after a fault nothing has changed, or the file has gone
+abbrev pub AnswersDeletionOf : DiskVolume → ℕ → ℕ → List ℕ → Option (List ℕ) → Option (List ℕ)
+    → Result (Unit {0}) FileFault → Type 0
+AnswersDeletionOf v d n name old new (Ok done) = IsDeleted v d n name old new
+AnswersDeletionOf v d n name old new (Err (Device number)) = (new ≡ old) ⊎ IsHalfDeleted v d n name old new
+AnswersDeletionOf v d n name old new (Err NoCluster) = ⊥
+AnswersDeletionOf v d n name old new (Err TooManyRuns) = ⊥
+
+-- how many calls of the drive that makes at most: a read and a write of the entry's sector, and one for each sector of
+-- the map that has a mark of the file's clusters
+abbrev pub file_deletion_calls : DiskVolume → ℕ → DiskFile → ℕ
+file_deletion_calls v n file = 2 + marking_sectors (shape v) (has_cluster (shape v) n file)
+
+-- what was found is the entry of a file, which may be made free, by some name in some directory
+pub record MayBeDeleted (media : Option (List ℕ)) (found : Deletable) : Type 0 where
+  pub directory : ℕ
+  pub name : List ℕ
+  pub is : IsDeletable media directory name found
+
+-- some file has been deleted from directory d by its name
+pub record IsDeletedBy (v : DiskVolume) (d : ℕ) (name : List ℕ) (old new : Option (List ℕ)) : Type 0 where
+  pub number : ℕ
+  pub is : IsDeleted v d number name old new
+
+-- a fault has left file n so, in a deletion that the user is allowed
+pub record LeavesLost (v : DiskVolume) (d n : ℕ) (name : List ℕ) (user : ℕ) (execute : Bool) (old new : Option (List ℕ))
+    : Type 0 where
+  pub half : IsHalfDeleted v d n name old new
+  pub allowed : deletion_end v.files half.deletes.dir name user execute ≡ arrives n
 
 -- a deletion that a fault ended: nothing has changed, or the file has gone, and the user might delete it
 pub data DeletionStops (v : DiskVolume) (d : ℕ) (name : List ℕ) (user : ℕ) (execute : Bool) (old new : Option (List ℕ))

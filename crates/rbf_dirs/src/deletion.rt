@@ -7,11 +7,11 @@ ghost use Rattle.rbf_access.specs.Reading.{OnVolumeFile};
 ghost use Rattle.rbf_walk.specs.Walk.{directory_fault};
 ghost use Rattle.rbf_dirs.specs.Deleted.{AnswersDeletion, DeletionStops, IsDeletedBy, deletion_total};
 
+use crate::found::delete_at;
 use os9_base::name::Name;
 use os9_outer::drive::BlockDriver;
 use rbf_access::Volume;
-use rbf_drop::{OwnSectors, drop_own};
-use rbf_update::delete_name;
+use rbf_update::find_deletable;
 use rbf_walk::DirError;
 
 /// Deletes a file by its name in a directory, for a user (OS-9 Technical Reference, I$Delete): its
@@ -46,12 +46,7 @@ pub fn delete(
     ensures counts { OnVolumeFile (media d.old) dir (λ on f. Counts ⟦<dyn BlockDriver as BlockDriver>⟧
         (directory_fault result) (deletion_total on f name.now user execute) d.old d.new) }
 {
-    // `gone` has what was read of the file, so that its descriptor is not read again.
-    let gone = delete_name(v, d, dir, name, user, execute)?;
-    let own = OwnSectors {
-        fd: gone.descriptor,
-        segs: gone.file.segs,
-    };
-    drop_own(v, d, &own)?;
+    let found = find_deletable(v, d, dir, name, user, execute)?;
+    delete_at(v, d, &found)?;
     Ok(())
 }

@@ -2,5 +2,7 @@
 #![tactic(auto)]
 
 pub use deletion::delete;
+pub use found::delete_at;
 
 mod deletion;
+mod found;

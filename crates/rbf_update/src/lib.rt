@@ -4,6 +4,7 @@
 
 pub use attributes::{set_attr, set_fd_attr};
 pub use deletion::{Deletable, delete_name, find_deletable};
+pub use entry::free_entry;
 
 mod attributes;
 mod deletion;

@@ -1,61 +1,74 @@
-use Rattle.std.proofs.Common.{Err, ap, refl, ◌∙◌}
+use Rattle.std.proofs.Common.{Err, ap, ◌∙◌}
 use Rattle.std.proofs.lemmas.Result.{err_from_is_err_and}
 use Rattle.rbf_drop.proofs.Dropping.{on_err}
+use Rattle.rbf_update.proofs.Attributed.{fault_counts}
+use Rattle.rbf_update.proofs.Deleting.{fewer_calls}
+use Rattle.rbf_update.specs.declared.deletion.Deletable.{Deletable}
 use Rattle.rbf_dirs.specs.Deleted.{as_before}
-use Rattle.rbf_dirs.proofs.Ends.{kept_answer, fault_answer, no_refusal, kept_calls, all_calls, fault_calls, refused_still}
-use Rattle.rbf_dirs.proofs.Gone.{has_gone, list_there, deleted_on, stops_on, calls_on_file}
+use Rattle.rbf_dirs.proofs.Ends.{kept_answer, fault_answer, only_device, no_refusal, refused_still, found_still, file_found, answer_here, calls_here, stops_so, all_calls, file_marks}
 use Rattle.rbf_dirs.proofs.deletion.delete.Goals as goal
 
-pub returns-in_err-gone-clause-answer : goal.returns-in_err-gone-clause-answer
-returns-in_err-gone-clause-answer g c v file on is =
+pub returns-in_err-found-clause-answer : goal.returns-in_err-found-clause-answer
+returns-in_err-found-clause-answer g c v file on is =
     let p = err_from_is_err_and c.from_residual.result c.from_residual.ensures.1 in
-    kept_answer _ c.in_err-gone.field-0.0 _ (p.1 ∙ ap Err p.2) (c.in_err-gone.ensures.answer v file on is)
+    kept_answer _ c.in_err-found.field-0.0 _ (p.1 ∙ ap Err p.2) (c.in_err-found.ensures.answer v file on is)
 
-pub returns-in_err-gone-clause-fault : goal.returns-in_err-gone-clause-fault
-returns-in_err-gone-clause-fault g c u on = on_err _ _ (as_before c.in_err-gone.ensures.media_kept)
+pub returns-in_err-found-clause-fault : goal.returns-in_err-found-clause-fault
+returns-in_err-found-clause-fault g c u on = on_err _ _ (as_before c.in_err-found.ensures.media_kept)
 
-pub returns-in_err-gone-clause-refused : goal.returns-in_err-gone-clause-refused
-returns-in_err-gone-clause-refused g c = refused_still _ _ _ c.in_err-gone.ensures.media_kept
+pub returns-in_err-found-clause-refused : goal.returns-in_err-found-clause-refused
+returns-in_err-found-clause-refused g c = refused_still _ _ _ c.in_err-found.ensures.media_kept
 
-pub returns-in_err-gone-clause-counts : goal.returns-in_err-gone-clause-counts
-returns-in_err-gone-clause-counts g c v file on is =
+pub returns-in_err-found-clause-counts : goal.returns-in_err-found-clause-counts
+returns-in_err-found-clause-counts g c v file on is =
     let p = err_from_is_err_and c.from_residual.result c.from_residual.ensures.1 in
-    kept_calls _ _ _ c.in_err-gone.field-0.0 _ _ _ (p.1 ∙ ap Err p.2) (c.in_err-gone.ensures.counts v file on is)
+    fewer_calls Unit Deletable _ _ c.in_err-found.field-0.0 _ _ _ (p.1 ∙ ap Err p.2) (c.in_err-found.ensures.counts v file on is)
 
-pub drop_own-requires-clause-gone : goal.drop_own-requires-clause-gone
-drop_own-requires-clause-gone g c = has_gone _ _ c.args.dir c.args.name.now c.in_ok-gone.gone c.in_ok-gone.ensures.written
+pub delete_at-requires-clause-found : goal.delete_at-requires-clause-found
+delete_at-requires-clause-found g c = found_still _ c.args.dir c.args.name.now c.in_ok-found.found c.in_ok-found.ensures.ok _ c.in_ok-found.ensures.media_kept
 
-pub drop_own-requires-clause-list : goal.drop_own-requires-clause-list
-drop_own-requires-clause-list g c = list_there _ _ c.args.dir c.args.name.now c.in_ok-gone.gone c.in_ok-gone.ensures.written
+pub returns-in_err-delete_at-clause-answer : goal.returns-in_err-delete_at-clause-answer
+returns-in_err-delete_at-clause-answer g c v file on is =
+    let p = err_from_is_err_and c.from_residual-in_err-delete_at.result c.from_residual-in_err-delete_at.ensures.1 in
+    let answer = answer_here _ c.args.dir c.args.name.now c.in_ok-found.found c.in_ok-found.ensures.ok _ c.in_ok-found.ensures.media_kept _ _ c.in_err-delete_at.ensures.answer v on in
+    fault_answer _ c.in_err-delete_at.field-0.0 _ (p.1 ∙ ap Err p.2) (only_device v c.args.dir _ c.args.name.now _ _ c.in_err-delete_at.field-0.0 answer)
 
-pub returns-in_err-drop_own-clause-answer : goal.returns-in_err-drop_own-clause-answer
-returns-in_err-drop_own-clause-answer g c v file on is =
-    let p = err_from_is_err_and c.from_residual-in_err-drop_own.result c.from_residual-in_err-drop_own.ensures.1 in
-    fault_answer _ c.in_err-drop_own.field-0.0 _ (p.1 ∙ ap Err p.2) c.in_err-drop_own.ensures.device
+pub returns-in_err-delete_at-clause-fault : goal.returns-in_err-delete_at-clause-fault
+returns-in_err-delete_at-clause-fault g c u on =
+    let answer = answer_here _ c.args.dir c.args.name.now c.in_ok-found.found c.in_ok-found.ensures.ok _ c.in_ok-found.ensures.media_kept _ _ c.in_err-delete_at.ensures.answer u on in
+    on_err _ _ (stops_so _ _ c.args.dir c.in_ok-found.found.descriptor c.args.name.now c.args.user c.args.execute c.in_ok-found.ensures.answer u on c.in_err-delete_at.field-0.0 answer)
 
-pub returns-in_err-drop_own-clause-fault : goal.returns-in_err-drop_own-clause-fault
-returns-in_err-drop_own-clause-fault g c u on =
-    on_err _ _ (stops_on _ _ _ c.args.dir c.args.name.now c.args.user c.args.execute c.in_ok-gone.gone c.in_ok-gone.ensures.written c.in_ok-gone.ensures.answer u on c.in_err-drop_own.ensures.fault)
+pub returns-in_err-delete_at-clause-refused : goal.returns-in_err-delete_at-clause-refused
+returns-in_err-delete_at-clause-refused g c =
+    let p = err_from_is_err_and c.from_residual-in_err-delete_at.result c.from_residual-in_err-delete_at.ensures.1 in
+    let at = c.in_ok-found.ensures.ok in
+    let on = at.free.place.on in
+    let answer = answer_here _ c.args.dir c.args.name.now c.in_ok-found.found at _ c.in_ok-found.ensures.media_kept _ _ c.in_err-delete_at.ensures.answer at.free.place.content on in
+    on_err _ _ (no_refusal c.in_err-delete_at.field-0.0 _ _ (p.1 ∙ ap Err p.2) (only_device at.free.place.content c.args.dir _ c.args.name.now _ _ c.in_err-delete_at.field-0.0 answer))
 
-pub returns-in_err-drop_own-clause-refused : goal.returns-in_err-drop_own-clause-refused
-returns-in_err-drop_own-clause-refused g c =
-    let p = err_from_is_err_and c.from_residual-in_err-drop_own.result c.from_residual-in_err-drop_own.ensures.1 in
-    on_err _ _ (no_refusal c.in_err-drop_own.field-0.0 _ _ (p.1 ∙ ap Err p.2) c.in_err-drop_own.ensures.device)
-
-pub returns-in_err-drop_own-clause-counts : goal.returns-in_err-drop_own-clause-counts
-returns-in_err-drop_own-clause-counts g c v file on is =
-    let p = err_from_is_err_and c.from_residual-in_err-drop_own.result c.from_residual-in_err-drop_own.ensures.1 in
-    fault_calls _ _ _ c.in_ok-gone.gone.descriptor (c.in_ok-gone.ensures.answer v file on is) _ c.in_err-drop_own.field-0.0 _ _ _ _ refl (p.1 ∙ ap Err p.2)
-    (c.in_ok-gone.ensures.counts v file on is)
-    (calls_on_file _ _ c.args.dir c.args.name.now c.in_ok-gone.gone c.in_ok-gone.ensures.written v on _ _ _ c.in_err-drop_own.ensures.counts)
+pub returns-in_err-delete_at-clause-counts : goal.returns-in_err-delete_at-clause-counts
+returns-in_err-delete_at-clause-counts g c v file on is =
+    let p = err_from_is_err_and c.from_residual-in_err-delete_at.result c.from_residual-in_err-delete_at.ensures.1 in
+    let at = c.in_ok-found.ensures.ok in
+    let there = file_found _ c.args.dir c.args.name.now c.in_ok-found.found at v on in
+    all_calls _ _ _ c.in_ok-found.found.descriptor (c.in_ok-found.ensures.answer v file on is) _ (file_marks v c.in_ok-found.found.descriptor at.free.file there) _ _ _ _
+    (c.in_ok-found.ensures.counts v file on is)
+    (fault_counts Unit Unit c.in_err-delete_at.field-0.0 _ _ _ _ (p.1 ∙ ap Err p.2)
+    (calls_here _ c.args.dir c.args.name.now c.in_ok-found.found at _ c.in_ok-found.ensures.media_kept _ _ _ c.in_err-delete_at.ensures.counts v on))
 
 pub returns-clause-answer : goal.returns-clause-answer
-returns-clause-answer g c v file on is = (c.in_ok-gone.gone.descriptor, c.in_ok-gone.ensures.answer v file on is)
+returns-clause-answer g c v file on is = (c.in_ok-found.found.descriptor, c.in_ok-found.ensures.answer v file on is)
 
 pub returns-clause-ok : goal.returns-clause-ok
-returns-clause-ok g c u on = deleted_on _ _ _ c.args.dir c.args.name.now c.in_ok-gone.gone c.in_ok-gone.ensures.written u on c.in_ok-drop_own.ensures.ok
+returns-clause-ok g c u on = record {
+  number = c.in_ok-found.found.descriptor;
+  is = answer_here _ c.args.dir c.args.name.now c.in_ok-found.found c.in_ok-found.ensures.ok _ c.in_ok-found.ensures.media_kept _ _ c.in_ok-delete_at.ensures.answer u on;
+}
 
 pub returns-clause-counts : goal.returns-clause-counts
 returns-clause-counts g c v file on is =
-    all_calls _ _ _ c.in_ok-gone.gone.descriptor (c.in_ok-gone.ensures.answer v file on is) _ _ _ _ _ refl (c.in_ok-gone.ensures.counts v file on is)
-    (calls_on_file _ _ c.args.dir c.args.name.now c.in_ok-gone.gone c.in_ok-gone.ensures.written v on _ _ _ c.in_ok-drop_own.ensures.counts)
+    let at = c.in_ok-found.ensures.ok in
+    let there = file_found _ c.args.dir c.args.name.now c.in_ok-found.found at v on in
+    all_calls _ _ _ c.in_ok-found.found.descriptor (c.in_ok-found.ensures.answer v file on is) _ (file_marks v c.in_ok-found.found.descriptor at.free.file there) _ _ _ _
+    (c.in_ok-found.ensures.counts v file on is)
+    (calls_here _ c.args.dir c.args.name.now c.in_ok-found.found at _ c.in_ok-found.ensures.media_kept _ _ _ c.in_ok-delete_at.ensures.counts v on)

@@ -1,0 +1,47 @@
+ghost use Rattle.std.specs.Prelude.{◌≡◌, ℕ, List};
+ghost use Rattle.rbf_model.specs.Volume.{DiskVolume};
+ghost use Rattle.rbf_access.specs.Drive.{Counts};
+ghost use Rattle.rbf_access.specs.Faults.{file_fault};
+ghost use Rattle.rbf_access.specs.Mounted.{IsMounted, Represents};
+ghost use Rattle.rbf_access.specs.Reading.{OnVolumeFile};
+ghost use Rattle.rbf_update.specs.Deletions.{IsDeletable};
+ghost use Rattle.rbf_dirs.specs.Deleted.{AnswersDeletionOf, MayBeDeleted, file_deletion_calls};
+
+use os9_outer::drive::BlockDriver;
+use rbf_access::{FileFault, Volume};
+use rbf_drop::{OwnSectors, drop_own};
+use rbf_update::{Deletable, free_entry};
+
+/// Deletes the file whose entry [`rbf_update::find_deletable`] has found, for the user for whom it
+/// was found (OS-9 Technical Reference, I$Delete): its entry is made free, and then its clusters
+/// are. The calls of the drive are at most a read and a write of the entry's sector, and one for
+/// each sector of the map that has a mark of the file's clusters.
+///
+/// # Errors
+///
+/// `Device` if an access of the drive fails: then nothing has changed, or the file has gone, and
+/// some of its clusters may be lost.
+pub fn delete_at(
+    v: &mut Volume,
+    d: &mut dyn BlockDriver,
+    found: &Deletable,
+) -> Result<(), FileFault>
+    requires mounted { IsMounted v.old (media d.old) }
+    requires found { MayBeDeleted (media d.old) found.now }
+    ensures answer { (dir : ℕ) (name : List ℕ) (on : DiskVolume)
+        → IsDeletable (media d.old) dir name found.now → Represents (media d.old) on
+        → AnswersDeletionOf on dir found.now.descriptor name (media d.old) (media d.new) result }
+    ensures mounted { IsMounted v.new (media d.new) }
+    ensures counts { OnVolumeFile (media d.old) found.now.descriptor (λ on file.
+        Counts ⟦<dyn BlockDriver as BlockDriver>⟧ (file_fault result)
+        (file_deletion_calls on found.now.descriptor file) d.old d.new) }
+{
+    free_entry(v, d, found)?;
+    // `found` has what was read of the file, so that its descriptor is not read again.
+    let own = OwnSectors {
+        fd: found.descriptor,
+        segs: found.file.segs,
+    };
+    drop_own(v, d, &own)?;
+    Ok(())
+}

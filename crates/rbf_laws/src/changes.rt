@@ -1,0 +1,48 @@
+//! New files, new directories and deletions, from the answers of the disk calls to the words of the
+//! calls on files.
+
+ghost use Rattle.std.specs.Prelude.{ℕ, Bool, List, Option, Result};
+ghost use Rattle.os9_base.specs.declared.registers.TimePacket.{TimePacket};
+ghost use Rattle.rbf_model.specs.File.{DiskFile};
+ghost use Rattle.rbf_model.specs.Volume.{DiskVolume};
+ghost use Rattle.rbf_access.specs.Mounted.{Represents};
+ghost use Rattle.rbf_access.specs.declared.faults.FileFault.{FileFault};
+ghost use Rattle.rbf_walk.specs.declared.error.DirError.{DirError};
+ghost use Rattle.rbf_append.specs.Entering.{AnswersEntering, widened};
+ghost use Rattle.rbf_creation.specs.Creating.{request};
+ghost use Rattle.rbf_folder.specs.Asked.{folder_request};
+ghost use Rattle.rbf_dirs.specs.Deleted.{AnswersDeletionOf};
+ghost use Rattle.file_rules.specs.Change.{creates, deletes, makes_directory};
+ghost use Rattle.rbf_laws.specs.Left.{Leaves, numbered};
+
+/// What creates a file, as `create` and `create_at` of rbf_creation answer it, leaves what the
+/// calls on files say of a creation (System Programmer's Manual, I$Create): where it is done, the
+/// volume with the new file, whose number it answers; after a fault of the drive one of those that
+/// a fault may leave; and where it is refused, the media as it was.
+pub fn a_creation_is_what_it_is_said_to_be()
+    ensures { (v : DiskVolume) (dir : DiskFile) (d attributes user : ℕ) (name : List ℕ)
+        (execute : Bool) (now : TimePacket) (old new : Option (List ℕ)) (answer : Result ℕ DirError)
+        → Represents old v
+        → AnswersEntering v dir (request d name attributes user execute now) old new answer
+        → Leaves (creates d name attributes) user now v old new answer }
+{}
+
+/// The same of what makes a directory, as `make_dir` and `make_dir_at` of rbf_folder answer it
+/// (System Programmer's Manual, I$MakDir).
+pub fn a_new_directory_is_what_it_is_said_to_be()
+    ensures { (v : DiskVolume) (dir : DiskFile) (d attributes user : ℕ) (name : List ℕ)
+        (now : TimePacket) (old new : Option (List ℕ)) (answer : Result ℕ DirError)
+        → Represents old v
+        → AnswersEntering v dir (folder_request d name attributes user now) old new answer
+        → Leaves (makes_directory d name attributes) user now v old new answer }
+{}
+
+/// What deletes file n, as `delete_at` of rbf_dirs answers it, leaves what the calls on files say
+/// of a deletion (System Programmer's Manual, I$Delete): the volume without the file, or after a
+/// fault of the drive one of those that a fault may leave.
+pub fn a_deletion_is_what_it_is_said_to_be()
+    ensures { (v : DiskVolume) (d n user : ℕ) (name : List ℕ) (now : TimePacket)
+        (old new : Option (List ℕ)) (answer : Result (Unit {0}) FileFault) → Represents old v
+        → AnswersDeletionOf v d n name old new answer
+        → Leaves (deletes d n name) user now v old new (widened (numbered answer)) }
+{}
