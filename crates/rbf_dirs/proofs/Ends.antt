@@ -1,5 +1,5 @@
 -- How a deletion ends, and how many calls of the drive it makes.
-use Rattle.std.proofs.Common.{◌≡◌, ◌⊎◌, ℕ, ◌+◌, Option, Some, None, IsSome, List, Result, Ok, Err, inl, inr, refl, sym, ap, ◌∙◌, subst, arith}
+use Rattle.std.proofs.Common.{◌≡◌, ◌⊎◌, ℕ, ◌+◌, Bool, Option, Some, None, IsSome, List, Result, Ok, Err, inl, inr, refl, sym, ap, ◌∙◌, subst, arith}
 use Rattle.std.specs.Prelude.{OnErr, IsNone}
 use Rattle.std.proofs.lemmas.Bool.{false≢true}
 use Rattle.rbf_model.specs.File.{DiskFile}
