@@ -1,10 +1,10 @@
 -- How a deletion ends, and how many calls of the drive it makes.
-use Rattle.std.proofs.Common.{◌≡◌, ◌⊎◌, ℕ, ◌+◌, Bool, Option, Some, None, IsSome, List, Result, Ok, Err, inl, inr, refl, sym, ap, ◌∙◌, subst, arith}
+use Rattle.std.proofs.Common.{◌≡◌, ◌⊎◌, ℕ, ◌+◌, Bool, Option, Some, None, IsSome, List, Result, Ok, Err, inl, inr, refl, sym, ap, ◌∙◌, subst}
 use Rattle.std.specs.Prelude.{OnErr, IsNone}
 use Rattle.std.proofs.lemmas.Bool.{false≢true}
 use Rattle.rbf_model.specs.File.{DiskFile}
 use Rattle.rbf_model.specs.Volume.{DiskVolume}
-use Rattle.rbf_model.specs.Walk.{WalkEnd, arrives, not_allowed, not_found}
+use Rattle.rbf_model.specs.Walk.{WalkEnd, arrives}
 use Rattle.rbf_change.specs.Calls.{shape}
 use Rattle.rbf_change.specs.Names.{deletion_end}
 use Rattle.rbf_access.specs.Drive.{DriveCounts, MovesCounts}
