@@ -1,5 +1,5 @@
 -- Deletions, as the calls on files have them.
-use Rattle.std.proofs.Common.{◌≡◌, ℕ, Option, List, Result, Ok, Err, inl, inr, refl, ◌∙◌}
+use Rattle.std.proofs.Common.{ℕ, Option, List, Result, Ok, Err, inl, inr, refl, ◌∙◌}
 use Rattle.os9_base.specs.declared.registers.TimePacket.{TimePacket}
 use Rattle.rbf_model.specs.Volume.{DiskVolume}
 use Rattle.rbf_change.specs.Faults.{before, gone}
