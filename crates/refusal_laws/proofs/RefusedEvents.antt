@@ -1,5 +1,5 @@
 -- What an event leaves that is an attempt of a call which is refused.
-use Rattle.std.proofs.Common.{◌≡◌, ℕ, ◌<◌, not, false, Option, Some, None, List, length, refl, sym, ap, ◌∙◌, subst, inl, inr}
+use Rattle.std.proofs.Common.{◌≡◌, ℕ, ◌<◌, not, false, Option, Some, None, IsSome, List, length, refl, sym, ap, ◌∙◌, subst, inl, inr}
 use Rattle.std.specs.Prelude.{MatchOption, unwrap_or}
 use Rattle.std.proofs.lemmas.Bool.{cases_lt, false≢true}
 use Rattle.std.proofs.lemmas.List.{get_or-set_same, get_or-set_other, get_or_past, length-set}
@@ -19,9 +19,9 @@ use Rattle.io_rules.specs.declared.io_call.IoCall.{IoCall}
 use Rattle.machine_model.specs.declared.ends.EventEnd.TheVariants.{Ran}
 use Rattle.machine_model.specs.Event.{Acts, Event, io_after_call}
 use Rattle.machine_model.specs.State.{State}
-use Rattle.refusal_laws.specs.RefusedEvents.{IsRefused, LeavesDevices, LeavesMachine, as_before, but_the_call, end_of_file, write_error}
+use Rattle.refusal_laws.specs.RefusedEvents.{IsRefused, LeavesDevices, LeavesMachine, but_the_call, end_of_file, of_no_call, of_process_call, write_error}
 use Rattle.refusal_laws.specs.Refusals.{LeavesProcesses}
-use Rattle.refusal_laws.proofs.Refusing.{Comes, refusal}
+use Rattle.refusal_laws.proofs.Refusing.{Comes, refusal, same-refusal}
 
 -- ---- the processes
 
@@ -75,20 +75,22 @@ module _ (s t : State) (code number : ℕ) where
     on-paths call is (inr (inl (number_is, left))) = end_of_file call is number_is left
     on-paths call is (inr (inr (number_is, left))) = write_error call is number_is left
 
-    by-io : (call : Option IoCall) → io_call_of code ≡ call → MatchOption call ((refused number ≡ refused E_UNKSVC) × (t.io ≡ s.io) × (t.terms ≡ s.terms)) (λ call. IoAttempts call s.inner s.io s.drives p (refused number) t.io s.terms t.terms) → LeavesDevices s p code number t
-    by-io None coded (is, same, still) = as_before same still
-    by-io (Some call) coded attempt =
+    by-io : call_of code ≡ None → (call : Option IoCall) → io_call_of code ≡ call → MatchOption call ((refused number ≡ refused E_UNKSVC) × (t.io ≡ s.io) × (t.terms ≡ s.terms)) (λ call. IoAttempts call s.inner s.io s.drives p (refused number) t.io s.terms t.terms) → LeavesDevices s p code number t
+    by-io other None coded (is, same, still) =
+        of_no_call other coded (sym (same-refusal number E_UNKSVC is)) same still
+    by-io other (Some call) coded attempt =
         on-paths call coded (refusal call s.inner s.io t.io s.drives p number s.terms t.terms attempt)
 
-    by-call : (call : Option ProcCall) → MatchOption call (MatchOption (io_call_of code) ((refused number ≡ refused E_UNKSVC) × (t.io ≡ s.io) × (t.terms ≡ s.terms)) (λ call. IoAttempts call s.inner s.io s.drives p (refused number) t.io s.terms t.terms)) (λ call. (refused number ≡ attempted call s.inner p) × (t.io ≡ io_after_call code s.io p (refused number)) × (t.terms ≡ s.terms)) → LeavesDevices s p code number t
-    by-call None answer = by-io (io_call_of code) refl answer
-    by-call (Some call) (is, same, still) = as_before same still
+    by-call : (call : Option ProcCall) → call_of code ≡ call → MatchOption call (MatchOption (io_call_of code) ((refused number ≡ refused E_UNKSVC) × (t.io ≡ s.io) × (t.terms ≡ s.terms)) (λ call. IoAttempts call s.inner s.io s.drives p (refused number) t.io s.terms t.terms)) (λ call. (refused number ≡ attempted call s.inner p) × (t.io ≡ io_after_call code s.io p (refused number)) × (t.terms ≡ s.terms)) → LeavesDevices s p code number t
+    by-call None coded answer = by-io coded (io_call_of code) refl answer
+    by-call (Some call) coded (is, same, still) =
+        of_process_call (subst (λ (call : Option ProcCall). IsSome call) (sym coded) refl) same still
 
   pub leaves-machine : (it : IsRefused s code number t) → LeavesMachine s it.process code number t
   leaves-machine it = record {
     processes =
         subst (λ (m : Inner). LeavesProcesses s.inner it.process number m) (sym (ap (λ (t : State). t.inner) it.now)) (leaves-processes s.inner it.process number);
-    devices = by-call it.process (call_of code) it.attempt;
+    devices = by-call it.process (call_of code) refl it.attempt;
     chosen = ap (λ (t : State). t.chosen) it.now;
     drives = ap (λ (t : State). t.drives) it.now;
   }

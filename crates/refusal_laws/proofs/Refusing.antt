@@ -201,7 +201,7 @@ refused-done number m is = cc
 refused-waits : (number : ℕ) (m : Inner) → CallResult.refused number ≡ CallResult.waits m → ⊥
 refused-waits number m is = cc
 
-same-refusal : (m n : ℕ) → CallResult.refused m ≡ CallResult.refused n → n ≡ m
+pub same-refusal : (m n : ℕ) → CallResult.refused m ≡ CallResult.refused n → n ≡ m
 same-refusal m n is = sym (ap number_in is)
 
 ended-by : (number p : ℕ) (m : Inner) (effect : IoEffect) (end : IoEnd) → CallResult.refused number ≡ result_by end m p effect → end ≡ fails number

@@ -1,9 +1,10 @@
 -- What an event leaves that is an attempt of a call which is refused.
-use Rattle.std.specs.Prelude.{◌≡◌, ℕ, Some, length}
-use Rattle.os9_base.specs.declared.errors.TheConstants.{E_EOF, E_WRITE}
+use Rattle.std.specs.Prelude.{◌≡◌, ℕ, Some, None, IsSome, length}
+use Rattle.os9_base.specs.declared.errors.TheConstants.{E_EOF, E_UNKSVC, E_WRITE}
 use Rattle.proc_rules.specs.Records.{IsLiving}
 use Rattle.call_rules.specs.Attempts.{after_attempt}
 use Rattle.call_rules.specs.CallResult.{refused}
+use Rattle.call_rules.specs.Codes.{call_of}
 use Rattle.call_rules.specs.Ready.{attempts, act_of}
 use Rattle.io_rules.specs.Attempts.{caller_of}
 use Rattle.io_rules.specs.Codes.{io_call_of}
@@ -24,8 +25,11 @@ pub record IsRefused (s : State) (code number : ℕ) (t : State) : Type 0 where
 
 -- what it leaves of input and output and of the terminals
 pub data LeavesDevices (s : State) (p code number : ℕ) (t : State) : Type 0 where
-  -- of a call on processes or modules, and of a code that is no call's: all
-  as_before : t.io ≡ s.io → t.terms ≡ s.terms → LeavesDevices s p code number t
+  -- of a call on processes or modules: all
+  of_process_call : IsSome (call_of code) → t.io ≡ s.io → t.terms ≡ s.terms → LeavesDevices s p code number t
+  -- of a code that is no call's: all
+  of_no_call : call_of code ≡ None → io_call_of code ≡ None → number ≡ E_UNKSVC → t.io ≡ s.io → t.terms ≡ s.terms
+      → LeavesDevices s p code number t
   -- of a call on paths: all but what is kept of the call, which goes
   but_the_call : (call : IoCall) → io_call_of code ≡ Some call
       → StatedCause call (caller_of s.inner p) s.io s.drives (length s.terms) number
