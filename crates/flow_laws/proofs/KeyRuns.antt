@@ -332,9 +332,9 @@ run-keys (size ∷ sizes) written s t states n run has =
 -- ---- the start
 
 -- the kernel has four terminals, and no key has arrived
-pub start-ahead : (file : List ℕ) (blocks drives : ℕ) (terms : List TerminalState) (s : State) (n : ℕ) → Starts file blocks drives terms s → n < 4 → HasAhead n s
+pub start-ahead : (file : List ℕ) (blocks drives : ℕ) (terms : List TerminalState) (s : State) (n : ℕ) → Starts file blocks drives terms s → n < 4 → HasAhead n s × (ahead_at s n ≡ [])
 start-ahead file blocks drives terms s n starts within =
-    subst (HasAhead n) (sym starts.is) (record { within = within; few = rw none (omega arith) })
+    subst (λ (s : State). HasAhead n s × (ahead_at s n ≡ [])) (sym starts.is) (record { within = within; few = rw none (omega arith) }, ap (λ (t : Terminal). t.ahead) none)
   where
     none : terminal_at first_io n ≡ new_terminal
     none = get_or-replicate 4 n new_terminal new_terminal within

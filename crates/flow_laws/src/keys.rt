@@ -1,6 +1,6 @@
 //! Keys of terminals over a run: each is used by one read, in order, or is dropped by a rule.
 
-ghost use Rattle.std.specs.Prelude.{ℕ, ◌<◌, List};
+ghost use Rattle.std.specs.Prelude.{◌≡◌, ℕ, ◌<◌, List, []};
 ghost use Rattle.machine_model.specs.declared.ends.EventEnd.{EventEnd};
 ghost use Rattle.machine_model.specs.declared.ends.SliceEnd.{SliceEnd};
 ghost use Rattle.machine_model.specs.Event.{Event};
@@ -9,7 +9,7 @@ ghost use Rattle.machine_model.specs.Start.{Starts};
 ghost use Rattle.machine_model.specs.State.{State};
 ghost use Rattle.os9_outer.specs.TerminalState.{TerminalState};
 ghost use Rattle.os9_outer.specs.declared.terminal.Key.{Key};
-ghost use Rattle.flow_laws.specs.Keys.{EventKeys, HasAhead, KeyMove, KeysArrive, KeysPass};
+ghost use Rattle.flow_laws.specs.Keys.{EventKeys, HasAhead, KeyMove, KeysArrive, KeysPass, ahead_at};
 
 /// The keys of a terminal arrive in ticks, in order, and go into the type-ahead, but for those that
 /// send a signal or find it full. Only a read whose path was opened on the terminal takes keys out
@@ -20,7 +20,7 @@ ghost use Rattle.flow_laws.specs.Keys.{EventKeys, HasAhead, KeyMove, KeysArrive,
 /// type-ahead are, in order, those that its events used and those that stand there still.
 pub fn each_key_is_used_once()
     ensures start { (file : List ℕ) (blocks drives : ℕ) (terms : List TerminalState) (s : State)
-        (n : ℕ) → Starts file blocks drives terms s → n < 4 → HasAhead n s }
+        (n : ℕ) → Starts file blocks drives terms s → n < 4 → HasAhead n s × (ahead_at s n ≡ []) }
     ensures event { (s t : State) (end : EventEnd) (n : ℕ) → Event s end t → HasAhead n s
         → (move : KeyMove) × EventKeys n s end move t × HasAhead n t }
     ensures tick { (s t : State) (n : ℕ) → Tick s t → HasAhead n s
