@@ -1,3 +1,4 @@
+pub mod CallCodes
 pub mod KeyEvents
 pub mod KeyReads
 pub mod KeyRuns

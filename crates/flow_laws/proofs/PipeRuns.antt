@@ -165,7 +165,7 @@ pass-from n s m states t rests it =
 pass-event : (n : ℕ) (s m : State) (end : EventEnd) (states : List State) (t : State) → Event s end m → Passes n s m → PassesThrough n m states t → PassesThrough n s (m ∷ states) t
 pass-event n s m end states t event (None, same) rest =
     through n s (m ∷ states) t (record { before = s; moved = None; after = m } ∷ rest.events) (ap (λ (states : List State). m ∷ states) rest.through)
-    (rests-same s, rest.linked) ((end, event, same), rest.each) (subst (λ (held : List ℕ). Flows (moved_by rest.events) held (pipe_bytes t.io n)) same rest.flow)
+    (rests-same s, rest.linked) ((end, event, same), rest.each) (subst (λ (held : List ℕ). Flows (moved_by rest.events) held (pipe_bytes t.io n)) same.held rest.flow)
 pass-event n s m end states t event (Some (In bytes), puts) rest =
     through n s (m ∷ states) t (record { before = s; moved = Some (In bytes); after = m } ∷ rest.events) (ap (λ (states : List State). m ∷ states) rest.through)
     (rests-same s, rest.linked) ((end, event, puts), rest.each) (pipe_bytes m.io n, puts.behind, rest.flow)

@@ -39,15 +39,16 @@ use Rattle.io_rules.specs.PathList.{PathList, path_list}
 use Rattle.io_rules.specs.Pipes.{after_adding, after_taking, count_regs, read_leaves, read_line_leaves, write_leaves, writes_pipe}
 use Rattle.io_rules.specs.Read.{pipe_read, reads_target}
 use Rattle.io_rules.specs.Status.{gets_end, gets_options, gets_ready, gets_status, options, ready_count}
-use Rattle.io_rules.specs.Step.{Caller, IoEffect, IoEnd, IoStep, answers, fails, keeps, refused, comes, reads, writes, needs, refuses, done, stores}
+use Rattle.io_rules.specs.Step.{Caller, IoEffect, IoEnd, IoStep, answers, fails, keeps, refused, comes, reads, writes, leaves, needs, refuses, done, stores}
 use Rattle.io_rules.specs.Transfer.{call_now, first_call, on_path, unless_nothing}
 use Rattle.io_rules.specs.Write.{Sending, error_line, f_perr, line_bytes, sends_on, sent_bytes, sent_error, sent_line, writes_target}
+use Rattle.io_rules.specs.declared.io_call.Direction.{Direction}
 use Rattle.io_rules.specs.declared.io_call.Direction.TheVariants.{Reading, Writing}
 use Rattle.io_rules.specs.declared.io_call.IoCall.{IoCall}
 use Rattle.io_rules.specs.declared.io_call.IoCall.TheVariants as Call
 use Rattle.io_rules.specs.declared.modes.TheConstants.{STANDARD_ERROR}
 use Rattle.io_rules.specs.declared.status.TheConstants.{SS_OPT, SS_READY, SS_EOF, OPTION_BYTES}
-use Rattle.flow_laws.specs.Flow.{ReadCounts, WriteCounts, in_all, moved_before, read_answers, sent_by, stored_from, write_answers}
+use Rattle.flow_laws.specs.Flow.{MovesNone, ReadCounts, WriteCounts, in_all, moved_before, read_answers, sent_by, stored_from, write_answers}
 use Rattle.flow_laws.specs.Keys.{read_call}
 
 -- ---- one pipe of many
@@ -69,7 +70,7 @@ held-put pipes n bytes lives =
     ap (λ (place : Option (List ℕ)). unwrap_or place []) (get_or-set_same pipes n (Some bytes) None (lives-within pipes n lives))
 
 -- nothing is no pipe
-no-pipe : IsSome {T = List ℕ} None → ⊥
+pub no-pipe : IsSome {T = List ℕ} None → ⊥
 no-pipe some = cc
 
 -- what a change leaves of a pipe, if it lives then
@@ -135,6 +136,29 @@ begun-held pipes n k free lives =
     apart same =
         no-pipe (subst (λ (place : Option (List ℕ)). IsSome place) (ap (pipe_of pipes) same ∙ free-at pipes k (position is_none (drop 1 pipes)) refl free) lives)
 
+-- a pipe that was not there is not there still, or is empty
+abbrev pub StaysEmpty : ℕ → Io → Type 0
+StaysEmpty n new = (pipe_of new.pipes n ≡ None) ⊎ (pipe_of new.pipes n ≡ Some [])
+
+begun-empty : (pipes : List (Option (List ℕ))) (n k : ℕ) → free_pipe pipes ≡ Some k → pipe_of pipes n ≡ None → (pipe_of (pipes_after_begin pipes) n ≡ None) ⊎ (pipe_of (pipes_after_begin pipes) n ≡ Some [])
+begun-empty pipes n k free none =
+    subst (λ (now : List (Option (List ℕ))). (pipe_of now n ≡ None) ⊎ (pipe_of now n ≡ Some [])) (sym begun) (by_place (cases_eq n k))
+  where
+    begun : pipes_after_begin pipes ≡ with_pipe pipes k []
+    begun = ap (λ (place : Option ℕ). option_map_or (λ number. with_pipe pipes number []) place pipes) free
+
+    by_place : (n ≡ k) ⊎ (n ≢ k) → (pipe_of (with_pipe pipes k []) n ≡ None) ⊎ (pipe_of (with_pipe pipes k []) n ≡ Some [])
+    by_place (inl same) =
+        elim (cases_lt k (length pipes)) [
+          | inl within ↦ inr (ap (pipe_of (with_pipe pipes k [])) same ∙ get_or-set_same pipes k (Some []) None within)
+          | inr past ↦ inl (ap (pipe_of (with_pipe pipes k [])) same ∙ get_or_past (with_pipe pipes k []) k None (rw length-set past))
+        ]
+    by_place (inr apart) = inl (get_or-set_other pipes k n (Some []) None apart ∙ none)
+
+pub left-empty : (n : ℕ) (old new : Io) → PipeLeft n old new → pipe_of old.pipes n ≡ None → StaysEmpty n new
+left-empty n old new (inl same) none = inl (same ∙ none)
+left-empty n old new (inr gone) none = inl gone
+
 -- ---- how many bytes an attempt moves
 
 line-few : (held : List ℕ) → line_length held ≤ length held
@@ -177,7 +201,8 @@ module _ (call : IoCall) (caller : Caller) (io : Io) (n : ℕ) where
     pub path : OnPipe
     pub bytes : List ℕ
     pub front : pipe_bytes io n ≡ bytes ++ pipe_bytes effect.io n
-    pub seen : (bytes ≡ []) ⊎ (effect.bytes ≡ bytes) × (effect.at ≡ stored_from call caller.regs (moved_before io caller.process.0)) × IsStoring effect.end
+    pub stores_them : effect.bytes ≡ bytes
+    pub seen : (bytes ≡ []) ⊎ (effect.at ≡ stored_from call caller.regs (moved_before io caller.process.0)) × IsStoring effect.end
     pub counts : ReadCounts call caller io (length bytes) effect.end
 
   pub record Puts (effect : IoEffect) : Type 0 where
@@ -188,17 +213,33 @@ module _ (call : IoCall) (caller : Caller) (io : Io) (n : ℕ) where
     pub sent : List ℕ
     pub sends : sent_by call caller io ≡ Some sent
     pub next : bytes ≡ take (length bytes) (drop (moved_before io caller.process.0) sent)
+    pub stores_none : effect.bytes ≡ []
     pub counts : WriteCounts call caller io sent (length bytes) effect.end
 
-  abbrev pub Moved : IoEffect → Type 0
-  Moved effect = (pipe_bytes effect.io n ≡ pipe_bytes io n) ⊎ Takes effect ⊎ Puts effect
+  -- it leaves the pipe; an attempt on it moves no byte, and stores none
+  pub record Leaves (effect : IoEffect) : Type 0 where
+    pub held : pipe_bytes effect.io n ≡ pipe_bytes io n
+    pub ends : (way : Direction) → direction_of_call call ≡ Some way → OnPipe → MovesNone caller effect.end × (effect.bytes ≡ [])
 
--- an attempt that reaches no device moves bytes through a pipe, or leaves it
+  abbrev pub Moved : IoEffect → Type 0
+  Moved effect = Leaves effect ⊎ Takes effect ⊎ Puts effect
+
+  -- the pipe is not there, and the process has no path on it
+  pub record IsAbsent : Type 0 where
+    pub none : pipe_of io.pipes n ≡ None
+    pub unused : (number : ℕ) (opened : OpenPath) → open_path io caller.process.0 number ≡ Some opened → opened.desc.target ≢ Pipe n
+
+  -- what becomes of the pipe
+  pub record Becomes (effect : IoEffect) : Type 0 where
+    pub moved : IsPipe io.pipes n → IsPipe effect.io.pipes n → Moved effect
+    pub fresh : IsAbsent → StaysEmpty n effect.io
+
+-- an attempt that reaches no device moves bytes through a pipe, or leaves it; one that reaches a terminal is on no pipe
 abbrev pub StepMoves : IoCall → Caller → Io → ℕ → IoStep → Type 0
 StepMoves call caller io n (refused number) = Unit {0}
-StepMoves call caller io n (comes effect) = IsPipe io.pipes n → IsPipe effect.io.pipes n → Moved call caller io n effect
-StepMoves call caller io n (reads read) = Unit {0}
-StepMoves call caller io n (writes write) = Unit {0}
+StepMoves call caller io n (comes effect) = Becomes call caller io n effect
+StepMoves call caller io n (reads read) = OnPipe call caller io n → ⊥
+StepMoves call caller io n (writes write) = OnPipe call caller io n → ⊥
 
 -- the call as an attempt finds it has moved what it had moved
 now-moved : (caller : Caller) (io : Io) (code count : ℕ) (opened : OpenPath) → (call_now caller io code opened count).moved ≡ moved_before io caller.process.0
@@ -241,17 +282,19 @@ module _ (call : IoCall) (caller : Caller) (io : Io) (n : ℕ) where
       path = path;
       bytes = bytes_moved (Ans.Done count) (pipe_bytes io n);
       front = front-is (Ans.Done count);
-      seen = inr (refl, sym at, tt);
+      stores_them = refl;
+      seen = inr (sym at, tt);
       counts =
           ap (count_regs caller) (sym (length-take-le count (pipe_bytes io n) few)) ∙ sym (regs (length (take count (pipe_bytes io n))));
     }
     read-takes way at regs Ans.Wait few =
-        record { way = way; path = path; bytes = []; front = front-is Ans.Wait; seen = inl refl; counts = none-more }
+        record { way = way; path = path; bytes = []; front = front-is Ans.Wait; stores_them = refl; seen = inl refl; counts = none-more }
     read-takes way at regs Ans.End few = record {
       way = way;
       path = path;
       bytes = [];
       front = front-is Ans.End;
+      stores_them = refl;
       seen = inl refl;
       counts = refl;
     }
@@ -260,6 +303,7 @@ module _ (call : IoCall) (caller : Caller) (io : Io) (n : ℕ) where
       path = path;
       bytes = [];
       front = front-is Ans.NoReader;
+      stores_them = refl;
       seen = inl refl;
       counts = refl;
     }
@@ -270,7 +314,8 @@ module _ (call : IoCall) (caller : Caller) (io : Io) (n : ℕ) where
       path = path;
       bytes = bytes_moved (Ans.Done count) (pipe_bytes io n);
       front = front-is (Ans.Done count);
-      seen = inr (refl, sym at, storing (has_return (take count (pipe_bytes io n)) || (is_complete (moved_on now count) || alone)));
+      stores_them = refl;
+      seen = inr (sym at, storing (has_return (take count (pipe_bytes io n)) || (is_complete (moved_on now count) || alone)));
       counts = counts (has_return (take count (pipe_bytes io n)) || (is_complete (moved_on now count) || alone));
     }
       where
@@ -285,12 +330,13 @@ module _ (call : IoCall) (caller : Caller) (io : Io) (n : ℕ) where
         counts true = ap (count_regs caller) more ∙ sym (regs (length (take count (pipe_bytes io n))))
         counts false = more
     line-takes way at regs alone Ans.Wait few =
-        record { way = way; path = path; bytes = []; front = front-is Ans.Wait; seen = inl refl; counts = none-more }
+        record { way = way; path = path; bytes = []; front = front-is Ans.Wait; stores_them = refl; seen = inl refl; counts = none-more }
     line-takes way at regs alone Ans.End few = record {
       way = way;
       path = path;
       bytes = [];
       front = front-is Ans.End;
+      stores_them = refl;
       seen = inl refl;
       counts = over (now.moved == 0);
     }
@@ -303,6 +349,7 @@ module _ (call : IoCall) (caller : Caller) (io : Io) (n : ℕ) where
       path = path;
       bytes = [];
       front = front-is Ans.NoReader;
+      stores_them = refl;
       seen = inl refl;
       counts = refl;
     }
@@ -330,6 +377,7 @@ module _ (call : IoCall) (caller : Caller) (io : Io) (n : ℕ) where
         sent = sent;
         sends = sends;
         next = next-is count few;
+        stores_none = refl;
         counts = counts (is_complete (moved_on now count)) alone refl;
       }
         where
@@ -341,24 +389,64 @@ module _ (call : IoCall) (caller : Caller) (io : Io) (n : ℕ) where
           counts false true is = λ before same. false≢true (sym is ∙ eq-eqb (now.moved + count) now.count (more ∙ same ∙ sym all))
           counts false false is = more
       write-puts alone Ans.Wait few =
-          record { way = way; path = path; bytes = []; behind = behind-is Ans.Wait; sent = sent; sends = sends; next = refl; counts = none-more }
+          record { way = way; path = path; bytes = []; behind = behind-is Ans.Wait; sent = sent; sends = sends; next = refl; stores_none = refl; counts = none-more }
       write-puts alone Ans.End few =
-          record { way = way; path = path; bytes = []; behind = behind-is Ans.End; sent = sent; sends = sends; next = refl; counts = none-left }
+          record { way = way; path = path; bytes = []; behind = behind-is Ans.End; sent = sent; sends = sends; next = refl; stores_none = refl; counts = none-left }
       write-puts alone Ans.NoReader few =
-          record { way = way; path = path; bytes = []; behind = behind-is Ans.NoReader; sent = sent; sends = sends; next = refl; counts = none-left }
+          record { way = way; path = path; bytes = []; behind = behind-is Ans.NoReader; sent = sent; sends = sends; next = refl; stores_none = refl; counts = none-left }
 
 -- ---- on any pipe
 
+term-pipe : (terminal n : ℕ) → Term terminal ≡ Pipe n → ⊥
+term-pipe terminal n is = cc
+
+abbrev pipe_in_target : Target → ℕ
+pipe_in_target (File drive sector) = 0
+pipe_in_target (Folder drive sector) = 0
+pipe_in_target (Term terminal) = 0
+pipe_in_target (Pipe pipe) = pipe
+
+pipe-in : (m n : ℕ) → Pipe m ≡ Pipe n → m ≡ n
+pipe-in m n is = ap pipe_in_target is
+
 module _ (call : IoCall) (caller : Caller) (io : Io) (n : ℕ) where
   -- bytes of another pipe change
-  other-held : (pipe : ℕ) (bytes : List ℕ) → n ≢ pipe → held_bytes (with_pipe io.pipes pipe bytes) n ≡ held_bytes io.pipes n
-  other-held pipe bytes apart =
-      ap (λ (place : Option (List ℕ)). unwrap_or place []) (get_or-set_other io.pipes pipe n (Some bytes) None apart)
+  other-held : (pipe : ℕ) (bytes : List ℕ) → n ≢ pipe → pipe_of (with_pipe io.pipes pipe bytes) n ≡ pipe_of io.pipes n
+  other-held pipe bytes apart = get_or-set_other io.pipes pipe n (Some bytes) None apart
 
   -- the process has a path on what it reads or writes
   abbrev HasPath : Target → Type 0
   HasPath target =
       (opened : OpenPath) × (open_path io caller.process.0 (path_number call caller.regs) ≡ Some opened) × (opened.desc.target ≡ target)
+
+  one-target : (one other : Target) → HasPath one → HasPath other → one ≡ other
+  one-target one other (a, named, on) (b, too, at) =
+      sym on ∙ ap (λ (opened : OpenPath). opened.desc.target) (same_Some a b (sym named ∙ too)) ∙ at
+
+  -- an attempt on a terminal is on no pipe
+  on-terminal : (terminal : ℕ) → HasPath (Term terminal) → HasPath (Pipe n) → ⊥
+  on-terminal terminal path on = term-pipe terminal n (one-target (Term terminal) (Pipe n) path on)
+
+  -- what leaves the pipes but another one
+  passes-same : (effect : IoEffect) → pipe_of effect.io.pipes n ≡ pipe_of io.pipes n → ((way : Direction) → direction_of_call call ≡ Some way → OnPipe call caller io n → MovesNone caller effect.end × (effect.bytes ≡ [])) → Becomes call caller io n effect
+  passes-same effect same ends = record {
+    moved =
+        λ lives still. inl (record { held = ap (λ (place : Option (List ℕ)). unwrap_or place []) same; ends = ends });
+    fresh = λ absent. inl (same ∙ absent.none);
+  }
+
+  -- an attempt on another pipe
+  passes-apart : (effect : IoEffect) (pipe : ℕ) → HasPath (Pipe pipe) → n ≢ pipe → pipe_of effect.io.pipes n ≡ pipe_of io.pipes n → Becomes call caller io n effect
+  passes-apart effect pipe path apart same =
+      passes-same effect same (λ way is on. absurd (apart (pipe-in n pipe (one-target (Pipe n) (Pipe pipe) on path))))
+
+  -- an attempt on this one
+  passes-here : (effect : IoEffect) (pipe : ℕ) → n ≡ pipe → HasPath (Pipe pipe) → (IsPipe io.pipes n → Moved call caller io n effect) → Becomes call caller io n effect
+  passes-here effect pipe same path moves = record {
+    moved = λ lives still. moves lives;
+    fresh =
+        λ absent. absurd (absent.unused (path_number call caller.regs) path.0 path.1 (path.2 ∙ ap Pipe (sym same)));
+  }
 
   takes-here : (kind : ReadKind) → direction_of_call call ≡ Some Reading → ((moved : ℕ) → stored_from call caller.regs moved ≡ stored_by kind caller.regs.x moved) → call ≡ read_call kind → (now : Kept) → now.moved ≡ moved_before io caller.process.0 → HasPath (Pipe n) → IsPipe io.pipes n → Takes call caller io n (pipe_read kind caller io n now)
   takes-here Bytes way at is now moved path lives =
@@ -371,17 +459,19 @@ module _ (call : IoCall) (caller : Caller) (io : Io) (n : ℕ) where
   read-moves : (kind : ReadKind) → direction_of_call call ≡ Some Reading → ((moved : ℕ) → stored_from call caller.regs moved ≡ stored_by kind caller.regs.x moved) → call ≡ read_call kind → (now : Kept) → now.moved ≡ moved_before io caller.process.0 → (target : Target) → HasPath target → StepMoves call caller io n (reads_target kind caller io now target)
   read-moves kind way at is now moved (File drive sector) path = tt
   read-moves kind way at is now moved (Folder drive sector) path = tt
-  read-moves kind way at is now moved (Term terminal) path = tt
-  read-moves kind way at is now moved (Pipe pipe) path = λ lives still. by_place lives (cases_eq n pipe)
+  read-moves kind way at is now moved (Term terminal) path = λ on. on-terminal terminal path on
+  read-moves kind way at is now moved (Pipe pipe) path = by_place (cases_eq n pipe)
     where
-      apart-held : (kind : ReadKind) → n ≢ pipe → pipe_bytes (pipe_read kind caller io pipe now).io n ≡ pipe_bytes io n
+      apart-held : (kind : ReadKind) → n ≢ pipe → pipe_of (pipe_read kind caller io pipe now).io.pipes n ≡ pipe_of io.pipes n
       apart-held Bytes apart = other-held pipe _ apart
       apart-held WholeLine apart = other-held pipe _ apart
 
-      by_place : IsPipe io.pipes n → (n ≡ pipe) ⊎ (n ≢ pipe) → Moved call caller io n (pipe_read kind caller io pipe now)
-      by_place lives (inl same) =
-          inr (inl (subst (λ (m : ℕ). Takes call caller io n (pipe_read kind caller io m now)) same (takes-here kind way at is now moved (subst (λ (m : ℕ). HasPath (Pipe m)) (sym same) path) lives)))
-      by_place lives (inr apart) = inl (apart-held kind apart)
+      by_place : (n ≡ pipe) ⊎ (n ≢ pipe) → Becomes call caller io n (pipe_read kind caller io pipe now)
+      by_place (inl same) =
+          passes-here (pipe_read kind caller io pipe now) pipe same path
+          (λ lives. inr (inl (subst (λ (m : ℕ). Takes call caller io n (pipe_read kind caller io m now)) same (takes-here kind way at is now moved (subst (λ (m : ℕ). HasPath (Pipe m)) (sym same) path) lives))))
+      by_place (inr apart) =
+          passes-apart (pipe_read kind caller io pipe now) pipe path apart (apart-held kind apart)
 
   -- what a write sends is what its call sends
   puts-here : (sending : Sending) (sent : List ℕ) → direction_of_call call ≡ Some Writing → sent_by call caller io ≡ Some sent → sending.bytes ≡ sent → sending.regs ≡ write_answers call caller (length sent) → (now : Kept) → now.count ≡ in_all io caller.process.0 (length sent) → now.moved ≡ moved_before io caller.process.0 → HasPath (Pipe n) → IsPipe io.pipes n → Puts call caller io n (writes_pipe io n now (is_alone io caller.process.0 now.path.0 Writing) sending.bytes sending.regs)
@@ -393,13 +483,15 @@ module _ (call : IoCall) (caller : Caller) (io : Io) (n : ℕ) where
   write-moves : (sending : Sending) (sent : List ℕ) → direction_of_call call ≡ Some Writing → sent_by call caller io ≡ Some sent → sending.bytes ≡ sent → sending.regs ≡ write_answers call caller (length sent) → (now : Kept) → now.count ≡ in_all io caller.process.0 (length sent) → now.moved ≡ moved_before io caller.process.0 → (target : Target) → HasPath target → StepMoves call caller io n (writes_target sending caller io now target)
   write-moves sending sent way sends bytes_are answered now all moved (File drive sector) path = tt
   write-moves sending sent way sends bytes_are answered now all moved (Folder drive sector) path = tt
-  write-moves sending sent way sends bytes_are answered now all moved (Term terminal) path = tt
-  write-moves sending sent way sends bytes_are answered now all moved (Pipe pipe) path = λ lives still. by_place lives (cases_eq n pipe)
+  write-moves sending sent way sends bytes_are answered now all moved (Term terminal) path = λ on. on-terminal terminal path on
+  write-moves sending sent way sends bytes_are answered now all moved (Pipe pipe) path = by_place (cases_eq n pipe)
     where
-      by_place : IsPipe io.pipes n → (n ≡ pipe) ⊎ (n ≢ pipe) → Moved call caller io n (writes_pipe io pipe now (is_alone io caller.process.0 now.path.0 Writing) sending.bytes sending.regs)
-      by_place lives (inl same) =
-          inr (inr (subst (λ (m : ℕ). Puts call caller io n (writes_pipe io m now (is_alone io caller.process.0 now.path.0 Writing) sending.bytes sending.regs)) same (puts-here sending sent way sends bytes_are answered now all moved (subst (λ (m : ℕ). HasPath (Pipe m)) (sym same) path) lives)))
-      by_place lives (inr apart) = inl (other-held pipe _ apart)
+      by_place : (n ≡ pipe) ⊎ (n ≢ pipe) → Becomes call caller io n (writes_pipe io pipe now (is_alone io caller.process.0 now.path.0 Writing) sending.bytes sending.regs)
+      by_place (inl same) =
+          passes-here (writes_pipe io pipe now (is_alone io caller.process.0 now.path.0 Writing) sending.bytes sending.regs) pipe same path
+          (λ lives. inr (inr (subst (λ (m : ℕ). Puts call caller io n (writes_pipe io m now (is_alone io caller.process.0 now.path.0 Writing) sending.bytes sending.regs)) same (puts-here sending sent way sends bytes_are answered now all moved (subst (λ (m : ℕ). HasPath (Pipe m)) (sym same) path) lives))))
+      by_place (inr apart) =
+          passes-apart (writes_pipe io pipe now (is_alone io caller.process.0 now.path.0 Writing) sending.bytes sending.regs) pipe path apart (other-held pipe _ apart)
 
   -- ---- reads and writes
 
@@ -417,21 +509,22 @@ module _ (call : IoCall) (caller : Caller) (io : Io) (n : ℕ) where
       by_path None is = tt
       by_path (Some opened) is = by_mode opened is (is_allowed opened.desc.mode)
 
-  nothing-moves : (nothing : Bool) (next : IoStep) → Through next → Through (if nothing then done caller.regs io else next)
-  nothing-moves true next moves = λ lives still. inl refl
-  nothing-moves false next moves = moves
+  nothing-moves : (nothing : Bool) → (caller.regs.y == 0) ≡ nothing → (next : IoStep) → Through next → Through (if nothing then done caller.regs io else next)
+  nothing-moves true none next moves =
+      passes-same (leaves (answers caller.regs) io) refl (λ way is on. ((eqb-true caller.regs.y 0 none, refl), refl))
+  nothing-moves false none next moves = moves
 
   read-through : (kind : ReadKind) (code : ℕ) → caller.regs.a ≡ path_number call caller.regs → direction_of_call call ≡ Some Reading → ((moved : ℕ) → stored_from call caller.regs moved ≡ stored_by kind caller.regs.x moved) → call ≡ read_call kind → (is_missing : Bool) → Through (refuses is_missing E_BPADDR (on_path caller io caller.regs.a can_read (λ opened. unless_nothing caller io (reads_target kind caller io (call_now caller io code opened caller.regs.y) opened.desc.target))))
   read-through kind code named way at is true = tt
   read-through kind code named way at one false =
       path-moves caller.regs.a can_read (λ opened. unless_nothing caller io (reads_target kind caller io (call_now caller io code opened caller.regs.y) opened.desc.target))
-      (λ opened is. nothing-moves (caller.regs.y == 0) (reads_target kind caller io (call_now caller io code opened caller.regs.y) opened.desc.target) (read-moves kind way at one (call_now caller io code opened caller.regs.y) (now-moved caller io code caller.regs.y opened) opened.desc.target (opened, ap (open_path io caller.process.0) (sym named) ∙ is, refl)))
+      (λ opened is. nothing-moves (caller.regs.y == 0) refl (reads_target kind caller io (call_now caller io code opened caller.regs.y) opened.desc.target) (read-moves kind way at one (call_now caller io code opened caller.regs.y) (now-moved caller io code caller.regs.y opened) opened.desc.target (opened, ap (open_path io caller.process.0) (sym named) ∙ is, refl)))
 
   send-through : (sending : List ℕ → Sending) (code : ℕ) → caller.regs.a ≡ path_number call caller.regs → direction_of_call call ≡ Some Writing → ((bytes : List ℕ) → (sending bytes).bytes ≡ bytes) → ((bytes : List ℕ) → (sending bytes).regs ≡ write_answers call caller (length bytes)) → (bytes : Option (List ℕ)) → sent_by call caller io ≡ bytes → Through (needs bytes E_BPADDR (λ bytes. on_path caller io caller.regs.a can_write (λ opened. unless_nothing caller io (sends_on (sending bytes) code caller io opened))))
   send-through sending code named way same regs None sends = tt
   send-through sending code named way same regs (Some bytes) sends =
       path-moves caller.regs.a can_write (λ opened. unless_nothing caller io (sends_on (sending bytes) code caller io opened))
-      (λ opened is. nothing-moves (caller.regs.y == 0) (sends_on (sending bytes) code caller io opened) (write-moves (sending bytes) bytes way sends (same bytes) (regs bytes) (call_now caller io code opened (length (sending bytes).bytes)) (now-count caller io code opened (length (sending bytes).bytes) ∙ ap (λ (bytes : List ℕ). in_all io caller.process.0 (length bytes)) (same bytes)) (now-moved caller io code (length (sending bytes).bytes) opened) opened.desc.target (opened, ap (open_path io caller.process.0) (sym named) ∙ is, refl)))
+      (λ opened is. nothing-moves (caller.regs.y == 0) refl (sends_on (sending bytes) code caller io opened) (write-moves (sending bytes) bytes way sends (same bytes) (regs bytes) (call_now caller io code opened (length (sending bytes).bytes)) (now-count caller io code opened (length (sending bytes).bytes) ∙ ap (λ (bytes : List ℕ). in_all io caller.process.0 (length bytes)) (same bytes)) (now-moved caller io code (length (sending bytes).bytes) opened) opened.desc.target (opened, ap (open_path io caller.process.0) (sym named) ∙ is, refl)))
 
   error-through : STANDARD_ERROR ≡ path_number call caller.regs → direction_of_call call ≡ Some Writing → sent_by call caller io ≡ Some (error_line caller.regs.b) → caller.regs ≡ write_answers call caller (length (error_line caller.regs.b)) → Through (f_perr caller io)
   error-through named way sends regs =
@@ -440,71 +533,89 @@ module _ (call : IoCall) (caller : Caller) (io : Io) (n : ℕ) where
 
   -- ---- calls that move no byte
 
-  dup-through : (path : Option SysPath) (free : Option ℕ) → Through (needs path E_BPNUM (λ path. needs free E_PTHFUL (λ number. done (record caller.regs { a = number }) (with_paths io (paths_after_dup io.paths caller.process.0 caller.regs.a)))))
-  dup-through None free = tt
-  dup-through (Some path) None = tt
-  dup-through (Some path) (Some number) = λ lives still. inl refl
+  module _ (quiet : direction_of_call call ≡ None) where
+    quiet-ends : (effect : IoEffect) (way : Direction) → direction_of_call call ≡ Some way → OnPipe call caller io n → MovesNone caller effect.end × (effect.bytes ≡ [])
+    quiet-ends effect way is on = absurd (none-some way (sym quiet ∙ is))
 
-  close-through : (path : Option SysPath) → Through (needs path E_BPNUM (λ path. done caller.regs (after_close io caller.process.0 caller.regs.a)))
-  close-through None = tt
-  close-through (Some path) = λ lives still. inl (left-held n io (after_close io caller.process.0 caller.regs.a) (closed-left n io caller.process.0 caller.regs.a) still)
+    quiet-done : (regs : Regs) (new : Io) → pipe_of new.pipes n ≡ pipe_of io.pipes n → Becomes call caller io n (leaves (answers regs) new)
+    quiet-done regs new same = passes-same (leaves (answers regs) new) same (quiet-ends (leaves (answers regs) new))
 
-  module _ (list : PathList) where
-    begins-through : (before : Io) (desc : Desc) (number : Option ℕ) → (IsPipe io.pipes n → pipe_bytes before n ≡ pipe_bytes io n) → Through (needs number E_PTHFUL (λ number. done (opened_regs caller.regs list number) (with_paths before (paths_after_begin before.paths caller.process.0 desc))))
-    begins-through before desc None same = tt
-    begins-through before desc (Some number) same = λ lives still. inl (same lives)
+    dup-through : (path : Option SysPath) (free : Option ℕ) → Through (needs path E_BPNUM (λ path. needs free E_PTHFUL (λ number. done (record caller.regs { a = number }) (with_paths io (paths_after_dup io.paths caller.process.0 caller.regs.a)))))
+    dup-through None free = tt
+    dup-through (Some path) None = tt
+    dup-through (Some path) (Some number) =
+        quiet-done (record caller.regs { a = number }) (with_paths io (paths_after_dup io.paths caller.process.0 caller.regs.a)) refl
 
-    pipe-through : (pipe : Option ℕ) → free_pipe io.pipes ≡ pipe → Through (needs pipe E_PTHFUL (λ pipe. begins caller (with_pipes io (pipes_after_begin io.pipes)) list (new_desc (Pipe pipe) caller.regs.a)))
-    pipe-through None free = tt
-    pipe-through (Some pipe) free =
-        begins-through (with_pipes io (pipes_after_begin io.pipes)) (new_desc (Pipe pipe) caller.regs.a) (new_number io.paths caller.process.0) (begun-held io.pipes n pipe free)
+    close-through : (path : Option SysPath) → Through (needs path E_BPNUM (λ path. done caller.regs (after_close io caller.process.0 caller.regs.a)))
+    close-through None = tt
+    close-through (Some path) = record {
+      moved =
+          λ lives still. inl (record { held = left-held n io (after_close io caller.process.0 caller.regs.a) (closed-left n io caller.process.0 caller.regs.a) still; ends = quiet-ends (leaves (answers caller.regs) (after_close io caller.process.0 caller.regs.a)) });
+      fresh =
+          λ absent. left-empty n io (after_close io caller.process.0 caller.regs.a) (closed-left n io caller.process.0 caller.regs.a) absent.none;
+    }
 
-    lead-through : (lead : Lead) → Through (opens_lead caller io list lead)
-    lead-through (to_terminal terminal) =
-        begins-through io (new_desc (Term terminal) caller.regs.a) (new_number io.paths caller.process.0) (λ lives. refl)
-    lead-through to_pipe = pipe-through (free_pipe io.pipes) refl
-    lead-through (nowhere number) = tt
+    module _ (list : PathList) where
+      begins-through : (before : Io) (desc : Desc) (number : Option ℕ) → (IsPipe io.pipes n → pipe_bytes before n ≡ pipe_bytes io n) → (pipe_of io.pipes n ≡ None → StaysEmpty n before) → Through (needs number E_PTHFUL (λ number. done (opened_regs caller.regs list number) (with_paths before (paths_after_begin before.paths caller.process.0 desc))))
+      begins-through before desc None same fresh = tt
+      begins-through before desc (Some number) same fresh = record {
+        moved =
+            λ lives still. inl (record { held = same lives; ends = quiet-ends (leaves (answers (opened_regs caller.regs list number)) (with_paths before (paths_after_begin before.paths caller.process.0 desc))) });
+        fresh = λ absent. fresh absent.none;
+      }
 
-  list-through : (lead : PathList → Lead) (list : Result PathList NameFault) (allowed : Bool) → Through (reads_list list allowed (λ list. opens_lead caller io list (lead list)))
-  list-through lead (Ok list) true = lead-through list (lead list)
-  list-through lead (Ok list) false = tt
-  list-through lead (Err Unreadable) allowed = tt
-  list-through lead (Err NoName) true = tt
-  list-through lead (Err NoName) false = tt
+      pipe-through : (pipe : Option ℕ) → free_pipe io.pipes ≡ pipe → Through (needs pipe E_PTHFUL (λ pipe. begins caller (with_pipes io (pipes_after_begin io.pipes)) list (new_desc (Pipe pipe) caller.regs.a)))
+      pipe-through None free = tt
+      pipe-through (Some pipe) free =
+          begins-through (with_pipes io (pipes_after_begin io.pipes)) (new_desc (Pipe pipe) caller.regs.a) (new_number io.paths caller.process.0) (begun-held io.pipes n pipe free) (begun-empty io.pipes n pipe free)
 
-  options-through : (target : Target) (is_missing : Bool) → Through (refuses is_missing E_BPADDR (comes (stores caller.regs.x (options target) (answers caller.regs) io)))
-  options-through target true = tt
-  options-through target false = λ lives still. inl refl
+      lead-through : (lead : Lead) → Through (opens_lead caller io list lead)
+      lead-through (to_terminal terminal) =
+          begins-through io (new_desc (Term terminal) caller.regs.a) (new_number io.paths caller.process.0) (λ lives. refl) (λ none. inl none)
+      lead-through to_pipe = pipe-through (free_pipe io.pipes) refl
+      lead-through (nowhere number) = tt
 
-  ready-through : (target : Target) (none : Bool) → Through (refuses none E_NOTRDY (done (record caller.regs { b = min 255 (ready_count io target) }) io))
-  ready-through target true = tt
-  ready-through target false = λ lives still. inl refl
+    list-through : (lead : PathList → Lead) (list : Result PathList NameFault) (allowed : Bool) → Through (reads_list list allowed (λ list. opens_lead caller io list (lead list)))
+    list-through lead (Ok list) true = lead-through list (lead list)
+    list-through lead (Ok list) false = tt
+    list-through lead (Err Unreadable) allowed = tt
+    list-through lead (Err NoName) true = tt
+    list-through lead (Err NoName) false = tt
 
-  status-by : (target : Target) (opt ready end : Bool) → Through (if opt then gets_options caller io target else (if ready then gets_ready caller io target else (if end then gets_end caller io target else refused E_UNKSVC)))
-  status-by target true ready end = options-through target (is_none (user_bytes caller.cells caller.regs.x OPTION_BYTES))
-  status-by target false true end = ready-through target (ready_count io target == 0)
-  status-by target false false true = λ lives still. inl refl
-  status-by target false false false = tt
+    options-through : (target : Target) (is_missing : Bool) → Through (refuses is_missing E_BPADDR (comes (stores caller.regs.x (options target) (answers caller.regs) io)))
+    options-through target true = tt
+    options-through target false =
+        passes-same (stores caller.regs.x (options target) (answers caller.regs) io) refl (quiet-ends (stores caller.regs.x (options target) (answers caller.regs) io))
 
-  get-through : (opened : Option OpenPath) → Through (needs opened E_BPNUM (λ opened. gets_status caller io opened.desc.target caller.regs.b))
-  get-through None = tt
-  get-through (Some opened) =
-      status-by opened.desc.target (caller.regs.b == SS_OPT) (caller.regs.b == SS_READY) (caller.regs.b == SS_EOF)
+    ready-through : (target : Target) (none : Bool) → Through (refuses none E_NOTRDY (done (record caller.regs { b = min 255 (ready_count io target) }) io))
+    ready-through target true = tt
+    ready-through target false = quiet-done (record caller.regs { b = min 255 (ready_count io target) }) io refl
 
-  set-through : (opened : Option OpenPath) → Through (needs opened E_BPNUM (λ opened. refused E_UNKSVC))
-  set-through None = tt
-  set-through (Some opened) = tt
+    status-by : (target : Target) (opt ready end : Bool) → Through (if opt then gets_options caller io target else (if ready then gets_ready caller io target else (if end then gets_end caller io target else refused E_UNKSVC)))
+    status-by target true ready end = options-through target (is_none (user_bytes caller.cells caller.regs.x OPTION_BYTES))
+    status-by target false true end = ready-through target (ready_count io target == 0)
+    status-by target false false true = quiet-done (record caller.regs { b = 0 }) io refl
+    status-by target false false false = tt
+
+    get-through : (opened : Option OpenPath) → Through (needs opened E_BPNUM (λ opened. gets_status caller io opened.desc.target caller.regs.b))
+    get-through None = tt
+    get-through (Some opened) =
+        status-by opened.desc.target (caller.regs.b == SS_OPT) (caller.regs.b == SS_READY) (caller.regs.b == SS_EOF)
+
+    set-through : (opened : Option OpenPath) → Through (needs opened E_BPNUM (λ opened. refused E_UNKSVC))
+    set-through None = tt
+    set-through (Some opened) = tt
 
 -- what an attempt of each call moves
 pub step-moves : (call : IoCall) (caller : Caller) (io : Io) (n drives terms : ℕ) → StepMoves call caller io n (io_step call caller io drives terms)
 step-moves Call.Dup caller io n drives terms =
-    dup-through Call.Dup caller io n (slot_of io.paths caller.process.0 caller.regs.a) (free_number io.paths caller.process.0)
+    dup-through Call.Dup caller io n refl (slot_of io.paths caller.process.0 caller.regs.a) (free_number io.paths caller.process.0)
 step-moves Call.Create caller io n drives terms =
-    list-through Call.Create caller io n (λ list. lead_of a_new_place drives terms list) (path_list caller.cells caller.regs.x) (can_write caller.regs.a)
+    list-through Call.Create caller io n refl (λ list. lead_of a_new_place drives terms list) (path_list caller.cells caller.regs.x) (can_write caller.regs.a)
 step-moves Call.Open caller io n drives terms =
-    list-through Call.Open caller io n (λ list. lead_of what_is_there drives terms list) (path_list caller.cells caller.regs.x) (is_mode caller.regs.a)
+    list-through Call.Open caller io n refl (λ list. lead_of what_is_there drives terms list) (path_list caller.cells caller.regs.x) (is_mode caller.regs.a)
 step-moves Call.Close caller io n drives terms =
-    close-through Call.Close caller io n (slot_of io.paths caller.process.0 caller.regs.a)
+    close-through Call.Close caller io n refl (slot_of io.paths caller.process.0 caller.regs.a)
 step-moves Call.Read caller io n drives terms =
     read-through Call.Read caller io n Bytes I_READ refl refl (λ moved. refl) refl (is_none (user_bytes caller.cells caller.regs.x caller.regs.y))
 step-moves Call.ReadLn caller io n drives terms =
@@ -514,7 +625,7 @@ step-moves Call.Write caller io n drives terms =
 step-moves Call.WritLn caller io n drives terms =
     send-through Call.WritLn caller io n (sent_line caller) I_WRITLN refl refl (λ bytes. refl) (λ bytes. refl) (line_bytes caller (kept_at io caller.process.0)) refl
 step-moves Call.GetStt caller io n drives terms =
-    get-through Call.GetStt caller io n (open_path io caller.process.0 caller.regs.a)
+    get-through Call.GetStt caller io n refl (open_path io caller.process.0 caller.regs.a)
 step-moves Call.SetStt caller io n drives terms =
-    set-through Call.SetStt caller io n (open_path io caller.process.0 caller.regs.a)
+    set-through Call.SetStt caller io n refl (open_path io caller.process.0 caller.regs.a)
 step-moves Call.PErr caller io n drives terms = error-through Call.PErr caller io n refl refl refl refl

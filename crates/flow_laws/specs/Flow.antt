@@ -1,5 +1,5 @@
 -- What events move through a pipe (Level Two manual, "Pipes").
-use Rattle.std.specs.Prelude.{◌≡◌, ◌≢◌, ◌⊎◌, ℕ, ◌+◌, ◌-◌, ◌<◌, Option, Some, None, List, [], ◌∷◌, ◌++◌, length, map, take, drop}
+use Rattle.std.specs.Prelude.{◌≡◌, ◌≢◌, ℕ, ⊤, ◌+◌, ◌-◌, ◌<◌, Option, Some, None, List, [], ◌∷◌, ◌++◌, length, map, take, drop}
 use Rattle.std.specs.List.{AllByRecursion, filter_map, flat_map}
 use Rattle.std.specs.Option.{option_map_or}
 use Rattle.os9_base.specs.declared.calls.TheConstants.{I_READ}
@@ -10,7 +10,7 @@ use Rattle.call_rules.specs.Delivery.{frame_bytes, stack_top}
 use Rattle.call_rules.specs.Inner.{Inner, regs_at}
 use Rattle.call_rules.specs.Ready.{attempts, delivers, act_of}
 use Rattle.call_rules.specs.UserBytes.{user_bytes}
-use Rattle.io_model.specs.Pipe.{Flows, IsPipe, Movement, In, Out, came_in, went_out}
+use Rattle.io_model.specs.Pipe.{Flows, IsPipe, Movement, In, Out, came_in, pipe_of, went_out}
 use Rattle.io_model.specs.declared.kept.Kept.{Kept}
 use Rattle.io_model.specs.declared.path.Target.TheVariants.{Pipe}
 use Rattle.io_rules.specs.Again.{path_number}
@@ -86,6 +86,13 @@ WriteCounts call caller io sent count (fails number) =
     → moved_before io caller.process.0 + count ≢ in_all io caller.process.0 (length sent)
 WriteCounts call caller io sent count (keeps kept) = kept.moved ≡ moved_before io caller.process.0 + count
 
+-- An attempt on a pipe that moves no byte of it ends so: it is refused; or its call asks for none, and is done at once,
+-- with the registers that it was made with. F$PErr always sends a line.
+abbrev pub MovesNone : Caller → IoEnd → Type 0
+MovesNone caller (answers regs) = (caller.regs.y ≡ 0) × (regs ≡ caller.regs)
+MovesNone caller (fails number) = ⊤
+MovesNone caller (keeps kept) = ⊥
+
 -- an attempt of a process that ends in this way leads to this state
 pub record EndsIn (s : State) (p : ℕ) (Counts : IoEnd → Type 0) (t : State) : Type 0 where
   pub effect : IoEffect
@@ -100,8 +107,8 @@ pub record TakesOut (n : ℕ) (s : State) (bytes : List ℕ) (t : State) : Type 
   pub call : IoCall
   pub attempt : AttemptsOn s process n call Reading
   pub front : pipe_bytes s.io n ≡ bytes ++ pipe_bytes t.io n
-  pub seen : (bytes ≡ []) ⊎ (t.inner.memory ≡ stored s.inner.memory process
-      (stored_from call (regs_at s.inner process) (moved_before s.io process)) bytes)
+  pub seen : t.inner.memory
+      ≡ stored s.inner.memory process (stored_from call (regs_at s.inner process) (moved_before s.io process)) bytes
   pub counts : EndsIn s process (ReadCounts call (caller_of s.inner process) s.io (length bytes)) t
 
 -- a write puts bytes into a pipe, at its end: the next ones of those that its process sends
@@ -114,13 +121,20 @@ pub record PutsIn (n : ℕ) (s : State) (bytes : List ℕ) (t : State) : Type 0 
   pub sent : List ℕ
   pub sends : sent_by call (caller_of s.inner process) s.io ≡ Some sent
   pub next : bytes ≡ take (length bytes) (drop (moved_before s.io process) sent)
+  pub memory : t.inner.memory ≡ s.inner.memory
   pub counts : EndsIn s process (WriteCounts call (caller_of s.inner process) s.io sent (length bytes)) t
 
 -- ---- events
 
+-- an event leaves a pipe as it is; if it is an attempt of a call on it, that moves no byte, and stores none
+pub record LeavesPipe (n : ℕ) (s t : State) : Type 0 where
+  pub held : pipe_bytes t.io n ≡ pipe_bytes s.io n
+  pub attempt : (p : ℕ) (call : IoCall) (way : Direction) → s.chosen ≡ Some p → AttemptsOn s p n call way
+      → EndsIn s p (MovesNone (caller_of s.inner p)) t × (t.inner.memory ≡ s.inner.memory)
+
 -- an event moves this through a pipe, or leaves it as it is
 abbrev pub MovesThrough : ℕ → State → Option Movement → State → Type 0
-MovesThrough n s None t = pipe_bytes t.io n ≡ pipe_bytes s.io n
+MovesThrough n s None t = LeavesPipe n s t
 MovesThrough n s (Some (In bytes)) t = PutsIn n s bytes t
 MovesThrough n s (Some (Out bytes)) t = TakesOut n s bytes t
 
@@ -135,6 +149,13 @@ pub record Passing : Type 0 where
 
 abbrev pub IsPassing : ℕ → Passing → Type 0
 IsPassing n it = (end : EventEnd) × Event it.before end it.after × MovesThrough n it.before it.moved it.after
+
+-- a pipe is there after an event, and was not there before; then no path of a process was opened on it
+pub record IsNew (n : ℕ) (s t : State) : Type 0 where
+  pub absent : pipe_of s.io.pipes n ≡ None
+  pub unused : (p number : ℕ) (opened : OpenPath) → open_path s.io p number ≡ Some opened
+      → opened.desc.target ≢ Pipe n
+  pub lives : IsPipe t.io.pipes n
 
 -- ---- signals
 

@@ -1,22 +1,24 @@
 //! Pipes over a run: what is read is what was written, in order.
 
-ghost use Rattle.std.specs.Prelude.{◌≡◌, ◌⊎◌, ℕ, List, ◌++◌};
+ghost use Rattle.std.specs.Prelude.{◌≡◌, ◌⊎◌, ℕ, List, [], ◌++◌};
 ghost use Rattle.io_model.specs.Pipe.{IsPipe};
 ghost use Rattle.io_model.specs.declared.kept.Kept.{Kept};
+ghost use Rattle.io_rules.specs.Io.{pipe_bytes};
 ghost use Rattle.machine_model.specs.declared.ends.EventEnd.{EventEnd};
 ghost use Rattle.machine_model.specs.declared.ends.EventEnd.TheVariants.{Ended};
 ghost use Rattle.machine_model.specs.declared.ends.SliceEnd.{SliceEnd};
 ghost use Rattle.machine_model.specs.Event.{Event};
 ghost use Rattle.machine_model.specs.Run.{BeginsSlice, FirstSteps, Run, Slice, Steps};
 ghost use Rattle.machine_model.specs.State.{State};
-ghost use Rattle.flow_laws.specs.Flow.{AllLive, IsBrokenOff, Passes, PassesThrough, TellsMoved};
+ghost use Rattle.flow_laws.specs.Flow.{AllLive, IsBrokenOff, IsNew, Passes, PassesThrough, TellsMoved};
 
 /// While a pipe lives, an event moves bytes into it or out of it only as an attempt of a call on it
 /// does: a read takes them from its front and stores them where its process sees them, and a write
 /// puts them in at its end, which are the next ones of those that its process sends. A call that is
-/// done answers how many they were, and a read that is refused took none. Where a signal breaks off
-/// a line read or a write that waits, the routine of the process finds in Y of its frame how many
-/// bytes the call has moved.
+/// done answers how many they were, and a read that is refused took none. Each attempt on the pipe
+/// that is neither is refused, or asks for no byte. Where a signal breaks off a line read or a
+/// write that waits, the routine of the process finds in Y of its frame how many bytes the call has
+/// moved.
 pub fn what_is_read_of_a_pipe_is_what_was_written()
     ensures event { (s t : State) (end : EventEnd) (n : ℕ) → Event s end t → IsPipe s.io.pipes n
         → IsPipe t.io.pipes n → Passes n s t }
@@ -28,6 +30,12 @@ pub fn what_is_read_of_a_pipe_is_what_was_written()
     ensures run { (slices written : List ℕ) (s t : State) (states : List State) (n : ℕ)
         → Run slices s states written t → IsPipe s.io.pipes n → AllLive n states
         → PassesThrough n s states t }
+{}
+
+/// A pipe that an event opens holds no byte after it.
+pub fn a_new_pipe_is_empty()
+    ensures { (s t : State) (end : EventEnd) (n : ℕ) → Event s end t → IsNew n s t
+        → pipe_bytes t.io n ≡ [] }
 {}
 
 /// A pipe may be opened by an event of a slice, and go with another one. So what passes through it
