@@ -21,7 +21,7 @@ use Rattle.call_rules.specs.Delivery.{delivered}
 use Rattle.call_rules.specs.Inner.{Inner, regs_at}
 use Rattle.call_rules.specs.Ready.{Act, attempts, delivers, executes, act_of}
 use Rattle.io_model.specs.Edit.{Edited, Editing, Typing, after_key, cleared, goes_on, typing, used_up}
-use Rattle.io_model.proofs.EditLemmas.{typing-append, uses-front}
+use Rattle.io_model.proofs.EditLemmas.{typing-append, uses-all, uses-front}
 use Rattle.io_model.specs.Path.{closed_desc, paths_after_close, slot_of}
 use Rattle.io_model.specs.Terminal.{Terminal, Attempted, BreaksOff, Reads, Writes, attempt_by, forgotten, is_process, is_taken, key_effect, kept_waiting, new_terminal, read_attempt, reader, released, stored_bytes, typed, typed_attempt, without_reading}
 use Rattle.io_model.specs.declared.edit.LineEnd.{LineEnd}
@@ -33,6 +33,7 @@ use Rattle.io_model.specs.declared.path.Target.TheVariants.{File, Folder, Term, 
 use Rattle.io_model.specs.declared.path.TheConstants.{PROCESS_PATHS}
 use Rattle.io_model.specs.declared.terminal.Progress.{Progress}
 use Rattle.io_model.specs.declared.terminal.ReadKind.{ReadKind}
+use Rattle.io_model.specs.declared.terminal.ReadKind.TheVariants.{Bytes, WholeLine}
 use Rattle.io_model.specs.declared.terminal.Reading.{Reading}
 use Rattle.io_rules.specs.Attempts.{Does, IoAttempts, caller_of, result_by, step_of}
 use Rattle.io_rules.specs.Close.{after_close, without_path, without_target}
@@ -44,6 +45,7 @@ use Rattle.io_rules.specs.Step.{Caller, IoEffect, IoEnd, IoStep, answers, fails,
 use Rattle.io_rules.specs.Terminals.{ReadsTerminal, read_ends, read_leaves, request_of, write_ends}
 use Rattle.io_rules.specs.Waiting.{io_interrupted, pid, wait_target, without_unfinished}
 use Rattle.io_rules.specs.declared.io_call.Direction.TheVariants.{Writing}
+use Rattle.io_rules.specs.declared.io_call.Direction.TheVariants as Way
 use Rattle.io_rules.specs.declared.io_call.IoCall.{IoCall}
 use Rattle.machine_model.specs.declared.ends.EventEnd.{EventEnd}
 use Rattle.machine_model.specs.declared.ends.EventEnd.TheVariants.{Ended, Ran, Waits}
@@ -51,8 +53,9 @@ use Rattle.machine_model.specs.Event.{Acts, Event, before_delivery, call_event_e
 use Rattle.machine_model.specs.State.{State}
 use Rattle.isolation_laws.proofs.StepWalk.{StepGives, step-gives}
 use Rattle.flow_laws.specs.Flow.{EndsIn}
-use Rattle.flow_laws.specs.Keys.{DropsLine, EventKeys, HasAhead, KeyMove, LineGoes, LineStays, ReadEnds, ReaderStops, StopsReading, WriteFails, ahead_at, keys_to_come, read_call, reading_of, stay, use_up}
-use Rattle.flow_laws.proofs.KeyReads.{IsReadOn, StepReads, step-reads}
+use Rattle.flow_laws.specs.Keys.{DropsLine, EventKeys, HasAhead, KeyMove, LineGoes, LineStays, ReadEnds, ReaderStops, ReadsFrom, StopsReading, UsesNone, WriteFails, ahead_at, keys_to_come, read_call, reading_of, stay, use_up}
+use Rattle.flow_laws.proofs.CallCodes.{AttemptsNone, none-delivering, none-executing, none-of-path, none-of-process, same-code}
+use Rattle.flow_laws.proofs.KeyReads.{IsReadOn, ReadsOn, StepReads, one-target, step-reads}
 use Rattle.flow_laws.proofs.KeyWrites.{OnTerminal, StepWrites, step-writes}
 
 -- ---- one terminal of many
@@ -240,7 +243,7 @@ Ends Fails caller made request new bytes (answers regs) =
 Ends Fails caller made request new bytes (fails number) =
     ((made.end ≡ Some EndOfFile) × (number ≡ E_EOF) ⊎ (number ≡ E_WRITE) × Fails) × LineGoes made.line new
 Ends Fails caller made request new bytes (keeps kept) =
-    (made.end ≡ None) × (new.line ≡ made.line) × (new.reading ≡ Some request) × (bytes ≡ [])
+    (made.end ≡ None) × (new.line ≡ made.line) × (new.reading ≡ Some request) × (new.ahead ≡ []) × (bytes ≡ [])
 
 -- an attempt of a read uses these keys
 record Uses (Fails : Type 0) (caller : Caller) (request : Reading) (old new : Terminal) (keys bytes : List ℕ) (end : IoEnd) : Type 0 where
@@ -291,14 +294,14 @@ module _ (Fails : Type 0) (caller : Caller) (read : TerminalRead) (old new : Ter
   asked = request_of caller read
 
   -- by how the line ended
-  over-ends : (full made : Typing) (bytes : List ℕ) → made ≡ used_up full → (over : Option LineEnd) → full.end ≡ over → read_ends caller read (attempt_by over full asked).answer ≡ Some end → new ≡ (attempt_by over full asked).terminal → bytes ≡ (attempt_by over full asked).stored → Ends Fails caller made asked new bytes end
-  over-ends full made bytes is None over answered at stores_them =
+  over-ends : (full made : Typing) (bytes : List ℕ) → made ≡ used_up full → (full.end ≡ None → full.left ≡ []) → (over : Option LineEnd) → full.end ≡ over → read_ends caller read (attempt_by over full asked).answer ≡ Some end → new ≡ (attempt_by over full asked).terminal → bytes ≡ (attempt_by over full asked).stored → Ends Fails caller made asked new bytes end
+  over-ends full made bytes is all None over answered at stores_them =
       subst (Ends Fails caller made asked new bytes) (same_Some (keeps read.call) end answered)
-      (ap (λ (it : Typing). it.end) is ∙ over, ap (λ (t : Terminal). t.line) at ∙ sym (ap (λ (it : Typing). it.line) is), ap (λ (t : Terminal). t.reading) at, stores_them)
-  over-ends full made bytes is (Some EndOfFile) over answered at stores_them =
+      (ap (λ (it : Typing). it.end) is ∙ over, ap (λ (t : Terminal). t.line) at ∙ sym (ap (λ (it : Typing). it.line) is), ap (λ (t : Terminal). t.reading) at, ap (λ (t : Terminal). t.ahead) at ∙ all over, stores_them)
+  over-ends full made bytes is all (Some EndOfFile) over answered at stores_them =
       subst (Ends Fails caller made asked new bytes) (same_Some (fails E_EOF) end answered)
       (inl (ap (λ (it : Typing). it.end) is ∙ over, refl), record { line = ap (λ (t : Terminal). t.line) at ∙ sym (ap (λ (it : Typing). cleared it.line) is); reading = ap (λ (t : Terminal). t.reading) at })
-  over-ends full made bytes is (Some Line) over answered at stores_them =
+  over-ends full made bytes is all (Some Line) over answered at stores_them =
       subst (Ends Fails caller made asked new bytes) (same_Some (answers (count_regs caller (length full.line.bytes))) end answered)
       (ap (λ (it : Typing). it.end) is ∙ over, ap (λ (it : Typing). count_regs caller (length it.line.bytes)) (sym is), stores_them ∙ ap (λ (it : Typing). it.line.bytes) (sym is), record { line = ap (λ (t : Terminal). t.line) at ∙ sym (ap (λ (it : Typing). cleared it.line) is); reading = ap (λ (t : Terminal). t.reading) at })
 
@@ -313,7 +316,7 @@ module _ (Fails : Type 0) (caller : Caller) (read : TerminalRead) (old new : Ter
               used.1 ∙ ap (λ (left : List ℕ). used.0 ++ left) (sym (ap (λ (t : Terminal). t.ahead) at ∙ left-is (typed asked old.line old.ahead).end (typed asked old.line old.ahead)));
           used = ap (λ (it : Typing). it.left) used.2;
           ends =
-              over-ends (typed asked old.line old.ahead) (typed asked old.line used.0) bytes used.2 (typed asked old.line old.ahead).end refl answered at stores_them;
+              over-ends (typed asked old.line old.ahead) (typed asked old.line used.0) bytes used.2 (uses-all (key_effect asked) old.line old.ahead) (typed asked old.line old.ahead).end refl answered at stores_them;
         },
       )
     where
@@ -322,8 +325,15 @@ module _ (Fails : Type 0) (caller : Caller) (read : TerminalRead) (old new : Ter
       left-is (Some EndOfFile) it = refl
       left-is (Some Line) it = refl
 
+  -- it waits for another process's read
+  record Stands (bytes : List ℕ) : Type 0 where
+    pub left : TermLeft ⊥ old new
+    pub taken : is_taken asked.process old ≡ true
+    pub over : keeps read.call ≡ end
+    pub none : bytes ≡ []
+
   abbrev Came : List ℕ → Type 0
-  Came bytes = TermLeft ⊥ old new ⊎ ((keys : List ℕ) × Uses Fails caller asked old new keys bytes end)
+  Came bytes = Stands bytes ⊎ ((keys : List ℕ) × Uses Fails caller asked old new keys bytes end)
 
   whole-uses : (answer : Progress) (before now : TerminalState) (bytes : List ℕ) → Attempted (read_attempt asked old) answer new before now → read_ends caller read answer ≡ Some end → bytes ≡ (read_attempt asked old).stored → Came bytes
   whole-uses answer before now bytes it answered stores_them =
@@ -331,7 +341,12 @@ module _ (Fails : Type 0) (caller : Caller) (read : TerminalRead) (old new : Ter
     where
       by_turn : (taken : Bool) → is_taken asked.process old ≡ taken → read_ends caller read (if taken then kept_waiting asked old else typed_attempt asked old).answer ≡ Some end → new ≡ (if taken then kept_waiting asked old else typed_attempt asked old).terminal → bytes ≡ (if taken then kept_waiting asked old else typed_attempt asked old).stored → Came bytes
       by_turn true is answered at stores_them =
-          inl (record { ahead = ap (λ (t : Terminal). t.ahead) at; line = inl (record { line = ap (λ (t : Terminal). t.line) at; reading = ap (λ (t : Terminal). t.reading) at }) })
+          inl (record {
+            left = record { ahead = ap (λ (t : Terminal). t.ahead) at; line = inl (record { line = ap (λ (t : Terminal). t.line) at; reading = ap (λ (t : Terminal). t.reading) at }) };
+            taken = is;
+            over = same_Some (keeps read.call) end answered;
+            none = stores_them;
+          })
       by_turn false is answered at stores_them = inr (typed-uses bytes is answered at stores_them)
 
   read-uses : (answer : Progress) (before now : TerminalState) → (Rose before.faults now.faults → Fails) → Reads asked answer old new before now → read_ends caller read answer ≡ Some end → Came (stored_bytes answer asked old)
@@ -387,11 +402,36 @@ abbrev WriteRefused : IoCall → Caller → Io → IoEnd → List TerminalState 
 WriteRefused call caller io end before after n =
     (direction_of_call call ≡ Some Writing) × OnTerminal call caller io n × (end ≡ fails E_WRITE) × Failed before after n
 
+-- how an attempt ends that is a read of a terminal, and uses no key of it
+abbrev EndsUnused : IoCall → Caller → Io → ℕ → IoEffect → Type 0
+EndsUnused call caller io n effect =
+    (kind : ReadKind) → call ≡ read_call kind → ReadsOn caller io n → UsesNone n caller io effect.end × (effect.bytes ≡ [])
+
 -- what an attempt makes of the keys of a terminal
 abbrev Moved : IoCall → Caller → Io → ℕ → List TerminalState → List TerminalState → IoEffect → Type 0
 Moved call caller io n before after effect =
-    AheadLeft (WriteRefused call caller io effect.end before after n) n io effect.io
+    AheadLeft (WriteRefused call caller io effect.end before after n) n io effect.io × EndsUnused call caller io n effect
     ⊎ ((kind : ReadKind) × (call ≡ read_call kind) × ((opened : OpenPath) × (open_path io caller.process.0 caller.regs.a ≡ Some opened) × (opened.desc.target ≡ Term n)) × (length effect.io.terminals ≡ length io.terminals) × (effect.at ≡ caller.regs.x) × ((keys : List ℕ) × Uses (Failed before after n) caller (reading_of kind io caller.process.0 caller.regs) (terminal_at io n) (terminal_at effect.io n) keys effect.bytes effect.end))
+
+-- a read moves bytes one way
+read-way : (call : IoCall) (kind : ReadKind) → call ≡ read_call kind → direction_of_call call ≡ Some Way.Reading
+read-way call kind is = ap direction_of_call is ∙ by_kind kind
+  where
+    by_kind : (kind : ReadKind) → direction_of_call (read_call kind) ≡ Some Way.Reading
+    by_kind Bytes = refl
+    by_kind WholeLine = refl
+
+reading-writing : Some Way.Reading ≡ Some Writing → ⊥
+reading-writing is = cc
+
+abbrev number_in : Target → ℕ
+number_in (File drive sector) = 0
+number_in (Folder drive sector) = 0
+number_in (Term terminal) = terminal
+number_in (Pipe pipe) = 0
+
+terminal-in : (m n : ℕ) → Term m ≡ Term n → m ≡ n
+terminal-in m n is = ap number_in is
 
 write-left : (write : TerminalWrite) (end : IoEnd) (Cause : Type 0) → (process : Pid) (answer : Progress) (old new : Terminal) (before now : TerminalState) → (end ≡ fails E_WRITE → Rose before.faults now.faults → Cause) → write_ends write answer ≡ Some end → Writes process write.put write.count answer old new before now → TermLeft Cause old new
 write-left write end Cause process (Progress.Done count) old new before now causes is it = record {
@@ -417,31 +457,52 @@ module _ (call : IoCall) (caller : Caller) (io : Io) (n : ℕ) (within : n < len
       put same =
           ap (λ (m : ℕ). terminal_at (with_terminal io m it.new) n) (sym same) ∙ get_or-set_same io.terminals n it.new new_terminal within
 
+      -- the path of the call is on this terminal
+      here : ReadsOn caller io n → n ≡ read.terminal
+      here path =
+          terminal-in n read.terminal (sym (one-target caller io on.path.0 n on.path.1 path) ∙ on.path.2)
+
       by_place : (keys : List ℕ) → Uses (Failed before after read.terminal) caller (request_of caller read) (terminal_at io read.terminal) it.new keys (stored_bytes it.answer (request_of caller read) (terminal_at io read.terminal)) it.end → (n ≡ read.terminal) ⊎ (n ≢ read.terminal) → Moved call caller io n before after (read_leaves caller io read it.answer it.new it.end)
       by_place keys uses (inl same) =
           inr (kind, call_is, (on.path.0, on.path.1, on.path.2 ∙ ap Term (sym same)), length-set io.terminals read.terminal it.new, refl, (keys, subst (λ (request : Reading). Uses (Failed before after n) caller request (terminal_at io n) (terminal_at (with_terminal io read.terminal it.new) n) keys (stored_bytes it.answer (request_of caller read) (terminal_at io read.terminal)) it.end) on.request (subst (λ (t : Terminal). Uses (Failed before after n) caller (request_of caller read) (terminal_at io n) t keys (stored_bytes it.answer (request_of caller read) (terminal_at io read.terminal)) it.end) (sym (put same)) (subst (λ (m : ℕ). Uses (Failed before after m) caller (request_of caller read) (terminal_at io m) it.new keys (stored_bytes it.answer (request_of caller read) (terminal_at io read.terminal)) it.end) (sym same) uses))))
-      by_place keys uses (inr apart) = inl (record {
-        terminal =
-            term-same (WriteRefused call caller io it.end before after n) (terminal_at io n) (terminal_at (with_terminal io read.terminal it.new) n) (get_or-set_other io.terminals read.terminal n it.new new_terminal apart);
-        places = length-set io.terminals read.terminal it.new;
-      })
+      by_place keys uses (inr apart) = inl (
+        record {
+          terminal =
+              term-same (WriteRefused call caller io it.end before after n) (terminal_at io n) (terminal_at (with_terminal io read.terminal it.new) n) (get_or-set_other io.terminals read.terminal n it.new new_terminal apart);
+          places = length-set io.terminals read.terminal it.new;
+        },
+        λ other other_is path. absurd (apart (here path)),
+      )
 
       never : (Cause : Type 0) → ⊥ → Cause
       never Cause none = absurd none
 
-      by_uses : TermLeft ⊥ (terminal_at io read.terminal) it.new ⊎ ((keys : List ℕ) × Uses (Failed before after read.terminal) caller (request_of caller read) (terminal_at io read.terminal) it.new keys (stored_bytes it.answer (request_of caller read) (terminal_at io read.terminal)) it.end) → Moved call caller io n before after (read_leaves caller io read it.answer it.new it.end)
-      by_uses (inl same) =
-          inl (left-set (WriteRefused call caller io it.end before after) n io read.terminal it.new (term-for ⊥ (WriteRefused call caller io it.end before after read.terminal) (terminal_at io read.terminal) it.new (never (WriteRefused call caller io it.end before after read.terminal)) same))
+      by_uses : Stands (Failed before after read.terminal) caller read (terminal_at io read.terminal) it.new it.end (stored_bytes it.answer (request_of caller read) (terminal_at io read.terminal)) ⊎ ((keys : List ℕ) × Uses (Failed before after read.terminal) caller (request_of caller read) (terminal_at io read.terminal) it.new keys (stored_bytes it.answer (request_of caller read) (terminal_at io read.terminal)) it.end) → Moved call caller io n before after (read_leaves caller io read it.answer it.new it.end)
+      by_uses (inl same) = inl (
+        left-set (WriteRefused call caller io it.end before after) n io read.terminal it.new (term-for ⊥ (WriteRefused call caller io it.end before after read.terminal) (terminal_at io read.terminal) it.new (never (WriteRefused call caller io it.end before after read.terminal)) same.left),
+        λ other other_is path. (
+          subst (UsesNone n caller io) same.over (ap (λ (m : ℕ). is_taken caller.process (terminal_at io m)) (here path) ∙ same.taken),
+          same.none,
+        ),
+      )
       by_uses (inr (keys, uses)) = by_place keys uses (cases_eq n read.terminal)
 
   does-moves : (step : IoStep) (effect : IoEffect) → StepGives call (λ (new : Io). new.terminals ≡ io.terminals) caller io step → StepReads call caller io step → StepWrites call caller io step → Does step caller io effect before after → Moved call caller io n before after effect
-  does-moves (refused number) effect gives facts on (is, same) =
-      inl (left-same (WriteRefused call caller io effect.end before after n) n io effect.io (ap (λ (effect : IoEffect). effect.io.terminals) is))
-  does-moves (comes it) effect gives facts on (is, same) =
-      inl (left-same (WriteRefused call caller io effect.end before after n) n io effect.io (ap (λ (effect : IoEffect). effect.io.terminals) is ∙ gives))
+  does-moves (refused number) effect gives facts on (is, same) = inl (
+    left-same (WriteRefused call caller io effect.end before after n) n io effect.io (ap (λ (effect : IoEffect). effect.io.terminals) is),
+    λ kind kind_is path. subst (λ (effect : IoEffect). UsesNone n caller io effect.end × (effect.bytes ≡ [])) (sym is) (facts (read-way call kind kind_is), refl),
+  )
+  does-moves (comes it) effect gives facts on (is, same) = inl (
+    left-same (WriteRefused call caller io effect.end before after n) n io effect.io (ap (λ (effect : IoEffect). effect.io.terminals) is ∙ gives),
+    λ kind kind_is path.
+        let fact = facts (read-way call kind kind_is) n path in
+        subst (λ (effect : IoEffect). UsesNone n caller io effect.end × (effect.bytes ≡ [])) (sym (is ∙ fact.1)) ((fact.0, refl), refl),
+  )
   does-moves (reads read) effect gives (kind, call_is, on) none does = read-moves read effect kind call_is on does
-  does-moves (writes write) effect gives facts on it =
-      inl (subst (λ (effect : IoEffect). AheadLeft (WriteRefused call caller io effect.end before after n) n io effect.io) (sym it.effect_is) (left-set (WriteRefused call caller io it.end before after) n io write.terminal it.new (write-left write it.end (WriteRefused call caller io it.end before after write.terminal) caller.process it.answer (terminal_at io write.terminal) it.new it.device.0 it.device.1 (λ refuses_it failed. (gives.0, on, refuses_it, rose-one (Writes caller.process write.put write.count it.answer (terminal_at io write.terminal) it.new) write.terminal before after it.device failed)) it.ends it.device.4)))
+  does-moves (writes write) effect gives facts on it = inl (
+    subst (λ (effect : IoEffect). AheadLeft (WriteRefused call caller io effect.end before after n) n io effect.io) (sym it.effect_is) (left-set (WriteRefused call caller io it.end before after) n io write.terminal it.new (write-left write it.end (WriteRefused call caller io it.end before after write.terminal) caller.process it.answer (terminal_at io write.terminal) it.new it.device.0 it.device.1 (λ refuses_it failed. (gives.0, on, refuses_it, rose-one (Writes caller.process write.put write.count it.answer (terminal_at io write.terminal) it.new) write.terminal before after it.device failed)) it.ends it.device.4)),
+    λ kind kind_is path. absurd (reading-writing (sym (read-way call kind kind_is) ∙ gives.0)),
+  )
 
   -- no key to come is taken
   does-come : (step : IoStep) (effect : IoEffect) → Does step caller io effect before after → come_of after n ≡ come_of before n
@@ -494,11 +555,21 @@ module _ (s : State) (p n : ℕ) (chosen : s.chosen ≡ Some p) (has : HasAhead 
   instruction-reads end next going (inl ended_it) = going ended_it
   instruction-reads end next going (inr (signal, is, on)) = executes-delivers signal (sym next ∙ is)
 
-  left : (end : EventEnd) (t : State) → AheadLeft (Causes end t) n s.io t.io → Drops end t.io → keys_to_come t n ≡ keys_to_come s n → Comes end t
-  left end t it drops come =
+  -- an attempt of a read that uses no key ends as it may
+  abbrev Reads_none : State → Type 0
+  Reads_none t =
+      (q : ℕ) (kind : ReadKind) → s.chosen ≡ Some q → ReadsFrom s q n kind → EndsIn s q (UsesNone n (caller_of s.inner q) s.io) t × (t.inner.memory ≡ s.inner.memory)
+
+  attempts-none : (t : State) → AttemptsNone (act_of s.inner p) → Reads_none t
+  attempts-none t none q kind chosen_is it =
+      let same : q ≡ p = same_Some q p (sym chosen_is ∙ chosen) in
+      absurd (none it.attempted.0 (read_call kind) (ap (act_of s.inner) (sym same) ∙ it.attempted.1) it.attempted.2)
+
+  left : (end : EventEnd) (t : State) → AheadLeft (Causes end t) n s.io t.io → Drops end t.io → keys_to_come t n ≡ keys_to_come s n → Reads_none t → Comes end t
+  left end t it drops come reads_none =
       let same : length (ahead_at t n) ≡ length (ahead_at s n) = ap (length {A = ℕ}) it.terminal.ahead in (
         stay,
-        record { ahead = it.terminal.ahead; come = come; line = by_line it.terminal.line; over = over },
+        record { ahead = it.terminal.ahead; come = come; line = by_line it.terminal.line; over = over; reads = reads_none },
         has-then t it.places (omega (arith, same)),
       )
     where
@@ -512,9 +583,9 @@ module _ (s : State) (p n : ℕ) (chosen : s.chosen ≡ Some p) (has : HasAhead 
           drops (subst (λ (q : ℕ). StopsReading n q s end) same stops) (reads_it ∙ ap (λ (k : ℕ). Some (pid k)) same)
 
   -- the process that reads has stopped
-  stopped : (end : EventEnd) (t : State) → AheadLeft (ReaderStops n p s end) n s.io t.io → Drops end t.io → keys_to_come t n ≡ keys_to_come s n → Comes end t
-  stopped end t it drops come =
-      left end t (left-for (ReaderStops n p s end) (Causes end t) n s.io t.io (λ stops. inl stops) it) drops come
+  stopped : (end : EventEnd) (t : State) → AheadLeft (ReaderStops n p s end) n s.io t.io → Drops end t.io → keys_to_come t n ≡ keys_to_come s n → AttemptsNone (act_of s.inner p) → Comes end t
+  stopped end t it drops come none =
+      left end t (left-for (ReaderStops n p s end) (Causes end t) n s.io t.io (λ stops. inl stops) it) drops come (attempts-none t none)
 
   module _ (code : ℕ) (call : IoCall) (result : CallResult) (io : Io) (terms : List TerminalState) (next : act_of s.inner p ≡ attempts code) (coded : io_call_of code ≡ Some call) (attempt : IoAttempts call s.inner s.io s.drives p result io s.terms terms) (end : EventEnd) (over : end ≡ call_event_end result) where
     abbrev last : State
@@ -554,20 +625,40 @@ module _ (s : State) (p n : ℕ) (chosen : s.chosen ≡ Some p) (has : HasAhead 
     )
     read-ends request made (fails number) at is (cause, goes) =
         (cause, goes-then made.line goes, ap (λ (result : CallResult). (after_attempt s.inner p result).memory) is)
-    read-ends request made (keeps kept) at is (unfinished, line, reading, none) = (
+    read-ends request made (keeps kept) at is (unfinished, line, reading, ahead, none) = (
       unfinished,
       ap (λ (t : Terminal). t.line) terminal-then ∙ line,
       ap (λ (t : Terminal). t.reading) terminal-then ∙ reading,
+      ap (λ (t : Terminal). t.ahead) terminal-then ∙ ahead,
       ap (λ (result : CallResult). (after_attempt s.inner p result).memory) is ∙ ap (stored s.inner.memory p attempt.effect.at) none,
     )
 
     by_moved : Moved call (caller_of s.inner p) s.io n s.terms terms attempt.effect → Comes end last
-    by_moved (inl it) = left end last (record {
+    by_moved (inl (it, unused)) = left end last (record {
       terminal =
           subst (TermLeft (Causes end last) (terminal_at s.io n)) (sym terminal-then) (term-for (WriteRefused call (caller_of s.inner p) s.io attempt.effect.end s.terms terms n) (Causes end last) (terminal_at s.io n) (terminal_at attempt.effect.io n) write-fails it.terminal);
       places = ap (length {A = Terminal}) terminals-then ∙ it.places;
-    }) (λ stops reads_it. absurd (attempt-reads end code next (goes-on-ended attempt.effect.end attempt.result_is) stops)) come-then
+    }) (λ stops reads_it. absurd (attempt-reads end code next (goes-on-ended attempt.effect.end attempt.result_is) stops)) come-then reads_none
       where
+        memory-then : (over : IoEnd) → result ≡ result_by over s.inner p attempt.effect → attempt.effect.bytes ≡ [] → last.inner.memory ≡ s.inner.memory
+        memory-then (answers regs) is none =
+            ap (λ (result : CallResult). (after_attempt s.inner p result).memory) is ∙ ap (stored s.inner.memory p attempt.effect.at) none
+        memory-then (fails number) is none = ap (λ (result : CallResult). (after_attempt s.inner p result).memory) is
+        memory-then (keeps kept) is none =
+            ap (λ (result : CallResult). (after_attempt s.inner p result).memory) is ∙ ap (stored s.inner.memory p attempt.effect.at) none
+
+        here : (kind : ReadKind) → ReadsFrom s p n kind → EndsIn s p (UsesNone n (caller_of s.inner p) s.io) last × (last.inner.memory ≡ s.inner.memory)
+        here kind on =
+            let same_code : on.attempted.0 ≡ code = same-code on.attempted.0 code (sym on.attempted.1 ∙ next) in
+            let same_call : call ≡ read_call kind = same_Some call (read_call kind) (sym coded ∙ ap io_call_of (sym same_code) ∙ on.attempted.2) in
+            let it = unused kind same_call on.path in
+            (ends-in (UsesNone n (caller_of s.inner p) s.io) it.0, memory-then attempt.effect.end attempt.result_is it.1)
+
+        reads_none : Reads_none last
+        reads_none q kind chosen_is on =
+            let same : q ≡ p = same_Some q p (sym chosen_is ∙ chosen) in
+            subst (λ (q : ℕ). EndsIn s q (UsesNone n (caller_of s.inner q) s.io) last × (last.inner.memory ≡ s.inner.memory)) (sym same) (here kind (subst (λ (q : ℕ). ReadsFrom s q n kind) same on))
+
         goes-on-ended : (it : IoEnd) → result ≡ result_by it s.inner p attempt.effect → end ≡ Ended → ⊥
         goes-on-ended (answers regs) is ended_it = ran-ended (sym (over ∙ ap call_event_end is) ∙ ended_it)
         goes-on-ended (fails number) is ended_it = ran-ended (sym (over ∙ ap call_event_end is) ∙ ended_it)
@@ -677,20 +768,20 @@ module _ (s : State) (p n : ℕ) (chosen : s.chosen ≡ Some p) (has : HasAhead 
 
     by-io : (code : ℕ) (call : Option IoCall) (result : CallResult) (io : Io) (terms : List TerminalState) → end ≡ call_event_end result → act_of s.inner p ≡ attempts code → io_call_of code ≡ call → MatchOption call ((result ≡ CallResult.refused E_UNKSVC) × (io ≡ s.io) × (terms ≡ s.terms)) (λ call. IoAttempts call s.inner s.io s.drives p result io s.terms terms) → Comes end (record s { inner = after_attempt s.inner p result; io = io; terms = terms })
     by-io code None result io terms over next coded (is, same, unchanged) =
-        stopped end (record s { inner = after_attempt s.inner p result; io = io; terms = terms }) (unchanged-by io (ap (λ (io : Io). io.terminals) same)) (λ stops reads_it. absurd (attempt-reads end code next (runs-on Ran (over ∙ ap call_event_end is) ran-ended) stops)) (ap (λ (terms : List TerminalState). come_of terms n) unchanged)
+        stopped end (record s { inner = after_attempt s.inner p result; io = io; terms = terms }) (unchanged-by io (ap (λ (io : Io). io.terminals) same)) (λ stops reads_it. absurd (attempt-reads end code next (runs-on Ran (over ∙ ap call_event_end is) ran-ended) stops)) (ap (λ (terms : List TerminalState). come_of terms n) unchanged) (none-of-path (act_of s.inner p) code next coded)
     by-io code (Some call) result io terms over next coded attempt = io-comes code call result io terms next coded attempt end over
 
     by-call : (code : ℕ) (call : Option ProcCall) (result : CallResult) (io : Io) (terms : List TerminalState) → end ≡ call_event_end result → act_of s.inner p ≡ attempts code → call_of code ≡ call → MatchOption call (MatchOption (io_call_of code) ((result ≡ CallResult.refused E_UNKSVC) × (io ≡ s.io) × (terms ≡ s.terms)) (λ call. IoAttempts call s.inner s.io s.drives p result io s.terms terms)) (λ call. (result ≡ attempted call s.inner p) × (io ≡ io_after_call code s.io p result) × (terms ≡ s.terms)) → Comes end (record s { inner = after_attempt s.inner p result; io = io; terms = terms })
     by-call code None result io terms over next coded answer =
         by-io code (io_call_of code) result io terms over next refl answer
     by-call code (Some call) result io terms over next coded (is, io_is, unchanged) =
-        stopped end (record s { inner = after_attempt s.inner p result; io = io; terms = terms }) (subst Leaves (sym io_is) (after-call code result over)) (subst (Drops end) (sym io_is) (call-drops code next result over)) (ap (λ (terms : List TerminalState). come_of terms n) unchanged)
+        stopped end (record s { inner = after_attempt s.inner p result; io = io; terms = terms }) (subst Leaves (sym io_is) (after-call code result over)) (subst (Drops end) (sym io_is) (call-drops code next result over)) (ap (λ (terms : List TerminalState). come_of terms n) unchanged) (none-of-process (act_of s.inner p) code call next coded)
 
     acts-come : (act : Act) (t : State) → act_of s.inner p ≡ act → Acts act s p end t → Comes end t
     acts-come executes t next (over, is) =
-        subst (Comes end) (sym is) (stopped end _ (after-instruction (next_instruction s.inner p) over) (instruction-drops next (next_instruction s.inner p) over) refl)
+        subst (Comes end) (sym is) (stopped end _ (after-instruction (next_instruction s.inner p) over) (instruction-drops next (next_instruction s.inner p) over) refl (none-executing (act_of s.inner p) next))
     acts-come (delivers signal) t next (over, is) =
-        subst (Comes end) (sym is) (stopped end _ (after-delivery signal next (delivered (before_delivery s p) p signal) over) (delivery-drops (delivered (before_delivery s p) p signal) over) refl)
+        subst (Comes end) (sym is) (stopped end _ (after-delivery signal next (delivered (before_delivery s p) p signal) over) (delivery-drops (delivered (before_delivery s p) p signal) over) refl (none-delivering (act_of s.inner p) signal next))
     acts-come (attempts code) t next (result, io, terms, answer, over, is) =
         subst (Comes end) (sym is) (by-call code (call_of code) result io terms over next refl answer)
 

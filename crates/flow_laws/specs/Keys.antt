@@ -1,5 +1,5 @@
 -- What becomes of the keys of a terminal (Level Two manual, SCF).
-use Rattle.std.specs.Prelude.{◌≡◌, ◌⊎◌, ℕ, ◌-◌, ◌<◌, ◌≤◌, min, false, Option, Some, None, List, [], ◌∷◌, ◌++◌, length, slice_get, take}
+use Rattle.std.specs.Prelude.{◌≡◌, ◌≢◌, ◌⊎◌, ℕ, ◌-◌, ◌<◌, ◌≤◌, min, true, false, Option, Some, None, List, [], ◌∷◌, ◌++◌, length, slice_get, take}
 use Rattle.std.specs.List.{AllByRecursion, filter_map, flat_map}
 use Rattle.std.specs.Option.{option_map_or}
 use Rattle.os9_base.specs.Count.{Rose}
@@ -23,7 +23,7 @@ use Rattle.io_rules.specs.Attempts.{caller_of}
 use Rattle.io_rules.specs.Codes.{direction_of_call, io_call_of}
 use Rattle.io_rules.specs.Io.{Io, OpenPath, kept_at, open_path, terminal_at}
 use Rattle.io_rules.specs.Pipes.{count_regs}
-use Rattle.io_rules.specs.Step.{IoEnd, answers, fails, keeps}
+use Rattle.io_rules.specs.Step.{Caller, IoEnd, answers, fails, keeps}
 use Rattle.io_rules.specs.Waiting.{pid, wait_target}
 use Rattle.io_rules.specs.declared.io_call.Direction.TheVariants.{Writing}
 use Rattle.io_rules.specs.declared.io_call.IoCall.{IoCall}
@@ -123,7 +123,7 @@ pub record ReadsFrom (s : State) (p n : ℕ) (kind : ReadKind) : Type 0 where
 
 -- An attempt of a read that used keys ends so, by what they made of its line. Where they ended the line, its bytes are
 -- stored and it answers their count; where it is refused, the end of the file was typed or the terminal failed, and
--- the line is dropped; where they did not end it, the line stays with the read, and the call waits.
+-- the line is dropped; where they did not end it, the line stays with the read, no key is left, and the call waits.
 abbrev pub ReadEnds : ℕ → State → ℕ → Reading → Typing → State → IoEnd → Type 0
 ReadEnds n s p request made t (answers regs) =
     (made.end ≡ Some Line) × (regs ≡ count_regs (caller_of s.inner p) (length made.line.bytes))
@@ -134,7 +134,7 @@ ReadEnds n s p request made t (fails number) =
     × LineGoes made.line (terminal_at t.io n) × (t.inner.memory ≡ s.inner.memory)
 ReadEnds n s p request made t (keeps kept) =
     (made.end ≡ None) × ((terminal_at t.io n).line ≡ made.line) × ((terminal_at t.io n).reading ≡ Some request)
-    × (t.inner.memory ≡ s.inner.memory)
+    × (ahead_at t n ≡ []) × (t.inner.memory ≡ s.inner.memory)
 
 -- a read of the chosen process uses these keys, the next ones of the type-ahead: its line is what all of them make of
 -- it, none lies behind its end
@@ -157,13 +157,24 @@ StopsReading n p s end =
     (end ≡ Ended)
     ⊎ ((signal : ℕ) × (act_of s.inner p ≡ delivers signal) × (wait_target s.io p ≡ Some (Term n)))
 
--- no key arrives, and none is used; the line stays, or it is dropped for a cause, and it is where the reader stops
+-- An attempt of a read that uses no key ends so: it asks for no byte, and is done at once, with the registers that it
+-- was made with; it is refused, and no end of the file was typed and no terminal failed; or it waits for the read of
+-- another process.
+abbrev pub UsesNone : ℕ → Caller → Io → IoEnd → Type 0
+UsesNone n caller io (answers regs) = (caller.regs.y ≡ 0) × (regs ≡ caller.regs)
+UsesNone n caller io (fails number) = (number ≢ E_EOF) × (number ≢ E_WRITE)
+UsesNone n caller io (keeps kept) = is_taken caller.process (terminal_at io n) ≡ true
+
+-- no key arrives, and none is used, by no attempt of a read of this terminal either; the line stays, or it is dropped
+-- for a cause, and it is where the reader stops
 pub record KeysStay (n : ℕ) (s : State) (end : EventEnd) (t : State) : Type 0 where
   pub ahead : ahead_at t n ≡ ahead_at s n
   pub come : keys_to_come t n ≡ keys_to_come s n
   pub line : LineStays (terminal_at s.io n) (terminal_at t.io n) ⊎ DropsLine n s end t
   pub over : (p : ℕ) → s.chosen ≡ Some p → reader (terminal_at s.io n) ≡ Some (pid p) → StopsReading n p s end
       → (terminal_at t.io n).reading ≡ None
+  pub reads : (p : ℕ) (kind : ReadKind) → s.chosen ≡ Some p → ReadsFrom s p n kind
+      → EndsIn s p (UsesNone n (caller_of s.inner p) s.io) t × (t.inner.memory ≡ s.inner.memory)
 
 -- what becomes of keys in a step of a run
 pub data KeyMove : Type 0 where

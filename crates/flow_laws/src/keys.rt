@@ -11,13 +11,15 @@ ghost use Rattle.os9_outer.specs.TerminalState.{TerminalState};
 ghost use Rattle.os9_outer.specs.declared.terminal.Key.{Key};
 ghost use Rattle.flow_laws.specs.Keys.{EventKeys, HasAhead, KeyMove, KeysArrive, KeysPass, ahead_at};
 
-/// The keys of a terminal arrive in ticks, in order, and go into the type-ahead, but for those that
-/// send a signal or find it full. Only a read whose path was opened on the terminal takes keys out
-/// of it, from its front, while no other process's read is unfinished, and they make its line. That
-/// is stored where they end it, stays with the read where they do not, and is dropped where the
-/// read is refused. Nothing else drops it but a signal that is delivered to the reader, its end,
-/// and a write that the terminal fails. Over a slice and a run the keys that came into the
-/// type-ahead are, in order, those that its events used and those that stand there still.
+/// The type-ahead of a terminal is empty at the start. Its keys arrive in ticks, in order, and go
+/// into it, but for those that send a signal or find it full. Only a read whose path was opened on
+/// the terminal takes keys out of it, from its front, while no other process's read is unfinished,
+/// and they make its line. That is stored where they end it, stays with the read where they do not,
+/// and is dropped where the read is refused. Any other attempt of a read of it asks for no byte, is
+/// refused with neither 211 nor 245, or waits for another process's read. Nothing else drops the
+/// line but a signal that is delivered to the reader, its end, and a write that the terminal fails.
+/// Over a slice and a run the keys that came into the type-ahead are, in order, those that its
+/// events used and those that stand there still.
 pub fn each_key_is_used_once()
     ensures start { (file : List ℕ) (blocks drives : ℕ) (terms : List TerminalState) (s : State)
         (n : ℕ) → Starts file blocks drives terms s → n < 4 → HasAhead n s × (ahead_at s n ≡ []) }
