@@ -53,8 +53,9 @@ use Rattle.io_rules.specs.declared.io_call.IoCall.{IoCall}
 use Rattle.io_rules.specs.declared.io_call.IoCall.TheVariants as Call
 use Rattle.io_rules.specs.declared.modes.TheConstants.{STANDARD_ERROR}
 use Rattle.io_rules.specs.declared.status.TheConstants.{SS_OPT, SS_READY, SS_EOF, OPTION_BYTES}
-use Rattle.refusal_laws.specs.Causes.{IsFull, IsNoDrive, IsOn, IsUnreadable, LacksMode, LooksFor, StatedCause, bad_address, bad_mode, bad_path_name, bad_path_number, behind, device_at, dots, no_module, no_name, not_found, not_ready, numbers, path_table_full, paths, pipes, root, search_of, unknown_service}
-use Rattle.refusal_laws.specs.Refusals.{FindsNoByte, FindsNoReader, IsRequest, asked_by, kind_of, moved_before, on_pipe, path_of, put_by, sent_by}
+use Rattle.refusal_laws.specs.Causes.{IsFull, IsNoDrive, IsOn, IsUnreadable, LacksMode, LooksFor, StatedCause, asked_by, bad_address, bad_mode, bad_path_name, bad_path_number, behind, device_at, dots, no_module, no_name, not_found, not_ready, numbers, path_table_full, paths, pipes, root, search_of, unknown_service}
+use Rattle.refusal_laws.specs.Refusals.{FindsNoByte, FindsNoReader, IsRequest, kind_of, moved_before, on_pipe, path_of, put_by, sent_by}
+use Rattle.refusal_laws.proofs.Gaps.{bytes-gap, list-breaks-off, names-nothing, sent-gap}
 
 -- ---- small facts
 
@@ -267,7 +268,7 @@ module _ (call : IoCall) (caller : Caller) (io : Io) (drives terms : ℕ) where
         by_list (Err Unreadable) is = bad_address refl (unreadable is)
         by_list (Err NoName) is =
             of-refuses (not allowed) E_BMODE (refused E_BPNAM) (λ no. bad_mode refl (mode (not-true allowed no)))
-            (λ allows. bad_path_name refl (no_name some is))
+            (λ allows. bad_path_name refl (no_name some (names-nothing caller is)))
 
   -- ---- a pipe
 
@@ -506,7 +507,7 @@ module _ (caller : Caller) (io : Io) (drives terms : ℕ) where
     status-known : (opt ready end : Bool) → (caller.regs.b == SS_OPT) ≡ opt → (caller.regs.b == SS_READY) ≡ ready → (caller.regs.b == SS_EOF) ≡ end → Known Call.GetStt caller io drives terms (if opt then gets_options caller io opened.desc.target else (if ready then gets_ready caller io opened.desc.target else (if end then gets_end caller io opened.desc.target else refused E_UNKSVC)))
     status-known true ready end opt_is ready_is end_is =
         of-refuses Call.GetStt caller io drives terms (is_none (user_bytes caller.cells caller.regs.x OPTION_BYTES)) E_BPADDR (comes (stores caller.regs.x (options opened.desc.target) (answers caller.regs) io))
-        (λ missing. bad_address refl (eqb-true caller.regs.b SS_OPT opt_is, is-nothing (user_bytes caller.cells caller.regs.x OPTION_BYTES) missing))
+        (λ missing. bad_address refl (eqb-true caller.regs.b SS_OPT opt_is, bytes-gap caller.cells caller.regs.x OPTION_BYTES (is-nothing (user_bytes caller.cells caller.regs.x OPTION_BYTES) missing)))
         (λ there number is. absurd (answered caller.regs number is))
     status-known false true end opt_is ready_is end_is =
         of-refuses Call.GetStt caller io drives terms (ready_count io opened.desc.target == 0) E_NOTRDY (done (record caller.regs { b = min 255 (ready_count io opened.desc.target) }) io)
@@ -547,22 +548,22 @@ step-known Call.GetStt caller io drives terms = get-known caller io drives terms
 step-known Call.SetStt caller io drives terms = set-known caller io drives terms
 step-known Call.PErr caller io drives terms = error-known caller io drives terms
 step-known Call.Open caller io drives terms =
-    open-known Call.Open caller io drives terms what_is_there refl (is_mode caller.regs.a) (λ lacks. lacks) (λ unreadable. unreadable)
+    open-known Call.Open caller io drives terms what_is_there refl (is_mode caller.regs.a) (λ lacks. lacks) (list-breaks-off caller)
 step-known Call.Create caller io drives terms =
-    open-known Call.Create caller io drives terms a_new_place refl (can_write caller.regs.a) (λ lacks. lacks) (λ unreadable. unreadable)
+    open-known Call.Create caller io drives terms a_new_place refl (can_write caller.regs.a) (λ lacks. lacks) (list-breaks-off caller)
 step-known Call.Read caller io drives terms =
-    read-known Call.Read caller io drives terms refl refl refl Bytes refl I_READ (λ none. none)
+    read-known Call.Read caller io drives terms refl refl refl Bytes refl I_READ (bytes-gap caller.cells caller.regs.x caller.regs.y)
     (λ opened names lacks. (Reading, opened, refl, names, cannot-read caller io drives terms opened.desc.mode lacks))
 step-known Call.ReadLn caller io drives terms =
-    read-known Call.ReadLn caller io drives terms refl refl refl WholeLine refl I_READLN (λ none. none)
+    read-known Call.ReadLn caller io drives terms refl refl refl WholeLine refl I_READLN (bytes-gap caller.cells caller.regs.x caller.regs.y)
     (λ opened names lacks. (Reading, opened, refl, names, cannot-read caller io drives terms opened.desc.mode lacks))
 step-known Call.Write caller io drives terms =
     send-known Call.Write caller io drives terms refl refl refl (sent_bytes caller) I_WRITE (user_bytes caller.cells caller.regs.x caller.regs.y) (λ bytes. refl) refl (λ bytes. refl)
     (λ bytes is. asks-by Call.Write caller io bytes (λ kept kept_is count. count ∙ sym (user-length caller.cells caller.regs.x caller.regs.y bytes is)))
-    (λ none. none)
+    (bytes-gap caller.cells caller.regs.x caller.regs.y)
     (λ opened names lacks. (Writing, opened, refl, names, cannot-write caller io drives terms opened.desc.mode lacks))
 step-known Call.WritLn caller io drives terms =
     send-known Call.WritLn caller io drives terms refl refl refl (sent_line caller) I_WRITLN (line_bytes caller (kept_at io caller.process.0)) (λ bytes. refl) refl (λ bytes. refl)
     (λ bytes is. asks-by Call.WritLn caller io bytes (λ kept kept_is count. sym (user-length caller.cells caller.regs.x kept.count bytes (subst (λ (place : Option Kept). line_bytes caller place ≡ Some bytes) kept_is is))))
-    (λ none. none)
+    (λ none. (sent-gap caller io none, none))
     (λ opened names lacks. (Writing, opened, refl, names, cannot-write caller io drives terms opened.desc.mode lacks))

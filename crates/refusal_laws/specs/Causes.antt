@@ -1,12 +1,15 @@
 -- Why a call on paths is refused (System Programmer's Manual, "I/O service requests"), but for the end of a file and a
 -- write error.
-use Rattle.std.specs.Prelude.{◌≡◌, ◌⊎◌, ℕ, ⊤, false, true, Option, Some, None, IsSome, option_and_then, Err, Ok, length}
+use Rattle.std.specs.Prelude.{◌≡◌, ◌⊎◌, ℕ, ◌+◌, ◌<◌, ◌≤◌, ⊤, false, true, Option, Some, None, IsSome, option_and_then, Err, Ok, length}
+use Rattle.std.specs.Option.{option_map_or}
+use Rattle.os9_base.specs.Cells.{Cells}
 use Rattle.os9_base.specs.declared.errors.TheConstants.{E_BMODE, E_BPADDR, E_BPNAM, E_BPNUM, E_MNF, E_NOTRDY, E_PNNF, E_PTHFUL, E_UNKSVC}
 use Rattle.device_table.specs.Names.{device_of}
 use Rattle.device_table.specs.declared.devices.Dev.{Dev}
 use Rattle.device_table.specs.declared.devices.Dev.TheVariants as Device
+use Rattle.user_names.specs.UserNames.{goes_on, name_at, user_cell}
 use Rattle.user_names.specs.declared.name_fault.NameFault.TheVariants.{Unreadable, NoName}
-use Rattle.call_rules.specs.UserBytes.{user_bytes}
+use Rattle.call_rules.specs.Program.{slash}
 use Rattle.io_model.specs.Path.{free_number, free_path}
 use Rattle.io_model.specs.Pipe.{free_pipe}
 use Rattle.io_model.specs.declared.path.Target.{Target}
@@ -55,6 +58,20 @@ IsNoDrive (Device.Drive drive) = ⊥
 IsNoDrive (Device.Term terminal) = ⊤
 IsNoDrive Device.Pipe = ⊤
 
+-- the byte is one of a list, with others behind it: a character of a name without bit 7, or a slash
+abbrev pub IsOfList : Option ℕ → Type 0
+IsOfList None = ⊥
+IsOfList (Some byte) = (goes_on byte ≡ true) ⊎ (byte ≡ slash)
+
+-- the list at X goes on up to this address
+pub record GoesOnTo (caller : Caller) (at : ℕ) : Type 0 where
+  pub behind : caller.regs.x ≤ at
+  pub bytes : (k : ℕ) → caller.regs.x ≤ k → k < at → IsOfList (user_cell caller.cells k)
+
+-- how many bytes a read or a write asks for, or the longest line: what is kept of it says it, or Y at its first attempt
+abbrev pub asked_by : Caller → Io → ℕ
+asked_by caller io = option_map_or (λ kept. kept.count) (kept_at io caller.process.0) caller.regs.y
+
 -- ---- the cause of each number
 
 -- the call gives a path a number
@@ -102,24 +119,45 @@ pub record IsOnDisk (call : IoCall) (caller : Caller) (io : Io) : Type 0 where
   pub sector : ℕ
   pub on : IsOn call caller io (File drive sector) ⊎ IsOn call caller io (Folder drive sector)
 
+-- one of so many bytes from an address on is in no named slot or past FFFF
+pub record HasGap (cells : Cells) (from count : ℕ) : Type 0 where
+  pub at : ℕ
+  pub behind : from ≤ at
+  pub within : at < from + count
+  pub missing : user_cell cells at ≡ None
+
+-- the list at X goes on up to a byte that is in no named slot or past FFFF
+pub record ListBreaksOff (caller : Caller) : Type 0 where
+  pub at : ℕ
+  pub goes_on : GoesOnTo caller at
+  pub missing : user_cell caller.cells at ≡ None
+  pub list : path_list caller.cells caller.regs.x ≡ Err Unreadable
+
 -- 210: a byte that has to be read or written is in no named slot or past FFFF
 abbrev pub IsUnreadable : IoCall → Caller → Io → Type 0
-IsUnreadable Call.Open caller io = path_list caller.cells caller.regs.x ≡ Err Unreadable
-IsUnreadable Call.Create caller io = path_list caller.cells caller.regs.x ≡ Err Unreadable
-IsUnreadable Call.Read caller io = user_bytes caller.cells caller.regs.x caller.regs.y ≡ None
-IsUnreadable Call.ReadLn caller io = user_bytes caller.cells caller.regs.x caller.regs.y ≡ None
-IsUnreadable Call.Write caller io = user_bytes caller.cells caller.regs.x caller.regs.y ≡ None
-IsUnreadable Call.WritLn caller io = line_bytes caller (kept_at io caller.process.0) ≡ None
+IsUnreadable Call.Open caller io = ListBreaksOff caller
+IsUnreadable Call.Create caller io = ListBreaksOff caller
+IsUnreadable Call.Read caller io = HasGap caller.cells caller.regs.x caller.regs.y
+IsUnreadable Call.ReadLn caller io = HasGap caller.cells caller.regs.x caller.regs.y
+IsUnreadable Call.Write caller io = HasGap caller.cells caller.regs.x caller.regs.y
+IsUnreadable Call.WritLn caller io =
+    HasGap caller.cells caller.regs.x (asked_by caller io) × (line_bytes caller (kept_at io caller.process.0) ≡ None)
 IsUnreadable Call.GetStt caller io =
-    (caller.regs.b ≡ SS_OPT) × (user_bytes caller.cells caller.regs.x OPTION_BYTES ≡ None)
+    (caller.regs.b ≡ SS_OPT) × HasGap caller.cells caller.regs.x OPTION_BYTES
 IsUnreadable call caller io = ⊥
+
+-- the list at X goes on up to an address at which no name stands
+pub record NamesNothing (caller : Caller) : Type 0 where
+  pub at : ℕ
+  pub goes_on : GoesOnTo caller at
+  pub no_name : name_at caller.cells at ≡ Err NoName
+  pub list : path_list caller.cells caller.regs.x ≡ Err NoName
 
 -- 215: a name that has to stand in the list is none; or the list that was read leads nowhere by its names: the last
 -- one of what is to be made is that of a directory itself or of the one above it, a slash stands behind a terminal or a
 -- pipe, or the root of a drive is to be made
 pub data IsBadName (call : IoCall) (caller : Caller) (drives terms : ℕ) : Type 0 where
-  no_name : IsSome (search_of call) → path_list caller.cells caller.regs.x ≡ Err NoName
-      → IsBadName call caller drives terms
+  no_name : IsSome (search_of call) → NamesNothing caller → IsBadName call caller drives terms
   dots : (search : Search) (list : PathList) → LooksFor call caller search list → makes_dots search list ≡ true
       → IsBadName call caller drives terms
   behind : (search : Search) (list : PathList) (device : Dev) → LooksFor call caller search list

@@ -31,7 +31,7 @@ use Rattle.io_rules.specs.Codes.{direction_of_call}
 use Rattle.io_rules.specs.declared.io_call.Direction.TheVariants as Way
 use Rattle.io_rules.specs.declared.io_call.IoCall.{IoCall}
 use Rattle.io_rules.specs.declared.io_call.IoCall.TheVariants as Call
-use Rattle.refusal_laws.specs.Causes.{IsOn, StatedCause}
+use Rattle.refusal_laws.specs.Causes.{IsOn, StatedCause, asked_by}
 
 -- ---- the processes
 
@@ -76,10 +76,6 @@ abbrev pub kind_of : IoCall → Option ReadKind
 kind_of Call.Read = Some Bytes
 kind_of Call.ReadLn = Some WholeLine
 kind_of call = None
-
--- how many bytes a read asks for: what is kept of it says it, or Y at its first attempt
-abbrev pub asked_by : Caller → Io → ℕ
-asked_by caller io = option_map_or (λ kept. kept.count) (kept_at io caller.process.0) caller.regs.y
 
 -- the call is this read, as a terminal has it: it asks for 256 bytes at most
 pub record IsRequest (call : IoCall) (caller : Caller) (io : Io) (request : Reading) : Type 0 where
