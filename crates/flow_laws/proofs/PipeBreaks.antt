@@ -23,7 +23,7 @@ use Rattle.machine_model.specs.declared.ends.EventEnd.TheVariants.{Ended}
 use Rattle.machine_model.specs.Event.{Acts, Event, before_delivery, broken_off, delivery_end}
 use Rattle.machine_model.specs.State.{State}
 use Rattle.isolation_laws.proofs.OthersKept.{living-within, record-put}
-use Rattle.flow_laws.specs.Flow.{IsBrokenOff, TellsMoved}
+use Rattle.flow_laws.specs.Flow.{IsBrokenOff, TellsMoved, pushed_regs, with_y}
 
 module _ (m : Inner) (p signal moved : ℕ) (lives : IsLiving m.records p) where
   -- the processes as the signal finds them
@@ -37,30 +37,28 @@ module _ (m : Inner) (p signal moved : ℕ) (lives : IsLiving m.records p) where
   found-regs =
       ap (λ (r : Record). r.regs) (record-put m.records p (record (record_at m.records p) { regs = record (regs_at m p) { y = moved } }) (living-within m.records p lives))
 
-  abbrev Tells : Result Inner ℕ → Type 0
-  Tells result = (delivery_end result ≡ Ended) ⊎ TellsMoved m p moved (after_delivery found p result)
+  -- it waits as it did
+  waits-still : is_waiting (record_at found.records p).life ≡ is_waiting (record_at m.records p).life
+  waits-still =
+      ap (λ (r : Record). is_waiting r.life) (record-put m.records p (record (record_at m.records p) { regs = record (regs_at m p) { y = moved } }) (living-within m.records p lives))
 
-  -- the same frame, by the stack pointer that the process had
-  frame-at : (pushed : Regs) → stored m.memory p (stack_top (regs_at found p).s - 12) (frame_bytes pushed) ≡ stored m.memory p (stack_top (regs_at m p).s - 12) (frame_bytes pushed)
-  frame-at pushed =
-      ap (λ (regs : Regs). stored m.memory p (stack_top regs.s - 12) (frame_bytes pushed)) found-regs
+  abbrev Tells : Result Inner ℕ → Type 0
+  Tells result = (delivery_end result ≡ Ended) ⊎ TellsMoved m p signal moved (after_delivery found p result)
+
+  -- the frame, by the registers that the process had
+  frame-at : (waits : Bool) → is_waiting (record_at found.records p).life ≡ waits → stored m.memory p (stack_top (regs_at found p).s - 12) (frame_bytes (if waits then refused_regs (regs_at found p) signal else regs_at found p)) ≡ stored m.memory p (stack_top (regs_at m p).s - 12) (frame_bytes (pushed_regs m p signal moved))
+  frame-at waits is =
+      ap (λ (regs : Regs). stored m.memory p (stack_top regs.s - 12) (frame_bytes (if waits then refused_regs regs signal else regs))) found-regs
+      ∙ ap (λ (waits : Bool). stored m.memory p (stack_top (regs_at m p).s - 12) (frame_bytes (if waits then refused_regs (with_y m p moved) signal else with_y m p moved))) (sym is ∙ waits-still)
 
   routine-tells : (intercept : Intercept) → Tells (routine_begun found p intercept signal)
   routine-tells intercept =
-      by_room (has_no_room found p (stack_top (regs_at found p).s)) (is_waiting (record_at found.records p).life)
+      by_room (has_no_room found p (stack_top (regs_at found p).s)) (is_waiting (record_at found.records p).life) refl
     where
-      by_room : (none waits : Bool) → Tells (if none then Err E_PRCABT else Ok (with_frame (if waits then goes_on taken p (if waits then refused_regs (regs_at found p) signal else regs_at found p) else taken) p intercept signal (if waits then refused_regs (regs_at found p) signal else regs_at found p) (stack_top (regs_at found p).s - 12)))
-      by_room true waits = inl refl
-      by_room false true = inr (record {
-        regs = refused_regs (regs_at found p) signal;
-        told = ap (λ (regs : Regs). regs.y) found-regs;
-        frame = frame-at (refused_regs (regs_at found p) signal);
-      })
-      by_room false false = inr (record {
-        regs = regs_at found p;
-        told = ap (λ (regs : Regs). regs.y) found-regs;
-        frame = frame-at (regs_at found p);
-      })
+      by_room : (none waits : Bool) → is_waiting (record_at found.records p).life ≡ waits → Tells (if none then Err E_PRCABT else Ok (with_frame (if waits then goes_on taken p (if waits then refused_regs (regs_at found p) signal else regs_at found p) else taken) p intercept signal (if waits then refused_regs (regs_at found p) signal else regs_at found p) (stack_top (regs_at found p).s - 12)))
+      by_room true waits is = inl refl
+      by_room false true is = inr (record { frame = frame-at true is })
+      by_room false false is = inr (record { frame = frame-at false is })
 
   delivery-tells : Tells (delivered found p signal)
   delivery-tells = by_intercept (record_at found.records p).intercept
@@ -77,7 +75,7 @@ module _ (m : Inner) (p signal moved : ℕ) (lives : IsLiving m.records p) where
       by_intercept None = inl refl
       by_intercept (Some intercept) = by_zero intercept (signal == 0)
 
-pub broken-tells : (s t : State) (end : EventEnd) (n p : ℕ) (kept : Kept) → Event s end t → IsBrokenOff n s p kept → (end ≡ Ended) ⊎ TellsMoved s.inner p kept.moved t.inner
+pub broken-tells : (s t : State) (end : EventEnd) (n p : ℕ) (kept : Kept) → Event s end t → (it : IsBrokenOff n s p kept) → (end ≡ Ended) ⊎ TellsMoved s.inner p it.signal.0 kept.moved t.inner
 broken-tells s t end n p kept (q, chosen, living, acts) it =
     by_delivery (subst (λ (act : Act). Acts act s p end t) it.signal.1 (subst (λ (q : ℕ). Acts (act_of s.inner q) s q end t) same acts))
   where
@@ -95,15 +93,15 @@ broken-tells s t end n p kept (q, chosen, living, acts) it =
 
     Came : Inner → Type 0
     Came m =
-        (delivery_end (delivered m p it.signal.0) ≡ Ended) ⊎ TellsMoved s.inner p kept.moved (after_delivery m p (delivered m p it.signal.0))
+        (delivery_end (delivered m p it.signal.0) ≡ Ended) ⊎ TellsMoved s.inner p it.signal.0 kept.moved (after_delivery m p (delivered m p it.signal.0))
 
     came : Came (before_delivery s p)
     came =
         subst Came (sym (ap (broken_off s.inner p) count)) (delivery-tells s.inner p it.signal.0 kept.moved (subst (IsLiving s.inner.records) same living))
 
-    by_came : end ≡ delivery_end (delivered (before_delivery s p) p it.signal.0) → t.inner ≡ after_delivery (before_delivery s p) p (delivered (before_delivery s p) p it.signal.0) → Came (before_delivery s p) → (end ≡ Ended) ⊎ TellsMoved s.inner p kept.moved t.inner
+    by_came : end ≡ delivery_end (delivered (before_delivery s p) p it.signal.0) → t.inner ≡ after_delivery (before_delivery s p) p (delivered (before_delivery s p) p it.signal.0) → Came (before_delivery s p) → (end ≡ Ended) ⊎ TellsMoved s.inner p it.signal.0 kept.moved t.inner
     by_came over is (inl ended_it) = inl (over ∙ ended_it)
-    by_came over is (inr tells) = inr (subst (TellsMoved s.inner p kept.moved) (sym is) tells)
+    by_came over is (inr tells) = inr (subst (TellsMoved s.inner p it.signal.0 kept.moved) (sym is) tells)
 
-    by_delivery : Acts (delivers it.signal.0) s p end t → (end ≡ Ended) ⊎ TellsMoved s.inner p kept.moved t.inner
+    by_delivery : Acts (delivers it.signal.0) s p end t → (end ≡ Ended) ⊎ TellsMoved s.inner p it.signal.0 kept.moved t.inner
     by_delivery (over, is) = by_came over (ap (λ (t : State). t.inner) is) came

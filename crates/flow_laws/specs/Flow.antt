@@ -1,11 +1,12 @@
 -- What events move through a pipe (Level Two manual, "Pipes").
-use Rattle.std.specs.Prelude.{◌≡◌, ◌≢◌, ℕ, ⊤, ◌+◌, ◌-◌, ◌<◌, Option, Some, None, List, [], ◌∷◌, ◌++◌, length, map, take, drop}
+use Rattle.std.specs.Prelude.{◌≡◌, ◌≢◌, ℕ, ⊤, ◌+◌, ◌-◌, ◌<◌, Option, Some, None, List, [], ◌∷◌, ◌++◌, length, map, take, drop, if◌then◌else◌}
 use Rattle.std.specs.List.{AllByRecursion, filter_map, flat_map}
 use Rattle.std.specs.Option.{option_map_or}
 use Rattle.os9_base.specs.declared.calls.TheConstants.{I_READ}
 use Rattle.os9_base.specs.declared.registers.Regs.{Regs}
 use Rattle.proc_model.specs.MemoryChanges.{stored}
-use Rattle.call_rules.specs.Attempts.{after_attempt}
+use Rattle.proc_rules.specs.Records.{is_waiting, record_at}
+use Rattle.call_rules.specs.Attempts.{after_attempt, refused_regs}
 use Rattle.call_rules.specs.Delivery.{frame_bytes, stack_top}
 use Rattle.call_rules.specs.Inner.{Inner, regs_at}
 use Rattle.call_rules.specs.Ready.{attempts, delivers, act_of}
@@ -167,11 +168,19 @@ pub record IsBrokenOff (n : ℕ) (s : State) (p : ℕ) (kept : Kept) : Type 0 wh
   pub on : target_of s.io kept.path ≡ Some (Pipe n)
   pub counts : kept.code ≢ I_READ
 
--- the registers that are pushed for the routine of its intercept have in Y how many bytes the call has moved
-pub record TellsMoved (before : Inner) (p moved : ℕ) (after : Inner) : Type 0 where
-  pub regs : Regs
-  pub told : regs.y ≡ moved
-  pub frame : after.memory ≡ stored before.memory p (stack_top (regs_at before p).s - 12) (frame_bytes regs)
+-- the registers of a process with this in Y
+abbrev pub with_y : Inner → ℕ → ℕ → Regs
+with_y inner p y = record (regs_at inner p) { y = y }
+
+-- what is pushed of them for the routine of its intercept: a call that waits ends as refused with the signal
+abbrev pub pushed_regs : Inner → ℕ → ℕ → ℕ → Regs
+pushed_regs inner p signal y =
+    if is_waiting (record_at inner.records p).life then refused_regs (with_y inner p y) signal else with_y inner p y
+
+-- a frame is pushed that has in Y how many bytes the call has moved
+pub record TellsMoved (before : Inner) (p signal moved : ℕ) (after : Inner) : Type 0 where
+  pub frame : after.memory
+      ≡ stored before.memory p (stack_top (regs_at before p).s - 12) (frame_bytes (pushed_regs before p signal moved))
 
 -- ---- runs
 

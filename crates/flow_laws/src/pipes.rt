@@ -17,13 +17,14 @@ ghost use Rattle.flow_laws.specs.Flow.{AllLive, IsBrokenOff, IsNew, Passes, Pass
 /// puts them in at its end, which are the next ones of those that its process sends. A call that is
 /// done answers how many they were, and a read that is refused took none. Each attempt on the pipe
 /// that is neither is refused, or asks for no byte. Where a signal breaks off a line read or a
-/// write that waits, the routine of the process finds in Y of its frame how many bytes the call has
-/// moved.
+/// write that waits, the frame of the routine has the registers of the process, with how many bytes
+/// the call has moved in Y, and carry set and the signal in B where the process waited.
 pub fn what_is_read_of_a_pipe_is_what_was_written()
     ensures event { (s t : State) (end : EventEnd) (n : ℕ) → Event s end t → IsPipe s.io.pipes n
         → IsPipe t.io.pipes n → Passes n s t }
     ensures signal { (s t : State) (end : EventEnd) (n p : ℕ) (kept : Kept) → Event s end t
-        → IsBrokenOff n s p kept → (end ≡ Ended) ⊎ TellsMoved s.inner p kept.moved t.inner }
+        → (it : IsBrokenOff n s p kept)
+        → (end ≡ Ended) ⊎ TellsMoved s.inner p it.signal.0 kept.moved t.inner }
     ensures slice { (size : ℕ) (s t : State) (states : List State) (end : SliceEnd) (n : ℕ)
         → Slice size s states end t → IsPipe s.io.pipes n → AllLive n states
         → PassesThrough n s states t }
