@@ -25,7 +25,7 @@ use Rattle.stream_calls.specs.Moving.{AreTerminals}
 use Rattle.stream_calls.specs.Trying.{WantsMemory}
 use Rattle.os9_kernel.specs.declared.act.Act.TheVariants.{Attempt}
 use Rattle.os9_kernel.specs.Ends.{event_end_of}
-use Rattle.os9_kernel.proofs.Acting.{acts-so, chosen-is, event-then}
+use Rattle.os9_kernel.proofs.Acting.{acts-so, chosen-is, event-then, lives-there}
 use Rattle.os9_kernel.proofs.Calling.{end-tied, goes-on, lives-so}
 use Rattle.os9_kernel.proofs.PathCalls.{effect-tick, may-attempt-here, wants-so}
 use Rattle.os9_kernel.proofs.Pending.{attempt-lowers}
@@ -78,6 +78,7 @@ returns-clause-event g c =
           let is = wants-so c.attempt-end.result (sym c.event_end.ensures ∙ out) in record {
             p = p.0;
             chosen = chosen-is old p act next drives before s tied;
+            lives = lives-there old p act next drives before s tied;
             code = c.args.code;
             act = acts-so old p act next drives before s tied;
             call = c.args.call;
