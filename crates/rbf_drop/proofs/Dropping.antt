@@ -26,7 +26,7 @@ use Rattle.rbf_access.proofs.MapMarks.{below}
 use Rattle.rbf_access.proofs.Reading.{below_total}
 use Rattle.rbf_drop.specs.declared.own.OwnSectors.{OwnSectors}
 use Rattle.rbf_drop.specs.Own.{in_own, here, NoneHere}
-use Rattle.rbf_drop.specs.Cleared.{MayClear, IsCleared, IsClearing, MayGoOn, ClearsNext, IsStopped, before}
+use Rattle.rbf_drop.specs.Cleared.{MayClear, IsCleared, IsClearing, MayGoOn, ClearsNext, IsStopped, before, not_before}
 use Rattle.rbf_drop.specs.Dropped.{IsGone, HasGone, IsDropped, DropEnds}
 use Rattle.rbf_drop.proofs.MarkCalls.{moves_more, moves_to_fault, moves_all}
 use Rattle.rbf_drop.proofs.FileClusters.{own_is, fields_some, AreSome}
@@ -38,6 +38,17 @@ and_true false = refl
 and_false : (t : Bool) → (t && false) ≡ false
 and_false true = refl
 and_false false = refl
+
+-- what is lost of some clusters when those before a place have been given back: what is not of them, and the whole
+-- ones that are left
+lost_split : (lost his whole below : Bool) → (his ≡ true → lost ≡ whole) → (lost && not (his && below)) ≡ ((lost && not his) || (whole && (his && not (his && below))))
+lost_split true true true below same = refl
+lost_split true true false below same = absurd (false≢true (sym (same refl)))
+lost_split true false whole below same = refl
+lost_split false true true below same = absurd (false≢true (same refl))
+lost_split false true false below same = refl
+lost_split false false true below same = refl
+lost_split false false false below same = refl
 
 -- a mounted volume is that of the media, whichever image is named
 pub agrees_on : (volume : Volume) (media : Option (List ℕ)) (v : DiskVolume) → IsMounted volume media → (on : Represents media v) → Agrees (kept volume) on.image
@@ -275,6 +286,11 @@ module _ (media : Option (List ℕ)) (n : ℕ) (segs : List (ℕ × ℕ)) (segs_
             (ap (λ t. not (in_own k owner c && t)) past ∙ ap not (and_false (in_own k owner c))),
       );
       others = state.others;
+      stops = record {
+        place = place;
+        marks = λ d low. state.marks d low ∙ ap (λ t. is_marked (sector image) d && not t) (before_is d);
+        lost_are = ap (with_lost v) (fun_ext lost_is);
+      };
       end = λ d behind. ⊎_elim
           (λ low. inr (state.marks d behind.in_map ∙ ap (λ t. is_marked (sector image) d && not t) (before_is d ∙ ap (λ t. has_it d && t) low ∙ and_true (has_it d))))
           (λ high. inl (state.marks d behind.in_map ∙ ap (λ t. is_marked (sector image) d && not t) (before_is d ∙ ap (λ t. has_it d && t) high ∙ and_false (has_it d)) ∙ and_true (is_marked (sector image) d)))
@@ -283,6 +299,13 @@ module _ (media : Option (List ℕ)) (n : ℕ) (segs : List (ℕ × ℕ)) (segs_
       where
         his_cluster : has_it c ≡ true
         his_cluster = sym (ap (λ (t : ℕ → Bool). t c) same_k ∙ own_cluster c) ∙ there
+
+        -- those of its clusters that are lost still are the whole ones with their mark at the place or behind it
+        lost_is : (d : ℕ) → (v.lost d && not (before (in_own k owner) place d)) ≡ ((v.lost d && not (has_it d)) || (is_whole (shape v) d && not_before has_it place d))
+        lost_is d = ap (λ t. v.lost d && not t) (before_is d) ∙ lost_split (v.lost d) (has_it d) (is_whole (shape v) d) (nat_lt (d / 2048) place) (λ his. ⊎_elim
+            (λ whole. lost_of d his whole ∙ sym whole)
+            (λ part. false_from_ne_true (v.lost d) (λ lost. both_ways (is_whole (shape v) d) part (whole_of d lost)) ∙ sym part)
+            (cases_Bool (is_whole (shape v) d)))
 
         not_one : (a b : Bool) → not a ≡ true → not (a && b) ≡ true
         not_one true b h = absurd (false≢true h)

@@ -59,3 +59,7 @@ pub record IsStopped (gone : ℕ → Bool) (place : ℕ) (media now : Option (Li
 -- the clusters of these that have their mark in a sector of the map before this one
 abbrev pub before : (ℕ → Bool) → ℕ → ℕ → Bool
 before gone place c = gone c && nat_lt (c / 2048) place
+
+-- and the others of them
+abbrev pub not_before : (ℕ → Bool) → ℕ → ℕ → Bool
+not_before gone place c = gone c && not (before gone place c)

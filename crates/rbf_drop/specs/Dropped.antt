@@ -1,6 +1,6 @@
 -- A file that has gone from the volume, and what becomes of its clusters.
-use Rattle.std.specs.Prelude.{◌≡◌, ℕ, ◌<◌, ◌&&◌, true, not, List, Option, Some, None}
-use Rattle.rbf_model.specs.Geometry.{image_geometry, sector, LieWithin}
+use Rattle.std.specs.Prelude.{◌≡◌, ℕ, ◌*◌, ◌<◌, ◌&&◌, ◌||◌, Bool, true, not, List, Option, Some, None}
+use Rattle.rbf_model.specs.Geometry.{Geometry, image_geometry, sector, map_sectors, LieWithin}
 use Rattle.rbf_model.specs.File.{DiskFile, file_at}
 use Rattle.rbf_model.specs.Space.{is_marked, is_whole, has_cluster, Unused}
 use Rattle.rbf_model.specs.Volume.{DiskVolume, Vol}
@@ -10,6 +10,7 @@ use Rattle.rbf_change.specs.Calls.{shape}
 use Rattle.rbf_change.specs.Faults.{MayLose, OneIsMarked}
 use Rattle.rbf_change.specs.Tidy.{KeepsMapEnd, MayKeepMapEnd}
 use Rattle.rbf_access.specs.Mounted.{Represents}
+use Rattle.rbf_drop.specs.Cleared.{before, not_before}
 
 -- the file that was of number n has gone from the volume v: its descriptor is still in that sector, its clusters are
 -- marked, and no file has them
@@ -46,6 +47,15 @@ pub record IsDropped (v : DiskVolume) (n : ℕ) (file : DiskFile) (old new : Opt
   pub others : OnlyMap image now
   pub end : KeepsMapEnd image now (has_cluster (shape v) n file)
 
+-- clusters are given back sector by sector of the map, upwards, and a fault came at the sector in some place: the marks
+-- in the sectors before it have been cleared, and no other mark; the whole ones that are left are lost, besides those
+-- that are after all have been given back
+pub record StopsAtPlace (g : Geometry) (after left : DiskVolume) (gone : ℕ → Bool) (old new : List ℕ) : Type 0 where
+  pub place : ℕ
+  pub marks : (c : ℕ) → c < 2048 * map_sectors (image_geometry old)
+      → is_marked (sector new) c ≡ (is_marked (sector old) c && not (before gone place c))
+  pub lost_are : left ≡ with_lost after (λ c. after.lost c || (is_whole g c && not_before gone place c))
+
 -- a fault came before all of them were: of the whole ones some may still be lost, and one of them is still marked
 pub record DropEnds (v : DiskVolume) (n : ℕ) (file : DiskFile) (old new : Option (List ℕ)) : Type 0 where
   pub image : List ℕ
@@ -58,3 +68,5 @@ pub record DropEnds (v : DiskVolume) (n : ℕ) (file : DiskFile) (old new : Opti
   pub unfinished : OneIsMarked now (has_cluster (shape v) n file)
   pub others : OnlyMap image now
   pub end : MayKeepMapEnd image now (has_cluster (shape v) n file)
+  -- the fault ended the call: nothing was written after it
+  pub stops : StopsAtPlace (shape v) (freed v n file) left (has_cluster (shape v) n file) image now
