@@ -30,7 +30,8 @@ use Rattle.rbf_access.specs.Drive.{DriveCounts, MovesCounts}
 use Rattle.rbf_access.specs.MapMarks.{marking_sectors}
 use Rattle.rbf_access.specs.Mounted.{Represents}
 use Rattle.rbf_access.proofs.ReadFile.{room_for}
-use Rattle.rbf_drop.specs.Dropped.{IsGone, HasGone, OnlyMap, freed, IsDropped, DropEnds}
+use Rattle.rbf_drop.specs.Cleared.{before}
+use Rattle.rbf_drop.specs.Dropped.{IsGone, HasGone, OnlyMap, freed, IsDropped, StopsAtPlace, DropEnds}
 use Rattle.rbf_update.specs.Becomes.{RepresentsOne}
 use Rattle.rbf_update.specs.Deletions.{FreesOn}
 use Rattle.rbf_update.specs.declared.deletion.Deletable.{Deletable}
@@ -241,10 +242,13 @@ module _ (media mid : Option (List ℕ)) (d : ℕ) (name : List ℕ) (found : De
     others = λ s differ none. only s (λ map. none (subst (λ h. IsMapSector h s) half_shape map)) ∙ ap (λ (x : ℕ → List ℕ). x s) half_sectors ∙ put_beside (sector image) lsn news s differ;
   }
 
-  end_mark : (c : ℕ) → IsMapEnd image c → is_marked (sector half) c ≡ is_marked (sector image) c
-  end_mark c behind =
+  mark_stays : (c : ℕ) → c < 2048 * map_sectors g → is_marked (sector half) c ≡ is_marked (sector image) c
+  mark_stays c in_map =
       ap (λ x. is_marked x c) half_sectors
-      ∙ marked_beside (sector image) lsn news c (λ same. let low = past in let in_map = behind.in_map in absurd (omega arith))
+      ∙ marked_beside (sector image) lsn news c (λ same. let low = past in absurd (omega arith))
+
+  end_mark : (c : ℕ) → IsMapEnd image c → is_marked (sector half) c ≡ is_marked (sector image) c
+  end_mark c behind = mark_stays c behind.in_map
 
   end_half : (c : ℕ) → IsMapEnd image c → IsMapEnd half c
   end_half c behind = record {
@@ -276,6 +280,8 @@ module _ (media mid : Option (List ℕ)) (d : ℕ) (name : List ℕ) (found : De
   half_deleted new drop =
       let same : drop.image ≡ half = same_Some drop.image half (sym drop.was ∙ mid_is) in
       let end : MayKeepMapEnd half drop.now (has_cluster (shape w) n file) = subst (λ i. MayKeepMapEnd i drop.now (has_cluster (shape w) n file)) same drop.end in
+      let stops : StopsAtPlace (shape w) (freed w n file) drop.left (has_cluster (shape w) n file) half drop.now =
+          subst (λ i. StopsAtPlace (shape w) (freed w n file) drop.left (has_cluster (shape w) n file) i drop.now) same drop.stops in
       record {
         image = image;
         now = drop.now;
@@ -294,6 +300,12 @@ module _ (media mid : Option (List ℕ)) (d : ℕ) (name : List ℕ) (found : De
             (λ still. inl (still ∙ end_mark c behind))
             (λ cleared. inr (cleared ∙ ap (λ t. t && not (has_cluster (shape w) n file c)) (end_mark c behind)))
             (end c (end_half c behind));
+        stops = record {
+          place = stops.place;
+          marks = λ c low. stops.marks c (subst (λ h. c < 2048 * map_sectors h) (sym half_shape) low)
+              ∙ ap (λ t. t && not (before (has_cluster (shape w) n file) stops.place c)) (mark_stays c low);
+          lost_are = stops.lost_are;
+        };
       }
 
   -- how many sectors of the map have a mark of its clusters

@@ -15,6 +15,7 @@ use Rattle.rbf_change.specs.Tidy.{KeepsMapEnd, MayKeepMapEnd}
 use Rattle.rbf_access.specs.MapMarks.{marking_sectors}
 use Rattle.rbf_access.specs.declared.faults.FileFault.{FileFault}
 use Rattle.rbf_access.specs.declared.faults.FileFault.TheVariants.{Device, NoCluster, TooManyRuns}
+use Rattle.rbf_drop.specs.Dropped.{StopsAtPlace}
 use Rattle.rbf_update.specs.Deletions.{IsDeletable, deletion_calls}
 use Rattle.rbf_update.specs.declared.deletion.Deletable.{Deletable}
 use Rattle.rbf_update.specs.Entries.{sector_of_entry}
@@ -60,6 +61,8 @@ pub record IsHalfDeleted (v : DiskVolume) (d n : ℕ) (name : List ℕ) (old new
   pub unfinished : OneIsMarked now (has_cluster (shape v) n file)
   pub writes : ClearsEntry image now deletes.dir deletes.place
   pub end : MayKeepMapEnd image now (has_cluster (shape v) n file)
+  -- no mark has been cleared behind a sector of the map whose marks still stand
+  pub stops : StopsAtPlace (shape v) after left (has_cluster (shape v) n file) image now
 
 -- each answer of a deletion of file n, and what it leaves: after a fault nothing has changed, or the file has gone
 abbrev pub AnswersDeletionOf : DiskVolume → ℕ → ℕ → List ℕ → Option (List ℕ) → Option (List ℕ)

@@ -47,9 +47,9 @@ pub record IsDropped (v : DiskVolume) (n : ℕ) (file : DiskFile) (old new : Opt
   pub others : OnlyMap image now
   pub end : KeepsMapEnd image now (has_cluster (shape v) n file)
 
--- clusters are given back sector by sector of the map, upwards, and a fault came at the sector in some place: the marks
--- in the sectors before it have been cleared, and no other mark; the whole ones that are left are lost, besides those
--- that are after all have been given back
+-- clusters are given back sector by sector of the map, upwards, and a fault came at the sector in some place or behind
+-- it: the marks of these in the sectors before it have been cleared, and no other mark of the map; the whole ones that
+-- are left are lost, besides those that are lost when all have been given back
 pub record StopsAtPlace (g : Geometry) (after left : DiskVolume) (gone : ℕ → Bool) (old new : List ℕ) : Type 0 where
   pub place : ℕ
   pub marks : (c : ℕ) → c < 2048 * map_sectors (image_geometry old)
@@ -68,5 +68,5 @@ pub record DropEnds (v : DiskVolume) (n : ℕ) (file : DiskFile) (old new : Opti
   pub unfinished : OneIsMarked now (has_cluster (shape v) n file)
   pub others : OnlyMap image now
   pub end : MayKeepMapEnd image now (has_cluster (shape v) n file)
-  -- the fault ended the call: nothing was written after it
+  -- no mark has been cleared behind a sector of the map whose marks still stand
   pub stops : StopsAtPlace (shape v) (freed v n file) left (has_cluster (shape v) n file) image now
