@@ -1,7 +1,7 @@
 -- The sector of a new file's entry, in a directory that may gain a cluster for it, is none of the map or of the file.
 use Rattle.std.proofs.Common.{◌≡◌, ◌≢◌, ℕ, ◌+◌, ◌-◌, ◌*◌, ◌/◌, ◌<◌, ◌≤◌, true, false, not, ◌==◌, Option, Some, List, length, inl, inr, ◌⊎◌, sym, ap, ◌∙◌, subst, ⊎_elim, arith}
 use Rattle.std.proofs.Math.Nat.{lt-div-mul-add}
-use Rattle.std.proofs.lemmas.Bool.{and_parts, or_right, both_ways, not-true}
+use Rattle.std.proofs.lemmas.Bool.{and_parts, or_cases, or_right, both_ways, false_from_ne_true, not-true}
 use Rattle.std.proofs.lemmas.Option.{same_Some}
 use Rattle.rbf_model.specs.File.{DiskFile}
 use Rattle.rbf_model.specs.Geometry.{Geometry, image_geometry, sector, map_sectors}
@@ -16,6 +16,7 @@ use Rattle.rbf_model.proofs.Segments.{has_cases, has_range}
 use Rattle.rbf_model.proofs.Space.{cluster_from_owns}
 use Rattle.rbf_change.specs.Calls.{shape, cluster_size, is_free_in}
 use Rattle.rbf_change.specs.Contents.{sector_count, written}
+use Rattle.rbf_change.specs.Faults.{MayLose}
 use Rattle.rbf_change.specs.Growth.{with_clusters, clusters_needed, IsChoice}
 use Rattle.rbf_change.specs.NewFiles.{free_without}
 use Rattle.rbf_change.proofs.LawfulWrites.{shape-image}
@@ -42,6 +43,9 @@ module _ (media : Option (List ℕ)) (v : DiskVolume) (on : Represents media v) 
 
   unused : (c : ℕ) → is_free_in v c ≡ true → Unused (shape v) v.files c
   unused c h = subst (λ s. Unused s v.files c) (sym volume_shape) (free_parts g (sector on.image) v on.vol.sound c (subst (λ s. is_free s v c ≡ true) volume_shape h)).2
+
+  not_lost : (c : ℕ) → is_free_in v c ≡ true → v.lost c ≡ false
+  not_lost c h = (free_parts g (sector on.image) v on.vol.sound c (subst (λ s. is_free s v c ≡ true) volume_shape h)).1
 
   -- no free cluster has a sector of the map
   pub free_no_map : (image : List ℕ) → media ≡ Some image → (s : ℕ) → is_free_in v (s / k) ≡ true → ¬ IsMapSector (image_geometry image) s
@@ -75,6 +79,15 @@ module _ (media : Option (List ℕ)) (v : DiskVolume) (on : Represents media v) 
     cases_at = ⊎_elim (λ own. inl own) (λ more. inr (in_taken k gained at some_k more))
         (has_cases (sectors_of dir.segments) (cluster_sectors k gained) at
         (subst (λ xs. has xs at ≡ true) (sectors_with k dir.segments gained) (has_place (sectors_of segments) (place / 8) within_place)))
+
+    -- no cluster that it gains is lost where those of the new file alone have been taken
+    pub untaken : (w : DiskVolume) → MayLose v w (has_cluster (shape v) n file) → (c : ℕ) → has gained c ≡ true → w.lost c ≡ false
+    untaken w lose c h =
+        let free = and_parts (is_free_in v c) (not (has_cluster (shape v) n file c)) (has_free k (free_without (shape v) (is_free_in v) n file) dir.segments gained c choice.gained h) in
+        false_from_ne_true (w.lost c) (λ lost. ⊎_elim
+            (both_ways (v.lost c) (not_lost c free.0))
+            (both_ways (has_cluster (shape v) n file c) (not-true (has_cluster (shape v) n file c) free.1))
+            (or_cases (v.lost c) (has_cluster (shape v) n file c) (lose.only c lost)))
 
     gained_free : has gained (at / k) ≡ true → (is_free_in v (at / k) ≡ true) × (has_cluster (shape v) n file (at / k) ≡ false)
     gained_free h =

@@ -104,6 +104,9 @@ pub record EnteringTook (v : DiskVolume) (dir : DiskFile) (e : Entering) (old ne
       → IsAfterMarks image now s left (has_cluster (shape v) number ends.both.file)
   -- its descriptor comes after its contents
   pub descriptor : (sector now number ≡ sector image number) ⊎ (file_at (sector now) number ≡ ends.both.file)
+  -- a cluster that the directory gains is marked after its descriptor has been written
+  pub growth : (c : ℕ) → has ends.both.entry.gained c ≡ true → left.lost c ≡ true
+      → file_at (sector now) number ≡ ends.both.file
   -- the entry's sector is as it was, or it was written after the file that it names and after all marks
   pub entry : (sector now (sector_of_place ends.both.new.segments (entry_place dir.contents))
       ≡ sector image (sector_of_place ends.both.new.segments (entry_place dir.contents)))

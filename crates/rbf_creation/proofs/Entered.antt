@@ -41,7 +41,7 @@ use Rattle.rbf_append.specs.Entering.{Entering, StandsWhole, entry_calls, Enteri
 use Rattle.rbf_append.specs.Rooms.{place_clusters, HasRoom}
 use Rattle.rbf_append.proofs.Choice.{one_needed, choice_exists, one_passes}
 use Rattle.rbf_append.proofs.Needs.{needs_entry}
-use Rattle.rbf_append.proofs.Sectors.{entry_no_map, entry_apart}
+use Rattle.rbf_append.proofs.Sectors.{entry_no_map, entry_apart, untaken}
 use Rattle.rbf_make.proofs.NewEntries.{new_length, new_number, may_enter}
 use Rattle.rbf_walk.specs.Search.{IsAbsent}
 use Rattle.rbf_walk.proofs.Stepping.{same_content}
@@ -163,6 +163,10 @@ module _ (m0 : Option (List ℕ)) (v : DiskVolume) (on : Represents m0 v) (d : �
       at_apart : at ≢ n
       at_apart = entry_apart m0 v on d place dir is entry entry_whole n file fresh gained choice n (or_left (n == n) (has (sectors_of file.segments) n) (eq-eqb n n refl))
 
+      -- no cluster that it gains has been taken where the file's alone have
+      ungained : (w : DiskVolume) → MayLose v w (has_cluster (shape v) n file) → (c : ℕ) → has gained c ≡ true → w.lost c ≡ false
+      ungained = untaken m0 v on d place dir is entry entry_whole n file fresh gained choice
+
       abbrev new_dir : DiskFile
       new_dir = written_file dir (32 * entry_place dir.contents) entry now segments
 
@@ -184,8 +188,9 @@ module _ (m0 : Option (List ℕ)) (v : DiskVolume) (on : Represents m0 v) (d : �
       pub took : refusal_of v dir e ≡ None → (image image1 : List ℕ) (left : DiskVolume) (m1 : Option (List ℕ)) → m0 ≡ Some image → m1 ≡ Some image1 → Vol image1 left → MayLose v left (λ c. has_cluster (shape v) n file c || has gained c)
           → ((s : ℕ) → ¬ IsMapSector (image_geometry image) s → s ≢ n → s ≢ at → sector image1 s ≡ sector image s)
           → IsAfterMarks image image1 n left (λ c. has_cluster (shape v) n file c) → (sector image1 n ≡ sector image n) ⊎ (file_at (sector image1) n ≡ file)
+          → ((c : ℕ) → has gained c ≡ true → left.lost c ≡ true → file_at (sector image1) n ≡ file)
           → (sector image1 at ≡ sector image at) ⊎ (StandsBehind image image1 dir at place entry × StandsWhole v left image1 n file gained) → KeepsMapEnd image image1 (λ _. false) → EnteringTook v dir e m0 m1
-      took allowed image image1 left m1 was now_is vol lose others order described entered_last end = record {
+      took allowed image image1 left m1 was now_is vol lose others order described grown entered_last end = record {
         allowed = allowed;
         image = image;
         now = image1;
@@ -200,6 +205,7 @@ module _ (m0 : Option (List ℕ)) (v : DiskVolume) (on : Represents m0 v) (d : �
             (λ same. differ (same ∙ ap (sector_of_place segments) absent.free_is));
         marks = λ s h. subst (λ t. IsAfterMarks image image1 t left (λ c. has_cluster (shape v) n file c)) (only_number s h) order;
         descriptor = described;
+        growth = grown;
         entry = subst (λ p. (sector image1 (sector_of_place segments p) ≡ sector image (sector_of_place segments p)) ⊎ (StandsBehind image image1 dir (sector_of_place segments p) p entry × StandsWhole v left image1 n file gained))
             absent.free_is entered_last;
         end = end;
@@ -224,6 +230,7 @@ module _ (m0 : Option (List ℕ)) (v : DiskVolume) (on : Represents m0 v) (d : �
       (λ s none differ out. ends.others s none)
       (inl (number_stays ends))
       (inl (number_stays ends))
+      (λ x gains lost. absurd (both_ways (ends.left.lost x) (ungained ends.number ends.file ends.chosen c.0 c.1 ends.left ends.lose x gains) lost))
       (inl (ends.others (at ends.number ends.file ends.chosen c.0 c.1) (at_no_map ends.number ends.file ends.chosen c.0 c.1 ends.image ends.was)))
       ends.end
     where
@@ -310,6 +317,7 @@ module _ (m0 : Option (List ℕ)) (v : DiskVolume) (on : Represents m0 v) (d : �
         here.others s (λ map. none (subst (λ h. IsMapSector h s) (ap image_geometry same ∙ sym image_same) map)) out ∙ ap (λ i. sector i s) same ∙ made.writes.others s none differ)
         (inr (λ c h. here.lose.still c (its_lost c h)))
         (inr shown_then)
+        (λ c gains lost. shown_then)
         (⊎_elim
         (λ still. inl (still ∙ entry_was))
         (λ behind. inr (

@@ -39,7 +39,7 @@ use Rattle.rbf_append.specs.Entering.{Entering, refusal_of, written_sectors, IsE
 use Rattle.rbf_append.specs.Rooms.{place_clusters, HasRoom, HasNoSegment}
 use Rattle.rbf_append.proofs.Needs.{needs_entry}
 use Rattle.rbf_append.proofs.Placing.{place_most}
-use Rattle.rbf_append.proofs.Sectors.{entry_no_map, entry_apart}
+use Rattle.rbf_append.proofs.Sectors.{entry_no_map, entry_apart, untaken}
 use Rattle.rbf_append.proofs.Choice.{choice_exists, one_needed, one_passes}
 use Rattle.rbf_write.proofs.Steps.{few_segments, own_not_free}
 use Rattle.rbf_make.proofs.NewEntries.{may_enter, new_length, new_number}
@@ -261,6 +261,10 @@ module _ (media : Option (List ℕ)) (v : DiskVolume) (on : Represents media v) 
         choice_without : IsChoice k (free_without (shape v) (is_free_in v) n file) dir.segments (length (written dir.contents (32 * place) entry)) gained
         choice_without = subst (λ f. IsChoice k f dir.segments (length (written dir.contents (32 * place) entry)) gained) (fun_ext left_free) choice
 
+        -- no cluster that it gains has been taken where those of the new directory alone have
+        ungained : (w : DiskVolume) → MayLose v w (has_cluster (shape v) n file) → (c : ℕ) → has gained c ≡ true → w.lost c ≡ false
+        ungained = untaken media v on d place dir dir_is entry whole n file fresh gained choice_without
+
         entry_away : (s : ℕ) → has (owned_sectors n file) s ≡ true → sector_of_place (with_clusters k dir.segments gained) place ≢ s
         entry_away = entry_apart media v on d place dir dir_is entry whole n file fresh gained choice_without
 
@@ -317,6 +321,7 @@ module _ (media : Option (List ℕ)) (v : DiskVolume) (on : Represents media v) 
               (λ first. subst (λ t. IsAfterMarks ends.image ends.now t ends.left (has_cluster (shape v) ends.number ends.file)) first ends.order)
               (written_two ends.number ends.file ends.chosen ends.takes s h);
           descriptor = inl ends.undescribed;
+          growth = λ x gains lost. absurd (both_ways (ends.left.lost x) (ungained ends.number ends.file ends.chosen ends.takes c.0 c.1 ends.left ends.lose x gains) lost);
           entry = subst (λ p. (sector ends.now (sector_of_place (with_clusters k dir.segments c.0) p) ≡ sector ends.image (sector_of_place (with_clusters k dir.segments c.0) p)) ⊎ (StandsBehind ends.image ends.now dir (sector_of_place (with_clusters k dir.segments c.0) p) p (new_entry name ends.number) × StandsWhole v ends.left ends.now ends.number ends.file c.0)) (sym place_is)
               (inl (ends.others (sector_of_place (with_clusters k dir.segments c.0) place) (entry_not_map ends.number ends.file ends.chosen ends.takes c.0 c.1 ends.image ends.was)
               (entry_away ends.number ends.file ends.chosen ends.takes c.0 c.1 (first_sector ends.file) (first_own ends.number ends.file ends.chosen ends.takes))));
@@ -473,6 +478,7 @@ module _ (media : Option (List ℕ)) (v : DiskVolume) (on : Represents media v) 
               ∙ made.writes.others s none apart_from.0 apart_from.1;
           marks = λ s h. inr its_lost;
           descriptor = inr shown_then;
+          growth = λ c gains lost. shown_then;
           entry = subst (λ p. (sector stops.now (sector_of_place (with_clusters k dir.segments stops.taken) p) ≡ sector made.image (sector_of_place (with_clusters k dir.segments stops.taken) p)) ⊎ (StandsBehind made.image stops.now dir (sector_of_place (with_clusters k dir.segments stops.taken) p) p (new_entry name n) × StandsWhole v stops.left stops.now n file stops.taken)) (sym place_is)
               (⊎_elim
               (λ still. inl (still ∙ entry_was))
