@@ -85,9 +85,9 @@ module _ (media : Option (List ℕ)) (v : DiskVolume) (on : Represents media v) 
     untaken w lose c h =
         let free = and_parts (is_free_in v c) (not (has_cluster (shape v) n file c)) (has_free k (free_without (shape v) (is_free_in v) n file) dir.segments gained c choice.gained h) in
         false_from_ne_true (w.lost c) (λ lost. ⊎_elim
-            (both_ways (v.lost c) (not_lost c free.0))
-            (both_ways (has_cluster (shape v) n file c) (not-true (has_cluster (shape v) n file c) free.1))
-            (or_cases (v.lost c) (has_cluster (shape v) n file c) (lose.only c lost)))
+        (both_ways (v.lost c) (not_lost c free.0))
+        (both_ways (has_cluster (shape v) n file c) (not-true (has_cluster (shape v) n file c) free.1))
+        (or_cases (v.lost c) (has_cluster (shape v) n file c) (lose.only c lost)))
 
     gained_free : has gained (at / k) ≡ true → (is_free_in v (at / k) ≡ true) × (has_cluster (shape v) n file (at / k) ≡ false)
     gained_free h =

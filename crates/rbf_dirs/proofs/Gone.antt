@@ -281,7 +281,7 @@ module _ (media mid : Option (List ℕ)) (d : ℕ) (name : List ℕ) (found : De
       let same : drop.image ≡ half = same_Some drop.image half (sym drop.was ∙ mid_is) in
       let end : MayKeepMapEnd half drop.now (has_cluster (shape w) n file) = subst (λ i. MayKeepMapEnd i drop.now (has_cluster (shape w) n file)) same drop.end in
       let stops : StopsAtPlace (shape w) (freed w n file) drop.left (has_cluster (shape w) n file) half drop.now =
-          subst (λ i. StopsAtPlace (shape w) (freed w n file) drop.left (has_cluster (shape w) n file) i drop.now) same drop.stops in
+      subst (λ i. StopsAtPlace (shape w) (freed w n file) drop.left (has_cluster (shape w) n file) i drop.now) same drop.stops in
       record {
         image = image;
         now = drop.now;
