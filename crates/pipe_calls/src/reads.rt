@@ -35,7 +35,8 @@ use proc_state::state::ProcState;
 ///
 /// # Errors
 ///
-/// E$EOF exactly if the pipe holds nothing, and no other process could write into it.
+/// E$EOF exactly if the pipe holds nothing, and no other process that holds the path is outside the
+/// same wait.
 pub fn read_pipe(
     s: &mut ProcState,
     io: &mut IoState,
@@ -99,8 +100,8 @@ fn take_bytes(
 ///
 /// # Errors
 ///
-/// E$EOF exactly if the pipe holds nothing, no other process could write into it, and nothing was
-/// moved before.
+/// E$EOF exactly if the pipe holds nothing, no other process that holds the path is outside the same
+/// wait, and nothing was moved before.
 pub fn read_pipe_line(
     s: &mut ProcState,
     io: &mut IoState,

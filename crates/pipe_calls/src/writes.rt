@@ -25,8 +25,8 @@ use os9_base::registers::Pid;
 ///
 /// # Errors
 ///
-/// E$Write exactly if a byte is left, and no other process could read from the pipe. What was moved
-/// before stays in the pipe.
+/// E$Write exactly if a byte is left, and no other process that holds the path is outside the same
+/// wait. What was moved stays in the pipe.
 pub fn write_pipe(io: &mut IoState, p: Pid, pipe: u8, call: Kept, bytes: &[u8]) -> CallEnd
     requires process { p.0 < 33 }
     requires pipe { IsPipe io.old.pipes pipe }
@@ -72,7 +72,7 @@ fn settle(io: &mut IoState, p: Pid, alone: bool, call: Kept, moved: PipeAns) -> 
 }
 
 /// A write that moved bytes is done if they were the last; else it is refused if no other process
-/// could read from the pipe, and waits if one could.
+/// that holds the path is outside the same wait, and waits if one is.
 fn go_on(io: &mut IoState, p: Pid, alone: bool, call: Kept) -> CallEnd
     requires process { p.0 < 33 }
     requires may { call.moved ≢ call.count → MayWait io.old.paths p.0 call }

@@ -46,8 +46,8 @@ pub(crate) enum WriteKind {
 /// # Errors
 ///
 /// E$BPNum exactly if the number names no path, else E$BMode exactly if the path may not be
-/// written; then E$Write where a terminal failed, or a pipe is full that no other process could
-/// read.
+/// written; then E$Write where a terminal failed, or a pipe is full whose path no other process holds
+/// that is outside the same wait.
 pub(crate) fn send(
     io: &mut IoState,
     devices: &mut Devices,

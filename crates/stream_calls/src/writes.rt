@@ -34,8 +34,8 @@ use proc_state::state::ProcState;
 ///
 /// E$BPAddr exactly if one of the bytes is in no named slot or past `FFFF`, else E$BPNum exactly
 /// if the number names no path, else E$BMode exactly if the path may not be written; then E$Write
-/// where a terminal failed, or a pipe is full that no other process could read. What is out stays
-/// out, and the registers stay.
+/// where a terminal failed, or a pipe is full whose path no other process holds that is outside the
+/// same wait. What is out stays out, and the registers stay.
 pub fn i_write(s: &mut ProcState, io: &mut IoState, devices: &mut Devices, p: Pid) -> CallEnd
     requires lives { IsLiving s.old.table p.0 }
     requires again { IsAgain Call.Write (record_at s.old.table p.0).regs io.old p.0 }
@@ -73,8 +73,8 @@ pub fn i_write(s: &mut ProcState, io: &mut IoState, devices: &mut Devices, p: Pi
 ///
 /// E$BPAddr exactly if a byte of the line is in no named slot or past `FFFF`, else E$BPNum exactly
 /// if the number names no path, else E$BMode exactly if the path may not be written; then E$Write
-/// where a terminal failed, or a pipe is full that no other process could read. What is out stays
-/// out, and the registers stay.
+/// where a terminal failed, or a pipe is full whose path no other process holds that is outside the
+/// same wait. What is out stays out, and the registers stay.
 pub fn i_writln(s: &mut ProcState, io: &mut IoState, devices: &mut Devices, p: Pid) -> CallEnd
     requires lives { IsLiving s.old.table p.0 }
     requires again { IsAgain Call.WritLn (record_at s.old.table p.0).regs io.old p.0 }
@@ -109,8 +109,8 @@ pub fn i_writln(s: &mut ProcState, io: &mut IoState, devices: &mut Devices, p: P
 /// # Errors
 ///
 /// E$BPNum exactly if standard error names no path, else E$BMode exactly if it may not be written;
-/// then E$Write where a terminal failed, or a pipe is full that no other process could read. What
-/// is out stays out.
+/// then E$Write where a terminal failed, or a pipe is full whose path no other process holds that is
+/// outside the same wait. What is out stays out.
 pub fn f_perr(s: &mut ProcState, io: &mut IoState, devices: &mut Devices, p: Pid) -> CallEnd
     requires lives { IsLiving s.old.table p.0 }
     requires again { IsAgain Call.PErr (record_at s.old.table p.0).regs io.old p.0 }
