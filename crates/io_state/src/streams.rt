@@ -26,8 +26,8 @@ impl IoState {
         self.calls[p.0 as usize]
     }
 
-    /// Would a process that waits on a path in this direction be alone: could no other process end
-    /// its wait?
+    /// Would a process that waits on a path in this direction be alone: does whoever else holds the
+    /// path wait on it in this direction too?
     pub fn is_alone(&self, p: Pid, path: SysPath, direction: Direction) -> bool
         ensures { result ≡ is_alone_lem self.now p.0 path.0 direction }
     {

@@ -68,8 +68,8 @@ impl Pipes {
     }
 
     /// An attempt of I$Read of at most as many bytes as `into` has, at least one (Level Two manual,
-    /// I$Read). It moves what the pipe holds, as far as it fits, to the start of `into`. `alone` if no
-    /// other process could end a wait for bytes.
+    /// I$Read). It moves what the pipe holds, as far as it fits, to the start of `into`. `alone` if
+    /// whoever else holds the pipe's path waits for a byte too.
     pub fn read(&mut self, id: PipeId, alone: bool, into: &mut [u8]) -> PipeAns
         requires pipe { IsPipe self.old id.0 }
         requires some { 0 < length into.old }
@@ -98,8 +98,8 @@ impl Pipes {
     }
 
     /// An attempt of I$Write of these bytes, at least one (Level Two manual, I$Write). It moves as many
-    /// as there is room for, the first ones first. `alone` if no other process could end a wait for
-    /// room.
+    /// as there is room for, the first ones first. `alone` if whoever else holds the pipe's path waits
+    /// for room too.
     pub fn write(&mut self, id: PipeId, alone: bool, from: &[u8]) -> PipeAns
         requires pipe { IsPipe self.old id.0 }
         requires some { 0 < length from.now }
