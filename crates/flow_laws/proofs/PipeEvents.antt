@@ -173,6 +173,7 @@ module _ (s : State) (p n : ℕ) (chosen : s.chosen ≡ Some p) (lives : IsPipe 
         call = call;
         attempt = record { attempted = (code, next, coded); way_is = it.way; path = it.path };
         front = it.front ∙ ap (λ (held : List ℕ). it.bytes ++ held) (sym held-then);
+        none = it.none;
         seen = by_seen it.seen;
         counts = ends-in (ReadCounts call (caller_of s.inner p) s.io (length it.bytes)) it.counts;
       },
@@ -194,6 +195,7 @@ module _ (s : State) (p n : ℕ) (chosen : s.chosen ≡ Some p) (lives : IsPipe 
         sent = it.sent;
         sends = it.sends;
         next = it.next;
+        none = it.none;
         memory = memory-same it.stores_none;
         counts = ends-in (WriteCounts call (caller_of s.inner p) s.io it.sent (length it.bytes)) it.counts;
       },

@@ -1,10 +1,10 @@
 -- What an attempt of a call on paths moves through a pipe: each call by its code.
-use Rattle.std.proofs.Common.{◌≡◌, ◌≢◌, ◌⊎◌, ℕ, ◌+◌, ◌<◌, ◌≤◌, ◌==◌, not, Bool, true, false, Option, Some, None, IsSome, is_none, Result, Ok, Err, List, [], ◌++◌, length, take, drop, position, get_or, refl, sym, ap, ◌∙◌, subst, inl, inr, arith}
+use Rattle.std.proofs.Common.{◌≡◌, ◌≢◌, ◌⊎◌, ℕ, zero, suc, ◌+◌, ◌<◌, ◌≤◌, ◌==◌, not, Bool, true, false, Option, Some, None, IsSome, is_none, Result, Ok, Err, List, [], ◌∷◌, ◌++◌, length, take, drop, position, get_or, refl, sym, ap, ◌∙◌, subst, inl, inr, arith}
 use Rattle.std.specs.Prelude.{min, option_map, unwrap_or, ◌||◌, if◌then◌else◌}
 use Rattle.std.specs.Option.{option_map_or}
-use Rattle.std.proofs.lemmas.Bool.{cases_eq, cases_lt, eq-eqb, eqb-true, false≢true}
+use Rattle.std.proofs.lemmas.Bool.{cases_eq, cases_lt, eq-eqb, eqb-false, eqb-true, false≢true}
 use Rattle.std.proofs.lemmas.Grind.{get_or_after_one}
-use Rattle.std.proofs.lemmas.List.{get_or-set_same, get_or-set_other, get_or_past, length-set, length-take-le, take-append-drop}
+use Rattle.std.proofs.lemmas.List.{get_or-set_same, get_or-set_other, get_or_past, length-drop, length-set, length-take-le, take-append-drop}
 use Rattle.std.proofs.lemmas.List.Quantifiers.{position-Some}
 use Rattle.std.proofs.lemmas.Option.{none-some, same_Some}
 use Rattle.os9_base.specs.declared.calls.TheConstants.{I_READ, I_READLN, I_WRITE, I_WRITLN, F_PERR}
@@ -183,6 +183,45 @@ write-few held rest true true = omega arith
 write-few held rest true false = omega arith
 write-few held rest false alone = omega arith
 
+-- one that moves none finds none, or no room
+no-bytes : (held : List ℕ) → (length held == 0) ≡ true → held ≡ []
+no-bytes [] is = refl
+no-bytes (byte ∷ held) is =
+    let none : length (byte ∷ held) ≡ 0 = eqb-true (length (byte ∷ held)) 0 is in
+    absurd (omega (arith, none))
+
+some-bytes : (held : List ℕ) → (length held == 0) ≡ false → 1 ≤ length held
+some-bytes held is = by_length (length held) (eqb-false (length held) 0 is)
+  where
+    by_length : (n : ℕ) → (n ≡ 0 → ⊥) → 1 ≤ n
+    by_length zero some = absurd (some refl)
+    by_length (suc n) some = omega arith
+
+line-some : (held : List ℕ) → 1 ≤ length held → 1 ≤ line_length held
+line-some held some = by_place (return_place held)
+  where
+    by_place : (place : Option ℕ) → 1 ≤ option_map_or (λ place. place + 1) place (length held)
+    by_place None = some
+    by_place (Some k) = omega arith
+
+bytes-idle : (held : List ℕ) (most : ℕ) (empty alone : Bool) → (length held == 0) ≡ empty → 1 ≤ most → moved_count (if empty then answer_unmoved alone Ans.End else Ans.Done (min most (length held))) ≡ 0 → held ≡ []
+bytes-idle held most true alone is some none = no-bytes held is
+bytes-idle held most false alone is some none = (let more = some-bytes held is in absurd (omega (arith, more, some, none)))
+
+line-idle : (held : List ℕ) (most : ℕ) (empty alone : Bool) → (length held == 0) ≡ empty → 1 ≤ most → moved_count (if empty then answer_unmoved alone Ans.End else Ans.Done (min most (line_length held))) ≡ 0 → held ≡ []
+line-idle held most true alone is some none = no-bytes held is
+line-idle held most false alone is some none =
+    let more = line-some held (some-bytes held is) in absurd (omega (arith, more, some, none))
+
+write-idle : (held rest : List ℕ) (full alone : Bool) → (pipe_room held == 0) ≡ full → 1 ≤ length rest → moved_count (if full then answer_unmoved alone Ans.NoReader else Ans.Done (min (length rest) (pipe_room held))) ≡ 0 → pipe_room held ≡ 0
+write-idle held rest true alone is some none = eqb-true (pipe_room held) 0 is
+write-idle held rest false alone is some none =
+    absurd (eqb-false (pipe_room held) 0 is (omega (arith, some, none)))
+
+-- it moves as many bytes as it says
+none-moved : (bytes : List ℕ) (count : ℕ) → count ≤ length bytes → take count bytes ≡ [] → count ≡ 0
+none-moved bytes count few none = sym (length-take-le count bytes few) ∙ ap (length {A = ℕ}) none
+
 -- ---- what an attempt moves
 
 -- its bytes are stored
@@ -201,6 +240,7 @@ module _ (call : IoCall) (caller : Caller) (io : Io) (n : ℕ) where
     pub path : OnPipe
     pub bytes : List ℕ
     pub front : pipe_bytes io n ≡ bytes ++ pipe_bytes effect.io n
+    pub none : bytes ≡ [] → moved_before io caller.process.0 < in_all io caller.process.0 caller.regs.y → pipe_bytes io n ≡ []
     pub stores_them : effect.bytes ≡ bytes
     pub seen : (bytes ≡ []) ⊎ (effect.at ≡ stored_from call caller.regs (moved_before io caller.process.0)) × IsStoring effect.end
     pub counts : ReadCounts call caller io (length bytes) effect.end
@@ -213,6 +253,7 @@ module _ (call : IoCall) (caller : Caller) (io : Io) (n : ℕ) where
     pub sent : List ℕ
     pub sends : sent_by call caller io ≡ Some sent
     pub next : bytes ≡ take (length bytes) (drop (moved_before io caller.process.0) sent)
+    pub none : bytes ≡ [] → moved_before io caller.process.0 < length sent → pipe_room (pipe_bytes io n) ≡ 0
     pub stores_none : effect.bytes ≡ []
     pub counts : WriteCounts call caller io sent (length bytes) effect.end
 
@@ -276,44 +317,48 @@ module _ (call : IoCall) (caller : Caller) (io : Io) (n : ℕ) where
     some-more : (count some : ℕ) → some ≡ count → (moved_on now count).moved ≡ moved_before io caller.process.0 + some
     some-more count some same_count = omega (arith, moved, same_count)
 
-    read-takes : direction_of_call call ≡ Some Reading → stored_from call caller.regs (moved_before io caller.process.0) ≡ caller.regs.x → ((count : ℕ) → read_answers call caller io count ≡ count_regs caller count) → (answer : PipeAns) → moved_count answer ≤ length (pipe_bytes io n) → Takes call caller io n (read_leaves caller io n now answer)
-    read-takes way at regs (Ans.Done count) few = record {
+    read-takes : direction_of_call call ≡ Some Reading → stored_from call caller.regs (moved_before io caller.process.0) ≡ caller.regs.x → ((count : ℕ) → read_answers call caller io count ≡ count_regs caller count) → (answer : PipeAns) → moved_count answer ≤ length (pipe_bytes io n) → (moved_before io caller.process.0 < in_all io caller.process.0 caller.regs.y → moved_count answer ≡ 0 → pipe_bytes io n ≡ []) → Takes call caller io n (read_leaves caller io n now answer)
+    read-takes way at regs (Ans.Done count) few idle = record {
       way = way;
       path = path;
       bytes = bytes_moved (Ans.Done count) (pipe_bytes io n);
       front = front-is (Ans.Done count);
+      none = λ none some. idle some (none-moved (pipe_bytes io n) count few none);
       stores_them = refl;
       seen = inr (sym at, tt);
       counts =
           ap (count_regs caller) (sym (length-take-le count (pipe_bytes io n) few)) ∙ sym (regs (length (take count (pipe_bytes io n))));
     }
-    read-takes way at regs Ans.Wait few =
-        record { way = way; path = path; bytes = []; front = front-is Ans.Wait; stores_them = refl; seen = inl refl; counts = none-more }
-    read-takes way at regs Ans.End few = record {
+    read-takes way at regs Ans.Wait few idle =
+        record { way = way; path = path; bytes = []; front = front-is Ans.Wait; none = λ none some. idle some refl; stores_them = refl; seen = inl refl; counts = none-more }
+    read-takes way at regs Ans.End few idle = record {
       way = way;
       path = path;
       bytes = [];
       front = front-is Ans.End;
+      none = λ none some. idle some refl;
       stores_them = refl;
       seen = inl refl;
       counts = refl;
     }
-    read-takes way at regs Ans.NoReader few = record {
+    read-takes way at regs Ans.NoReader few idle = record {
       way = way;
       path = path;
       bytes = [];
       front = front-is Ans.NoReader;
+      none = λ none some. idle some refl;
       stores_them = refl;
       seen = inl refl;
       counts = refl;
     }
 
-    line-takes : direction_of_call call ≡ Some Reading → stored_from call caller.regs (moved_before io caller.process.0) ≡ caller.regs.x + now.moved → ((count : ℕ) → read_answers call caller io count ≡ count_regs caller (moved_before io caller.process.0 + count)) → (alone : Bool) (answer : PipeAns) → moved_count answer ≤ length (pipe_bytes io n) → Takes call caller io n (read_line_leaves caller io n now alone answer)
-    line-takes way at regs alone (Ans.Done count) few = record {
+    line-takes : direction_of_call call ≡ Some Reading → stored_from call caller.regs (moved_before io caller.process.0) ≡ caller.regs.x + now.moved → ((count : ℕ) → read_answers call caller io count ≡ count_regs caller (moved_before io caller.process.0 + count)) → (alone : Bool) (answer : PipeAns) → moved_count answer ≤ length (pipe_bytes io n) → (moved_before io caller.process.0 < in_all io caller.process.0 caller.regs.y → moved_count answer ≡ 0 → pipe_bytes io n ≡ []) → Takes call caller io n (read_line_leaves caller io n now alone answer)
+    line-takes way at regs alone (Ans.Done count) few idle = record {
       way = way;
       path = path;
       bytes = bytes_moved (Ans.Done count) (pipe_bytes io n);
       front = front-is (Ans.Done count);
+      none = λ none some. idle some (none-moved (pipe_bytes io n) count few none);
       stores_them = refl;
       seen = inr (sym at, storing (has_return (take count (pipe_bytes io n)) || (is_complete (moved_on now count) || alone)));
       counts = counts (has_return (take count (pipe_bytes io n)) || (is_complete (moved_on now count) || alone));
@@ -329,13 +374,14 @@ module _ (call : IoCall) (caller : Caller) (io : Io) (n : ℕ) where
         counts : (over : Bool) → ReadCounts call caller io (length (take count (pipe_bytes io n))) (if over then answers (count_regs caller (moved_on now count).moved) else keeps (moved_on now count))
         counts true = ap (count_regs caller) more ∙ sym (regs (length (take count (pipe_bytes io n))))
         counts false = more
-    line-takes way at regs alone Ans.Wait few =
-        record { way = way; path = path; bytes = []; front = front-is Ans.Wait; stores_them = refl; seen = inl refl; counts = none-more }
-    line-takes way at regs alone Ans.End few = record {
+    line-takes way at regs alone Ans.Wait few idle =
+        record { way = way; path = path; bytes = []; front = front-is Ans.Wait; none = λ none some. idle some refl; stores_them = refl; seen = inl refl; counts = none-more }
+    line-takes way at regs alone Ans.End few idle = record {
       way = way;
       path = path;
       bytes = [];
       front = front-is Ans.End;
+      none = λ none some. idle some refl;
       stores_them = refl;
       seen = inl refl;
       counts = over (now.moved == 0);
@@ -344,11 +390,12 @@ module _ (call : IoCall) (caller : Caller) (io : Io) (n : ℕ) where
         over : (none : Bool) → ReadCounts call caller io 0 (if none then fails E_EOF else answers (count_regs caller now.moved))
         over true = refl
         over false = ap (count_regs caller) none-more ∙ sym (regs 0)
-    line-takes way at regs alone Ans.NoReader few = record {
+    line-takes way at regs alone Ans.NoReader few idle = record {
       way = way;
       path = path;
       bytes = [];
       front = front-is Ans.NoReader;
+      none = λ none some. idle some refl;
       stores_them = refl;
       seen = inl refl;
       counts = refl;
@@ -368,8 +415,8 @@ module _ (call : IoCall) (caller : Caller) (io : Io) (n : ℕ) where
       none-left : moved_before io caller.process.0 < in_all io caller.process.0 (length sent) → moved_before io caller.process.0 + 0 ≢ in_all io caller.process.0 (length sent)
       none-left before same = omega (arith, before, same)
 
-      write-puts : (alone : Bool) (answer : PipeAns) → moved_count answer ≤ length (drop now.moved sent) → Puts call caller io n (write_leaves io n now alone (drop now.moved sent) regs answer)
-      write-puts alone (Ans.Done count) few = record {
+      write-puts : (alone : Bool) (answer : PipeAns) → moved_count answer ≤ length (drop now.moved sent) → (moved_before io caller.process.0 < length sent → moved_count answer ≡ 0 → pipe_room (pipe_bytes io n) ≡ 0) → Puts call caller io n (write_leaves io n now alone (drop now.moved sent) regs answer)
+      write-puts alone (Ans.Done count) few idle = record {
         way = way;
         path = path;
         bytes = take count (drop now.moved sent);
@@ -377,6 +424,7 @@ module _ (call : IoCall) (caller : Caller) (io : Io) (n : ℕ) where
         sent = sent;
         sends = sends;
         next = next-is count few;
+        none = λ none some. idle some (none-moved (drop now.moved sent) count few none);
         stores_none = refl;
         counts = counts (is_complete (moved_on now count)) alone refl;
       }
@@ -388,12 +436,12 @@ module _ (call : IoCall) (caller : Caller) (io : Io) (n : ℕ) where
           counts true single is = (sym more ∙ eqb-true (now.moved + count) now.count is ∙ all, answered)
           counts false true is = λ before same. false≢true (sym is ∙ eq-eqb (now.moved + count) now.count (more ∙ same ∙ sym all))
           counts false false is = more
-      write-puts alone Ans.Wait few =
-          record { way = way; path = path; bytes = []; behind = behind-is Ans.Wait; sent = sent; sends = sends; next = refl; stores_none = refl; counts = none-more }
-      write-puts alone Ans.End few =
-          record { way = way; path = path; bytes = []; behind = behind-is Ans.End; sent = sent; sends = sends; next = refl; stores_none = refl; counts = none-left }
-      write-puts alone Ans.NoReader few =
-          record { way = way; path = path; bytes = []; behind = behind-is Ans.NoReader; sent = sent; sends = sends; next = refl; stores_none = refl; counts = none-left }
+      write-puts alone Ans.Wait few idle =
+          record { way = way; path = path; bytes = []; behind = behind-is Ans.Wait; sent = sent; sends = sends; next = refl; none = λ none some. idle some refl; stores_none = refl; counts = none-more }
+      write-puts alone Ans.End few idle =
+          record { way = way; path = path; bytes = []; behind = behind-is Ans.End; sent = sent; sends = sends; next = refl; none = λ none some. idle some refl; stores_none = refl; counts = none-left }
+      write-puts alone Ans.NoReader few idle =
+          record { way = way; path = path; bytes = []; behind = behind-is Ans.NoReader; sent = sent; sends = sends; next = refl; none = λ none some. idle some refl; stores_none = refl; counts = none-left }
 
 -- ---- on any pipe
 
@@ -448,19 +496,21 @@ module _ (call : IoCall) (caller : Caller) (io : Io) (n : ℕ) where
         λ absent. absurd (absent.unused (path_number call caller.regs) path.0 path.1 (path.2 ∙ ap Pipe (sym same)));
   }
 
-  takes-here : (kind : ReadKind) → direction_of_call call ≡ Some Reading → ((moved : ℕ) → stored_from call caller.regs moved ≡ stored_by kind caller.regs.x moved) → call ≡ read_call kind → (now : Kept) → now.moved ≡ moved_before io caller.process.0 → HasPath (Pipe n) → IsPipe io.pipes n → Takes call caller io n (pipe_read kind caller io n now)
-  takes-here Bytes way at is now moved path lives =
+  takes-here : (kind : ReadKind) → direction_of_call call ≡ Some Reading → ((moved : ℕ) → stored_from call caller.regs moved ≡ stored_by kind caller.regs.x moved) → call ≡ read_call kind → (now : Kept) → now.count ≡ in_all io caller.process.0 caller.regs.y → now.moved ≡ moved_before io caller.process.0 → HasPath (Pipe n) → IsPipe io.pipes n → Takes call caller io n (pipe_read kind caller io n now)
+  takes-here Bytes way at is now all moved path lives =
       read-takes call caller io n lives path now moved way (at (moved_before io caller.process.0)) (λ count. ap (λ (call : IoCall). read_answers call caller io count) is) (read_answer (pipe_bytes io n) (is_alone io caller.process.0 now.path.0 Reading) now.count)
       (bytes-few (pipe_bytes io n) now.count (length (pipe_bytes io n) == 0) (is_alone io caller.process.0 now.path.0 Reading))
-  takes-here WholeLine way at is now moved path lives =
+      (λ left. bytes-idle (pipe_bytes io n) now.count (length (pipe_bytes io n) == 0) (is_alone io caller.process.0 now.path.0 Reading) refl (omega (arith, left, all)))
+  takes-here WholeLine way at is now all moved path lives =
       line-takes call caller io n lives path now moved way (at (moved_before io caller.process.0) ∙ ap (λ (k : ℕ). caller.regs.x + k) (sym moved)) (λ count. ap (λ (call : IoCall). read_answers call caller io count) is) (is_alone io caller.process.0 now.path.0 Reading) (read_line_answer (pipe_bytes io n) (is_alone io caller.process.0 now.path.0 Reading) (count_left now))
       (read-few (pipe_bytes io n) (count_left now) (length (pipe_bytes io n) == 0) (is_alone io caller.process.0 now.path.0 Reading))
+      (λ left. line-idle (pipe_bytes io n) (count_left now) (length (pipe_bytes io n) == 0) (is_alone io caller.process.0 now.path.0 Reading) refl (omega (arith, left, all, moved)))
 
-  read-moves : (kind : ReadKind) → direction_of_call call ≡ Some Reading → ((moved : ℕ) → stored_from call caller.regs moved ≡ stored_by kind caller.regs.x moved) → call ≡ read_call kind → (now : Kept) → now.moved ≡ moved_before io caller.process.0 → (target : Target) → HasPath target → StepMoves call caller io n (reads_target kind caller io now target)
-  read-moves kind way at is now moved (File drive sector) path = tt
-  read-moves kind way at is now moved (Folder drive sector) path = tt
-  read-moves kind way at is now moved (Term terminal) path = λ on. on-terminal terminal path on
-  read-moves kind way at is now moved (Pipe pipe) path = by_place (cases_eq n pipe)
+  read-moves : (kind : ReadKind) → direction_of_call call ≡ Some Reading → ((moved : ℕ) → stored_from call caller.regs moved ≡ stored_by kind caller.regs.x moved) → call ≡ read_call kind → (now : Kept) → now.count ≡ in_all io caller.process.0 caller.regs.y → now.moved ≡ moved_before io caller.process.0 → (target : Target) → HasPath target → StepMoves call caller io n (reads_target kind caller io now target)
+  read-moves kind way at is now all moved (File drive sector) path = tt
+  read-moves kind way at is now all moved (Folder drive sector) path = tt
+  read-moves kind way at is now all moved (Term terminal) path = λ on. on-terminal terminal path on
+  read-moves kind way at is now all moved (Pipe pipe) path = by_place (cases_eq n pipe)
     where
       apart-held : (kind : ReadKind) → n ≢ pipe → pipe_of (pipe_read kind caller io pipe now).io.pipes n ≡ pipe_of io.pipes n
       apart-held Bytes apart = other-held pipe _ apart
@@ -469,7 +519,7 @@ module _ (call : IoCall) (caller : Caller) (io : Io) (n : ℕ) where
       by_place : (n ≡ pipe) ⊎ (n ≢ pipe) → Becomes call caller io n (pipe_read kind caller io pipe now)
       by_place (inl same) =
           passes-here (pipe_read kind caller io pipe now) pipe same path
-          (λ lives. inr (inl (subst (λ (m : ℕ). Takes call caller io n (pipe_read kind caller io m now)) same (takes-here kind way at is now moved (subst (λ (m : ℕ). HasPath (Pipe m)) (sym same) path) lives))))
+          (λ lives. inr (inl (subst (λ (m : ℕ). Takes call caller io n (pipe_read kind caller io m now)) same (takes-here kind way at is now all moved (subst (λ (m : ℕ). HasPath (Pipe m)) (sym same) path) lives))))
       by_place (inr apart) =
           passes-apart (pipe_read kind caller io pipe now) pipe path apart (apart-held kind apart)
 
@@ -478,7 +528,8 @@ module _ (call : IoCall) (caller : Caller) (io : Io) (n : ℕ) where
   puts-here sending sent way sends same answered now all moved path lives =
       subst (λ (bytes : List ℕ). Puts call caller io n (writes_pipe io n now (is_alone io caller.process.0 now.path.0 Writing) bytes sending.regs)) (sym same)
       (write-puts call caller io n lives path now moved way sent sends sending.regs answered all (is_alone io caller.process.0 now.path.0 Writing) (write_answer (pipe_bytes io n) (is_alone io caller.process.0 now.path.0 Writing) (length (drop now.moved sent)))
-      (write-few (pipe_bytes io n) (drop now.moved sent) (pipe_room (pipe_bytes io n) == 0) (is_alone io caller.process.0 now.path.0 Writing)))
+      (write-few (pipe_bytes io n) (drop now.moved sent) (pipe_room (pipe_bytes io n) == 0) (is_alone io caller.process.0 now.path.0 Writing))
+      (λ left. write-idle (pipe_bytes io n) (drop now.moved sent) (pipe_room (pipe_bytes io n) == 0) (is_alone io caller.process.0 now.path.0 Writing) refl (omega (arith, left, moved, length-drop now.moved sent))))
 
   write-moves : (sending : Sending) (sent : List ℕ) → direction_of_call call ≡ Some Writing → sent_by call caller io ≡ Some sent → sending.bytes ≡ sent → sending.regs ≡ write_answers call caller (length sent) → (now : Kept) → now.count ≡ in_all io caller.process.0 (length sent) → now.moved ≡ moved_before io caller.process.0 → (target : Target) → HasPath target → StepMoves call caller io n (writes_target sending caller io now target)
   write-moves sending sent way sends bytes_are answered now all moved (File drive sector) path = tt
@@ -518,7 +569,7 @@ module _ (call : IoCall) (caller : Caller) (io : Io) (n : ℕ) where
   read-through kind code named way at is true = tt
   read-through kind code named way at one false =
       path-moves caller.regs.a can_read (λ opened. unless_nothing caller io (reads_target kind caller io (call_now caller io code opened caller.regs.y) opened.desc.target))
-      (λ opened is. nothing-moves (caller.regs.y == 0) refl (reads_target kind caller io (call_now caller io code opened caller.regs.y) opened.desc.target) (read-moves kind way at one (call_now caller io code opened caller.regs.y) (now-moved caller io code caller.regs.y opened) opened.desc.target (opened, ap (open_path io caller.process.0) (sym named) ∙ is, refl)))
+      (λ opened is. nothing-moves (caller.regs.y == 0) refl (reads_target kind caller io (call_now caller io code opened caller.regs.y) opened.desc.target) (read-moves kind way at one (call_now caller io code opened caller.regs.y) (now-count caller io code opened caller.regs.y) (now-moved caller io code caller.regs.y opened) opened.desc.target (opened, ap (open_path io caller.process.0) (sym named) ∙ is, refl)))
 
   send-through : (sending : List ℕ → Sending) (code : ℕ) → caller.regs.a ≡ path_number call caller.regs → direction_of_call call ≡ Some Writing → ((bytes : List ℕ) → (sending bytes).bytes ≡ bytes) → ((bytes : List ℕ) → (sending bytes).regs ≡ write_answers call caller (length bytes)) → (bytes : Option (List ℕ)) → sent_by call caller io ≡ bytes → Through (needs bytes E_BPADDR (λ bytes. on_path caller io caller.regs.a can_write (λ opened. unless_nothing caller io (sends_on (sending bytes) code caller io opened))))
   send-through sending code named way same regs None sends = tt

@@ -11,7 +11,7 @@ use Rattle.call_rules.specs.Delivery.{frame_bytes, stack_top}
 use Rattle.call_rules.specs.Inner.{Inner, regs_at}
 use Rattle.call_rules.specs.Ready.{attempts, delivers, act_of}
 use Rattle.call_rules.specs.UserBytes.{user_bytes}
-use Rattle.io_model.specs.Pipe.{Flows, IsPipe, Movement, In, Out, came_in, pipe_of, went_out}
+use Rattle.io_model.specs.Pipe.{Flows, IsPipe, Movement, In, Out, came_in, pipe_of, pipe_room, went_out}
 use Rattle.io_model.specs.declared.kept.Kept.{Kept}
 use Rattle.io_model.specs.declared.path.Target.TheVariants.{Pipe}
 use Rattle.io_rules.specs.Again.{path_number}
@@ -108,6 +108,9 @@ pub record TakesOut (n : ℕ) (s : State) (bytes : List ℕ) (t : State) : Type 
   pub call : IoCall
   pub attempt : AttemptsOn s process n call Reading
   pub front : pipe_bytes s.io n ≡ bytes ++ pipe_bytes t.io n
+  -- one that has a byte left to move, and takes none, finds none
+  pub none : bytes ≡ [] → moved_before s.io process < in_all s.io process (regs_at s.inner process).y
+      → pipe_bytes s.io n ≡ []
   pub seen : t.inner.memory
       ≡ stored s.inner.memory process (stored_from call (regs_at s.inner process) (moved_before s.io process)) bytes
   pub counts : EndsIn s process (ReadCounts call (caller_of s.inner process) s.io (length bytes)) t
@@ -122,6 +125,8 @@ pub record PutsIn (n : ℕ) (s : State) (bytes : List ℕ) (t : State) : Type 0 
   pub sent : List ℕ
   pub sends : sent_by call (caller_of s.inner process) s.io ≡ Some sent
   pub next : bytes ≡ take (length bytes) (drop (moved_before s.io process) sent)
+  -- one that has a byte left to move, and puts none in, finds no room
+  pub none : bytes ≡ [] → moved_before s.io process < length sent → pipe_room (pipe_bytes s.io n) ≡ 0
   pub memory : t.inner.memory ≡ s.inner.memory
   pub counts : EndsIn s process (WriteCounts call (caller_of s.inner process) s.io sent (length bytes)) t
 

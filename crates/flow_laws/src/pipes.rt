@@ -15,10 +15,11 @@ ghost use Rattle.flow_laws.specs.Flow.{AllLive, IsBrokenOff, IsNew, Passes, Pass
 /// While a pipe lives, an event moves bytes into it or out of it only as an attempt of a call on it
 /// does: a read takes them from its front and stores them where its process sees them, and a write
 /// puts them in at its end, which are the next ones of those that its process sends. A call that is
-/// done answers how many they were, and a read that is refused took none. Each attempt on the pipe
-/// that is neither is refused, or asks for no byte. Where a signal breaks off a line read or a
-/// write that waits, the frame of the routine has the registers of the process, with how many bytes
-/// the call has moved in Y, and carry set and the signal in B where the process waited.
+/// done answers how many they were, and a read that is refused took none. One that has bytes left
+/// and moves none finds the pipe empty or, to write, full. Any other attempt on the pipe is
+/// refused, or asks for no byte. Where a signal breaks off a line read or a write that waits, the
+/// frame of the routine has the registers of the process, with how many bytes the call has moved in
+/// Y, and carry set and the signal in B where the process waited.
 pub fn what_is_read_of_a_pipe_is_what_was_written()
     ensures event { (s t : State) (end : EventEnd) (n : ℕ) → Event s end t → IsPipe s.io.pipes n
         → IsPipe t.io.pipes n → Passes n s t }
