@@ -5,7 +5,7 @@ use Rattle.std.specs.Option.{option_map_or}
 use Rattle.std.proofs.lemmas.Bool.{cases_lt, eqb-true, false≢true, le-leb, le-ltb, ltb-false, true≢false}
 use Rattle.std.proofs.lemmas.Option.{none-some, same_Some}
 use Rattle.os9_base.specs.Cells.{Cells}
-use Rattle.os9_base.specs.Name.{if_name, is_name_character, low_bits, name_run, parsed_name}
+use Rattle.os9_base.specs.Name.{is_name_character, low_bits, name_run}
 use Rattle.user_names.specs.UserNames.{goes_on, name_at, name_in, run_bytes, run_with, user_cell}
 use Rattle.user_names.specs.declared.name_fault.NameFault.{NameFault}
 use Rattle.user_names.specs.declared.name_fault.NameFault.TheVariants.{Unreadable, NoName}
@@ -14,11 +14,11 @@ use Rattle.call_rules.specs.UserBytes.{byte_before, user_bytes}
 use Rattle.io_model.specs.declared.keys.TheConstants.{RETURN}
 use Rattle.io_model.specs.declared.kept.Kept.{Kept}
 use Rattle.io_rules.specs.Io.{Io, kept_at}
-use Rattle.io_rules.specs.PathList.{Behind, Names, PathList, another, a_slash, nothing, unreadable, behind_name, behind_slash, behind, device_list, from_device, is_marked, list_with, name_before, names_at, names_behind, names_from, names_with, path_list, relative_list}
+use Rattle.io_rules.specs.PathList.{Behind, Names, another, a_slash, nothing, unreadable, behind_name, behind_slash, behind, device_list, from_device, is_marked, list_with, name_before, names_at, names_behind, names_from, names_with, path_list, relative_list}
 use Rattle.io_rules.specs.Step.{Caller}
 use Rattle.io_rules.specs.Transfer.{line_at, line_with}
 use Rattle.io_rules.specs.Write.{line_bytes}
-use Rattle.refusal_laws.specs.Causes.{GoesOnTo, HasGap, IsOfList, ListBreaksOff, NamesNothing, asked_by}
+use Rattle.refusal_laws.specs.Causes.{HasGap, IsOfList, ListBreaksOff, NamesNothing, asked_by}
 
 -- ---- a list up to an address
 
@@ -295,12 +295,12 @@ list-breaks fault cells at is = by_byte (user_cell cells at) refl is
 pub list-breaks-off : (caller : Caller) → path_list caller.cells caller.regs.x ≡ Err Unreadable → ListBreaksOff caller
 list-breaks-off caller is =
     let it : Breaks Unreadable caller.cells caller.regs.x = list-breaks Unreadable caller.cells caller.regs.x is in
-    record { at = it.at; goes_on = record { behind = it.behind; bytes = it.runs }; missing = it.wrong; list = is }
+    record { at = it.at; front = record { behind = it.behind; bytes = it.runs }; missing = it.wrong; list = is }
 
 pub names-nothing : (caller : Caller) → path_list caller.cells caller.regs.x ≡ Err NoName → NamesNothing caller
 names-nothing caller is =
     let it : Breaks NoName caller.cells caller.regs.x = list-breaks NoName caller.cells caller.regs.x is in
-    record { at = it.at; goes_on = record { behind = it.behind; bytes = it.runs }; no_name = it.wrong; list = is }
+    record { at = it.at; front = record { behind = it.behind; bytes = it.runs }; no_name = it.wrong; list = is }
 
 -- ---- bytes
 

@@ -129,7 +129,7 @@ pub record HasGap (cells : Cells) (from count : ℕ) : Type 0 where
 -- the list at X goes on up to a byte that is in no named slot or past FFFF
 pub record ListBreaksOff (caller : Caller) : Type 0 where
   pub at : ℕ
-  pub goes_on : GoesOnTo caller at
+  pub front : GoesOnTo caller at
   pub missing : user_cell caller.cells at ≡ None
   pub list : path_list caller.cells caller.regs.x ≡ Err Unreadable
 
@@ -149,7 +149,7 @@ IsUnreadable call caller io = ⊥
 -- the list at X goes on up to an address at which no name stands
 pub record NamesNothing (caller : Caller) : Type 0 where
   pub at : ℕ
-  pub goes_on : GoesOnTo caller at
+  pub front : GoesOnTo caller at
   pub no_name : name_at caller.cells at ≡ Err NoName
   pub list : path_list caller.cells caller.regs.x ≡ Err NoName
 
