@@ -1,8 +1,8 @@
 -- Where a byte or a name is missing that a call reads.
-use Rattle.std.proofs.Common.{◌≡◌, ◌⊎◌, ℕ, zero, suc, ◌+◌, ◌-◌, ◌<◌, ◌≤◌, ◌==◌, ◌&&◌, Bool, true, false, Option, Some, None, Result, Ok, Err, List, [], ◌∷◌, length, refl, sym, ap, ◌∙◌, subst, inl, inr, arith}
+use Rattle.std.proofs.Common.{◌≡◌, ◌≢◌, ◌⊎◌, ℕ, zero, suc, ◌+◌, ◌-◌, ◌<◌, ◌≤◌, ◌==◌, ◌&&◌, Bool, true, false, Option, Some, None, Result, Ok, Err, List, [], ◌∷◌, length, refl, sym, ap, ◌∙◌, subst, inl, inr, arith}
 use Rattle.std.specs.Prelude.{nat_le, nat_lt, option_map, if◌then◌else◌}
 use Rattle.std.specs.Option.{option_map_or}
-use Rattle.std.proofs.lemmas.Bool.{cases_lt, eqb-true, false≢true, le-leb, le-ltb, ltb-false, true≢false}
+use Rattle.std.proofs.lemmas.Bool.{cases_eq, cases_lt, eqb-false, eqb-true, false≢true, le-leb, le-ltb, ltb-false, true≢false}
 use Rattle.std.proofs.lemmas.Option.{none-some, same_Some}
 use Rattle.os9_base.specs.Cells.{Cells}
 use Rattle.os9_base.specs.Name.{is_name_character, low_bits, name_run}
@@ -52,15 +52,36 @@ record Breaks (fault : NameFault) (cells : Cells) (from : ℕ) : Type 0 where
   behind : from ≤ at
   runs : Runs cells from at
   wrong : Wrong fault cells at
+  starts : (at ≡ from) ⊎ (fault ≡ NoName → user_cell cells (at - 1) ≡ Some slash)
 
 breaks-here : (fault : NameFault) (cells : Cells) (at : ℕ) → Wrong fault cells at → Breaks fault cells at
 breaks-here fault cells at wrong =
-    record { at = at; behind = omega arith; runs = runs-none cells at; wrong = wrong }
+    record { at = at; behind = omega arith; runs = runs-none cells at; wrong = wrong; starts = inl refl }
 
-breaks-then : (fault : NameFault) (cells : Cells) (from mid : ℕ) → from ≤ mid → Runs cells from mid → Breaks fault cells mid → Breaks fault cells from
-breaks-then fault cells from mid up runs it =
+-- one that stands behind a slash
+starts-then : (fault : NameFault) (cells : Cells) (from mid at : ℕ) → (fault ≡ NoName → user_cell cells (mid - 1) ≡ Some slash) → (at ≡ mid) ⊎ (fault ≡ NoName → user_cell cells (at - 1) ≡ Some slash) → (at ≡ from) ⊎ (fault ≡ NoName → user_cell cells (at - 1) ≡ Some slash)
+starts-then fault cells from mid at slashed (inl same) =
+    inr (λ no. ap (λ (k : ℕ). user_cell cells (k - 1)) same ∙ slashed no)
+starts-then fault cells from mid at slashed (inr before) = inr before
+
+slash-before : (cells : Cells) (at byte : ℕ) → user_cell cells at ≡ Some byte → (byte == slash) ≡ true → user_cell cells (at + 1 - 1) ≡ Some slash
+slash-before cells at byte there is_slash =
+    let same : at + 1 - 1 ≡ at = omega arith in
+    ap (user_cell cells) same ∙ there ∙ ap Some (eqb-true byte slash is_slash)
+
+unreadable-name : Unreadable ≡ NoName → ⊥
+unreadable-name is = cc
+
+breaks-then : (fault : NameFault) (cells : Cells) (from mid : ℕ) → from ≤ mid → Runs cells from mid → (fault ≡ NoName → user_cell cells (mid - 1) ≡ Some slash) → Breaks fault cells mid → Breaks fault cells from
+breaks-then fault cells from mid up runs slashed it =
     let behind : mid ≤ it.at = it.behind in
-    record { at = it.at; behind = omega (arith, up, behind); runs = runs-then cells from mid it.at runs it.runs; wrong = it.wrong }
+    record {
+      at = it.at;
+      behind = omega (arith, up, behind);
+      runs = runs-then cells from mid it.at runs it.runs;
+      wrong = it.wrong;
+      starts = starts-then fault cells from mid it.at slashed it.starts;
+    }
 
 -- ---- names
 
@@ -79,7 +100,7 @@ run-breaks cells at (suc most) none = by_byte (user_cell cells at) refl (run-bre
   where
     by_on : (byte : ℕ) → user_cell cells at ≡ Some byte → (on : Bool) → goes_on byte ≡ on → (run_bytes cells (at + 1) most ≡ None → Breaks Unreadable cells (at + 1)) → (if on then option_map (λ (run : List ℕ). byte ∷ run) (run_bytes cells (at + 1) most) else Some (byte ∷ [])) ≡ None → Breaks Unreadable cells at
     by_on byte is true on further none =
-        breaks-then Unreadable cells at (at + 1) (omega arith) (runs-one cells at byte is (inl on))
+        breaks-then Unreadable cells at (at + 1) (omega arith) (runs-one cells at byte is (inl on)) (λ no. absurd (unreadable-name no))
         (further (mapped-none (λ (run : List ℕ). byte ∷ run) (run_bytes cells (at + 1) most) none))
     by_on byte is false on further none = absurd (none-some (byte ∷ []) (sym none))
 
@@ -206,13 +227,13 @@ module _ (fault : NameFault) (cells : Cells) (at left : ℕ) (name : List ℕ) (
 
   by-after : (byte : ℕ) → user_cell cells next ≡ Some byte → (byte == slash) ≡ true → (char : Bool) → With (if char then another else a_slash) → Breaks fault cells at
   by-after byte there is_slash true is =
-      breaks-then fault cells at (next + 1) (omega (arith, up)) (runs-slash byte there is_slash)
+      breaks-then fault cells at (next + 1) (omega (arith, up)) (runs-slash byte there is_slash) (λ no. slash-before cells next byte there is_slash)
       (further (before-err name (names_at cells (next + 1) left) fault is))
   by-after byte there is_slash false is = absurd (ok-err _ fault is)
 
   by-slash : (byte : ℕ) → user_cell cells next ≡ Some byte → (is_slash : Bool) → (byte == slash) ≡ is_slash → (after : Option ℕ) → user_cell cells (next + 1) ≡ after → With (if is_slash then behind_slash after else nothing) → Breaks fault cells at
   by-slash byte there true is_slash None none is =
-      breaks-then fault cells at (next + 1) (omega (arith, up)) (runs-slash byte there is_slash)
+      breaks-then fault cells at (next + 1) (omega (arith, up)) (runs-slash byte there is_slash) (λ no. slash-before cells next byte there is_slash)
       (subst (λ (fault : NameFault). Breaks fault cells (next + 1)) (ap fault_in is) (breaks-here Unreadable cells (next + 1) none))
   by-slash byte there true is_slash (Some after) after_is is =
       by-after byte there is_slash (is_name_character (low_bits after)) is
@@ -220,7 +241,7 @@ module _ (fault : NameFault) (cells : Cells) (at left : ℕ) (name : List ℕ) (
 
   by-next : (byte : Option ℕ) → user_cell cells next ≡ byte → With (behind_name cells next byte) → Breaks fault cells at
   by-next None none is =
-      breaks-then fault cells at next up runs-name
+      breaks-then fault cells at next up runs-name (λ no. absurd (unreadable-name (ap fault_in is ∙ no)))
       (subst (λ (fault : NameFault). Breaks fault cells next) (ap fault_in is) (breaks-here Unreadable cells next none))
   by-next (Some byte) there is = by-slash byte there (byte == slash) refl (user_cell cells (next + 1)) refl is
 
@@ -277,30 +298,61 @@ relative-err : (names : Result Names NameFault) (fault : NameFault) → relative
 relative-err (Ok found) fault is = absurd (ok-err _ fault is)
 relative-err (Err other) fault is = ap Err (ap fault_in is)
 
-list-breaks : (fault : NameFault) (cells : Cells) (at : ℕ) → path_list cells at ≡ Err fault → Breaks fault cells at
+-- and it does not start at a slash
+abbrev ListBreaks : NameFault → Cells → ℕ → Type 0
+ListBreaks fault cells at = (it : Breaks fault cells at) × (it.at ≡ at → user_cell cells at ≡ Some slash → ⊥)
+
+list-breaks : (fault : NameFault) (cells : Cells) (at : ℕ) → path_list cells at ≡ Err fault → ListBreaks fault cells at
 list-breaks fault cells at is = by_byte (user_cell cells at) refl is
   where
-    by_slash : (byte : ℕ) → user_cell cells at ≡ Some byte → (is_slash : Bool) → (byte == slash) ≡ is_slash → (if is_slash then device_list (names_from cells (at + 1)) else relative_list (names_from cells at)) ≡ Err fault → Breaks fault cells at
+    by_slash : (byte : ℕ) → user_cell cells at ≡ Some byte → (is_slash : Bool) → (byte == slash) ≡ is_slash → (if is_slash then device_list (names_from cells (at + 1)) else relative_list (names_from cells at)) ≡ Err fault → ListBreaks fault cells at
     by_slash byte there true is_slash is =
-        breaks-then fault cells at (at + 1) (omega arith) (runs-one cells at byte there (inr (eqb-true byte slash is_slash)))
-        (names-break fault cells (at + 1) 65536 (omega arith) (device-err (names_from cells (at + 1)) fault (has-name cells (at + 1) 65536) is))
-    by_slash byte there false is_slash is =
-        names-break fault cells at 65536 (omega arith) (relative-err (names_from cells at) fault is)
+        let inner : Breaks fault cells (at + 1) = names-break fault cells (at + 1) 65536 (omega arith) (device-err (names_from cells (at + 1)) fault (has-name cells (at + 1) 65536) is) in
+        let behind : at + 1 ≤ inner.at = inner.behind in
+        let it : Breaks fault cells at = record {
+          at = inner.at;
+          behind = omega (arith, behind);
+          runs = runs-then cells at (at + 1) inner.at (runs-one cells at byte there (inr (eqb-true byte slash is_slash))) inner.runs;
+          wrong = inner.wrong;
+          starts = starts-then fault cells at (at + 1) inner.at (λ no. slash-before cells at byte there is_slash) inner.starts;
+        } in
+        (it, λ same slashed. omega (arith, behind, same))
+    by_slash byte there false is_slash is = (
+      names-break fault cells at 65536 (omega arith) (relative-err (names_from cells at) fault is),
+      λ same slashed. eqb-false byte slash is_slash (same_Some byte slash (sym there ∙ slashed)),
+    )
 
-    by_byte : (byte : Option ℕ) → user_cell cells at ≡ byte → list_with cells at byte ≡ Err fault → Breaks fault cells at
-    by_byte None none is =
-        subst (λ (fault : NameFault). Breaks fault cells at) (ap fault_in is) (breaks-here Unreadable cells at none)
+    by_byte : (byte : Option ℕ) → user_cell cells at ≡ byte → list_with cells at byte ≡ Err fault → ListBreaks fault cells at
+    by_byte None none is = (
+      subst (λ (fault : NameFault). Breaks fault cells at) (ap fault_in is) (breaks-here Unreadable cells at none),
+      λ same slashed. none-some slash (sym none ∙ slashed),
+    )
     by_byte (Some byte) there is = by_slash byte there (byte == slash) refl is
+
+name-place : (cells : Cells) (from at : ℕ) → from ≤ at → (at ≡ from → user_cell cells from ≡ Some slash → ⊥) → (at ≡ from) ⊎ (NoName ≡ NoName → user_cell cells (at - 1) ≡ Some slash) → (at ≡ from) × (user_cell cells at ≢ Some slash) ⊎ (from < at) × (user_cell cells (at - 1) ≡ Some slash)
+name-place cells from at behind first starts = by_place (cases_eq at from) starts
+  where
+    by_place : (at ≡ from) ⊎ (at ≢ from) → (at ≡ from) ⊎ (NoName ≡ NoName → user_cell cells (at - 1) ≡ Some slash) → (at ≡ from) × (user_cell cells at ≢ Some slash) ⊎ (from < at) × (user_cell cells (at - 1) ≡ Some slash)
+    by_place (inl same) starts = inl (same, λ slashed. first same (ap (user_cell cells) (sym same) ∙ slashed))
+    by_place (inr apart) (inl same) = absurd (apart same)
+    by_place (inr apart) (inr before) = inr (omega (arith, behind, apart), before refl)
 
 pub list-breaks-off : (caller : Caller) → path_list caller.cells caller.regs.x ≡ Err Unreadable → ListBreaksOff caller
 list-breaks-off caller is =
-    let it : Breaks Unreadable caller.cells caller.regs.x = list-breaks Unreadable caller.cells caller.regs.x is in
+    let it : Breaks Unreadable caller.cells caller.regs.x = (list-breaks Unreadable caller.cells caller.regs.x is).0 in
     record { at = it.at; front = record { behind = it.behind; bytes = it.runs }; missing = it.wrong; list = is }
 
 pub names-nothing : (caller : Caller) → path_list caller.cells caller.regs.x ≡ Err NoName → NamesNothing caller
 names-nothing caller is =
-    let it : Breaks NoName caller.cells caller.regs.x = list-breaks NoName caller.cells caller.regs.x is in
-    record { at = it.at; front = record { behind = it.behind; bytes = it.runs }; no_name = it.wrong; list = is }
+    let found : ListBreaks NoName caller.cells caller.regs.x = list-breaks NoName caller.cells caller.regs.x is in
+    let it : Breaks NoName caller.cells caller.regs.x = found.0 in
+    record {
+      at = it.at;
+      front = record { behind = it.behind; bytes = it.runs };
+      place = name-place caller.cells caller.regs.x it.at it.behind found.1 it.starts;
+      no_name = it.wrong;
+      list = is;
+    }
 
 -- ---- bytes
 

@@ -1,6 +1,6 @@
 -- Why a call on paths is refused (System Programmer's Manual, "I/O service requests"), but for the end of a file and a
 -- write error.
-use Rattle.std.specs.Prelude.{◌≡◌, ◌⊎◌, ℕ, ◌+◌, ◌<◌, ◌≤◌, ⊤, false, true, Option, Some, None, IsSome, option_and_then, Err, Ok, length}
+use Rattle.std.specs.Prelude.{◌≡◌, ◌≢◌, ◌⊎◌, ℕ, ◌+◌, ◌-◌, ◌<◌, ◌≤◌, ⊤, false, true, Option, Some, None, IsSome, option_and_then, Err, Ok, length}
 use Rattle.std.specs.Option.{option_map_or}
 use Rattle.os9_base.specs.Cells.{Cells}
 use Rattle.os9_base.specs.declared.errors.TheConstants.{E_BMODE, E_BPADDR, E_BPNAM, E_BPNUM, E_MNF, E_NOTRDY, E_PNNF, E_PTHFUL, E_UNKSVC}
@@ -146,10 +146,12 @@ IsUnreadable Call.GetStt caller io =
     (caller.regs.b ≡ SS_OPT) × HasGap caller.cells caller.regs.x OPTION_BYTES
 IsUnreadable call caller io = ⊥
 
--- the list at X goes on up to an address at which no name stands
+-- the list at X goes on up to an address at which a name has to stand, and none does: it is X, or behind a slash
 pub record NamesNothing (caller : Caller) : Type 0 where
   pub at : ℕ
   pub front : GoesOnTo caller at
+  pub place : (at ≡ caller.regs.x) × (user_cell caller.cells at ≢ Some slash)
+      ⊎ (caller.regs.x < at) × (user_cell caller.cells (at - 1) ≡ Some slash)
   pub no_name : name_at caller.cells at ≡ Err NoName
   pub list : path_list caller.cells caller.regs.x ≡ Err NoName
 
