@@ -158,15 +158,14 @@ StopsReading n p s end =
     ⊎ ((signal : ℕ) × (act_of s.inner p ≡ delivers signal) × (wait_target s.io p ≡ Some (Term n)))
 
 -- An attempt of a read that uses no key ends so: it asks for no byte, and is done at once, with the registers that it
--- was made with; it is refused, and no end of the file was typed and no terminal failed; or it waits for the read of
--- another process.
+-- was made with; it is refused with neither 211 nor 245; or it waits for the read of another process.
 abbrev pub UsesNone : ℕ → Caller → Io → IoEnd → Type 0
 UsesNone n caller io (answers regs) = (caller.regs.y ≡ 0) × (regs ≡ caller.regs)
 UsesNone n caller io (fails number) = (number ≢ E_EOF) × (number ≢ E_WRITE)
 UsesNone n caller io (keeps kept) = is_taken caller.process (terminal_at io n) ≡ true
 
--- no key arrives, and none is used, by no attempt of a read of this terminal either; the line stays, or it is dropped
--- for a cause, and it is where the reader stops
+-- no key arrives, and none is used, so that an attempt of a read of this terminal ends as one that uses none; the line
+-- stays, or it is dropped for a cause, and it is where the reader stops
 pub record KeysStay (n : ℕ) (s : State) (end : EventEnd) (t : State) : Type 0 where
   pub ahead : ahead_at t n ≡ ahead_at s n
   pub come : keys_to_come t n ≡ keys_to_come s n

@@ -9,8 +9,8 @@ use Rattle.io_rules.specs.declared.io_call.IoCall.{IoCall}
 use Rattle.machine_model.specs.State.{State}
 use Rattle.stream_calls.specs.Trying.{WantsMemory}
 
--- An event that is broken off for want of memory: the chosen process, which lives, attempts a call on a path, and a byte
--- that it puts on a terminal found no memory. These are the terminals then.
+-- An event that is broken off for want of memory: the chosen process, which lives, attempts a call on a path, and a
+-- byte that it puts on a terminal found no memory. These are the terminals then.
 pub record BreaksEvent (s : State) (terms : List TerminalState) : Type 0 where
   pub p : ℕ
   pub chosen : s.chosen ≡ Some p
