@@ -12,16 +12,8 @@ use Rattle.rbf_model.specs.File.{DiskFile, is_directory}
 use Rattle.rbf_model.specs.Volume.{DiskVolume}
 use Rattle.io_rules.specs.Io.{Io, OpenPath, open_path, with_paths}
 use Rattle.io_rules.specs.Step.{Caller}
-
--- where a file or a directory is: its drive, and the number of its descriptor
-pub record FilePlace : Type 0 where
-  pub drive : ℕ
-  pub number : ℕ
-
--- the directories of a process, at which path lists without a device start
-pub record Directories : Type 0 where
-  pub data_directory : Option FilePlace
-  pub execution_directory : Option FilePlace
+use Rattle.file_rules.specs.declared.places.Directories.{Directories}
+use Rattle.file_rules.specs.declared.places.FilePlace.{FilePlace}
 
 -- a drive: how often it failed, and its last fault
 pub record DriveState : Type 0 where

@@ -8,8 +8,10 @@ use Rattle.rbf_model.specs.Volume.{DiskVolume, Vol}
 use Rattle.rbf_model.specs.Walk.{look_up}
 use Rattle.io_rules.specs.Io.{first_io}
 use Rattle.io_rules.specs.Processes.{io_started, io_ended}
-use Rattle.file_rules.specs.Files.{Files, FilePlace, Directories, DriveState, no_directories, directories_at, with_io, with_directories_of}
+use Rattle.file_rules.specs.Files.{Files, DriveState, no_directories, directories_at, with_io, with_directories_of}
 use Rattle.file_rules.specs.Way.{root_of}
+use Rattle.file_rules.specs.declared.places.Directories.{Directories}
+use Rattle.file_rules.specs.declared.places.FilePlace.{FilePlace}
 
 -- ---- beginnings and ends
 

@@ -15,11 +15,12 @@ use Rattle.io_rules.specs.Rows.{calling, opened_times}
 use Rattle.io_rules.specs.Step.{IoEnd, answers}
 use Rattle.file_rules.specs.Attempts.{file_step, files_after}
 use Rattle.file_rules.specs.Change.{Change, sets_attributes}
-use Rattle.file_rules.specs.Files.{Files, Asker, FilePlace, DriveState, new_drive, with_io, with_path_table, with_volume}
+use Rattle.file_rules.specs.Files.{Files, Asker, DriveState, new_drive, with_io, with_path_table, with_volume}
 use Rattle.file_rules.specs.Processes.{first_files}
 use Rattle.file_rules.specs.Step.{Deed, leaves_so, as_io, changes, FileEffect, FileStep, deed_of, refuses_so}
 use Rattle.file_rules.specs.declared.path_call.PathCall.{PathCall}
 use Rattle.file_rules.specs.declared.path_call.PathCall.TheVariants as Call
+use Rattle.file_rules.specs.declared.places.FilePlace.{FilePlace}
 
 -- ---- the volume E: sixteen sectors, one a cluster; the map in sector 1, the root in 2, its entries in 3
 

@@ -5,9 +5,10 @@ use Rattle.std.specs.List.{list_any}
 use Rattle.std.specs.Option.{option_map_or}
 use Rattle.io_model.specs.declared.path.Desc.{Desc}
 use Rattle.io_rules.specs.Modes.{has_bit_of}
-use Rattle.file_rules.specs.Files.{Files, FilePlace, place_of_target}
+use Rattle.file_rules.specs.Files.{Files, place_of_target}
 use Rattle.file_rules.specs.Way.{Found}
 use Rattle.file_rules.specs.declared.status.TheConstants.{SINGLE_USER}
+use Rattle.file_rules.specs.declared.places.FilePlace.{FilePlace}
 
 abbrev pub is_same_place : FilePlace → FilePlace → Bool
 is_same_place one other = (one.drive == other.drive) && (one.number == other.number)

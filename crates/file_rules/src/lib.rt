@@ -8,4 +8,5 @@ pub mod laws;
 pub mod load_rows;
 pub mod path_call;
 pub mod path_rows;
+pub mod places;
 pub mod status;
