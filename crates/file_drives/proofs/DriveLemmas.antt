@@ -1,0 +1,69 @@
+-- A driver in the list is replaced: of the drives that the lists tell, exactly that one changed. And what the calls on
+-- files tell of that.
+use Rattle.std.proofs.Common.{◌≡◌, ◌≢◌, ℕ, ◌<◌, ◌≤◌, ◌∙◌, Some, None, option_map, List, map, length, get_or, set, slice_get, slice_set, refl, ap, sym, subst}
+use Rattle.std.proofs.lemmas.List.{map-set, length-set, length-map, get_or-map, get_or-set_same, get_or-set_other, set-get_or}
+use Rattle.std.proofs.lemmas.Option.{slice_get-map, slice_get_read, slice_get_within, get_or_from_slice_get}
+use Rattle.os9_base.specs.Count.{Rose}
+use Rattle.os9_outer.specs.Drive.{drive_error}
+use Rattle.file_rules.specs.Files.{DriveState, NoneFailed, OneFailed, drive_at, new_drive}
+use Rattle.rbf_access.specs.Drive.{MovesCounts}
+use Rattle.file_drives.specs.Drives.{DriveView, ChangesOneDrive, OneDriveMoves, drive_state, drive_states}
+
+pub changes-one : {Driver : Type 0} (view : Driver → DriveView) (change : DriveView → DriveView → Type 0) (drivers : List Driver) (n : ℕ) (old new : Driver) → n < length drivers → old ≡ get_or drivers n old → change (view old) (view new) → ChangesOneDrive change n (map view drivers) (map view (slice_set drivers n new))
+changes-one view change drivers n old new inside here changed = (
+  view old,
+  view new,
+  slice_get-map view drivers n ∙ ap (option_map view) (slice_get_read drivers (length drivers) n old refl inside here),
+  map-set view drivers n new,
+  changed,
+)
+
+-- a weaker change
+pub changes-weaker : (change other : DriveView → DriveView → Type 0) (n : ℕ) (before after : List DriveView) → ((old new : DriveView) → change old new → other old new) → ChangesOneDrive change n before after → ChangesOneDrive other n before after
+changes-weaker change other n before after weaker (old, new, is, after_is, changed) = (old, new, is, after_is, weaker old new changed)
+
+-- ---- faults
+
+-- the state of a drive of the list
+state-at : (views : List DriveView) (n : ℕ) (view : DriveView) → slice_get views n ≡ Some view → drive_at (drive_states views) n ≡ drive_state view
+state-at views n view is =
+    get_or-map drive_state views n view new_drive (slice_get_within views n view is) ∙ ap drive_state (get_or_from_slice_get views n view view is)
+
+-- and after it changed
+state-set : (views : List DriveView) (n : ℕ) (new : DriveView) → n < length views → drive_at (drive_states (slice_set views n new)) n ≡ drive_state new
+state-set views n new inside =
+    ap (λ states. drive_at states n) (map-set drive_state views n new)
+    ∙ get_or-set_same (drive_states views) n (drive_state new) new_drive (subst (λ m. n < m) (sym (length-map views drive_state)) inside)
+
+state-other : (views : List DriveView) (n other : ℕ) (new : DriveView) → other ≢ n → drive_at (drive_states (slice_set views n new)) other ≡ drive_at (drive_states views) other
+state-other views n other new apart =
+    ap (λ states. drive_at states other) (map-set drive_state views n new) ∙ get_or-set_other (drive_states views) n other (drive_state new) new_drive apart
+
+-- no fault: no count has changed
+pub none-failed : (most n : ℕ) (before after : List DriveView) → OneDriveMoves None most n before after → NoneFailed (drive_states before) (drive_states after)
+none-failed most n before after (old, new, is, after_is, moved) =
+    let count : DriveState → ℕ = λ drive. drive.faults in
+    let faults : DriveView → ℕ = λ view. view.counts.faults in
+    ap (λ views. map count (drive_states views)) after_is
+    ∙ ap (map count) (map-set drive_state before n new)
+    ∙ map-set count (drive_states before) n (drive_state new)
+    ∙ ap (λ m. set (map count (drive_states before)) n m) (moved.kept ∙ ap count (sym (state-at before n old is)) ∙ sym (get_or-map count (drive_states before) n new_drive 0 (subst (λ m. n < m) (sym (length-map before drive_state)) (slice_get_within before n old is))))
+    ∙ set-get_or (map count (drive_states before)) n 0
+
+-- a fault: this drive failed, and no other one
+pub one-failed : (number most n : ℕ) (before after : List DriveView) → OneDriveMoves (Some number) most n before after → OneFailed n number (drive_states before) (drive_states after)
+one-failed number most n before after (old, new, is, after_is, moved) =
+    let inside : n < length before = slice_get_within before n old is in
+    subst (λ views. OneFailed n number (drive_states before) (drive_states views)) (sym after_is) (one-set number most n before old new is inside moved)
+  where
+    one-set : (number most n : ℕ) (before : List DriveView) (old new : DriveView) → slice_get before n ≡ Some old → n < length before → MovesCounts (Some number) most old.counts new.counts → OneFailed n number (drive_states before) (drive_states (slice_set before n new))
+    one-set number most n before old new is inside moved =
+        let was : drive_at (drive_states before) n ≡ drive_state old = state-at before n old is in
+        let now : drive_at (drive_states (slice_set before n new)) n ≡ drive_state new = state-set before n new inside in
+        record {
+          rose = subst (λ d. Rose d.faults (drive_at (drive_states (slice_set before n new)) n).faults) (sym was) (subst (λ d. Rose old.counts.faults d.faults) (sym now) moved.rose);
+          never_falls = subst (λ d. d.faults ≤ (drive_at (drive_states (slice_set before n new)) n).faults) (sym was) (subst (λ d. old.counts.faults ≤ d.faults) (sym now) moved.never_falls);
+          last = subst (λ d. option_map drive_error d.last ≡ Some number) (sym now) moved.number;
+          others = λ other apart. ap (λ d. d.faults) (state-other before n other new apart);
+          as_many = length-map (slice_set before n new) drive_state ∙ length-set before n new ∙ sym (length-map before drive_state);
+        }

@@ -1,0 +1,17 @@
+-- A place that was found in a directory, on the drive of that directory.
+use Rattle.std.proofs.Common.{◌≡◌, ℕ, ◌∙◌, Option, Some, List, slice_get, sym, subst}
+use Rattle.std.proofs.lemmas.Option.{same_Some}
+use Rattle.rbf_access.specs.declared.volume.Volume.{Volume}
+use Rattle.rbf_make.specs.Places.{IsPlaceFor}
+use Rattle.rbf_make.specs.declared.place.NewPlace.{NewPlace}
+use Rattle.file_rules.specs.declared.places.FilePlace.{FilePlace}
+use Rattle.file_drives.specs.Drives.{DriveView}
+use Rattle.file_drives.specs.Entries.{IsPlaceAt}
+use Rattle.file_drives.specs.Slots.{HasFileOn}
+
+pub file-found : (slot : Option Volume) (view : DriveView) (n number : ℕ) → number ≡ n → HasFileOn slot view n → HasFileOn slot view number
+file-found slot view n number same has = subst (λ m. HasFileOn slot view m) (sym same) has
+
+pub place-here : (views : List DriveView) (view : DriveView) (dir : FilePlace) (name : List ℕ) (found : NewPlace) → IsPlaceAt views dir name found → slice_get views dir.drive ≡ Some view → IsPlaceFor view.media name found
+place-here views view dir name found at is =
+    subst (λ (w : DriveView). IsPlaceFor w.media name found) (same_Some at.view view (sym at.is ∙ is)) at.place

@@ -1,0 +1,14 @@
+pub mod AttributeLemmas
+pub mod ChangeLemmas
+pub mod DeletionLemmas
+pub mod DriveLemmas
+pub mod EntryLemmas
+pub mod FindLemmas
+pub mod FoundLemmas
+pub mod FreeLemmas
+pub mod MountLemmas
+pub mod MountedLemmas
+pub mod PlacedLemmas
+pub mod RootLemmas
+pub mod SlotLemmas
+pub mod WalkLemmas

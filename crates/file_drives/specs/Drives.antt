@@ -1,0 +1,58 @@
+-- What can be observed of the drives of a machine, as lists that do not depend on how their drivers are made, and how
+-- they change in a call that reaches one of them (this project's own).
+use Rattle.std.specs.Prelude.{◌≡◌, ℕ, Option, Some, List, map, slice_get, slice_set}
+use Rattle.std.specs.declared.alloc.Global.{Global}
+use Rattle.std.specs.declared.dyn_box.DynBox.{DynBox}
+use Rattle.os9_outer.specs.declared.drive.BlockDriver.{Ghosts}
+use Rattle.rbf_access.specs.Drive.{DriveCounts, MovesCounts, drive_counts}
+use Rattle.file_rules.specs.Files.{DriveState}
+
+-- a drive, as far as it can be observed
+pub record DriveView : Type 0 where
+  pub media : Option (List ℕ)  -- the bytes of the image that is in, if one is
+  pub counts : DriveCounts  -- how often it failed and was called, and its last fault
+
+-- as its driver shows it, whose ghost members are these
+abbrev pub drive_view : {Driver : Type 0} → Ghosts Driver → Driver → DriveView
+drive_view members driver = record { media = members.media driver; counts = drive_counts members driver }
+
+-- the drive that is lent: the table of its methods gives the driver's ghost members
+abbrev pub lent_drive_view : {Table : Type 0} {Driver : Table → Type 0} → ((table : Table) → Ghosts (Driver table))
+    → (table : Table) × Driver table → DriveView
+lent_drive_view members drive = drive_view (members drive.0) drive.1
+
+-- the drive in a box
+abbrev pub boxed_drive_view : {Table : Type 0} {Driver : Table → Type 0} → ((table : Table) → Ghosts (Driver table))
+    → DynBox Table Global Driver → DriveView
+boxed_drive_view members drive = drive_view (members drive.vtable) drive.value
+
+-- each drive, as `drive_views ⟦<dyn BlockDriver as BlockDriver>⟧ devices.now.drives.items`
+abbrev pub drive_views : {Table : Type 0} {Driver : Table → Type 0} → ((table : Table) → Ghosts (Driver table))
+    → List (DynBox Table Global Driver) → List DriveView
+drive_views members drives = map (boxed_drive_view members) drives
+
+-- what the calls on files tell of a drive
+abbrev pub drive_state : DriveView → DriveState
+drive_state view = record { faults = view.counts.faults; last = view.counts.last }
+
+abbrev pub drive_states : List DriveView → List DriveState
+drive_states views = map drive_state views
+
+-- the drive of this number changed in this way, and no other drive changed
+abbrev pub ChangesOneDrive : (DriveView → DriveView → Type 0) → ℕ → List DriveView → List DriveView → Type 0
+ChangesOneDrive change n before after =
+    (old : DriveView) × (new : DriveView) × (slice_get before n ≡ Some old) × (after ≡ slice_set before n new)
+    × change old new
+
+-- at most so many calls of it were made, and the fault of this number ended them, if there was one
+abbrev pub OneDriveMoves : Option ℕ → ℕ → ℕ → List DriveView → List DriveView → Type 0
+OneDriveMoves fault most n before after =
+    ChangesOneDrive (λ old new. MovesCounts fault most old.counts new.counts) n before after
+
+-- such calls of a drive that only read it
+pub record Reads (fault : Option ℕ) (most : ℕ) (old new : DriveView) : Type 0 where
+  pub media_kept : new.media ≡ old.media
+  pub counts : MovesCounts fault most old.counts new.counts
+
+abbrev pub ReadsDrive : Option ℕ → ℕ → ℕ → List DriveView → List DriveView → Type 0
+ReadsDrive fault most n before after = ChangesOneDrive (Reads fault most) n before after

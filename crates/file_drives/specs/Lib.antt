@@ -1,0 +1,7 @@
+pub mod Calls
+pub mod Changed
+pub mod Drives
+pub mod Entries
+pub mod Mounted
+pub mod SlotCalls
+pub mod Slots

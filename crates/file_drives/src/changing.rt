@@ -1,0 +1,128 @@
+// The calls that change a file, over one drive in its box and what is kept for it.
+
+ghost use Rattle.file_drives.specs.Drives.{boxed_drive_view, lent_drive_view};
+ghost use Rattle.file_drives.specs.SlotCalls.{SetsAttributesOn, SizesOn, WritesOn};
+ghost use Rattle.file_drives.specs.Slots.{HasDataFileOn, HasFileOn};
+
+use os9_base::registers::TimePacket;
+use os9_outer::drive::BlockDriver;
+use rbf_access::{FileFault, Volume};
+use rbf_size::set_size;
+use rbf_update::set_attr;
+use rbf_walk::DirError;
+use rbf_write::write_at;
+
+// Writes bytes to a file that is no directory.
+fn write_on(
+    kept: &mut Option<Volume>,
+    d: &mut dyn BlockDriver,
+    number: u32,
+    at: u32,
+    from: &[u8],
+    now: TimePacket,
+) -> Result<(), FileFault>
+    requires { HasDataFileOn kept.old
+        (lent_drive_view ⟦<dyn BlockDriver as BlockDriver>⟧ d.old) number }
+    ensures { WritesOn number at from.now now result
+        kept.old (lent_drive_view ⟦<dyn BlockDriver as BlockDriver>⟧ d.old)
+        kept.new (lent_drive_view ⟦<dyn BlockDriver as BlockDriver>⟧ d.new) }
+{
+    match kept {
+        Some(volume) => write_at(volume, d, number, at, from, now),
+        None => unreachable!(),
+    }
+}
+
+// `write_on` of the drive in a box.
+pub fn write_in_box(
+    kept: &mut Option<Volume>,
+    driver: &mut Box<dyn BlockDriver>,
+    number: u32,
+    at: u32,
+    from: &[u8],
+    now: TimePacket,
+) -> Result<(), FileFault>
+    requires { HasDataFileOn kept.old
+        (boxed_drive_view ⟦<dyn BlockDriver as BlockDriver>⟧ driver.old) number }
+    ensures { WritesOn number at from.now now result
+        kept.old (boxed_drive_view ⟦<dyn BlockDriver as BlockDriver>⟧ driver.old)
+        kept.new (boxed_drive_view ⟦<dyn BlockDriver as BlockDriver>⟧ driver.new) }
+{
+    write_on(kept, &mut **driver, number, at, from, now)
+}
+
+// Gives a file that is no directory a size.
+fn set_size_on(
+    kept: &mut Option<Volume>,
+    d: &mut dyn BlockDriver,
+    number: u32,
+    size: u32,
+    now: TimePacket,
+) -> Result<(), FileFault>
+    requires { HasDataFileOn kept.old
+        (lent_drive_view ⟦<dyn BlockDriver as BlockDriver>⟧ d.old) number }
+    ensures { SizesOn number size now result
+        kept.old (lent_drive_view ⟦<dyn BlockDriver as BlockDriver>⟧ d.old)
+        kept.new (lent_drive_view ⟦<dyn BlockDriver as BlockDriver>⟧ d.new) }
+{
+    match kept {
+        Some(volume) => set_size(volume, d, number, size, now),
+        None => unreachable!(),
+    }
+}
+
+// `set_size_on` of the drive in a box.
+pub fn set_size_in_box(
+    kept: &mut Option<Volume>,
+    driver: &mut Box<dyn BlockDriver>,
+    number: u32,
+    size: u32,
+    now: TimePacket,
+) -> Result<(), FileFault>
+    requires { HasDataFileOn kept.old
+        (boxed_drive_view ⟦<dyn BlockDriver as BlockDriver>⟧ driver.old) number }
+    ensures { SizesOn number size now result
+        kept.old (boxed_drive_view ⟦<dyn BlockDriver as BlockDriver>⟧ driver.old)
+        kept.new (boxed_drive_view ⟦<dyn BlockDriver as BlockDriver>⟧ driver.new) }
+{
+    set_size_on(kept, &mut **driver, number, size, now)
+}
+
+// Gives a file other attributes, for a user.
+fn set_attr_on(
+    kept: &mut Option<Volume>,
+    d: &mut dyn BlockDriver,
+    number: u32,
+    attr: u8,
+    user: u16,
+    now: TimePacket,
+) -> Result<(), DirError>
+    requires { HasFileOn kept.old
+        (lent_drive_view ⟦<dyn BlockDriver as BlockDriver>⟧ d.old) number }
+    ensures { SetsAttributesOn number attr user now result
+        kept.old (lent_drive_view ⟦<dyn BlockDriver as BlockDriver>⟧ d.old)
+        kept.new (lent_drive_view ⟦<dyn BlockDriver as BlockDriver>⟧ d.new) }
+{
+    match kept {
+        Some(volume) => set_attr(volume, d, number, attr, user, now),
+        None => unreachable!(),
+    }
+}
+
+// `set_attr_on` of the drive in a box.
+pub fn set_attr_in_box(
+    kept: &mut Option<Volume>,
+    driver: &mut Box<dyn BlockDriver>,
+    number: u32,
+    attr: u8,
+    user: u16,
+    now: TimePacket,
+) -> Result<(), DirError>
+    requires { HasFileOn kept.old
+        (boxed_drive_view ⟦<dyn BlockDriver as BlockDriver>⟧ driver.old) number }
+    ensures { SetsAttributesOn number attr user now result
+        kept.old (boxed_drive_view ⟦<dyn BlockDriver as BlockDriver>⟧ driver.old)
+        kept.new (boxed_drive_view ⟦<dyn BlockDriver as BlockDriver>⟧ driver.new) }
+{
+    set_attr_on(kept, &mut **driver, number, attr, user, now)
+}

@@ -1,0 +1,557 @@
+//! The volumes of D0 to D3.
+
+ghost use Rattle.std.specs.Prelude.{◌≡◌, ℕ, ◌<◌, false, Option, Some, None, IsSome, IfOk, IfSome, OnOk, OnErr, List, length, option_map, replicate, vec_len};
+ghost use Rattle.rbf_model.specs.Volume.{DiskVolume};
+ghost use Rattle.rbf_model.specs.Walk.{step};
+ghost use Rattle.rbf_change.specs.Names.{deletion_end};
+ghost use Rattle.rbf_access.specs.Faults.{file_fault};
+ghost use Rattle.rbf_access.specs.Reading.{IsFdOf, IsRead, read_calls};
+ghost use Rattle.rbf_walk.specs.Walk.{AnswersWalk, directory_fault, step_calls};
+ghost use Rattle.rbf_make.specs.Places.{AnswersPlace, place_calls, place_found};
+ghost use Rattle.rbf_append.specs.Entering.{entering_calls, widened};
+ghost use Rattle.rbf_update.specs.Attributes.{attribute_calls};
+ghost use Rattle.rbf_update.specs.Deletions.{deletion_calls, descriptor_found};
+ghost use Rattle.file_rules.specs.Change.{writes, sizes, sets_attributes, creates, makes_directory};
+ghost use Rattle.file_rules.specs.Way.{root_of};
+ghost use Rattle.file_drives.specs.Calls.{deleting_calls, making_calls, sizing_calls, writing_calls};
+ghost use Rattle.file_drives.specs.Changed.{Asked, ChangesVolume, file_answer, numbered};
+ghost use Rattle.file_drives.specs.Drives.{DriveView, drive_views, ChangesOneDrive};
+ghost use Rattle.file_drives.specs.Entries.{IsDeletableOn, IsDeletionOn, IsPlaceAt, IsPlaceOn, MayBeDeletedOn};
+ghost use Rattle.file_drives.specs.Mounted.{AgreesOnDrive, AreMounted, ArrivesOn, HasDataFileAt, HasFileAt, MountsAs, OnDisks, ReadsFile, ReadsToMount, mounted_at, number_arrived};
+
+use crate::changing::{set_attr_in_box, set_size_in_box, write_in_box};
+use crate::entries::{
+    create_in_box, delete_in_box, find_deletable_in_box, find_place_in_box, make_dir_in_box,
+};
+use crate::reading::{fd_in_box, mount_in_box, read_in_box, walk_in_box};
+use device_table::devices::Devices;
+use file_rules::places::FilePlace;
+use os9_base::call::OutOfMemory;
+use os9_base::name::Name;
+use os9_base::registers::TimePacket;
+use os9_outer::drive::BlockDriver;
+use rbf_access::{FileFault, VolFault, Volume};
+use rbf_make::NewPlace;
+use rbf_sector::Fd;
+use rbf_update::Deletable;
+use rbf_walk::DirError;
+use std::alloc::Global;
+use std::marker::Model;
+
+/// How many drives a machine has at most: D0 to D3.
+const DRIVES: usize = 4;
+
+/// What is kept of the volumes that are mounted on the drives of a machine. A contract sees the
+/// list of what is kept for each of D0 to D3, and says by `AreMounted` which volumes these are.
+#[derive(Drop)]
+pub struct Disks {
+    volumes: Vec<Option<Volume>>,
+}
+
+impl Model for Disks {
+    ghost use Rattle.std.specs.Prelude.{◌≡◌, List, Option, length};
+    ghost use Rattle.rbf_access.specs.declared.volume.Volume.{Volume};
+
+    ghost Value = { List (Option Volume) };
+
+    ghost view = { λ d. d.volumes.items };
+
+    ghost invariant = { λ d. length d.volumes.items ≡ 4 };
+}
+
+impl Disks {
+    /// No volume is mounted on any drive.
+    ///
+    /// # Errors
+    ///
+    /// Out of memory.
+    pub fn new(alloc: Global) -> Result<Disks, OutOfMemory>
+        ensures { IfOk result (λ disks. disks ≡ replicate 4 None) }
+    {
+        Ok(Disks {
+            volumes: no_volumes(alloc)?,
+        })
+    }
+
+    /// Mounts the volume that the media of a drive holds, in place of the one that was mounted
+    /// there.
+    ///
+    /// # Errors
+    ///
+    /// `NotRbf` if the drive has no media or the media holds no RBF volume, `Device` if a read of
+    /// the drive fails, or out of memory. What was mounted is mounted still then.
+    pub fn mount(&mut self, alloc: Global, n: u8, devices: &mut Devices) -> Result<(), VolFault>
+        requires drive { n < vec_len devices.old.drives }
+        requires few { n < 4 }
+        ensures mounted { MountsAs result n
+            self.old (drive_views ⟦<dyn BlockDriver as BlockDriver>⟧ devices.old.drives.items)
+            self.new (drive_views ⟦<dyn BlockDriver as BlockDriver>⟧ devices.new.drives.items) }
+        ensures drive { ChangesOneDrive (ReadsToMount result) n
+            (drive_views ⟦<dyn BlockDriver as BlockDriver>⟧ devices.old.drives.items)
+            (drive_views ⟦<dyn BlockDriver as BlockDriver>⟧ devices.new.drives.items) }
+        ensures terms_kept { devices.new.terms ≡ devices.old.terms }
+    {
+        mount_in_box(
+            alloc,
+            &mut self.volumes[n as usize],
+            &mut devices.drives[n as usize],
+        )
+    }
+
+    /// The root directory of the volume that is mounted on a drive; None if none is.
+    pub fn root(&self, n: u8) -> Option<FilePlace>
+        requires { n < 4 }
+        ensures root { (views : List DriveView) (volumes : List (Option DiskVolume))
+            → AreMounted self.now views volumes
+            → result ≡ option_map (root_of n) (mounted_at volumes n) }
+        ensures file { (views : List DriveView) (volumes : List (Option DiskVolume))
+            → AreMounted self.now views volumes → IfSome result (HasFileAt self.now views) }
+    {
+        root_of_kept(&self.volumes[n as usize], n)
+    }
+
+    /// The descriptor of a file.
+    ///
+    /// # Errors
+    ///
+    /// `Device` if the drive's read fails.
+    pub fn fd(&mut self, devices: &mut Devices, place: FilePlace) -> Result<Fd, FileFault>
+        requires file { HasFileAt self.old
+            (drive_views ⟦<dyn BlockDriver as BlockDriver>⟧ devices.old.drives.items) place }
+        ensures ok { OnDisks self.old
+            (drive_views ⟦<dyn BlockDriver as BlockDriver>⟧ devices.old.drives.items) place
+            (λ v file. IfOk result (IsFdOf file)) }
+        ensures device { OnErr result (IsSome (file_fault result)) }
+        ensures drive { ReadsFile place (file_fault result) (λ v file. 1)
+            self.old (drive_views ⟦<dyn BlockDriver as BlockDriver>⟧ devices.old.drives.items)
+            self.new (drive_views ⟦<dyn BlockDriver as BlockDriver>⟧ devices.new.drives.items) }
+        ensures terms_kept { devices.new.terms ≡ devices.old.terms }
+    {
+        fd_in_box(
+            &mut self.volumes[place.drive as usize],
+            &mut devices.drives[place.drive as usize],
+            place.number,
+        )
+    }
+
+    /// Reads bytes of a file from `at` on, as many as `into` has room for and the file has there,
+    /// and answers how many; 0 at or past its end. The rest of `into` stays.
+    ///
+    /// # Errors
+    ///
+    /// `Device` if a read of the drive fails; then `into` may have changed.
+    pub fn read_at(
+        &mut self,
+        devices: &mut Devices,
+        place: FilePlace,
+        at: u32,
+        into: &mut [u8],
+    ) -> Result<u32, FileFault>
+        requires file { HasFileAt self.old
+            (drive_views ⟦<dyn BlockDriver as BlockDriver>⟧ devices.old.drives.items) place }
+        ensures ok { OnDisks self.old
+            (drive_views ⟦<dyn BlockDriver as BlockDriver>⟧ devices.old.drives.items) place
+            (λ v file. IfOk result (IsRead file at into.old into.new)) }
+        ensures device { OnErr result (IsSome (file_fault result)) }
+        ensures drive { ReadsFile place (file_fault result)
+            (λ v file. read_calls file at (length into.old))
+            self.old (drive_views ⟦<dyn BlockDriver as BlockDriver>⟧ devices.old.drives.items)
+            self.new (drive_views ⟦<dyn BlockDriver as BlockDriver>⟧ devices.new.drives.items) }
+        ensures terms_kept { devices.new.terms ≡ devices.old.terms }
+    {
+        read_in_box(
+            &mut self.volumes[place.drive as usize],
+            &mut devices.drives[place.drive as usize],
+            place.number,
+            at,
+            into,
+        )
+    }
+
+    /// Goes from a directory to the file that it has by a name, for a user. The directory must let
+    /// the user read it, or execute it in search of a file to execute (OS-9 Technical Reference,
+    /// I$Open).
+    ///
+    /// # Errors
+    ///
+    /// `NotAllowed` if `place` is no directory or may not be searched, `NotFound` if the name is
+    /// not there, `Device` if a read of the drive fails.
+    pub fn walk_to(
+        &mut self,
+        devices: &mut Devices,
+        place: FilePlace,
+        name: &Name,
+        user: u16,
+        execute: bool,
+    ) -> Result<FilePlace, DirError>
+        requires file { HasFileAt self.old
+            (drive_views ⟦<dyn BlockDriver as BlockDriver>⟧ devices.old.drives.items) place }
+        ensures walked { OnDisks self.old
+            (drive_views ⟦<dyn BlockDriver as BlockDriver>⟧ devices.old.drives.items) place
+            (λ v file. AnswersWalk (step (Some file) user execute name.now)
+            (number_arrived result)) }
+        ensures file { IfOk result (ArrivesOn place.drive self.new
+            (drive_views ⟦<dyn BlockDriver as BlockDriver>⟧ devices.new.drives.items)) }
+        ensures drive { ReadsFile place (directory_fault result)
+            (λ v file. step_calls (Some file) user execute name.now)
+            self.old (drive_views ⟦<dyn BlockDriver as BlockDriver>⟧ devices.old.drives.items)
+            self.new (drive_views ⟦<dyn BlockDriver as BlockDriver>⟧ devices.new.drives.items) }
+        ensures terms_kept { devices.new.terms ≡ devices.old.terms }
+    {
+        let arrived = walk_in_box(
+            &mut self.volumes[place.drive as usize],
+            &mut devices.drives[place.drive as usize],
+            place.number,
+            name,
+            user,
+            execute,
+        );
+        placed(place.drive, arrived)
+    }
+
+    /// Writes bytes to a file that is no directory, from `at` on. Between its end and that place it
+    /// has zeros then. A write that changes its size sets its date. To write no bytes changes
+    /// nothing and makes no call of the drive (OS-9 System Programmer's Manual, I$Write).
+    ///
+    /// # Errors
+    ///
+    /// If no fault comes, `NoCluster` exactly if fewer clusters are free than the write needs, and
+    /// `TooManyRuns` if one that was chosen finds no place in the list of segments: then nothing
+    /// has changed. `Device` if a call of the drive fails: then the file may have a first part of
+    /// the bytes, and clusters may be lost; in a call that was to be refused nothing has changed.
+    pub fn write_at(
+        &mut self,
+        devices: &mut Devices,
+        place: FilePlace,
+        at: u32,
+        from: &[u8],
+        now: TimePacket,
+    ) -> Result<(), FileFault>
+        requires file { HasDataFileAt self.old
+            (drive_views ⟦<dyn BlockDriver as BlockDriver>⟧ devices.old.drives.items) place }
+        ensures changed { (user : ℕ) → ChangesVolume place
+            (record { change = writes place.number at from.now; user = user; now = now })
+            (file_answer result) (writing_calls place.number at (length from.now) result)
+            self.old (drive_views ⟦<dyn BlockDriver as BlockDriver>⟧ devices.old.drives.items)
+            self.new (drive_views ⟦<dyn BlockDriver as BlockDriver>⟧ devices.new.drives.items) }
+        ensures terms_kept { devices.new.terms ≡ devices.old.terms }
+    {
+        write_in_box(
+            &mut self.volumes[place.drive as usize],
+            &mut devices.drives[place.drive as usize],
+            place.number,
+            at,
+            from,
+            now,
+        )
+    }
+
+    /// Gives a file that is no directory a size, in bytes. A longer one gains the clusters that it
+    /// needs, and what is added is zeros; a shorter one gives back the clusters that it needs no
+    /// more. Either sets its date. To give it the size that it has changes nothing (OS-9 System
+    /// Programmer's Manual, I$SetStt, SS.Size).
+    ///
+    /// # Errors
+    ///
+    /// If no fault comes, `NoCluster` exactly if fewer clusters are free than the size needs, and
+    /// `TooManyRuns` if one that was chosen finds no place in the list of segments: then nothing
+    /// has changed. `Device` if a call of the drive fails: then the file is as it was, or it has
+    /// been cut, and clusters may be lost; in a call that was to be refused nothing has changed.
+    pub fn set_size(
+        &mut self,
+        devices: &mut Devices,
+        place: FilePlace,
+        size: u32,
+        now: TimePacket,
+    ) -> Result<(), FileFault>
+        requires file { HasDataFileAt self.old
+            (drive_views ⟦<dyn BlockDriver as BlockDriver>⟧ devices.old.drives.items) place }
+        ensures changed { (user : ℕ) → ChangesVolume place
+            (record { change = sizes place.number size; user = user; now = now })
+            (file_answer result)
+            (sizing_calls (record { number = place.number; size = size; now = now }) result)
+            self.old (drive_views ⟦<dyn BlockDriver as BlockDriver>⟧ devices.old.drives.items)
+            self.new (drive_views ⟦<dyn BlockDriver as BlockDriver>⟧ devices.new.drives.items) }
+        ensures terms_kept { devices.new.terms ≡ devices.old.terms }
+    {
+        set_size_in_box(
+            &mut self.volumes[place.drive as usize],
+            &mut devices.drives[place.drive as usize],
+            place.number,
+            size,
+            now,
+        )
+    }
+
+    /// Gives a file or directory other attributes, for a user (SS.Attr, this project's own
+    /// argument): bit 7, which says what it is, stays, and the date of its last change is `now`.
+    ///
+    /// # Errors
+    ///
+    /// `NotAllowed` for any user but its owner and user 0, `Device` if an access of the drive
+    /// fails; then nothing has changed.
+    pub fn set_attr(
+        &mut self,
+        devices: &mut Devices,
+        place: FilePlace,
+        attr: u8,
+        user: u16,
+        now: TimePacket,
+    ) -> Result<(), DirError>
+        requires file { HasFileAt self.old
+            (drive_views ⟦<dyn BlockDriver as BlockDriver>⟧ devices.old.drives.items) place }
+        ensures changed { ChangesVolume place
+            (record { change = sets_attributes place.number attr; user = user; now = now })
+            (numbered result) (λ v file left. attribute_calls file user)
+            self.old (drive_views ⟦<dyn BlockDriver as BlockDriver>⟧ devices.old.drives.items)
+            self.new (drive_views ⟦<dyn BlockDriver as BlockDriver>⟧ devices.new.drives.items) }
+        ensures terms_kept { devices.new.terms ≡ devices.old.terms }
+    {
+        set_attr_in_box(
+            &mut self.volumes[place.drive as usize],
+            &mut devices.drives[place.drive as usize],
+            place.number,
+            attr,
+            user,
+            now,
+        )
+    }
+
+    /// The place in a directory that a new entry with a name goes to, for a user: the first free
+    /// one, or the one behind the last (OS-9 Technical Reference, I$Create and I$MakDir).
+    ///
+    /// # Errors
+    ///
+    /// In this order: `BadPath` for the names `.` and `..`, before any access of the drive;
+    /// `NotAllowed` if the user may not search or may not write the directory; `Exists` if the name
+    /// is there. `Device` if an access of the drive fails.
+    pub fn find_place(
+        &mut self,
+        devices: &mut Devices,
+        dir: FilePlace,
+        name: &Name,
+        user: u16,
+        execute: bool,
+    ) -> Result<NewPlace, DirError>
+        requires file { HasFileAt self.old
+            (drive_views ⟦<dyn BlockDriver as BlockDriver>⟧ devices.old.drives.items) dir }
+        ensures answer { OnDisks self.old
+            (drive_views ⟦<dyn BlockDriver as BlockDriver>⟧ devices.old.drives.items) dir
+            (λ v file. AnswersPlace file name.now user execute (place_found result)) }
+        ensures found { IfOk result (IsPlaceOn
+            (drive_views ⟦<dyn BlockDriver as BlockDriver>⟧ devices.new.drives.items)
+            dir name.now user execute) }
+        ensures drive { ReadsFile dir (directory_fault result)
+            (λ v file. place_calls file name.now user execute)
+            self.old (drive_views ⟦<dyn BlockDriver as BlockDriver>⟧ devices.old.drives.items)
+            self.new (drive_views ⟦<dyn BlockDriver as BlockDriver>⟧ devices.new.drives.items) }
+        ensures terms_kept { devices.new.terms ≡ devices.old.terms }
+    {
+        find_place_in_box(
+            &mut self.volumes[dir.drive as usize],
+            &mut devices.drives[dir.drive as usize],
+            dir.number,
+            name,
+            user,
+            execute,
+        )
+    }
+
+    /// The entry of a directory that has a name, if a user may delete it: an entry of a file, and
+    /// not of a directory (OS-9 Technical Reference, I$Delete).
+    ///
+    /// # Errors
+    ///
+    /// `NotAllowed` if the user may not search or may not write the directory; `NotFound` if the
+    /// name is not there; `NotAllowed` for a directory or a file that the user may not write;
+    /// `Device` if an access of the drive fails.
+    pub fn find_deletable(
+        &mut self,
+        devices: &mut Devices,
+        dir: FilePlace,
+        name: &Name,
+        user: u16,
+        execute: bool,
+    ) -> Result<Deletable, DirError>
+        requires file { HasFileAt self.old
+            (drive_views ⟦<dyn BlockDriver as BlockDriver>⟧ devices.old.drives.items) dir }
+        ensures answer { OnDisks self.old
+            (drive_views ⟦<dyn BlockDriver as BlockDriver>⟧ devices.old.drives.items) dir
+            (λ v file. AnswersWalk (deletion_end v.files file name.now user execute)
+            (descriptor_found result)) }
+        ensures found { IfOk result (IsDeletableOn
+            (drive_views ⟦<dyn BlockDriver as BlockDriver>⟧ devices.new.drives.items)
+            dir name.now) }
+        ensures drive { ReadsFile dir (directory_fault result)
+            (λ v file. deletion_calls file name.now user execute)
+            self.old (drive_views ⟦<dyn BlockDriver as BlockDriver>⟧ devices.old.drives.items)
+            self.new (drive_views ⟦<dyn BlockDriver as BlockDriver>⟧ devices.new.drives.items) }
+        ensures terms_kept { devices.new.terms ≡ devices.old.terms }
+    {
+        find_deletable_in_box(
+            &mut self.volumes[dir.drive as usize],
+            &mut devices.drives[dir.drive as usize],
+            dir.number,
+            name,
+            user,
+            execute,
+        )
+    }
+
+    /// Creates a file without contents by a name that a directory has not, at the place that
+    /// [`Disks::find_place`] has answered, for the user for whom it was found, and answers the
+    /// number of its descriptor (OS-9 Technical Reference, I$Create).
+    ///
+    /// # Errors
+    ///
+    /// In this order: `NoCluster` if fewer clusters are free than the file and its entry need,
+    /// `TooManyRuns` if the directory needs a cluster and has all its segments already: then
+    /// nothing has changed, and no call of the drive was made. `Device` if an access of the drive
+    /// fails: then the tree is as it was, and clusters may be lost.
+    pub fn create_at(
+        &mut self,
+        devices: &mut Devices,
+        dir: FilePlace,
+        found: &NewPlace,
+        name: &Name,
+        attr: u8,
+        now: TimePacket,
+    ) -> Result<u32, FileFault>
+        requires file { HasFileAt self.old
+            (drive_views ⟦<dyn BlockDriver as BlockDriver>⟧ devices.old.drives.items) dir }
+        requires place { IsPlaceAt
+            (drive_views ⟦<dyn BlockDriver as BlockDriver>⟧ devices.old.drives.items)
+            dir name.now found.now }
+        requires attributes { attr < 128 }
+        ensures changed { ChangesVolume dir (record {
+          change = creates dir.number name.now attr;
+          user = found.now.user;
+          now = now;
+        })
+            (widened result) (λ v file left. entering_calls v file 2 (widened result))
+            self.old (drive_views ⟦<dyn BlockDriver as BlockDriver>⟧ devices.old.drives.items)
+            self.new (drive_views ⟦<dyn BlockDriver as BlockDriver>⟧ devices.new.drives.items) }
+        ensures terms_kept { devices.new.terms ≡ devices.old.terms }
+    {
+        create_in_box(
+            &mut self.volumes[dir.drive as usize],
+            &mut devices.drives[dir.drive as usize],
+            found,
+            name,
+            attr,
+            now,
+        )
+    }
+
+    /// Makes a directory by a name that its parent has not, at the place that [`Disks::find_place`]
+    /// has answered to a user who searched to read, and answers the number of its descriptor (OS-9
+    /// Technical Reference, I$MakDir).
+    ///
+    /// # Errors
+    ///
+    /// As [`Disks::create_at`].
+    pub fn make_dir_at(
+        &mut self,
+        devices: &mut Devices,
+        dir: FilePlace,
+        found: &NewPlace,
+        name: &Name,
+        attr: u8,
+        now: TimePacket,
+    ) -> Result<u32, FileFault>
+        requires file { HasFileAt self.old
+            (drive_views ⟦<dyn BlockDriver as BlockDriver>⟧ devices.old.drives.items) dir }
+        requires place { IsPlaceAt
+            (drive_views ⟦<dyn BlockDriver as BlockDriver>⟧ devices.old.drives.items)
+            dir name.now found.now }
+        requires reading { found.now.execute ≡ false }
+        ensures changed { ChangesVolume dir (record {
+          change = makes_directory dir.number name.now attr;
+          user = found.now.user;
+          now = now;
+        })
+            (widened result) (making_calls (widened result))
+            self.old (drive_views ⟦<dyn BlockDriver as BlockDriver>⟧ devices.old.drives.items)
+            self.new (drive_views ⟦<dyn BlockDriver as BlockDriver>⟧ devices.new.drives.items) }
+        ensures terms_kept { devices.new.terms ≡ devices.old.terms }
+    {
+        make_dir_in_box(
+            &mut self.volumes[dir.drive as usize],
+            &mut devices.drives[dir.drive as usize],
+            found,
+            name,
+            attr,
+            now,
+        )
+    }
+
+    /// Deletes the file whose entry [`Disks::find_deletable`] has found (OS-9 Technical Reference,
+    /// I$Delete): its entry is made free, and then its clusters are.
+    ///
+    /// # Errors
+    ///
+    /// `Device` if an access of the drive fails: then nothing has changed, or the file has gone,
+    /// and some of its clusters may be lost.
+    pub fn delete_at(
+        &mut self,
+        devices: &mut Devices,
+        dir: FilePlace,
+        found: &Deletable,
+    ) -> Result<(), FileFault>
+        requires file { HasFileAt self.old
+            (drive_views ⟦<dyn BlockDriver as BlockDriver>⟧ devices.old.drives.items) dir }
+        requires entry { MayBeDeletedOn
+            (drive_views ⟦<dyn BlockDriver as BlockDriver>⟧ devices.old.drives.items)
+            dir found.now }
+        ensures changed { (asked : Asked) → IsDeletionOn dir found.now asked
+            (drive_views ⟦<dyn BlockDriver as BlockDriver>⟧ devices.old.drives.items)
+            → ChangesVolume dir asked (file_answer result) (deleting_calls found.now.descriptor)
+            self.old (drive_views ⟦<dyn BlockDriver as BlockDriver>⟧ devices.old.drives.items)
+            self.new (drive_views ⟦<dyn BlockDriver as BlockDriver>⟧ devices.new.drives.items) }
+        ensures terms_kept { devices.new.terms ≡ devices.old.terms }
+    {
+        delete_in_box(
+            &mut self.volumes[dir.drive as usize],
+            &mut devices.drives[dir.drive as usize],
+            found,
+        )
+    }
+}
+
+/// The root directory of the volume that is mounted on a drive, by what is kept for it.
+fn root_of_kept(kept: &Option<Volume>, n: u8) -> Option<FilePlace>
+    ensures { (view : DriveView) (volume : Option DiskVolume)
+        → AgreesOnDrive kept.now view volume → result ≡ option_map (root_of n) volume }
+{
+    match kept {
+        Some(volume) => Some(FilePlace {
+            drive: n,
+            number: volume.root(),
+        }),
+        None => None,
+    }
+}
+
+/// The place on a drive of the file at which a walk arrived.
+fn placed(drive: u8, arrived: Result<u32, DirError>) -> Result<FilePlace, DirError>
+    ensures number { number_arrived result ≡ arrived }
+    ensures drive { IfOk result (λ place. place.drive ≡ drive) }
+{
+    match arrived {
+        Ok(number) => Ok(FilePlace { drive, number }),
+        Err(error) => Err(error),
+    }
+}
+
+/// No volume for each of the drives.
+fn no_volumes(alloc: Global) -> Result<Vec<Option<Volume>>, OutOfMemory>
+    ensures { IfOk result (λ volumes. volumes.items ≡ replicate 4 None) }
+{
+    let mut volumes = Vec::with_capacity(alloc, DRIVES)?;
+    'fill: while volumes.len() < DRIVES {
+        if volumes.push(None).is_err() {
+            return Err(OutOfMemory);
+        }
+    }
+    Ok(volumes)
+}

@@ -1,0 +1,10 @@
+//! The volumes that are mounted on the drives of a machine, and the calls that read and change
+//! their files, each over the one drive that it reaches.
+#![tactic(auto)]
+
+mod changing;
+pub mod disks;
+mod entries;
+mod reading;
+#[cfg(test)]
+mod tests;
