@@ -37,9 +37,10 @@ fn run(rt: HostRuntime) -> io::Result<u8> {
     }
     let mut drives: Vec<Box<dyn BlockDriver>> = Vec::new(alloc);
     let mut terms: Vec<Box<dyn CharDriver>> = Vec::new(alloc);
-    for _ in 0..4 {
-        drives.push(Box::new(alloc, SureDrive::new())?)?;
-    }
+    drives.push(Box::new(alloc, SureDrive::new())?)?;
+    drives.push(Box::new(alloc, SureDrive::new())?)?;
+    drives.push(Box::new(alloc, SureDrive::new())?)?;
+    drives.push(Box::new(alloc, SureDrive::new())?)?;
     terms.push(Box::new(alloc, SureTty::new(alloc))?)?;
     terms.push(Box::new(alloc, SureTty::new(alloc))?)?;
     terms.push(Box::new(alloc, SureTty::new(alloc))?)?;

@@ -1,7 +1,8 @@
 -- From what the steps of a command leave to what the command leaves.
-use Rattle.std.proofs.Common.{◌≡◌, ◌≢◌, ℕ, Option, Some, None, List, Ok, Err, length, refl, sym, ap, subst, ◌∙◌, inl, inr, All, arith}
+use Rattle.std.proofs.Common.{◌≡◌, ◌≢◌, ◌⊎◌, ℕ, Option, Some, None, List, Ok, Err, length, refl, sym, ap, subst, ◌∙◌, inl, inr, All, arith}
 use Rattle.std.specs.Prelude.{IfSome}
 use Rattle.std.proofs.lemmas.Bool.{cases_eq}
+use Rattle.os9_base.specs.Count.{Rose}
 use Rattle.os9_outer.specs.Host.{Files, file_contents}
 use Rattle.os9_outer.specs.Stream.{GainsPrefix}
 use Rattle.os9_outer.specs.TerminalState.{TerminalState}
@@ -11,7 +12,7 @@ use Rattle.rbf_check.specs.declared.faults.CheckFault.{CheckFault}
 use Rattle.rbf_check.specs.declared.tree.Tree.{Tree}
 use Rattle.rbf_check.specs.Tree.{IsTreeOf}
 use Rattle.os9_words.specs.declared.command.Command.{Command}
-use Rattle.os9_words.specs.declared.command.Command.TheVariants.{Run as RunCommand, Check as CheckCommand}
+use Rattle.os9_words.specs.declared.command.Command.TheVariants.{Run as RunCommand, Boot as BootCommand, Check as CheckCommand}
 use Rattle.os9_words.specs.declared.command.RunWords.{RunWords}
 use Rattle.os9_words.specs.Command.{command_of}
 use Rattle.os9_words.specs.Lines.{no_memory_line, words_line}
@@ -24,15 +25,18 @@ use Rattle.machine_model.specs.Run.{status_of}
 use Rattle.os9_boot.specs.Console.{IsObserved}
 use Rattle.os9_boot.specs.End.{end_line, file_name, status_number}
 use Rattle.os9_boot.specs.declared.status.End.{End}
-use Rattle.os9_boot.specs.declared.status.End.TheVariants.{Ended, Living, CannotRead, CannotWrite, NoMemory, BadImage, BadText, BadModule, NoFirst, TooLarge}
+use Rattle.os9_boot.specs.declared.status.End.TheVariants.{Ended, Living, CannotRead, CannotWrite, CannotWriteImage, NoMemory, BadImage, BadText, BadBounds, BadModule, NoFirst, TooLarge}
 use Rattle.os9_boot.specs.declared.status.Input.{Input}
 use Rattle.os9_boot.specs.declared.status.Input.TheVariants.{Script as ScriptInput, Slices as SlicesInput}
 use Rattle.os9_boot.specs.declared.files.RunFiles.{RunFiles}
-use Rattle.os9_boot.specs.Commands.{PerformsWords, IsAnswered, IsSilent, IsStopped, PerformsCommand, tree_line}
+use Rattle.os9_boot.specs.Commands.{IsAnswered, IsSilent, IsStopped, tree_line}
+use Rattle.os9_boot.specs.ImageWrites.{HasRun}
+use Rattle.os9_boot.specs.Images.{LeavesFiles}
 use Rattle.os9_boot.specs.Partly.{PerformsWordsPartly, PerformsPartly}
+use Rattle.os9_boot.specs.Performed.{PerformsCommand, PerformsWords}
 use Rattle.os9_boot.specs.RunFiles.{HasFiles, RefusesTexts}
-use Rattle.os9_boot.specs.TopCall.{BootCall, CommandCall, CommandReport, PrintCall, ReportsLine, TopCall}
-use Rattle.os9_boot.specs.World.{World, FailsToRead, FailsToReadFile, FailsToReadInput, HasNoFault, IfAllObserved, world_of}
+use Rattle.os9_boot.specs.TopCall.{BootCall, CommandCall, CommandReport, FailsInWrite, LeavesFilesOf, PrintCall, ReportsLine, TopCall}
+use Rattle.os9_boot.specs.World.{World, FailsToRead, FailsToReadFile, FailsToReadInput, FailsToWriteBack, HasNoFault, IfAllObserved, world_of}
 use Rattle.os9_boot.proofs.RunLemmas.{none-living, some-living}
 
 -- ---- statuses of runs
@@ -82,18 +86,104 @@ observed-then world first second follows = by_files world.files
 
 -- ---- ends by their numbers
 
+pub not_silent-0 : IsSilent 0 → ⊥
+not_silent-0 (inl e) = omega (arith, e)
+not_silent-0 (inr (inl e)) = omega (arith, e)
+not_silent-0 (inr (inr (inl e))) = omega (arith, e)
+not_silent-0 (inr (inr (inr (inl e)))) = omega (arith, e)
+not_silent-0 (inr (inr (inr (inr e)))) = omega (arith, e)
+
+pub not_silent-3 : IsSilent 3 → ⊥
+not_silent-3 (inl e) = omega (arith, e)
+not_silent-3 (inr (inl e)) = omega (arith, e)
+not_silent-3 (inr (inr (inl e))) = omega (arith, e)
+not_silent-3 (inr (inr (inr (inl e)))) = omega (arith, e)
+not_silent-3 (inr (inr (inr (inr e)))) = omega (arith, e)
+
+pub not_silent-4 : IsSilent 4 → ⊥
+not_silent-4 (inl e) = omega (arith, e)
+not_silent-4 (inr (inl e)) = omega (arith, e)
+not_silent-4 (inr (inr (inl e))) = omega (arith, e)
+not_silent-4 (inr (inr (inr (inl e)))) = omega (arith, e)
+not_silent-4 (inr (inr (inr (inr e)))) = omega (arith, e)
+
+pub not_silent-5 : IsSilent 5 → ⊥
+not_silent-5 (inl e) = omega (arith, e)
+not_silent-5 (inr (inl e)) = omega (arith, e)
+not_silent-5 (inr (inr (inl e))) = omega (arith, e)
+not_silent-5 (inr (inr (inr (inl e)))) = omega (arith, e)
+not_silent-5 (inr (inr (inr (inr e)))) = omega (arith, e)
+
 -- 2 is the status of no other end
 read-end : (end : End) → status_number end ≡ 2 → (input : Input) × (end ≡ CannotRead input)
 read-end Ended e = absurd (omega (arith, e))
 read-end Living e = absurd (omega (arith, e))
 read-end (CannotRead input) e = (input, refl)
 read-end CannotWrite e = absurd (omega (arith, e))
+read-end (CannotWriteImage number) e = absurd (omega (arith, e))
 read-end NoMemory e = absurd (omega (arith, e))
-read-end (BadImage fault) e = absurd (omega (arith, e))
+read-end (BadImage number fault) e = absurd (omega (arith, e))
 read-end (BadText input line) e = absurd (omega (arith, e))
+read-end BadBounds e = absurd (omega (arith, e))
 read-end (BadModule at error) e = absurd (omega (arith, e))
 read-end NoFirst e = absurd (omega (arith, e))
 read-end TooLarge e = absurd (omega (arith, e))
+
+-- 3 is that of two
+write-end : (end : End) → status_number end ≡ 3 → (end ≡ CannotWrite) ⊎ ((number : ℕ) × (end ≡ CannotWriteImage number))
+write-end Ended e = absurd (omega (arith, e))
+write-end Living e = absurd (omega (arith, e))
+write-end (CannotRead input) e = absurd (omega (arith, e))
+write-end CannotWrite e = inl refl
+write-end (CannotWriteImage number) e = inr (number, refl)
+write-end NoMemory e = absurd (omega (arith, e))
+write-end (BadImage number fault) e = absurd (omega (arith, e))
+write-end (BadText input line) e = absurd (omega (arith, e))
+write-end BadBounds e = absurd (omega (arith, e))
+write-end (BadModule at error) e = absurd (omega (arith, e))
+write-end NoFirst e = absurd (omega (arith, e))
+write-end TooLarge e = absurd (omega (arith, e))
+
+-- a run to the end has status 0 or 5
+pub no-run : (end : End) → status_number end ≢ 0 → status_number end ≢ 5 → ¬ HasRun end
+no-run end not0 not5 (inl is) = not0 (ap status_number is)
+no-run end not0 not5 (inr is) = not5 (ap status_number is)
+
+-- ---- files
+
+-- before its images are written, a command has left the files
+pub leaves-same : (command : Command) (before now : Option Files) (end : End) → ¬ HasRun end → ((number : ℕ) → end ≢ CannotWriteImage number) → now ≡ before → LeavesFiles command before now end
+leaves-same (RunCommand run) before now end no_run no_write same = same
+leaves-same (CheckCommand image) before now end no_run no_write same = same
+leaves-same (BootCommand boot) before now Ended no_run no_write same = absurd (no_run (inl refl))
+leaves-same (BootCommand boot) before now Living no_run no_write same = absurd (no_run (inr refl))
+leaves-same (BootCommand boot) before now (CannotRead input) no_run no_write same = same
+leaves-same (BootCommand boot) before now CannotWrite no_run no_write same = same
+leaves-same (BootCommand boot) before now (CannotWriteImage number) no_run no_write same = absurd (no_write number refl)
+leaves-same (BootCommand boot) before now NoMemory no_run no_write same = inl same
+leaves-same (BootCommand boot) before now (BadImage number fault) no_run no_write same = same
+leaves-same (BootCommand boot) before now (BadText input line) no_run no_write same = same
+leaves-same (BootCommand boot) before now BadBounds no_run no_write same = same
+leaves-same (BootCommand boot) before now (BadModule at error) no_run no_write same = same
+leaves-same (BootCommand boot) before now NoFirst no_run no_write same = same
+leaves-same (BootCommand boot) before now TooLarge no_run no_write same = same
+
+-- and so it has where it ended before anything ran
+silent-leaves : (command : Command) (before now : Option Files) (end : End) → IsSilent (status_number end) → LeavesFiles command before now end → now ≡ before
+silent-leaves (RunCommand run) before now end silent same = same
+silent-leaves (CheckCommand image) before now end silent same = same
+silent-leaves (BootCommand boot) before now Ended silent left = absurd (not_silent-0 silent)
+silent-leaves (BootCommand boot) before now Living silent left = absurd (not_silent-5 silent)
+silent-leaves (BootCommand boot) before now (CannotRead input) silent same = same
+silent-leaves (BootCommand boot) before now CannotWrite silent same = same
+silent-leaves (BootCommand boot) before now (CannotWriteImage number) silent left = absurd (not_silent-3 silent)
+silent-leaves (BootCommand boot) before now NoMemory silent left = absurd (not_silent-4 silent)
+silent-leaves (BootCommand boot) before now (BadImage number fault) silent same = same
+silent-leaves (BootCommand boot) before now (BadText input line) silent same = same
+silent-leaves (BootCommand boot) before now BadBounds silent same = same
+silent-leaves (BootCommand boot) before now (BadModule at error) silent same = same
+silent-leaves (BootCommand boot) before now NoFirst silent same = same
+silent-leaves (BootCommand boot) before now TooLarge silent same = same
 
 same-input : (input other : Input) → CannotRead input ≡ CannotRead other → input ≡ other
 same-input input other same = cc
@@ -102,27 +192,29 @@ same-input input other same = cc
 
 partly-nothing : (command : Command) (files : Files) (before after : World) → after ≡ before → PerformsPartly files before after NoMemory command
 partly-nothing (RunCommand run) files before after same = inl (refl, same)
+partly-nothing (BootCommand boot) files before after same = inl (refl, same)
 partly-nothing (CheckCommand image) files before after same = (inl (refl, same), ap (λ w. w.terms) same)
 
 -- nothing was changed, and no file was wanting
-nothing-done : (command : Command) (before after : World) (end : End) → after ≡ before → status_number end ≢ 1 → status_number end ≢ 2 → status_number end ≢ 3 → (IsAnswered (status_number end) → IfAllObserved before (λ files. PerformsCommand files before after end command)) → (IsStopped (status_number end) → IfAllObserved before (λ files. PerformsPartly files before after end command)) → CommandCall command before after end
-nothing-done command before after end same not1 not2 not3 performs partly = record {
+pub nothing-done : (command : Command) (before after : World) (end : End) → after ≡ before → ¬ HasRun end → status_number end ≢ 1 → status_number end ≢ 2 → status_number end ≢ 3 → (IsAnswered (status_number end) → IfAllObserved before (λ files. PerformsCommand files before after end command)) → (IsStopped (status_number end) → IfAllObserved before (λ files. PerformsPartly files before after end command)) → CommandCall command before after end
+nothing-done command before after end same no_run not1 not2 not3 performs partly = record {
   performed = performs;
   partial = partly;
   not_refused = not1;
   read_fault = λ input is. absurd (not2 (ap status_number is));
-  output_fault = λ e. absurd (not3 e);
+  output_fault = λ is. absurd (not3 (ap status_number is));
+  write_fault = λ number is. absurd (not3 (ap status_number is));
   count_kept = λ no2 no3. kept-counts before after same;
   silent = λ silent. ap (λ w. w.out) same;
   terminals_kept = λ silent. ap (λ w. w.terms) same;
   check_keeps = λ image is. ap (λ w. w.terms) same;
-  files_kept = ap (λ w. w.files) same;
+  files = leaves-same command before.files after.files end no_run (λ number is. not3 (ap status_number is)) (ap (λ w. w.files) same);
 }
 
 -- memory was out
 pub out-of-memory : (command : Command) (before after : World) → after ≡ before → CommandCall command before after NoMemory
 out-of-memory command before after same =
-    nothing-done command before after NoMemory same (λ e. omega (arith, e)) (λ e. omega (arith, e)) (λ e. omega (arith, e)) (λ answered. absurd (answered.2 refl)) (λ stopped. always before (λ files. PerformsPartly files before after NoMemory command) (λ files. partly-nothing command files before after same))
+    nothing-done command before after NoMemory same (no-run NoMemory (λ e. omega (arith, e)) (λ e. omega (arith, e))) (λ e. omega (arith, e)) (λ e. omega (arith, e)) (λ e. omega (arith, e)) (λ answered. absurd (answered.2 refl)) (λ stopped. always before (λ files. PerformsPartly files before after NoMemory command) (λ files. partly-nothing command files before after same))
 
 no_stop-2 : IsStopped 2 → ⊥
 no_stop-2 (inl e) = omega (arith, e)
@@ -143,12 +235,13 @@ could-not-read command input name before after named failed files out terms = re
   partial = λ stopped. absurd (no_stop-2 stopped);
   not_refused = λ e. omega (arith, e);
   read_fault = λ other is. subst (λ i. FailsToReadInput command i before after) (same-input input other is) (name, named, failed);
-  output_fault = λ e. absurd (omega (arith, e));
+  output_fault = λ is. absurd (cc is);
+  write_fault = λ number is. absurd (cc is);
   count_kept = λ no2 no3. absurd (no2 refl);
   silent = λ silent. out;
   terminals_kept = λ silent. terms;
   check_keeps = λ image is. terms;
-  files_kept = files;
+  files = leaves-same command before.files after.files (CannotRead input) (no-run (CannotRead input) (λ e. omega (arith, e)) (λ e. omega (arith, e))) (λ number is. cc is) files;
 }
 
 -- ---- runs
@@ -157,7 +250,7 @@ could-not-read command input name before after named failed files out terms = re
 module _ (before after : World) (run : RunWords) (read : RunFiles) (has : IfSome before.files (λ files. HasFiles files run read)) where
   script-refused : (line : ℕ) → keys_of (length before.terms) read.script.items ≡ Err line → after ≡ before → CommandCall (RunCommand run) before after (BadText ScriptInput line)
   script-refused line refused same =
-      nothing-done (RunCommand run) before after (BadText ScriptInput line) same (λ e. omega (arith, e)) (λ e. omega (arith, e)) (λ e. omega (arith, e)) (λ answered. by_files before.files has) (λ stopped. absurd (no_stop-7 stopped))
+      nothing-done (RunCommand run) before after (BadText ScriptInput line) same (no-run (BadText ScriptInput line) (λ e. omega (arith, e)) (λ e. omega (arith, e))) (λ e. omega (arith, e)) (λ e. omega (arith, e)) (λ e. omega (arith, e)) (λ answered. by_files before.files has) (λ stopped. absurd (no_stop-7 stopped))
     where
       by_files : (told : Option Files) → IfSome told (λ files. HasFiles files run read) → IfSome told (λ files. All IsObserved before.terms → PerformsCommand files before after (BadText ScriptInput line) (RunCommand run))
       by_files None has = tt
@@ -165,7 +258,7 @@ module _ (before after : World) (run : RunWords) (read : RunFiles) (has : IfSome
 
   slices-refused : (keys : List ScriptKey) (line : ℕ) → keys_of (length before.terms) read.script.items ≡ Ok keys → slices_of read.slices.items ≡ Err line → after ≡ before → CommandCall (RunCommand run) before after (BadText SlicesInput line)
   slices-refused keys line given refused same =
-      nothing-done (RunCommand run) before after (BadText SlicesInput line) same (λ e. omega (arith, e)) (λ e. omega (arith, e)) (λ e. omega (arith, e)) (λ answered. by_files before.files has) (λ stopped. absurd (no_stop-7 stopped))
+      nothing-done (RunCommand run) before after (BadText SlicesInput line) same (no-run (BadText SlicesInput line) (λ e. omega (arith, e)) (λ e. omega (arith, e))) (λ e. omega (arith, e)) (λ e. omega (arith, e)) (λ e. omega (arith, e)) (λ answered. by_files before.files has) (λ stopped. absurd (no_stop-7 stopped))
     where
       by_files : (told : Option Files) → IfSome told (λ files. HasFiles files run read) → IfSome told (λ files. All IsObserved before.terms → PerformsCommand files before after (BadText SlicesInput line) (RunCommand run))
       by_files None has = tt
@@ -203,23 +296,24 @@ module _ (before after : World) (run : RunWords) (read : RunFiles) (has : IfSome
       partial = performs-partly;
       not_refused = call.not_refused;
       read_fault = λ input is. absurd (call.no_read (ap status_number is));
-      output_fault = call.output_fault;
+      output_fault = λ is. call.output_fault (ap status_number is);
+      write_fault = λ number is. absurd (call.no_write number is);
       count_kept = λ no2 no3. call.count_kept no3;
       silent = call.silent;
       terminals_kept = call.terminals_kept;
       check_keeps = λ image is. cc is;
-      files_kept = call.files_kept;
+      files = call.files_kept;
     }
 
 -- ---- checks
 
 module _ (before after : World) (image bytes : List ℕ) (read : IfSome before.files (λ files. bytes ≡ file_contents files image)) where
   -- the image was read, and has a fault
-  pub command-faulted : (fault : CheckFault) → IsFault bytes fault.rule fault.lsn → after ≡ before → CommandCall (CheckCommand image) before after (BadImage fault)
+  pub command-faulted : (fault : CheckFault) → IsFault bytes fault.rule fault.lsn → after ≡ before → CommandCall (CheckCommand image) before after (BadImage 0 fault)
   command-faulted fault is same =
-      nothing-done (CheckCommand image) before after (BadImage fault) same (λ e. omega (arith, e)) (λ e. omega (arith, e)) (λ e. omega (arith, e)) (λ answered. by_files before.files read) (λ stopped. absurd (no_stop-6 stopped))
+      nothing-done (CheckCommand image) before after (BadImage 0 fault) same (no-run (BadImage 0 fault) (λ e. omega (arith, e)) (λ e. omega (arith, e))) (λ e. omega (arith, e)) (λ e. omega (arith, e)) (λ e. omega (arith, e)) (λ answered. by_files before.files read) (λ stopped. absurd (no_stop-6 stopped))
     where
-      by_files : (told : Option Files) → IfSome told (λ files. bytes ≡ file_contents files image) → IfSome told (λ files. All IsObserved before.terms → PerformsCommand files before after (BadImage fault) (CheckCommand image))
+      by_files : (told : Option Files) → IfSome told (λ files. bytes ≡ file_contents files image) → IfSome told (λ files. All IsObserved before.terms → PerformsCommand files before after (BadImage 0 fault) (CheckCommand image))
       by_files None bytes_are = tt
       by_files (Some files) bytes_are = λ observed.
           (rw (← bytes_are) (inr (fault, is, refl, ap (λ w. w.out) same)), ap (λ w. w.terms) same)
@@ -253,15 +347,20 @@ module _ (before after : World) (image bytes : List ℕ) (read : IfSome before.f
       partial = checks-partly;
       not_refused = λ e. call.not_silent (inl e);
       read_fault = λ input is. absurd (call.not_silent (inr (inl (ap status_number is))));
-      output_fault = call.output_fault;
+      output_fault = λ is. call.output_fault (ap status_number is);
+      write_fault = λ number is. absurd (call.no_write number is);
       count_kept = λ no2 no3. call.count_kept no3;
       silent = λ silent. absurd (call.not_silent silent);
       terminals_kept = λ silent. call.terms_kept;
       check_keeps = λ image is. call.terms_kept;
-      files_kept = call.files_kept;
+      files = call.files_kept;
     }
 
 -- ---- the top call
+
+rose-in-write : (words : List (List ℕ)) (before after : World) → FailsInWrite words before after → Rose before.faults after.faults
+rose-in-write words before after (inl failed) = failed.0
+rose-in-write words before after (inr (command, spelled, failed)) = failed.1.2.0
 
 module _ (words : List (List ℕ)) (before after : World) (err_before err_after : Option (List ℕ)) where
   -- the words are a command
@@ -280,6 +379,16 @@ module _ (words : List (List ℕ)) (before after : World) (err_before err_after 
     fails-to-read : status ≡ 2 → FailsToRead command before after
     fails-to-read e = let it = read-end report.end (number_is 2 e) in (it.0, report.call.read_fault it.0 it.1)
 
+    writes-by : (report.end ≡ CannotWrite) ⊎ ((number : ℕ) × (report.end ≡ CannotWriteImage number)) → FailsInWrite words before after
+    writes-by (inl is) = inl (report.call.output_fault is)
+    writes-by (inr (number, is)) = inr (command, spelled, (number, report.call.write_fault number is))
+
+    fails-in-write : status ≡ 3 → FailsInWrite words before after
+    fails-in-write e = writes-by (write-end report.end (number_is 3 e))
+
+    leaves : LeavesFilesOf words before after status
+    leaves = rw spelled (report.end, report.status_is, report.call.files)
+
     other : command_of words ≡ None → ⊥
     other none = cc
 
@@ -289,17 +398,18 @@ module _ (words : List (List ℕ)) (before after : World) (err_before err_after 
     pub top-command : TopCall words before after err_before err_after status
     top-command = record {
       run_headline = answers;
-      complete = λ none not4. answers ((λ e. none (fails-to-read e).1.2.0), (λ e. none (report.call.output_fault (number_is 3 e)).0), not4);
+      complete = λ none not4. answers ((λ e. none (fails-to-read e).1.2.0), (λ e. none (rose-in-write words before after (fails-in-write e))), not4);
       partial = answers-partly;
       refused_words = λ e. absurd (report.call.not_refused (number_is 1 e));
       words_refused = λ none. absurd (other none);
       read_fault = λ e. (command, spelled, fails-to-read e);
-      output_fault = λ e. report.call.output_fault (number_is 3 e);
+      output_fault = fails-in-write;
       count_kept = λ no2 no3. report.call.count_kept (λ e. no2 (report.status_is ∙ e)) (λ e. no3 (report.status_is ∙ e));
       silent = λ silent. report.call.silent (subst IsSilent report.status_is silent);
       terminals_kept = λ silent. report.call.terminals_kept (subst IsSilent report.status_is silent);
       check_keeps = λ image is. report.call.check_keeps image (same_command image is);
-      files_kept = report.call.files_kept;
+      files = leaves;
+      files_kept = λ silent. silent-leaves command before.files after.files report.end (subst IsSilent report.status_is silent) report.call.files;
       line = rw spelled report;
     }
 
@@ -317,7 +427,8 @@ module _ (words : List (List ℕ)) (before after : World) (err_before err_after 
     silent = λ silent. ap (λ w. w.out) same;
     terminals_kept = λ silent. ap (λ w. w.terms) same;
     check_keeps = λ image is. ap (λ w. w.terms) same;
-    files_kept = ap (λ w. w.files) same;
+    files = rw refused (ap (λ w. w.files) same);
+    files_kept = λ silent. ap (λ w. w.files) same;
     line = rw refused (inl (refl, prefix));
   }
     where
@@ -342,13 +453,19 @@ module _ (words : List (List ℕ)) (before after : World) (err_before err_after 
     silent = λ silent. ap (λ w. w.out) same;
     terminals_kept = λ silent. ap (λ w. w.terms) same;
     check_keeps = λ image is. ap (λ w. w.terms) same;
-    files_kept = ap (λ w. w.files) same;
+    files = files_by (command_of words) refl;
+    files_kept = λ silent. ap (λ w. w.files) same;
     line = line_by (command_of words) refl;
   }
     where
       by_command : (found : Option Command) → command_of words ≡ found → IfAllObserved before (λ files. PerformsWordsPartly files words before after 4)
       by_command None is = always before (λ files. PerformsWordsPartly files words before after 4) (λ files. rw is (refl, same))
       by_command (Some command) is = always before (λ files. PerformsWordsPartly files words before after 4) (λ files. rw is (NoMemory, refl, partly-nothing command files before after same))
+
+      files_by : (found : Option Command) → command_of words ≡ found → LeavesFilesOf words before after 4
+      files_by None is = rw is (ap (λ w. w.files) same)
+      files_by (Some command) is =
+          rw is (NoMemory, refl, leaves-same command before.files after.files NoMemory (no-run NoMemory (λ e. omega (arith, e)) (λ e. omega (arith, e))) (λ number e. cc e) (ap (λ w. w.files) same))
 
       line_by : (found : Option Command) → command_of words ≡ found → ReportsLine words before after err_before err_after 4
       line_by None is = rw is (inr (refl, prefix))
@@ -374,17 +491,3 @@ command-reported command before between after err_before err_between err_after e
   call = rw same call;
   line = subst (λ err. GainsPrefix err (end_line command end) err_after) kept prefix;
 }
-
-pub not_silent-3 : IsSilent 3 → ⊥
-not_silent-3 (inl e) = omega (arith, e)
-not_silent-3 (inr (inl e)) = omega (arith, e)
-not_silent-3 (inr (inr (inl e))) = omega (arith, e)
-not_silent-3 (inr (inr (inr (inl e)))) = omega (arith, e)
-not_silent-3 (inr (inr (inr (inr e)))) = omega (arith, e)
-
-pub not_silent-4 : IsSilent 4 → ⊥
-not_silent-4 (inl e) = omega (arith, e)
-not_silent-4 (inr (inl e)) = omega (arith, e)
-not_silent-4 (inr (inr (inl e))) = omega (arith, e)
-not_silent-4 (inr (inr (inr (inl e)))) = omega (arith, e)
-not_silent-4 (inr (inr (inr (inr e)))) = omega (arith, e)

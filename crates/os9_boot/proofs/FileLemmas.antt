@@ -1,23 +1,26 @@
 -- What the reads of files say of a longer call.
-use Rattle.std.proofs.Common.{◌≡◌, ℕ, Option, Some, None, Result, Ok, Err, List, slice_get}
+use Rattle.std.proofs.Common.{◌≡◌, ℕ, zero, suc, Option, Some, None, Result, Ok, Err, List, [], ◌∷◌, ◌++◌, take, slice_get, refl, ap, ◌∙◌}
 use Rattle.std.specs.Prelude.{IfErr, IfSome}
 use Rattle.os9_outer.specs.Host.{Files, file_contents}
 use Rattle.os9_outer.specs.TerminalState.{TerminalState}
 use Rattle.os9_words.specs.declared.command.Command.{Command}
 use Rattle.os9_words.specs.declared.command.RunWords.{RunWords}
+use Rattle.os9_boot.specs.declared.files.BootFiles.{BootFiles}
 use Rattle.os9_boot.specs.declared.files.RunFiles.{RunFiles}
 use Rattle.os9_boot.specs.declared.status.End.{End}
 use Rattle.os9_boot.specs.declared.status.Input.{Input}
+use Rattle.os9_boot.specs.BootFiles.{HasBootFiles}
 use Rattle.os9_boot.specs.Commands.{script_of}
 use Rattle.os9_boot.specs.End.{file_name}
+use Rattle.os9_boot.specs.Images.{images_of}
 use Rattle.os9_boot.specs.RunFiles.{HasFiles}
 use Rattle.os9_boot.specs.TopCall.{CommandCall}
 use Rattle.os9_boot.specs.World.{World}
 
--- a command that names the file as this input ended so
-pub ended-as : {Value : Type 0} (answer : Result Value End) (command : Command) (input : Input) (name : List ℕ) (before after : ℕ → List TerminalState → World) → file_name command input ≡ Some name → IfErr answer (λ end. (drives : ℕ) (terms : List TerminalState) (command : Command) → file_name command input ≡ Some name → CommandCall command (before drives terms) (after drives terms) end) → IfErr answer (λ end. (drives : ℕ) (terms : List TerminalState) → CommandCall command (before drives terms) (after drives terms) end)
-ended-as (Ok value) command input name before after named ended = tt
-ended-as (Err end) command input name before after named ended = λ drives terms. ended drives terms command named
+-- a command that names the file as this input, by a name that is known, ended so
+pub ended-as : {Value : Type 0} (answer : Result Value End) (input : Input) (name : List ℕ) (given : Option (List ℕ)) (before after : ℕ → List TerminalState → World) → given ≡ Some name → IfErr answer (λ end. (drives : ℕ) (terms : List TerminalState) (command : Command) → file_name command input ≡ Some name → CommandCall command (before drives terms) (after drives terms) end) → IfErr answer (λ end. (drives : ℕ) (terms : List TerminalState) (command : Command) → file_name command input ≡ given → CommandCall command (before drives terms) (after drives terms) end)
+ended-as (Ok value) input name given before after is ended = tt
+ended-as (Err end) input name given before after is ended = λ drives terms command named. ended drives terms command (named ∙ is)
 
 -- the three files were read
 pub has-files : (told : Option Files) (run : RunWords) (read : RunFiles) (name : List ℕ) → slice_get run.files 0 ≡ Some name → IfSome told (λ files. read.script.items ≡ script_of files run) → IfSome told (λ files. read.slices.items ≡ file_contents files run.slices) → IfSome told (λ files. read.modules.items ≡ file_contents files name) → IfSome told (λ files. HasFiles files run read)
@@ -27,3 +30,19 @@ has-files (Some files) run read name named script slices modules = record {
   slices = slices;
   modules = (name, named, modules);
 }
+
+-- the files of a boot were read
+pub has-boot-files : (told : Option Files) (boot : RunWords) (read : BootFiles) → IfSome told (λ files. read.script.items ≡ script_of files boot) → IfSome told (λ files. read.slices.items ≡ file_contents files boot.slices) → IfSome told (λ files. read.images ≡ images_of files boot.files) → IfSome told (λ files. HasBootFiles files boot read)
+has-boot-files None boot read script slices images = tt
+has-boot-files (Some files) boot read script slices images = record { script = script; slices = slices; images = images }
+
+-- one image more was read
+pub images-more : (told : Option Files) (names images : List (List ℕ)) (place : ℕ) (name image : List ℕ) → slice_get names place ≡ Some name → IfSome told (λ files. images ≡ images_of files (take place names)) → IfSome told (λ files. image ≡ file_contents files name) → IfSome told (λ files. images ++ image ∷ [] ≡ images_of files (take (suc place) names))
+images-more None names images place name image named so_far here = tt
+images-more (Some files) names images place name image named so_far here =
+    rw (so_far, here) (by names place named)
+  where
+    by : (names : List (List ℕ)) (place : ℕ) → slice_get names place ≡ Some name → images_of files (take place names) ++ file_contents files name ∷ [] ≡ images_of files (take (suc place) names)
+    by [] place named = absurd (cc named)
+    by (first ∷ names) zero named = let same : first ≡ name = cc named in rw same refl
+    by (first ∷ names) (suc place) named = ap (λ rest. file_contents files first ∷ rest) (by names place named)

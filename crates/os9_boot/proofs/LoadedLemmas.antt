@@ -11,7 +11,7 @@ use Rattle.os9_kernel.specs.Tie.{Represents, Stands}
 use Rattle.os9_boot.specs.declared.run.RunFault.TheVariants as RunFault
 use Rattle.os9_boot.specs.declared.run.RunFault.TheVariants.{Output}
 use Rattle.os9_boot.specs.declared.status.End.{End}
-use Rattle.os9_boot.specs.declared.status.End.TheVariants.{Ended, Living, CannotWrite, NoMemory}
+use Rattle.os9_boot.specs.declared.status.End.TheVariants.{Ended, Living, CannotWrite, CannotWriteImage, NoMemory}
 use Rattle.os9_boot.specs.Commands.{StartsLoaded, IsAnswered, IsSilent, IsStopped}
 use Rattle.os9_boot.specs.Console.{IsObserved}
 use Rattle.os9_boot.specs.End.{status_number}
@@ -72,8 +72,8 @@ module _ (file : List ℕ) (blocks : ℕ) (keys : List ScriptKey) (slices : List
   observed told = subst (λ terms. All IsObserved terms) (sym is) (observed-from 0 keys before.terms told)
 
   -- the slices were run
-  pub booted-whole : {Value : Type 0} (value : Value) (new : Kernel) (after : World) (living : ℕ) (end : End) → RunsSlices slices kernel new (Ok value) (with_devices before drives terms) after → ((t : State) → Represents new drives after.terms t → living ≡ living_count t.inner) → (living ≡ 0 → end ≡ Ended) → (living ≢ 0 → end ≡ Living) → IsAnswered (status_number end) → ¬ IsStopped (status_number end) → ¬ IsSilent (status_number end) → BootCall file blocks keys slices before after end
-  booted-whole value new after living end ran counted idle lives answered not_stopped not_silent = record {
+  pub booted-whole : {Value : Type 0} (value : Value) (new : Kernel) (after : World) (living : ℕ) (end : End) → RunsSlices slices kernel new (Ok value) (with_devices before drives terms) after → ((t : State) → Represents new drives after.terms t → living ≡ living_count t.inner) → (living ≡ 0 → end ≡ Ended) → (living ≢ 0 → end ≡ Living) → ((number : ℕ) → end ≢ CannotWriteImage number) → IsAnswered (status_number end) → ¬ IsStopped (status_number end) → ¬ IsSilent (status_number end) → BootCall file blocks keys slices before after end
+  booted-whole value new after living end ran counted idle lives no_write answered not_stopped not_silent = record {
     booted = λ answered told.
         let went = ran.run begins.0 (observed told) begins.2 in
         let t : State = went.2 in
@@ -81,6 +81,7 @@ module _ (file : List ℕ) (blocks : ℕ) (keys : List ScriptKey) (slices : List
     partial = λ stopped. absurd (not_stopped stopped);
     not_refused = λ e. not_silent (inl e);
     no_read = λ e. not_silent (inr (inl e));
+    no_write = no_write;
     output_fault = λ e. absurd (answered.1 e);
     count_kept = λ no3. ran.no_fault;
     silent = λ silent. absurd (not_silent silent);
@@ -99,6 +100,7 @@ module _ (file : List ℕ) (blocks : ℕ) (keys : List ScriptKey) (slices : List
     partial = λ stopped told. partly after CannotWrite ran.partial told;
     not_refused = λ e. omega (arith, e);
     no_read = λ e. omega (arith, e);
+    no_write = λ number e. cc e;
     output_fault = λ e. ran.output_fault;
     count_kept = λ no3. absurd (no3 refl);
     silent = λ silent. absurd (not_silent-3 silent);
@@ -113,6 +115,7 @@ module _ (file : List ℕ) (blocks : ℕ) (keys : List ScriptKey) (slices : List
     partial = λ stopped told. partly after NoMemory ran.partial told;
     not_refused = λ e. omega (arith, e);
     no_read = λ e. omega (arith, e);
+    no_write = λ number e. cc e;
     output_fault = λ e. absurd (omega (arith, e));
     count_kept = λ no3. ran.no_fault;
     silent = λ silent. absurd (not_silent-4 silent);
@@ -127,6 +130,7 @@ booted-nothing file blocks keys slices world = record {
   partial = λ stopped observed. inl (refl, refl);
   not_refused = λ e. omega (arith, e);
   no_read = λ e. omega (arith, e);
+  no_write = λ number e. cc e;
   output_fault = λ e. absurd (omega (arith, e));
   count_kept = λ no3. (refl, refl, refl);
   silent = λ silent. refl;

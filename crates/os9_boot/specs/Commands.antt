@@ -1,4 +1,4 @@
--- What a command does if nothing fails.
+-- What a run and a check do if nothing fails.
 use Rattle.std.specs.Prelude.{◌≡◌, ◌≢◌, ℕ, ◌⊎◌, not, Option, List, [], length, count_by, slice_get, MatchOption, MatchResult}
 use Rattle.os9_outer.specs.Host.{Files, file_contents}
 use Rattle.os9_outer.specs.Stream.{stream_with}
@@ -7,10 +7,7 @@ use Rattle.script_text.specs.declared.script.ScriptKey.{ScriptKey}
 use Rattle.script_text.specs.Script.{keys_of}
 use Rattle.script_text.specs.Slices.{slices_of}
 use Rattle.key_loading.specs.Loaded.{loaded}
-use Rattle.os9_words.specs.declared.command.Command.{Command}
-use Rattle.os9_words.specs.declared.command.Command.TheVariants.{Run as RunCommand, Check as CheckCommand}
 use Rattle.os9_words.specs.declared.command.RunWords.{RunWords}
-use Rattle.os9_words.specs.Command.{command_of}
 use Rattle.os9_words.specs.Lines.{counts_line}
 use Rattle.rbf_model.specs.Geometry.{Geometry, image_geometry}
 use Rattle.rbf_model.specs.Volume.{DiskVolume, Vol, free_clusters, lost_clusters}
@@ -82,19 +79,7 @@ tree_line tree =
 abbrev pub Checks : List ℕ → Option (List ℕ) → Option (List ℕ) → End → Type 0
 Checks image before now end =
     ((v : DiskVolume) × Vol image v × (end ≡ Ended) × (now ≡ stream_with before (counts_of (image_geometry image) v)))
-    ⊎ ((fault : CheckFault) × IsFault image fault.rule fault.lsn × (end ≡ BadImage fault) × (now ≡ before))
-
--- what a command does with the files, and how it ends; a check leaves the terminals as they are
-abbrev pub PerformsCommand : Files → World → World → End → Command → Type 0
-PerformsCommand files before after end (RunCommand run) = Performs files run before after end
-PerformsCommand files before after end (CheckCommand image) =
-    Checks (file_contents files image) before.out after.out end × (after.terms ≡ before.terms)
-
--- the words spell a command, which ends with this status, or are refused with 1
-abbrev pub PerformsWords : Files → List (List ℕ) → World → World → ℕ → Type 0
-PerformsWords files words before after status =
-    MatchOption (command_of words) ((status ≡ 1) × (after ≡ before))
-    (λ command. (end : End) × (status ≡ status_number end) × PerformsCommand files before after end command)
+    ⊎ ((fault : CheckFault) × IsFault image fault.rule fault.lsn × (end ≡ BadImage 0 fault) × (now ≡ before))
 
 -- nothing failed, and memory sufficed
 abbrev pub IsAnswered : ℕ → Type 0

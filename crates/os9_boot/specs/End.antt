@@ -1,15 +1,16 @@
 -- How a command ended.
 use Rattle.std.specs.Prelude.{ℕ, Option, Some, None, List, [], slice_get, unwrap_or}
 use Rattle.os9_words.specs.declared.command.Command.{Command}
-use Rattle.os9_words.specs.declared.command.Command.TheVariants.{Run, Check}
+use Rattle.os9_words.specs.declared.command.Command.TheVariants.{Run, Boot, Check}
+use Rattle.os9_words.specs.declared.command.RunWords.{RunWords}
 use Rattle.os9_words.specs.declared.message.Message.{Message}
-use Rattle.os9_words.specs.Lines.{message_line, cannot_read_line, cannot_write_output_line, no_memory_line, image_fault_line, text_fault_line, boot_module_line, boot_too_large_line, no_first_line}
+use Rattle.os9_words.specs.Lines.{message_line, cannot_read_line, cannot_write_output_line, cannot_write_file_line, no_memory_line, image_fault_line, text_fault_line, boot_bounds_line, boot_module_line, boot_too_large_line, no_first_line}
 use Rattle.machine_model.specs.declared.ends.BootFault.{BootFault}
 use Rattle.machine_model.specs.declared.ends.BootFault.TheVariants.{OutOfMemory, BadModule as BadModuleFault, NoFirst as NoFirstFault, TooLarge as TooLargeFault}
 use Rattle.os9_boot.specs.declared.status.Input.{Input}
 use Rattle.os9_boot.specs.declared.status.Input.TheVariants.{Script, Slices, Modules, Image}
 use Rattle.os9_boot.specs.declared.status.End.{End}
-use Rattle.os9_boot.specs.declared.status.End.TheVariants.{Ended, Living, CannotRead, CannotWrite, NoMemory, BadImage, BadText, BadModule, NoFirst, TooLarge}
+use Rattle.os9_boot.specs.declared.status.End.TheVariants.{Ended, Living, CannotRead, CannotWrite, CannotWriteImage, NoMemory, BadImage, BadText, BadBounds, BadModule, NoFirst, TooLarge}
 
 -- the status that the end gives
 abbrev pub status_number : End → ℕ
@@ -17,9 +18,11 @@ status_number Ended = 0
 status_number Living = 5
 status_number (CannotRead _) = 2
 status_number CannotWrite = 3
+status_number (CannotWriteImage _) = 3
 status_number NoMemory = 4
-status_number (BadImage _) = 6
+status_number (BadImage _ _) = 6
 status_number (BadText _ _) = 7
+status_number BadBounds = 8
 status_number (BadModule _ _) = 8
 status_number NoFirst = 8
 status_number TooLarge = 8
@@ -31,13 +34,18 @@ boot_end (BadModuleFault at error) = BadModule at error
 boot_end NoFirstFault = NoFirst
 boot_end TooLargeFault = TooLarge
 
--- the name of a file that the words give, if they give one
+-- the name of a file that the words of a run or a boot give, if they give one
+abbrev pub run_file_name : RunWords → Input → Option (List ℕ)
+run_file_name run Script = run.script
+run_file_name run Slices = Some run.slices
+run_file_name run Modules = slice_get run.files 0
+run_file_name run (Image number) = slice_get run.files number
+
+-- the same of a command
 abbrev pub file_name : Command → Input → Option (List ℕ)
 file_name (Check image) _ = Some image
-file_name (Run run) Script = run.script
-file_name (Run run) Slices = Some run.slices
-file_name (Run run) Modules = slice_get run.files 0
-file_name (Run run) Image = slice_get run.files 0
+file_name (Run run) input = run_file_name run input
+file_name (Boot run) input = run_file_name run input
 
 -- this name as it is shown: without one there is nothing to show
 abbrev pub shown_name : Command → Input → List ℕ
@@ -47,9 +55,11 @@ shown_name command input = unwrap_or (file_name command input) []
 abbrev pub end_line : Command → End → List ℕ
 end_line command (CannotRead input) = cannot_read_line (shown_name command input)
 end_line command CannotWrite = cannot_write_output_line
+end_line command (CannotWriteImage number) = cannot_write_file_line (shown_name command (Image number))
 end_line command NoMemory = no_memory_line
-end_line command (BadImage fault) = image_fault_line (shown_name command Image) fault.rule fault.lsn
+end_line command (BadImage number fault) = image_fault_line (shown_name command (Image number)) fault.rule fault.lsn
 end_line command (BadText input line) = text_fault_line (shown_name command input) line
+end_line command BadBounds = boot_bounds_line
 end_line command (BadModule at error) = boot_module_line at error
 end_line command NoFirst = no_first_line
 end_line command TooLarge = boot_too_large_line

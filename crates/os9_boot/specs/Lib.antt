@@ -4,7 +4,15 @@ pub mod End
 pub mod World
 pub mod PassedBytes
 pub mod Slices
+pub mod Drives
+pub mod DriveChanges
+pub mod Images
+pub mod ImageWrites
 pub mod Commands
+pub mod Boot
+pub mod Performed
 pub mod Partly
 pub mod TopCall
+pub mod Program
 pub mod RunFiles
+pub mod BootFiles

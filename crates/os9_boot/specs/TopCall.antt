@@ -8,13 +8,15 @@ use Rattle.os9_words.specs.declared.command.Command.TheVariants.{Check as CheckC
 use Rattle.os9_words.specs.Command.{command_of}
 use Rattle.os9_words.specs.Lines.{words_line, no_memory_line}
 use Rattle.os9_boot.specs.declared.status.End.{End}
-use Rattle.os9_boot.specs.declared.status.End.TheVariants.{Ended, CannotRead}
+use Rattle.os9_boot.specs.declared.status.End.TheVariants.{Ended, CannotRead, CannotWrite, CannotWriteImage}
 use Rattle.os9_boot.specs.declared.status.Input.{Input}
-use Rattle.os9_boot.specs.Commands.{PerformsWords, Boots, IsAnswered, IsSilent, IsStopped, PerformsCommand}
+use Rattle.os9_boot.specs.Commands.{Boots, IsAnswered, IsSilent, IsStopped}
 use Rattle.os9_boot.specs.Console.{IsObserved}
 use Rattle.os9_boot.specs.End.{end_line, status_number}
+use Rattle.os9_boot.specs.Images.{LeavesFiles}
 use Rattle.os9_boot.specs.Partly.{PerformsWordsPartly, BootsPartly, PerformsPartly}
-use Rattle.os9_boot.specs.World.{World, FailsToRead, FailsToReadInput, FailsToWrite, HasNoFault, IfAllObserved}
+use Rattle.os9_boot.specs.Performed.{PerformsCommand, PerformsWords}
+use Rattle.os9_boot.specs.World.{World, FailsToRead, FailsToReadInput, FailsToWrite, FailsToWriteBack, FailsToWriteImage, HasNoFault, IfAllObserved}
 
 pub record CommandCall (command : Command) (before after : World) (end : End) : Type 0 where
   -- if nothing failed, what the command does is done
@@ -27,8 +29,9 @@ pub record CommandCall (command : Command) (before after : World) (end : End) : 
   pub not_refused : status_number end ≢ 1
   -- at 2 the host failed, and last at the read of the file that the end names
   pub read_fault : (input : Input) → end ≡ CannotRead input → FailsToReadInput command input before after
-  -- at 3 it failed, and last at a write to the output
-  pub output_fault : status_number end ≡ 3 → FailsToWrite before after
+  -- at 3 it failed, and last at a write to the output, or at that of the image that the end names
+  pub output_fault : end ≡ CannotWrite → FailsToWrite before after
+  pub write_fault : (number : ℕ) → end ≡ CannotWriteImage number → FailsToWriteImage command number before after
   -- at every other status it did not fail
   pub count_kept : status_number end ≢ 2 → status_number end ≢ 3 → HasNoFault before after
   -- at 2, 6, 7 and 8 the output has gained nothing, and the terminals are as they were
@@ -36,8 +39,20 @@ pub record CommandCall (command : Command) (before after : World) (end : End) : 
   pub terminals_kept : IsSilent (status_number end) → after.terms ≡ before.terms
   -- a check leaves them so at every status
   pub check_keeps : (image : List ℕ) → command ≡ CheckCommand image → after.terms ≡ before.terms
-  -- no file is changed
-  pub files_kept : after.files ≡ before.files
+  -- the files are as they were, but for the images of a boot that came to their write
+  pub files : LeavesFiles command before.files after.files end
+
+-- what a call leaves of the files
+abbrev pub LeavesFilesOf : List (List ℕ) → World → World → ℕ → Type 0
+LeavesFilesOf words before after status =
+    MatchOption (command_of words) (after.files ≡ before.files)
+    (λ command. (end : End) × (status ≡ status_number end) × LeavesFiles command before.files after.files end)
+
+-- the host failed, and last at a write to the output, or of an image that the words name
+abbrev pub FailsInWrite : List (List ℕ) → World → World → Type 0
+FailsInWrite words before after =
+    FailsToWrite before after
+    ⊎ ((command : Command) × (command_of words ≡ Some command) × FailsToWriteBack command before after)
 
 -- A command was done and ended so, with this status; of the line that says why the error stream gained the beginning.
 pub record CommandReport (command : Command) (before after : World) (err_before err_after : Option (List ℕ))
@@ -73,8 +88,8 @@ pub record TopCall (words : List (List ℕ)) (before after : World) (err_before 
   -- at 2 the host failed, and last at the read of a file that the words name
   pub read_fault : status ≡ 2
       → (command : Command) × (command_of words ≡ Some command) × FailsToRead command before after
-  -- at 3 it failed, and last at a write to the output
-  pub output_fault : status ≡ 3 → FailsToWrite before after
+  -- at 3 it failed, and last at a write to the output, or of an image that the words name
+  pub output_fault : status ≡ 3 → FailsInWrite words before after
   -- at every other status it did not fail
   pub count_kept : status ≢ 2 → status ≢ 3 → HasNoFault before after
   -- at 1, 2, 6, 7 and 8 the output has gained nothing, and the terminals are as they were
@@ -82,8 +97,9 @@ pub record TopCall (words : List (List ℕ)) (before after : World) (err_before 
   pub terminals_kept : IsSilent status → after.terms ≡ before.terms
   -- a check leaves the terminals as they were at every status
   pub check_keeps : (image : List ℕ) → command_of words ≡ Some (CheckCommand image) → after.terms ≡ before.terms
-  -- no file is changed
-  pub files_kept : after.files ≡ before.files
+  -- the files are as they were, but for the images of a boot that came to their write
+  pub files : LeavesFilesOf words before after status
+  pub files_kept : IsSilent status → after.files ≡ before.files
   -- the error stream has gained the beginning of the line that says why the call ended
   pub line : ReportsLine words before after err_before err_after status
 
@@ -98,6 +114,8 @@ pub record BootCall (file : List ℕ) (blocks : ℕ) (keys : List ScriptKey) (sl
   -- nothing is read, and the words were a command
   pub not_refused : status_number end ≢ 1
   pub no_read : status_number end ≢ 2
+  -- no image is written
+  pub no_write : (number : ℕ) → end ≢ CannotWriteImage number
   -- at 3 the host failed, and last at a write to the output
   pub output_fault : status_number end ≡ 3 → FailsToWrite before after
   -- at every other status it did not fail
@@ -113,8 +131,9 @@ pub record PrintCall (line : List ℕ) (before after : World) (end : End) : Type
   pub printed : IsAnswered (status_number end) → (end ≡ Ended) × (after.out ≡ stream_with before.out line)
   -- at 3 and 4 the beginning of it
   pub partial : IsStopped (status_number end) → GainsPrefix before.out line after.out
-  -- nothing is refused, and nothing is read
+  -- nothing is refused, nothing is read, and no image is written
   pub not_silent : ¬ IsSilent (status_number end)
+  pub no_write : (number : ℕ) → end ≢ CannotWriteImage number
   -- at 3 the host failed, and last at a write to the output
   pub output_fault : status_number end ≡ 3 → FailsToWrite before after
   -- at every other status it did not fail

@@ -6,6 +6,7 @@ use Rattle.os9_outer.specs.TerminalState.{TerminalState}
 use Rattle.os9_outer.specs.declared.host.Host.{Ghosts}
 use Rattle.os9_words.specs.declared.command.Command.{Command}
 use Rattle.os9_boot.specs.declared.status.Input.{Input}
+use Rattle.os9_boot.specs.declared.status.Input.TheVariants.{Image}
 use Rattle.os9_boot.specs.Console.{IsObserved}
 use Rattle.os9_boot.specs.End.{file_name}
 
@@ -54,6 +55,20 @@ FailsToReadInput command input before after =
 -- the host failed, and last at the read of a file that the command names
 abbrev pub FailsToRead : Command → World → World → Type 0
 FailsToRead command before after = (input : Input) × FailsToReadInput command input before after
+
+-- the host failed, and last at the write of the file of this name
+abbrev pub FailsToWriteFile : List ℕ → World → World → Type 0
+FailsToWriteFile name before after =
+    Rose before.faults after.faults × (after.failed_name ≡ Some name) × (after.failed_in_read ≡ false)
+
+-- the host failed, and last at the write of the image of this number, which the command names
+abbrev pub FailsToWriteImage : Command → ℕ → World → World → Type 0
+FailsToWriteImage command number before after =
+    (name : List ℕ) × (file_name command (Image number) ≡ Some name) × FailsToWriteFile name before after
+
+-- the host failed, and last at the write of an image that the command names
+abbrev pub FailsToWriteBack : Command → World → World → Type 0
+FailsToWriteBack command before after = (number : ℕ) × FailsToWriteImage command number before after
 
 -- the host failed, and last at a write to the output stream
 abbrev pub FailsToWrite : World → World → Type 0

@@ -20,13 +20,13 @@ pub fn check_image<H: Host>(alloc: Global, image: &Word, host: &mut H) -> End
         (world_of H.Host host.old drives terms) (world_of H.Host host.new drives terms) result }
     ensures err_kept { H.bytes_err host.new ≡ H.bytes_err host.old }
 {
-    let bytes = match read_input(host, image, Input::Image) {
+    let bytes = match read_input(host, image, Input::Image(0)) {
         Ok(bytes) => bytes,
         Err(end) => return end,
     };
     match check(alloc, bytes.as_slice()) {
         Ok(tree) => print_counts(&tree, host),
-        Err(CheckError::Fault(fault)) => End::BadImage(fault),
+        Err(CheckError::Fault(fault)) => End::BadImage(0, fault),
         Err(CheckError::OutOfMemory) => End::NoMemory,
     }
 }

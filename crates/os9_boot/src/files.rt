@@ -1,10 +1,16 @@
-ghost use Rattle.std.specs.Prelude.{◌≡◌, ℕ, IfErr, IfOk, IfSome, List, OnOk, length};
+ghost use Rattle.std.specs.Prelude.{◌≡◌, ◌≤◌, ℕ, IfErr, IfOk, IfSome, List, OnOk, length};
 ghost use Rattle.os9_outer.specs.TerminalState.{TerminalState};
+ghost use Rattle.os9_words.specs.Command.{most_images};
+ghost use Rattle.os9_words.specs.declared.command.Command.{Command};
+ghost use Rattle.os9_boot.specs.BootFiles.{HasBootFiles};
 ghost use Rattle.os9_boot.specs.Commands.{script_of};
+ghost use Rattle.os9_boot.specs.End.{file_name};
+ghost use Rattle.os9_boot.specs.Images.{images_of};
 ghost use Rattle.os9_boot.specs.RunFiles.{HasFiles};
 ghost use Rattle.os9_boot.specs.TopCall.{CommandCall};
 ghost use Rattle.os9_boot.specs.World.{world_of};
 
+use crate::images::Images;
 use crate::input::read_input;
 use crate::status::{End, Input};
 use os9_outer::host::Host;
@@ -20,6 +26,17 @@ pub struct RunFiles {
     pub slices: Vec<u8>,
     /// The modules.
     pub modules: Vec<u8>,
+}
+
+/// The bytes of the files of a boot.
+#[derive(Drop)]
+pub struct BootFiles {
+    /// The script of keys.
+    pub script: Vec<u8>,
+    /// The list of slices.
+    pub slices: Vec<u8>,
+    /// The images, the first of which is to be in D0.
+    pub images: Images,
 }
 
 /// Reads the files that the words name: the script, the slices and the modules, in this order.
@@ -48,6 +65,62 @@ pub fn read_files<H: Host>(alloc: Global, run: &RunWords, host: &mut H) -> Resul
     })
 }
 
+/// Reads the files that the words of a boot name: the script, the slices and the images, in this
+/// order.
+///
+/// # Errors
+///
+/// The end of the command, which names the file that could not be read.
+pub fn read_boot_files<H: Host>(
+    alloc: Global,
+    run: &RunWords,
+    host: &mut H,
+) -> Result<BootFiles, End>
+    requires { length run.now.files ≤ most_images }
+    ensures contents { IfOk result (λ read. IfSome (H.file_map host.old) (λ files.
+        HasBootFiles files run.now read)) }
+    ensures count { IfOk result (λ read. length read.images ≡ length run.now.files) }
+    ensures kept { OnOk result ((drives : ℕ) (terms : List TerminalState)
+        → world_of H.Host host.new drives terms ≡ world_of H.Host host.old drives terms) }
+    ensures ended { IfErr result (λ end. (drives : ℕ) (terms : List TerminalState)
+        → CommandCall (Command.Boot run.now)
+        (world_of H.Host host.old drives terms) (world_of H.Host host.new drives terms) end) }
+    ensures err_kept { H.bytes_err host.new ≡ H.bytes_err host.old }
+{
+    let script = read_script(alloc, run, host)?;
+    let slices = read_input(host, &run.slices, Input::Slices)?;
+    let images = read_images(alloc, run, host)?;
+    Ok(BootFiles {
+        script,
+        slices,
+        images,
+    })
+}
+
+/// Reads the images that the words name, in order.
+fn read_images<H: Host>(alloc: Global, run: &RunWords, host: &mut H) -> Result<Images, End>
+    requires { length run.now.files ≤ most_images }
+    ensures contents { IfOk result (λ images. IfSome (H.file_map host.old) (λ files.
+        images ≡ images_of files run.now.files)) }
+    ensures count { IfOk result (λ images. length images ≡ length run.now.files) }
+    ensures kept { OnOk result ((drives : ℕ) (terms : List TerminalState)
+        → world_of H.Host host.new drives terms ≡ world_of H.Host host.old drives terms) }
+    ensures ended { IfErr result (λ end. (drives : ℕ) (terms : List TerminalState)
+        → CommandCall (Command.Boot run.now)
+        (world_of H.Host host.old drives terms) (world_of H.Host host.new drives terms) end) }
+    ensures err_kept { H.bytes_err host.new ≡ H.bytes_err host.old }
+{
+    let mut images = Images::none(alloc);
+    for place in 0..run.files.len() {
+        let image = read_input(host, run.files.word(place), Input::Image(place as u8))?;
+        match images.push(image) {
+            Ok(()) => {}
+            Err(_) => return Err(End::NoMemory),
+        }
+    }
+    Ok(images)
+}
+
 /// Reads the script that the words name. Without one its text is empty.
 fn read_script<H: Host>(alloc: Global, run: &RunWords, host: &mut H) -> Result<Vec<u8>, End>
     ensures contents { IfOk result (λ text. IfSome (H.file_map host.old) (λ files.
@@ -55,7 +128,7 @@ fn read_script<H: Host>(alloc: Global, run: &RunWords, host: &mut H) -> Result<V
     ensures kept { OnOk result ((drives : ℕ) (terms : List TerminalState)
         → world_of H.Host host.new drives terms ≡ world_of H.Host host.old drives terms) }
     ensures ended { IfErr result (λ end. (drives : ℕ) (terms : List TerminalState)
-        → CommandCall (Command.Run run.now)
+        (command : Command) → file_name command Input.Script ≡ run.now.script → CommandCall command
         (world_of H.Host host.old drives terms) (world_of H.Host host.new drives terms) end) }
     ensures err_kept { H.bytes_err host.new ≡ H.bytes_err host.old }
 {

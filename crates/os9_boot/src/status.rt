@@ -1,7 +1,7 @@
-ghost use Rattle.std.specs.Prelude.{◌≡◌, [], unwrap_or};
-ghost use Rattle.os9_words.specs.Command.{HasOneFile};
+ghost use Rattle.std.specs.Prelude.{◌≡◌, [], slice_get, unwrap_or};
 ghost use Rattle.os9_words.specs.Streams.{WritesErr};
-ghost use Rattle.os9_boot.specs.End.{status_number, shown_name, end_line, text_of};
+ghost use Rattle.os9_boot.specs.ImageWrites.{lacks_run};
+ghost use Rattle.os9_boot.specs.End.{status_number, run_file_name, shown_name, end_line, text_of};
 
 use os9_outer::host::{Host, HostFault};
 use os9_words::command::{Command, RunWords};
@@ -17,8 +17,8 @@ pub enum Input {
     Slices,
     /// The file of modules.
     Modules,
-    /// The image of a disk.
-    Image,
+    /// The image of a disk: that of `check`, which is 0, or of a boot by its place, from 0.
+    Image(u8),
 }
 
 /// How a command ended.
@@ -32,12 +32,16 @@ pub enum End {
     CannotRead(Input),
     /// The output stream could not be written.
     CannotWrite,
+    /// The image of this place could not be written back.
+    CannotWriteImage(u8),
     /// Out of memory.
     NoMemory,
-    /// The image is not well formed.
-    BadImage(CheckFault),
+    /// The image of this place is not well formed.
+    BadImage(u8, CheckFault),
     /// The text in a file is refused: the first line, from 1, that breaks a rule.
     BadText(Input, u64),
+    /// The first image has no boot file within its volume.
+    BadBounds,
     /// A module of the boot file is refused: where it begins, and the number of the error.
     BadModule(u32, u8),
     /// The boot file has no program `SysGo`.
@@ -55,11 +59,23 @@ impl End {
             End::Ended => 0,
             End::Living => 5,
             End::CannotRead(_) => 2,
-            End::CannotWrite => 3,
+            End::CannotWrite | End::CannotWriteImage(_) => 3,
             End::NoMemory => 4,
-            End::BadImage(_) => 6,
+            End::BadImage(..) => 6,
             End::BadText(..) => 7,
-            End::BadModule(..) | End::NoFirst | End::TooLarge => 8,
+            End::BadBounds | End::BadModule(..) | End::NoFirst | End::TooLarge => 8,
+        }
+    }
+}
+
+impl End {
+    /// Has the command ended without a run to its end?
+    pub fn lacks_run(self) -> bool
+        ensures { result ≡ lacks_run self }
+    {
+        match self {
+            End::Ended | End::Living => false,
+            _ => true,
         }
     }
 }
@@ -70,7 +86,6 @@ impl End {
 ///
 /// The line is not whole on the error stream: of its bytes the first ones are there, or none.
 pub fn report_end<H: Host>(host: &mut H, end: End, command: &Command) -> Result<(), HostFault>
-    requires { HasOneFile command.now }
     ensures { WritesErr H.Host (end_line command.now end) result host.old host.new }
 {
     match message_of(end, command) {
@@ -81,18 +96,22 @@ pub fn report_end<H: Host>(host: &mut H, end: End, command: &Command) -> Result<
 
 /// The message that says why the command ended, if there is one.
 fn message_of<'a>(end: End, command: &'a Command) -> Option<Message<'a>>
-    requires { HasOneFile command.now }
     ensures { text_of result ≡ end_line command.now end }
 {
     match end {
         End::CannotRead(input) => Some(Message::CannotRead(name_of(command, input))),
         End::CannotWrite => Some(Message::CannotWrite),
+        End::CannotWriteImage(number) => {
+            let name = name_of(command, Input::Image(number));
+            Some(Message::CannotWriteFile(name))
+        }
         End::NoMemory => Some(Message::NoMemory),
-        End::BadImage(fault) => {
-            let name = name_of(command, Input::Image);
+        End::BadImage(number, fault) => {
+            let name = name_of(command, Input::Image(number));
             Some(Message::BadImage(name, fault.rule, fault.lsn))
         }
         End::BadText(input, line) => Some(Message::BadText(name_of(command, input), line)),
+        End::BadBounds => Some(Message::BadBounds),
         End::BadModule(at, error) => Some(Message::BadModule(at, error)),
         End::NoFirst => Some(Message::NoFirst),
         End::TooLarge => Some(Message::TooLarge),
@@ -102,14 +121,34 @@ fn message_of<'a>(end: End, command: &'a Command) -> Option<Message<'a>>
 
 /// The name of a file that the words give; empty if they give no such file.
 fn name_of(command: &Command, input: Input) -> &str
-    requires { HasOneFile command.now }
     ensures { result.now ≡ shown_name command.now input }
 {
-    match (command, input) {
-        (Command::Check(image), _) => image.text(),
-        (Command::Run(run), Input::Script) => script_name(run),
-        (Command::Run(run), Input::Slices) => run.slices.text(),
-        (Command::Run(run), Input::Modules | Input::Image) => run.files.word(0).text(),
+    match command {
+        Command::Check(image) => image.text(),
+        Command::Run(run) => name_in(run, input),
+        Command::Boot(run) => name_in(run, input),
+    }
+}
+
+/// The same of the words of a run or a boot.
+fn name_in(run: &RunWords, input: Input) -> &str
+    ensures { result.now ≡ unwrap_or (run_file_name run.now input) [] }
+{
+    match input {
+        Input::Script => script_name(run),
+        Input::Slices => run.slices.text(),
+        Input::Modules => name_at(run, 0),
+        Input::Image(number) => name_at(run, number),
+    }
+}
+
+/// The name of the file of this place, from 0; empty where there are fewer.
+fn name_at(run: &RunWords, place: u8) -> &str
+    ensures { result.now ≡ unwrap_or (slice_get run.now.files place) [] }
+{
+    match run.files.get(u32::from(place)) {
+        Some(name) => name.text(),
+        None => "",
     }
 }
 

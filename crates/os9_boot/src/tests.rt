@@ -2,9 +2,11 @@ ghost use Rattle.std.specs.Prelude.{◌≡◌, []};
 
 use crate::os9_main;
 use device_table::devices::Devices;
+use os9_outer::drive::BlockDriver;
 use os9_outer::host_file::HostFile;
 use os9_outer::mem_host::MemHost;
 use os9_outer::script_tty::ScriptTty;
+use os9_outer::sure_drive::SureDrive;
 use os9_outer::sure_tty::SureTty;
 use os9_outer::terminal::CharDriver;
 use std::alloc::{AllocError, Global};
@@ -73,12 +75,14 @@ fn call_on(
     for word in words {
         given.push(String::from_str(alloc, word)?)?;
     }
+    let mut drives: Vec<Box<dyn BlockDriver>> = Vec::new(alloc);
+    drives.push(Box::new(alloc, SureDrive::new())?)?;
+    drives.push(Box::new(alloc, SureDrive::new())?)?;
+    drives.push(Box::new(alloc, SureDrive::new())?)?;
+    drives.push(Box::new(alloc, SureDrive::new())?)?;
     let mut terms: Vec<Box<dyn CharDriver>> = Vec::new(alloc);
     terms.push(term)?;
-    let mut devices = Devices {
-        drives: Vec::new(alloc),
-        terms,
-    };
+    let mut devices = Devices { drives, terms };
     let mut host = MemHost::new(alloc, files, Vec::from_slice(alloc, plan)?);
     let status = os9_main(alloc, given.as_slice(), &mut host, &mut devices);
     Ok(Shown {

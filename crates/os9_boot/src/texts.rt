@@ -3,7 +3,6 @@ ghost use Rattle.script_text.specs.Script.{keys_of};
 ghost use Rattle.script_text.specs.Slices.{slices_of};
 ghost use Rattle.os9_boot.specs.RunFiles.{RefusesTexts};
 
-use crate::files::RunFiles;
 use crate::status::{End, Input};
 use os9_base::limits::LAST_TICK;
 use script_text::fault::LineFault;
@@ -26,21 +25,21 @@ pub struct Texts {
 ///
 /// The end of the command: a text is refused, at the first line that breaks a rule, or memory is
 /// out.
-pub fn read_texts(alloc: Global, files: &RunFiles, terminals: u8) -> Result<Texts, End>
+pub fn read_texts(alloc: Global, script: &[u8], slices: &[u8], terminals: u8) -> Result<Texts, End>
     ensures keys { IfOk result (λ texts.
-        keys_of terminals files.now.script.items ≡ Ok texts.keys.items) }
+        keys_of terminals script.now ≡ Ok texts.keys.items) }
     ensures slices { IfOk result (λ texts.
-        slices_of files.now.slices.items ≡ Ok texts.slices.items) }
+        slices_of slices.now ≡ Ok texts.slices.items) }
     ensures few { IfOk result (λ texts. length texts.slices.items < LAST_TICK) }
     ensures refused { IfErr result
-        (RefusesTexts terminals files.now.script.items files.now.slices.items) }
+        (RefusesTexts terminals script.now slices.now) }
 {
-    let keys = match read_script_for(alloc, files.script.as_slice(), terminals) {
+    let keys = match read_script_for(alloc, script, terminals) {
         Ok(keys) => keys,
         Err(LineFault::Line(line)) => return Err(End::BadText(Input::Script, line)),
         Err(LineFault::OutOfMemory) => return Err(End::NoMemory),
     };
-    let slices = match read_slices(alloc, files.slices.as_slice()) {
+    let slices = match read_slices(alloc, slices) {
         Ok(slices) => slices,
         Err(LineFault::Line(line)) => return Err(End::BadText(Input::Slices, line)),
         Err(LineFault::OutOfMemory) => return Err(End::NoMemory),

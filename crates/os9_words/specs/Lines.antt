@@ -1,7 +1,7 @@
 -- The lines on the error stream, and the line of `check` on the output stream.
 use Rattle.std.specs.Prelude.{ℕ, List, [], ◌∷◌, ◌++◌, codes, decimal}
 use Rattle.os9_words.specs.declared.message.Message.{Message}
-use Rattle.os9_words.specs.declared.message.Message.TheVariants.{Words, CannotRead, CannotWrite, NoMemory, BadImage, BadText, BadModule, TooLarge, NoFirst}
+use Rattle.os9_words.specs.declared.message.Message.TheVariants.{Words, CannotRead, CannotWrite, CannotWriteFile, NoMemory, BadImage, BadText, BadBounds, BadModule, TooLarge, NoFirst}
 
 -- the line with this text
 abbrev pub line_of : List ℕ → List ℕ
@@ -19,6 +19,10 @@ cannot_read_line name = line_of (codes "os9: cannot read " ++ name)
 abbrev pub cannot_write_output_line : List ℕ
 cannot_write_output_line = line_of (codes "os9: cannot write output")
 
+-- the file of this name could not be written
+abbrev pub cannot_write_file_line : List ℕ → List ℕ
+cannot_write_file_line name = line_of (codes "os9: cannot write " ++ name)
+
 -- out of memory
 abbrev pub no_memory_line : List ℕ
 no_memory_line = line_of (codes "os9: no memory")
@@ -31,6 +35,10 @@ image_fault_line name rule lsn =
 -- the line of this number of the text in the file of this name is the first that breaks a rule
 abbrev pub text_fault_line : List ℕ → ℕ → List ℕ
 text_fault_line name line = line_of (codes "os9: " ++ name ++ codes ": line " ++ decimal line)
+
+-- the boot file does not lie within its volume
+abbrev pub boot_bounds_line : List ℕ
+boot_bounds_line = line_of (codes "os9: boot bounds")
 
 -- the module at this byte of the boot file is refused with this error
 abbrev pub boot_module_line : ℕ → ℕ → List ℕ
@@ -49,9 +57,11 @@ abbrev pub message_line : Message → List ℕ
 message_line Words = words_line
 message_line (CannotRead name) = cannot_read_line name.now
 message_line CannotWrite = cannot_write_output_line
+message_line (CannotWriteFile name) = cannot_write_file_line name.now
 message_line NoMemory = no_memory_line
 message_line (BadImage name rule lsn) = image_fault_line name.now rule lsn
 message_line (BadText name line) = text_fault_line name.now line
+message_line BadBounds = boot_bounds_line
 message_line (BadModule at error) = boot_module_line at error
 message_line TooLarge = boot_too_large_line
 message_line NoFirst = no_first_line

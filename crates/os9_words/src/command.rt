@@ -1,7 +1,7 @@
-ghost use Rattle.std.specs.Prelude.{◌≡◌, ◌≢◌, None, Some, IfOk, [], ◌∷◌, map, option_and_then, option_map, string_bytes};
+ghost use Rattle.std.specs.Prelude.{◌≡◌, ◌≢◌, ◌≤◌, ◌&&◌, nat_le, None, Some, IfOk, IfSome, [], ◌∷◌, length, map, option_and_then, option_map, string_bytes, take};
 ghost use Rattle.std.specs.List.{All};
-ghost use Rattle.os9_words.specs.Command.{command_of, check_options, run_options, HasOneFile, HasBlocks, OnRefused};
-ghost use Rattle.os9_words.specs.Command.{blocks_of as blocks_of_lem, check_of as check_of_lem, run_of as run_of_lem};
+ghost use Rattle.os9_words.specs.Command.{command_of, check_options, most_images, run_options, HasFiles, HasBlocks, OnRefused};
+ghost use Rattle.os9_words.specs.Command.{blocks_of as blocks_of_lem, boot_of as boot_of_lem, check_of as check_of_lem, run_of as run_of_lem};
 ghost use Rattle.word_options.specs.Given.{words_give};
 
 use crate::word::{Word, Words};
@@ -13,7 +13,7 @@ use thiserror::Error;
 /// The words of a command that runs programs.
 #[derive(Debug, Drop)]
 pub struct RunWords {
-    /// The file of modules.
+    /// The file of modules of a run, or the images of a boot, that in D0 first.
     pub files: Words,
     /// The file with the keys of the terminals, if they are given some.
     pub script: Option<Word>,
@@ -29,6 +29,9 @@ pub enum Command {
     /// `run MODULES --slices SLICES`, with `--script SCRIPT` and `--blocks N` or not: runs the
     /// program of a file of modules.
     Run(RunWords),
+    /// `boot IMAGE.. --script SCRIPT --slices SLICES`, with `--blocks N` or not: runs the program
+    /// of the boot file of the first of one to four images.
+    Boot(RunWords),
     /// `check IMAGE`: tests the image in a file.
     Check(Word),
 }
@@ -53,6 +56,9 @@ const FEWEST_BLOCKS: u32 = 8;
 /// The greatest number that `--blocks` takes.
 const MOST_BLOCKS: u32 = 256;
 
+/// The greatest number of images that `boot` takes.
+const MOST_IMAGES: usize = 4;
+
 /// Reads the words of a command line, without the program's own name (this project's own).
 ///
 /// # Errors
@@ -61,7 +67,7 @@ const MOST_BLOCKS: u32 = 256;
 pub fn read_words(alloc: Global, words: &[String]) -> Result<Command, WordsFault>
     ensures command { IfOk result (λ command.
         command_of (map string_bytes words.now) ≡ Some command) }
-    ensures files { IfOk result HasOneFile }
+    ensures files { IfOk result HasFiles }
     ensures blocks { IfOk result HasBlocks }
     ensures refused { OnRefused result (command_of (map string_bytes words.now) ≡ None) }
 {
@@ -70,6 +76,7 @@ pub fn read_words(alloc: Global, words: &[String]) -> Result<Command, WordsFault
     };
     match command.as_str() {
         "run" => read_run(alloc, words),
+        "boot" => read_boot(alloc, words),
         "check" => read_check(alloc, words),
         _ => Err(WordsFault::Refused),
     }
@@ -79,12 +86,28 @@ pub fn read_words(alloc: Global, words: &[String]) -> Result<Command, WordsFault
 fn read_run(alloc: Global, words: &[String]) -> Result<Command, WordsFault>
     ensures command { IfOk result (λ read. option_and_then run_of_lem
         (words_give run_options (map string_bytes words.now)) ≡ Some read) }
+    ensures files { IfOk result HasFiles }
+    ensures blocks { IfOk result HasBlocks }
     ensures refused { OnRefused result (option_and_then run_of_lem
         (words_give run_options (map string_bytes words.now)) ≡ None) }
 {
     let names = ["slices", "script", "blocks"];
     let given = read_options(alloc, &names, words)?;
     run_of(alloc, &given)
+}
+
+// Reads the words behind `boot`.
+fn read_boot(alloc: Global, words: &[String]) -> Result<Command, WordsFault>
+    ensures command { IfOk result (λ read. option_and_then boot_of_lem
+        (words_give run_options (map string_bytes words.now)) ≡ Some read) }
+    ensures files { IfOk result HasFiles }
+    ensures blocks { IfOk result HasBlocks }
+    ensures refused { OnRefused result (option_and_then boot_of_lem
+        (words_give run_options (map string_bytes words.now)) ≡ None) }
+{
+    let options = ["slices", "script", "blocks"];
+    let given = read_options(alloc, &options, words)?;
+    boot_of(alloc, &given)
 }
 
 // Reads the words behind `check`.
@@ -120,6 +143,8 @@ fn read_options<'a>(
 // `run MODULES --slices SLICES`, with `--script SCRIPT` and `--blocks N` or not.
 fn run_of(alloc: Global, given: &GivenWords<'_>) -> Result<Command, WordsFault>
     ensures command { IfOk result (λ read. run_of_lem given.now ≡ Some read) }
+    ensures files { IfOk result HasFiles }
+    ensures blocks { IfOk result HasBlocks }
     ensures refused { OnRefused result (run_of_lem given.now ≡ None) }
 {
     let modules = given.only_argument();
@@ -132,6 +157,72 @@ fn run_of(alloc: Global, given: &GivenWords<'_>) -> Result<Command, WordsFault>
         Ok(run) => Ok(Command::Run(run)),
         Err(_) => Err(WordsFault::OutOfMemory),
     }
+}
+
+// `boot IMAGE.. --script SCRIPT --slices SLICES`, with `--blocks N` or not.
+fn boot_of(alloc: Global, given: &GivenWords<'_>) -> Result<Command, WordsFault>
+    ensures command { IfOk result (λ read. boot_of_lem given.now ≡ Some read) }
+    ensures files { IfOk result HasFiles }
+    ensures blocks { IfOk result HasBlocks }
+    ensures refused { OnRefused result (boot_of_lem given.now ≡ None) }
+{
+    let script = given.value("script");
+    let slices = given.value("slices");
+    let blocks = blocks_of(given);
+    let (Some(script), Some(slices), Some(blocks)) = (script, slices, blocks) else {
+        return Err(WordsFault::Refused);
+    };
+    if !has_images(given) {
+        return Err(WordsFault::Refused);
+    }
+    match boot_words(alloc, given, script, slices, blocks) {
+        Ok(boot) => Ok(Command::Boot(boot)),
+        Err(_) => Err(WordsFault::OutOfMemory),
+    }
+}
+
+// Are there one to four arguments?
+fn has_images(given: &GivenWords<'_>) -> bool
+    ensures { result ≡ (nat_le 1 (length given.now.arguments)
+        && nat_le (length given.now.arguments) most_images) }
+{
+    given.argument(0).is_some() && given.argument(MOST_IMAGES).is_none()
+}
+
+fn boot_words(
+    alloc: Global,
+    given: &GivenWords<'_>,
+    script: &str,
+    slices: &str,
+    blocks: u16,
+) -> Result<RunWords, AllocError>
+    ensures { IfOk result (λ run. run ≡ record {
+      files = take most_images given.now.arguments;
+      script = Some script.now;
+      slices = slices.now;
+      blocks = blocks;
+    }) }
+{
+    Ok(RunWords {
+        files: image_words(alloc, given)?,
+        script: Some(Word::copy_of(alloc, script)?),
+        slices: Word::copy_of(alloc, slices)?,
+        blocks,
+    })
+}
+
+// The first four arguments.
+fn image_words(alloc: Global, given: &GivenWords<'_>) -> Result<Words, AllocError>
+    ensures { IfOk result (λ words. words ≡ take most_images given.now.arguments) }
+{
+    let mut words = Vec::new(alloc);
+    for place in 0..MOST_IMAGES {
+        let Some(argument) = given.argument(place) else {
+            break;
+        };
+        words.push(Word::copy_of(alloc, argument)?)?;
+    }
+    Ok(Words::of(words))
 }
 
 // `check IMAGE`.
@@ -183,7 +274,9 @@ fn copy_if_given(alloc: Global, text: Option<&str>) -> Result<Option<Word>, Allo
 
 // The number of blocks: 64 without `--blocks`.
 fn blocks_of(given: &GivenWords<'_>) -> Option<u16>
-    ensures { result ≡ blocks_of_lem given.now }
+    ensures number { result ≡ blocks_of_lem given.now }
+    ensures least { IfSome result (λ blocks. 8 ≤ blocks) }
+    ensures most { IfSome result (λ blocks. blocks ≤ 256) }
 {
     let Some(number) = given.value("blocks") else {
         return Some(DEFAULT_BLOCKS);
@@ -238,6 +331,46 @@ mod tests {
     }
 
     #[test]
+    fn boot_words_are_read(rt: HostRuntime) -> Result<(), Fail> {
+        for (words, images, blocks) in [
+            (
+                ["boot", "a", "--script", "t", "--slices", "s"].as_slice(),
+                ["a"].as_slice(),
+                64,
+            ),
+            (
+                &[
+                    "boot",
+                    "a",
+                    "b",
+                    "--slices=s",
+                    "a",
+                    "d",
+                    "--script=t",
+                    "--blocks=8",
+                ],
+                &["a", "b", "a", "d"],
+                8,
+            ),
+        ] {
+            let words = words_of(rt.alloc(), words)?;
+            let Command::Boot(boot) = read_words(rt.alloc(), &words)? else {
+                return Err(Fail::from("no boot"));
+            };
+            assert_eq!(rt; boot.files.len() as usize, images.len());
+            for (place, image) in images.iter().enumerate() {
+                let named = boot.files.get(place as u32).map_or("", |word| word.text());
+                assert_eq!(rt; named == *image, true);
+            }
+            let script = boot.script.as_ref().map_or("", |script| script.text());
+            assert_eq!(rt; script == "t", true);
+            assert_eq!(rt; boot.slices.text() == "s", true);
+            assert_eq!(rt; boot.blocks, blocks);
+        }
+        Ok(())
+    }
+
+    #[test]
     fn check_words_are_read(rt: HostRuntime) -> Result<(), Fail> {
         for (words, image) in [
             (["check", "e"].as_slice(), "e"),
@@ -274,7 +407,14 @@ mod tests {
                 "run", "h", "--slices", "s", "--script", "t", "--script", "t",
             ],
             &["run", "h", "--slices", "s", "--time", "1990-01-01T00:00:00"],
-            &["boot", "e", "--script", "t", "--slices", "s"],
+            &["boot", "--script", "t", "--slices", "s"],
+            &["boot", "e", "--slices", "s"],
+            &["boot", "e", "--script", "t"],
+            &["boot", "e", "--script", "t", "--slices", "s", "--time", "1"],
+            &["boot", "e", "--script", "t", "--slices", "s", "--history"],
+            &[
+                "boot", "a", "b", "c", "d", "e", "--script", "t", "--slices", "s",
+            ],
             &["stress", "1"],
             &["run", "h", "--slices", "s", "--slices", "s"],
             &["run", "h", "--slices", "s", "--blocks"],

@@ -15,6 +15,8 @@ pub enum Message<'a> {
     CannotRead(&'a str),
     /// The output stream could not be written: `os9: cannot write output`.
     CannotWrite,
+    /// The file of this name could not be written: `os9: cannot write NAME`.
+    CannotWriteFile(&'a str),
     /// Out of memory: `os9: no memory`.
     NoMemory,
     /// The image in the file of this name breaks this rule at the sector of this number:
@@ -23,6 +25,8 @@ pub enum Message<'a> {
     /// The line of this number, from 1, of the text in the file of this name is the first that
     /// breaks a rule: `os9: NAME: line L`.
     BadText(&'a str, u64),
+    /// The boot file of an image is empty or does not lie within the volume: `os9: boot bounds`.
+    BadBounds,
     /// The module that begins at this byte of the boot file is refused with this error:
     /// `os9: boot module E at O`.
     BadModule(u32, u8),
@@ -47,9 +51,13 @@ pub fn report<H: Host>(host: &mut H, message: &Message) -> Result<(), HostFault>
             report_pieces(host, &[b"os9: cannot read ", name.as_bytes(), b"\n"])
         }
         Message::CannotWrite => report_text(host, b"os9: cannot write output\n"),
+        Message::CannotWriteFile(name) => {
+            report_pieces(host, &[b"os9: cannot write ", name.as_bytes(), b"\n"])
+        }
         Message::NoMemory => report_text(host, b"os9: no memory\n"),
         Message::BadImage(name, rule, lsn) => report_bad_image(host, name, *rule, *lsn),
         Message::BadText(name, line) => report_bad_text(host, name, *line),
+        Message::BadBounds => report_text(host, b"os9: boot bounds\n"),
         Message::BadModule(at, error) => report_bad_module(host, *at, *error),
         Message::TooLarge => report_text(host, b"os9: boot too large\n"),
         Message::NoFirst => report_text(host, b"os9: boot no SysGo\n"),
@@ -125,9 +133,11 @@ mod tests {
             Message::Words,
             Message::CannotRead("s"),
             Message::CannotWrite,
+            Message::CannotWriteFile("d"),
             Message::NoMemory,
             Message::BadImage("e", 4, 1000),
             Message::BadText("s", 2),
+            Message::BadBounds,
             Message::BadModule(0, 232),
             Message::TooLarge,
             Message::NoFirst,
@@ -137,9 +147,11 @@ mod tests {
         let lines = b"os9: words\n\
             os9: cannot read s\n\
             os9: cannot write output\n\
+            os9: cannot write d\n\
             os9: no memory\n\
             os9: e: rule 4 at LSN 1000\n\
             os9: s: line 2\n\
+            os9: boot bounds\n\
             os9: boot module 232 at 0\n\
             os9: boot too large\n\
             os9: boot no SysGo\n";

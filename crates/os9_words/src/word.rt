@@ -1,4 +1,4 @@
-ghost use Rattle.std.specs.Prelude.{◌≡◌, ◌<◌, ◌∷◌, [], IfOk, List, Some, length, slice_get};
+ghost use Rattle.std.specs.Prelude.{◌≡◌, ◌<◌, ◌^◌, ◌∷◌, [], IfOk, List, Some, length, option_map, slice_get};
 
 use std::alloc::{AllocError, Global};
 use std::marker::Model;
@@ -61,6 +61,14 @@ impl Words {
         Ok(Words { words })
     }
 
+    /// These words.
+    pub(crate) fn of(words: Vec<Word>) -> Words
+        requires { length words.items < 2 ^ 32 }
+        ensures { result ≡ words.items }
+    {
+        Words { words }
+    }
+
     /// How many words there are.
     pub fn len(&self) -> u32
         ensures { result ≡ length self.now }
@@ -74,5 +82,12 @@ impl Words {
         ensures { slice_get self.now i ≡ Some result.now }
     {
         &self.words[i as usize]
+    }
+
+    /// The word at a place, or nothing where there are no more than so many.
+    pub fn get(&self, i: u32) -> Option<&Word>
+        ensures { option_map (λ word. word.now) result ≡ slice_get self.now i }
+    {
+        self.words.get(i as usize)
     }
 }

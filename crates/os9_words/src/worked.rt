@@ -1,7 +1,7 @@
 //! Words with what they spell, as laws that the check computes from the definitions.
 
 ghost use Rattle.std.specs.Prelude.{◌≡◌, [], ◌∷◌, Some, None, codes};
-ghost use Rattle.os9_words.specs.Command.{command_of, run_with};
+ghost use Rattle.os9_words.specs.Command.{boot_with, command_of, run_with};
 
 /// Command lines in both forms of an option, and in any order.
 pub fn runs_are_read()
@@ -16,6 +16,22 @@ pub fn runs_are_read()
     ensures script_first { command_of (codes "run" ∷ codes "--script=-t" ∷ codes "--slices=s"
         ∷ codes "h" ∷ [])
         ≡ run_with (Some (codes "h")) (Some (codes "-t")) (Some (codes "s")) (Some 64) }
+{}
+
+/// Command lines of a boot: the images in their order, also one name twice.
+pub fn boots_are_read()
+    ensures one_image { command_of (codes "boot" ∷ codes "a" ∷ codes "--script=t"
+        ∷ codes "--slices=s" ∷ [])
+        ≡ boot_with (codes "a" ∷ []) (Some (codes "t")) (Some (codes "s")) (Some 64) }
+    ensures some_images { command_of (codes "boot" ∷ codes "b" ∷ codes "--slices=s" ∷ codes "a"
+        ∷ codes "--script" ∷ codes "t" ∷ codes "b" ∷ codes "--blocks=8" ∷ [])
+        ≡ boot_with (codes "b" ∷ codes "a" ∷ codes "b" ∷ []) (Some (codes "t")) (Some (codes "s"))
+        (Some 8) }
+    ensures no_script { command_of (codes "boot" ∷ codes "a" ∷ codes "--slices=s" ∷ []) ≡ None }
+    ensures no_image { command_of (codes "boot" ∷ codes "--script=t" ∷ codes "--slices=s" ∷ [])
+        ≡ None }
+    ensures five_images { command_of (codes "boot" ∷ codes "a" ∷ codes "b" ∷ codes "c" ∷ codes "d"
+        ∷ codes "e" ∷ codes "--script=t" ∷ codes "--slices=s" ∷ []) ≡ None }
 {}
 
 /// Words that are no command line.

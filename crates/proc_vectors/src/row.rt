@@ -19,7 +19,8 @@ pub(crate) struct FailingCall {
 /// A command line with its files, and what the program answers to it.
 #[derive(Drop)]
 pub(crate) struct Row {
-    /// The words, separated by single spaces. They name the files `modules`, `slices` and `script`.
+    /// The words, separated by single spaces. They name the files `modules`, `slices` and `script`,
+    /// and the images `d0.img` and `d1.img`.
     pub(crate) words: String,
     pub(crate) modules: Vec<u8>,
     pub(crate) slices: Vec<u8>,
@@ -30,12 +31,23 @@ pub(crate) struct Row {
     pub(crate) err: String,
     /// The calls of terminals that fail in the run.
     pub(crate) failing: Vec<FailingCall>,
+    pub(crate) images: Images,
+    /// The numbers of the calls of the host that fail, from 1.
+    pub(crate) host_failing: Vec<u64>,
+}
+
+/// The images of a boot. One without bytes is not there.
+#[derive(Drop)]
+pub(crate) struct Images {
+    pub(crate) d0: Vec<u8>,
+    pub(crate) d1: Vec<u8>,
 }
 
 /// The row of a line: the words, the file of modules, the number of zero bytes behind it, the slice
-/// text, the script of keys, the status, the bytes written, the line on the error stream and the
-/// calls of terminals that fail, separated by tabs, with `-` for what is empty. Bytes are hexadecimal
-/// digits (`bytes`). The last field may be missing. None where the line has other fields.
+/// text, the script of keys, the status, the bytes written, the line on the error stream, the calls
+/// of terminals that fail, two images and the calls of the host that fail, separated by tabs, with
+/// `-` for what is empty. Bytes are hexadecimal digits (`bytes`). The last four fields may be
+/// missing. None where the line has other fields.
 pub(crate) fn parse(alloc: Global, line: &str) -> Result<Option<Row>, AllocError> {
     let mut fields = line.split('\t');
     let Some(words) = fields.next() else {
@@ -62,6 +74,12 @@ pub(crate) fn parse(alloc: Global, line: &str) -> Result<Option<Row>, AllocError
     let Some(failing) = failing_calls(alloc, fields.next().unwrap_or("-"))? else {
         return Ok(None);
     };
+    let Some(images) = both_images(alloc, fields.next(), fields.next())? else {
+        return Ok(None);
+    };
+    let Some(host_failing) = numbers(alloc, fields.next().unwrap_or("-"))? else {
+        return Ok(None);
+    };
     for _ in 0..zeros.min(MOST_ZEROS) {
         modules.push(0)?;
     }
@@ -74,7 +92,39 @@ pub(crate) fn parse(alloc: Global, line: &str) -> Result<Option<Row>, AllocError
         out,
         err: String::from_str(alloc, text(err))?,
         failing,
+        images,
+        host_failing,
     }))
+}
+
+/// The images of two fields, or None where they are none.
+fn both_images(
+    alloc: Global,
+    d0: Option<&str>,
+    d1: Option<&str>,
+) -> Result<Option<Images>, AllocError> {
+    let (Some(d0), Some(d1)) = (
+        bytes(alloc, d0.unwrap_or("-"))?,
+        bytes(alloc, d1.unwrap_or("-"))?,
+    ) else {
+        return Ok(None);
+    };
+    Ok(Some(Images { d0, d1 }))
+}
+
+/// The numbers of a field such as `5,2`, or None where it is no such list.
+fn numbers(alloc: Global, field: &str) -> Result<Option<Vec<u64>>, AllocError> {
+    let mut numbers = Vec::new(alloc);
+    if text(field).is_empty() {
+        return Ok(Some(numbers));
+    }
+    for word in field.split(',') {
+        let Ok(number) = word.parse::<u64>() else {
+            return Ok(None);
+        };
+        numbers.push(number)?;
+    }
+    Ok(Some(numbers))
 }
 
 /// The field, where `-` is what is empty.

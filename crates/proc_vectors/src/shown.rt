@@ -12,15 +12,14 @@ use os9_outer::sure_drive::SureDrive;
 use os9_outer::terminal::CharDriver;
 use std::alloc::{AllocError, Global};
 
-/// D0 to D3.
-const DRIVES: u8 = 4;
-
 /// What a run shows.
 #[derive(Drop)]
 pub(crate) struct Shown {
     status: u8,
     out: Vec<u8>,
     err: Vec<u8>,
+    /// The files are as they were.
+    kept: bool,
 }
 
 impl Shown {
@@ -33,20 +32,24 @@ impl Shown {
             Some(line) => line == row.err.as_bytes(),
             None => self.err.is_empty() && row.err.is_empty(),
         };
-        self.status == row.status && self.out.as_slice() == row.out.as_slice() && told
+        let written = self.out.as_slice() == row.out.as_slice();
+        self.status == row.status && written && told && self.kept
     }
 }
 
-/// Runs the words of a row over a host in memory that has its files, four drives without an image and
-/// four terminals, whose calls fail as the row says.
+/// Runs the words of a row over a host in memory that has its files, four drives without an image
+/// and four terminals, whose calls fail as the row says. What it writes to a file is what it read
+/// there, so the files are to be as they were.
 pub(crate) fn run(alloc: Global, row: &Row) -> Result<Shown, AllocError> {
     let words = words(alloc, row)?;
-    let mut host = MemHost::new(alloc, files(alloc, row)?, Vec::new(alloc));
+    let failing = Vec::from_slice(alloc, row.host_failing.as_slice())?;
+    let mut host = MemHost::new(alloc, files(alloc, row)?, failing);
     // (a boxed driver may not be handed out, so all are made here)
     let mut drives: Vec<Box<dyn BlockDriver>> = Vec::new(alloc);
-    for _ in 0..DRIVES {
-        drives.push(Box::new(alloc, SureDrive::new())?)?;
-    }
+    drives.push(Box::new(alloc, SureDrive::new())?)?;
+    drives.push(Box::new(alloc, SureDrive::new())?)?;
+    drives.push(Box::new(alloc, SureDrive::new())?)?;
+    drives.push(Box::new(alloc, SureDrive::new())?)?;
     let mut terms: Vec<Box<dyn CharDriver>> = Vec::new(alloc);
     terms.push(Box::new(alloc, terminal(alloc, row, 0)?)?)?;
     terms.push(Box::new(alloc, terminal(alloc, row, 1)?)?)?;
@@ -58,7 +61,15 @@ pub(crate) fn run(alloc: Global, row: &Row) -> Result<Shown, AllocError> {
         status,
         out: Vec::from_slice(alloc, host.out_bytes.as_slice())?,
         err: Vec::from_slice(alloc, host.err_bytes.as_slice())?,
+        kept: are_same(host.files.as_slice(), files(alloc, row)?.as_slice()),
     })
+}
+
+/// Have these files the same bytes, in order?
+fn are_same(files: &[HostFile], others: &[HostFile]) -> bool {
+    files.len() == others.len()
+        && files.iter().zip(others.iter()).all(|(file, other)| file.bytes.as_slice()
+            == other.bytes.as_slice())
 }
 
 /// The words of a row.
@@ -76,6 +87,11 @@ fn files(alloc: Global, row: &Row) -> Result<Vec<HostFile>, AllocError> {
     files.push(file(alloc, "modules", row.modules.as_slice())?)?;
     files.push(file(alloc, "slices", row.slices.as_slice())?)?;
     files.push(file(alloc, "script", row.script.as_slice())?)?;
+    for (name, image) in [("d0.img", &row.images.d0), ("d1.img", &row.images.d1)] {
+        if !image.is_empty() {
+            files.push(file(alloc, name, image.as_slice())?)?;
+        }
+    }
     Ok(files)
 }
 

@@ -8,6 +8,11 @@ use Rattle.os9_boot.proofs.CallLemmas.{ended-after}
 use Rattle.os9_boot.proofs.FileLemmas.{has-files}
 use Rattle.os9_boot.proofs.files.read_files.Goals as goal
 
+pub returns-in_err-script-clause-ended : goal.returns-in_err-script-clause-ended
+returns-in_err-script-clause-ended g c =
+    let gave = err_from_is_err_and c.from_residual.result c.from_residual.ensures.1 in
+    rw (gave.1, gave.2) (λ drives terms. c.in_err-script.ensures.ended drives terms (RunCommand c.args.run.now) refl)
+
 pub returns-in_err-slices-clause-ended : goal.returns-in_err-slices-clause-ended
 returns-in_err-slices-clause-ended g c =
     let gave = err_from_is_err_and c.from_residual-in_err-slices.result c.from_residual-in_err-slices.ensures.1 in

@@ -1,6 +1,9 @@
 use Rattle.os9_boot.proofs.CallLemmas.{err-only, top-command, top-memory, top-refused}
 use Rattle.os9_boot.proofs.top.os9_main.Goals as goal
 
+pub do_command-requires-clause-devices : goal.do_command-requires-clause-devices
+do_command-requires-clause-devices g c = (c.requires.terminals, rw c.in-Ok.ensures.command at c.requires.drives)
+
 pub returns-in-Ok-clause-call : goal.returns-in-Ok-clause-call
 returns-in-Ok-clause-call g c = top-command _ _ _ _ _ c.in-Ok.command _ c.in-Ok.ensures.command c.do_command.ensures.call
 

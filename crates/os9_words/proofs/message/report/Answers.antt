@@ -7,6 +7,13 @@ returns-in-CannotRead g c = rw c.in-CannotRead.is (rw c.as_bytes.ensures.value a
 pub returns-in-CannotWrite : goal.returns-in-CannotWrite
 returns-in-CannotWrite g c = rw c.in-CannotWrite.is c.report_text-in-CannotWrite.ensures
 
+pub returns-in-CannotWriteFile : goal.returns-in-CannotWriteFile
+returns-in-CannotWriteFile g c =
+    rw c.in-CannotWriteFile.is (rw c.as_bytes-in-CannotWriteFile.ensures.value at c.report_pieces-in-CannotWriteFile.ensures)
+
+pub returns-in-BadBounds : goal.returns-in-BadBounds
+returns-in-BadBounds g c = rw c.in-BadBounds.is c.report_text-in-BadBounds.ensures
+
 pub returns-in-NoMemory : goal.returns-in-NoMemory
 returns-in-NoMemory g c = rw c.in-NoMemory.is c.report_text-in-NoMemory.ensures
 

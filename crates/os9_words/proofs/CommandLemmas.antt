@@ -1,0 +1,103 @@
+-- What a command line has.
+use Rattle.std.proofs.Common.{◌≡◌, ◌≤◌, ℕ, Bool, true, false, Option, Some, None, List, [], ◌∷◌, length, bytes_eq, codes, refl, subst, arith}
+use Rattle.std.specs.Prelude.{nat_le, ◌&&◌, option_and_then, option_map, if◌then◌else◌}
+use Rattle.std.specs.Option.{option_map_or}
+use Rattle.std.proofs.lemmas.Bool.{leb-true}
+use Rattle.number_text.specs.Number.{number_of, within}
+use Rattle.word_options.specs.Given.{Given, only_argument, value_of, words_give}
+use Rattle.os9_words.specs.declared.command.Command.{Command}
+use Rattle.os9_words.specs.declared.command.Command.TheVariants.{Boot, Check}
+use Rattle.os9_words.specs.Command.{blocks_of, boot_of, boot_with, check_of, check_options, command_of, most_images, run_of, run_options, run_with, HasBlocks, HasFiles}
+
+abbrev pub IsComplete : Command → Type 0
+IsComplete command = HasFiles command × HasBlocks command
+
+some-is : {X : Type 0} (x y : X) → Some x ≡ Some y → x ≡ y
+some-is x y is = cc is
+
+within-some : (least most number n : ℕ) (low high : Bool) → nat_le least number ≡ low → nat_le number most ≡ high → (if low && high then Some number else None) ≡ Some n → (least ≤ n) × (n ≤ most)
+within-some least most number n true true low high is =
+    let same = some-is number n is in
+    (subst (λ k. least ≤ k) same (leb-true least number low), subst (λ k. k ≤ most) same (leb-true number most high))
+within-some least most number n true false low high is = absurd (cc is)
+within-some least most number n false high low higher is = absurd (cc is)
+
+within-bounds : (least most : ℕ) (number : Option ℕ) (n : ℕ) → within least most number ≡ Some n → (least ≤ n) × (n ≤ most)
+within-bounds least most None n is = absurd (cc is)
+within-bounds least most (Some number) n is =
+    within-some least most number n (nat_le least number) (nat_le number most) refl refl is
+
+-- a run or a boot has so many blocks
+blocks-are : (given : Given) (blocks : ℕ) → blocks_of given ≡ Some blocks → (8 ≤ blocks) × (blocks ≤ 256)
+blocks-are given blocks is = by (value_of given (codes "blocks")) is
+  where
+    by : (value : Option (List ℕ)) → option_map_or (λ number. within 8 256 (number_of number)) value (Some 64) ≡ Some blocks → (8 ≤ blocks) × (blocks ≤ 256)
+    by None is = subst (λ n. (8 ≤ n) × (n ≤ 256)) (some-is 64 blocks is) (omega arith, omega arith)
+    by (Some number) is = within-bounds 8 256 (number_of number) blocks is
+
+-- the number of blocks has its bounds, where there is one
+abbrev pub IsBounded : Option ℕ → Type 0
+IsBounded blocks = (n : ℕ) → blocks ≡ Some n → (8 ≤ n) × (n ≤ 256)
+
+run-complete : (modules script slices : Option (List ℕ)) (blocks : Option ℕ) (command : Command) → IsBounded blocks → run_with modules script slices blocks ≡ Some command → IsComplete command
+run-complete None script slices blocks command bounded is = absurd (cc is)
+run-complete (Some modules) script None blocks command bounded is = absurd (cc is)
+run-complete (Some modules) script (Some slices) None command bounded is = absurd (cc is)
+run-complete (Some modules) script (Some slices) (Some n) command bounded is =
+    subst IsComplete (some-is _ command is) (refl, bounded n refl)
+
+boot-complete : (images : List (List ℕ)) (script slices : Option (List ℕ)) (blocks : Option ℕ) (command : Command) → IsBounded blocks → boot_with images script slices blocks ≡ Some command → IsComplete command
+boot-complete images None slices blocks command bounded is = absurd (cc is)
+boot-complete images (Some script) None blocks command bounded is = absurd (cc is)
+boot-complete images (Some script) (Some slices) None command bounded is = absurd (cc is)
+boot-complete images (Some script) (Some slices) (Some n) command bounded is =
+    by (nat_le 1 (length images)) (nat_le (length images) most_images) refl refl is
+  where
+    by : (some few : Bool) → nat_le 1 (length images) ≡ some → nat_le (length images) most_images ≡ few → (if some && few then Some (Boot (record { files = images; script = Some script; slices = slices; blocks = n })) else None) ≡ Some command → IsComplete command
+    by true true some few is =
+        subst IsComplete (some-is _ command is) (
+          record {
+            some = leb-true 1 (length images) some;
+            few = leb-true (length images) most_images few;
+            script = refl;
+          },
+          bounded n refl,
+        )
+    by true false some few is = absurd (cc is)
+    by false few some fewer is = absurd (cc is)
+
+check-complete : (image : Option (List ℕ)) (command : Command) → option_map Check image ≡ Some command → IsComplete command
+check-complete None command is = absurd (cc is)
+check-complete (Some image) command is = subst IsComplete (some-is (Check image) command is) (tt, tt)
+
+given-complete : (given : Option Given) (reads : Given → Option Command) (command : Command) → ((words : Given) → reads words ≡ Some command → IsComplete command) → option_and_then reads given ≡ Some command → IsComplete command
+given-complete None reads command complete is = absurd (cc is)
+given-complete (Some words) reads command complete is = complete words is
+
+-- ---- commands by their words
+
+runs-complete : (given : Given) (command : Command) → run_of given ≡ Some command → IsComplete command
+runs-complete given command is =
+    run-complete (only_argument given) (value_of given (codes "script")) (value_of given (codes "slices")) (blocks_of given) command (blocks-are given) is
+
+boots-complete : (given : Given) (command : Command) → boot_of given ≡ Some command → IsComplete command
+boots-complete given command is =
+    boot-complete given.arguments (value_of given (codes "script")) (value_of given (codes "slices")) (blocks_of given) command (blocks-are given) is
+
+checks-complete : (given : Given) (command : Command) → check_of given ≡ Some command → IsComplete command
+checks-complete given command is = check-complete (only_argument given) command is
+
+-- a run has one file, a boot has its images and a script, and both have from 8 to 256 blocks
+pub is-complete : (words : List (List ℕ)) (command : Command) → command_of words ≡ Some command → IsComplete command
+is-complete [] command is = absurd (cc is)
+is-complete (first ∷ words) command is =
+    by (bytes_eq first (codes "run")) (bytes_eq first (codes "boot")) (bytes_eq first (codes "check")) is
+  where
+    by : (run boot check : Bool) → (if run then option_and_then run_of (words_give run_options words) else (if boot then option_and_then boot_of (words_give run_options words) else (if check then option_and_then check_of (words_give check_options words) else None))) ≡ Some command → IsComplete command
+    by true boot check is =
+        given-complete (words_give run_options words) run_of command (λ given e. runs-complete given command e) is
+    by false true check is =
+        given-complete (words_give run_options words) boot_of command (λ given e. boots-complete given command e) is
+    by false false true is =
+        given-complete (words_give check_options words) check_of command (λ given e. checks-complete given command e) is
+    by false false false is = absurd (cc is)
