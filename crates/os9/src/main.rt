@@ -1,6 +1,8 @@
 //! The program: the real host, four drives and four terminals for the top call.
 #![tactic(auto)]
 
+ghost use Rattle.os9_boot.specs.Drives.{HaveRoom, drive_states};
+
 use device_table::devices::Devices;
 use os9_boot::os9_main;
 use os9_outer::drive::BlockDriver;
@@ -36,18 +38,27 @@ fn run(rt: HostRuntime) -> io::Result<u8> {
         words.push(word)?;
     }
     let mut drives: Vec<Box<dyn BlockDriver>> = Vec::new(alloc);
+    drives.push(Box::new(alloc, SureDrive::new())?)?;
+    drives.push(Box::new(alloc, SureDrive::new())?)?;
+    drives.push(Box::new(alloc, SureDrive::new())?)?;
+    drives.push(Box::new(alloc, SureDrive::new())?)?;
+    run_on(rt, words.as_slice(), drives)
+}
+
+/// Does what the words say on these drives, of which there are four without an image, and on four
+/// terminals without keys.
+fn run_on(rt: HostRuntime, words: &[String], drives: Vec<Box<dyn BlockDriver>>) -> io::Result<u8>
+    requires { HaveRoom 4 (drive_states ⟦<dyn BlockDriver as BlockDriver>⟧ drives.items) }
+{
+    let alloc = rt.alloc();
     let mut terms: Vec<Box<dyn CharDriver>> = Vec::new(alloc);
-    drives.push(Box::new(alloc, SureDrive::new())?)?;
-    drives.push(Box::new(alloc, SureDrive::new())?)?;
-    drives.push(Box::new(alloc, SureDrive::new())?)?;
-    drives.push(Box::new(alloc, SureDrive::new())?)?;
     terms.push(Box::new(alloc, SureTty::new(alloc))?)?;
     terms.push(Box::new(alloc, SureTty::new(alloc))?)?;
     terms.push(Box::new(alloc, SureTty::new(alloc))?)?;
     terms.push(Box::new(alloc, SureTty::new(alloc))?)?;
     let mut devices = Devices { drives, terms };
     let mut host = RealHost::new(rt);
-    Ok(os9_main(alloc, words.as_slice(), &mut host, &mut devices))
+    Ok(os9_main(alloc, words, &mut host, &mut devices))
 }
 
 /// Reports that the words are no command line.

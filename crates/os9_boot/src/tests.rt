@@ -1,3 +1,6 @@
+ghost use Rattle.key_loading.specs.Loaded.{AreUnloaded};
+ghost use Rattle.os9_boot.specs.Drives.{HaveRoom, drive_states};
+ghost use Rattle.os9_outer.specs.TerminalState.{terminal_states};
 ghost use Rattle.std.specs.Prelude.{◌≡◌, []};
 
 use crate::os9_main;
@@ -71,10 +74,6 @@ fn call_on(
 ) -> Result<Shown, AllocError>
     requires { keys_left term ≡ [] }
 {
-    let mut given = Vec::new(alloc);
-    for word in words {
-        given.push(String::from_str(alloc, word)?)?;
-    }
     let mut drives: Vec<Box<dyn BlockDriver>> = Vec::new(alloc);
     drives.push(Box::new(alloc, SureDrive::new())?)?;
     drives.push(Box::new(alloc, SureDrive::new())?)?;
@@ -82,7 +81,28 @@ fn call_on(
     drives.push(Box::new(alloc, SureDrive::new())?)?;
     let mut terms: Vec<Box<dyn CharDriver>> = Vec::new(alloc);
     terms.push(term)?;
-    let mut devices = Devices { drives, terms };
+    let devices = Devices { drives, terms };
+    call_with(alloc, devices, words, files, plan)
+}
+
+/// The same on these devices.
+fn call_with(
+    alloc: Global,
+    devices: Devices,
+    words: &[&str],
+    files: Vec<HostFile>,
+    plan: &[u64],
+) -> Result<Shown, AllocError>
+    requires terminals { AreUnloaded
+        (terminal_states ⟦<dyn CharDriver as CharDriver>⟧ devices.terms.items) }
+    requires drives { HaveRoom 4
+        (drive_states ⟦<dyn BlockDriver as BlockDriver>⟧ devices.drives.items) }
+{
+    let mut devices = devices;
+    let mut given = Vec::new(alloc);
+    for word in words {
+        given.push(String::from_str(alloc, word)?)?;
+    }
     let mut host = MemHost::new(alloc, files, Vec::from_slice(alloc, plan)?);
     let status = os9_main(alloc, given.as_slice(), &mut host, &mut devices);
     Ok(Shown {

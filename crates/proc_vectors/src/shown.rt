@@ -1,3 +1,4 @@
+ghost use Rattle.os9_boot.specs.Drives.{HaveRoom, drive_states};
 ghost use Rattle.std.specs.Prelude.{◌≡◌, true, bytes_eq, [], IfOk};
 ghost use Rattle.std.specs.Bool.{OnTrue};
 
@@ -41,15 +42,22 @@ impl Shown {
 /// and four terminals, whose calls fail as the row says. What it writes to a file is what it read
 /// there, so the files are to be as they were.
 pub(crate) fn run(alloc: Global, row: &Row) -> Result<Shown, AllocError> {
-    let words = words(alloc, row)?;
-    let failing = Vec::from_slice(alloc, row.host_failing.as_slice())?;
-    let mut host = MemHost::new(alloc, files(alloc, row)?, failing);
-    // (a boxed driver may not be handed out, so all are made here)
+    // (a boxed driver may not be handed out, so all are made here and below)
     let mut drives: Vec<Box<dyn BlockDriver>> = Vec::new(alloc);
     drives.push(Box::new(alloc, SureDrive::new())?)?;
     drives.push(Box::new(alloc, SureDrive::new())?)?;
     drives.push(Box::new(alloc, SureDrive::new())?)?;
     drives.push(Box::new(alloc, SureDrive::new())?)?;
+    run_on(alloc, row, drives)
+}
+
+/// The same on these drives, of which there are four without an image.
+fn run_on(alloc: Global, row: &Row, drives: Vec<Box<dyn BlockDriver>>) -> Result<Shown, AllocError>
+    requires { HaveRoom 4 (drive_states ⟦<dyn BlockDriver as BlockDriver>⟧ drives.items) }
+{
+    let words = words(alloc, row)?;
+    let failing = Vec::from_slice(alloc, row.host_failing.as_slice())?;
+    let mut host = MemHost::new(alloc, files(alloc, row)?, failing);
     let mut terms: Vec<Box<dyn CharDriver>> = Vec::new(alloc);
     terms.push(Box::new(alloc, terminal(alloc, row, 0)?)?)?;
     terms.push(Box::new(alloc, terminal(alloc, row, 1)?)?)?;
