@@ -2,13 +2,16 @@
 use Rattle.std.proofs.Common.{◌≡◌, ℕ, ◌<◌, ◌∙◌, Option, Some, None, option_map, List, map, length, get_or, set, slice_get, slice_set, Result, Ok, Err, OnOk, OnErr, refl, ap, sym, subst}
 use Rattle.std.proofs.lemmas.List.{length-map, get_or_read, map-set, set-get_or}
 use Rattle.std.proofs.lemmas.Option.{slice_get-map, slice_get_read, same_Some}
+use Rattle.std.specs.declared.alloc.Global.{Global}
+use Rattle.std.specs.declared.dyn_box.DynBox.{DynBox}
+use Rattle.os9_outer.specs.declared.drive.BlockDriver.{Ghosts}
 use Rattle.rbf_model.specs.Volume.{DiskVolume}
 use Rattle.rbf_access.specs.Mounted.{Represents}
 use Rattle.rbf_access.specs.declared.faults.VolFault.{VolFault}
 use Rattle.rbf_access.specs.declared.volume.Volume.{Volume}
 use Rattle.file_drives.proofs.MountedLemmas.{mounted-set}
 use Rattle.file_drives.proofs.SlotLemmas.{mounted-still}
-use Rattle.file_drives.specs.Drives.{DriveView}
+use Rattle.file_drives.specs.Drives.{DriveView, boxed_drive_view, lent_drive_view}
 use Rattle.file_drives.specs.Mounted.{AgreesOnDrive, AreMounted, MountsAs, ReadsToMount, kept_at, mounted_at}
 
 -- what agrees with a drive agrees where its media stayed
@@ -39,3 +42,11 @@ module _ {Driver : Type 0} (view : Driver → DriveView) (items disks : List (Op
       subst (λ vs. AreMounted (slice_set items n new) (map view (slice_set drivers n after)) vs) (set-get_or volumes n None)
       (mounted_then volumes (mounted_at volumes n)
       (subst (λ k. AgreesOnDrive k (view after) (mounted_at volumes n)) (sym stayed) (agrees-still kept (view driver) (view after) (mounted_at volumes n) read.reads.media_kept (subst (λ k. AgreesOnDrive k (view driver) (mounted_at volumes n)) is_kept (mounted.each n (view driver) drive_here)))) mounted)
+
+-- the drive in a box is lent as it is there
+pub mounts-boxed : {Table : Type 0} {Driver : Table → Type 0} (members : (table : Table) → Ghosts (Driver table)) (drive : DynBox Table Global Driver) (lent : (table : Table) × Driver table) → lent ≡ (drive.vtable, drive.value) → (result : Result (Unit {0}) VolFault) (after : DriveView) → ReadsToMount result (lent_drive_view members lent) after → ReadsToMount result (boxed_drive_view members drive) after
+mounts-boxed members drive lent same result after it = subst (λ d. ReadsToMount result (lent_drive_view members d) after) same it
+
+pub mounted-boxed : {Table : Type 0} {Driver : Table → Type 0} (members : (table : Table) → Ghosts (Driver table)) (drive : DynBox Table Global Driver) (lent : (table : Table) × Driver table) → lent ≡ (drive.vtable, drive.value) → (result : Result (Unit {0}) VolFault) (new : Option Volume) (after : DriveView) → OnOk result ((v : DiskVolume) → Represents (lent_drive_view members lent).media v → AgreesOnDrive new after (Some v)) → OnOk result ((v : DiskVolume) → Represents (boxed_drive_view members drive).media v → AgreesOnDrive new after (Some v))
+mounted-boxed members drive lent same result new after it =
+    subst (λ d. OnOk result ((v : DiskVolume) → Represents (lent_drive_view members d).media v → AgreesOnDrive new after (Some v))) same it

@@ -1,6 +1,6 @@
 -- The volumes that are mounted on the drives of a machine: what is kept for each drive is that of its media, which
 -- represents the volume (this project's own).
-use Rattle.std.specs.Prelude.{◌≡◌, ℕ, ◌≤◌, false, Option, Some, None, List, Result, Ok, Err, IsErrOf, length, slice_get, slice_index_or, slice_set}
+use Rattle.std.specs.Prelude.{◌≡◌, ℕ, ◌≤◌, false, Option, Some, None, List, Result, Ok, Err, IsErrOf, OnOk, length, slice_get, slice_index_or, slice_set}
 use Rattle.rbf_model.specs.File.{DiskFile, is_directory}
 use Rattle.rbf_model.specs.Volume.{DiskVolume}
 use Rattle.rbf_change.specs.Agrees.{Agrees}
@@ -119,5 +119,7 @@ mounting_calls (Err OutOfMemory) media = media_calls media
 -- the drive is read for an attempt to mount it, which answers so
 pub record ReadsToMount (result : Result (Unit {0}) VolFault) (old new : DriveView) : Type 0 where
   pub reads : Reads (volume_fault result) (mounting_calls result old.media) old new
+  -- it holds a volume
+  pub holds : OnOk result (HoldsVolume old.media)
   -- it holds no volume
   pub not_rbf : IsErrOf result NotRbf → ¬ HoldsVolume old.media

@@ -1,6 +1,6 @@
 //! The volumes of D0 to D3.
 
-ghost use Rattle.std.specs.Prelude.{◌≡◌, ℕ, ◌<◌, false, Option, Some, None, IsSome, IfOk, IfSome, OnOk, OnErr, List, length, option_map, replicate, vec_len};
+ghost use Rattle.std.specs.Prelude.{◌≡◌, ◌≢◌, ℕ, ◌<◌, false, Option, Some, None, IsSome, IfOk, IfSome, OnOk, OnErr, List, length, option_map, replicate, vec_len};
 ghost use Rattle.rbf_model.specs.Volume.{DiskVolume};
 ghost use Rattle.rbf_model.specs.Walk.{step};
 ghost use Rattle.rbf_change.specs.Names.{deletion_end};
@@ -17,7 +17,7 @@ ghost use Rattle.file_drives.specs.Calls.{deleting_calls, making_calls, sizing_c
 ghost use Rattle.file_drives.specs.Changed.{Asked, ChangesVolume, file_answer, numbered};
 ghost use Rattle.file_drives.specs.Drives.{DriveView, drive_views, ChangesOneDrive};
 ghost use Rattle.file_drives.specs.Entries.{IsDeletableOn, IsDeletionOn, IsPlaceAt, IsPlaceOn, MayBeDeletedOn};
-ghost use Rattle.file_drives.specs.Mounted.{AgreesOnDrive, AreMounted, ArrivesOn, HasDataFileAt, HasFileAt, MountsAs, OnDisks, ReadsFile, ReadsToMount, mounted_at, number_arrived};
+ghost use Rattle.file_drives.specs.Mounted.{AgreesOnDrive, AreMounted, ArrivesOn, HasDataFileAt, HasFileAt, MountsAs, OnDisks, ReadsFile, ReadsToMount, kept_at, mounted_at, number_arrived};
 
 use crate::changing::{set_attr_in_box, set_size_in_box, write_in_box};
 use crate::entries::{
@@ -74,7 +74,7 @@ impl Disks {
     }
 
     /// Mounts the volume that the media of a drive holds, in place of the one that was mounted
-    /// there.
+    /// there. What is kept for the other drives stays.
     ///
     /// # Errors
     ///
@@ -86,6 +86,7 @@ impl Disks {
         ensures mounted { MountsAs result n
             self.old (drive_views ⟦<dyn BlockDriver as BlockDriver>⟧ devices.old.drives.items)
             self.new (drive_views ⟦<dyn BlockDriver as BlockDriver>⟧ devices.new.drives.items) }
+        ensures others { (m : ℕ) → m ≢ n → kept_at self.new m ≡ kept_at self.old m }
         ensures drive { ChangesOneDrive (ReadsToMount result) n
             (drive_views ⟦<dyn BlockDriver as BlockDriver>⟧ devices.old.drives.items)
             (drive_views ⟦<dyn BlockDriver as BlockDriver>⟧ devices.new.drives.items) }
@@ -486,7 +487,8 @@ impl Disks {
     }
 
     /// Deletes the file whose entry [`Disks::find_deletable`] has found (OS-9 Technical Reference,
-    /// I$Delete): its entry is made free, and then its clusters are.
+    /// I$Delete): its entry is made free, and then its clusters are. Whether a user may delete it
+    /// was tested there, and is not tested here.
     ///
     /// # Errors
     ///
