@@ -3,4 +3,5 @@
 #![tactic(auto)]
 
 pub mod list;
+pub mod named;
 mod names;

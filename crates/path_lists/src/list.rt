@@ -1,9 +1,11 @@
 //! Path lists.
 
-ghost use Rattle.std.specs.Prelude.{◌≡◌, ◌+◌, ◌<◌, length};
+ghost use Rattle.std.specs.Prelude.{◌≡◌, ◌+◌, ◌<◌, ◌≤◌, Ok, MatchOption, length};
+ghost use Rattle.os9_base.specs.Cells.{Cells};
 ghost use Rattle.guest_memory.specs.Tie.{IsSame, cells_of};
-ghost use Rattle.io_rules.specs.PathList.{path_list, device_list, relative_list, names_from, behind};
-ghost use Rattle.path_lists.specs.Listed.{listed_of, listed_by, listed_with, tails};
+ghost use Rattle.io_rules.specs.PathList.{PathList, path_list, device_list, relative_list, names_from, behind};
+ghost use Rattle.path_lists.specs.Listed.{listed, listed_of, listed_by, listed_with, tails};
+ghost use Rattle.path_lists.specs.Standing.{NamesFrom};
 ghost use Rattle.path_lists.specs.Tail.{step_by};
 
 use crate::names::{Step, Tail, read_tail, step_over};
@@ -25,6 +27,31 @@ pub struct Listed {
     pub slash: bool,
     /// The address just past it.
     pub next: u32,
+}
+
+impl Listed {
+    /// The address at which the first of the names stands that are looked up, by that of the list;
+    /// None exactly if there are none.
+    pub fn first_name(&self, at: u16) -> Option<u16>
+        ensures { (cells : Cells) (list : PathList) → path_list cells at ≡ Ok list
+            → self.now ≡ listed list → NamesFrom cells result list.names }
+    {
+        if !self.has_names {
+            return None;
+        }
+        match &self.device {
+            None => Some(at),
+            Some(device) => behind_device(at, device.len()),
+        }
+    }
+}
+
+/// The address at which the first name stands behind that of the device, which is so long; None
+/// exactly if it would be past `FFFF`.
+fn behind_device(at: u16, len: u8) -> Option<u16>
+    ensures { MatchOption result (65536 ≤ at + len + 2) (λ first. first ≡ at + len + 2) }
+{
+    at.checked_add(u16::from(len) + 2)
 }
 
 /// Reads the path list at an address of a process (System Programmer's Manual, I$Open): names with
