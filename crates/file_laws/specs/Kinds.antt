@@ -1,0 +1,30 @@
+-- What paths and directories of processes are on (Level Two manual, "Path descriptors"; System Programmer's Manual,
+-- I$Open and I$ChgDir): a path that was opened on a file is on one that is there and is no directory, a path that was
+-- opened on a directory is on one, and so is each directory of a process.
+use Rattle.std.specs.Prelude.{◌≡◌, ℕ, Bool, true, false, Some}
+use Rattle.io_model.specs.Path.{desc_of}
+use Rattle.io_model.specs.declared.path.Desc.{Desc}
+use Rattle.io_model.specs.declared.path.Target.{Target}
+use Rattle.io_model.specs.declared.path.Target.TheVariants.{File, Folder, Term, Pipe}
+use Rattle.rbf_model.specs.File.{DiskFile, is_directory}
+use Rattle.file_rules.specs.Files.{Files, directory_of, file_in}
+use Rattle.file_rules.specs.declared.places.FilePlace.{FilePlace}
+
+-- there is a file at the place, and it is a directory or is none
+pub record IsOfKind (files : Files) (place : FilePlace) (directory : Bool) : Type 0 where
+  pub file : DiskFile
+  pub there : file_in files place ≡ Some file
+  pub kind : is_directory file ≡ directory
+
+-- what a path was opened on is there, and is a directory or none as the path has it; terminals and pipes are no files
+abbrev pub IsOnItsKind : Files → Target → Type 0
+IsOnItsKind files (File drive number) = IsOfKind files (record { drive = drive; number = number }) false
+IsOnItsKind files (Folder drive number) = IsOfKind files (record { drive = drive; number = number }) true
+IsOnItsKind files (Term terminal) = Unit {0}
+IsOnItsKind files (Pipe pipe) = Unit {0}
+
+-- each path is on what it was opened on, and each directory of a process, for data and for execution, is a directory
+pub record AreKinds (files : Files) : Type 0 where
+  pub paths : (s : ℕ) (desc : Desc) → desc_of files.io.paths s ≡ Some desc → IsOnItsKind files desc.target
+  pub directories : (p : ℕ) (execute : Bool) (place : FilePlace) → directory_of files p execute ≡ Some place
+      → IsOfKind files place true
