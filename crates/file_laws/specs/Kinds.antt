@@ -1,13 +1,15 @@
 -- What paths and directories of processes are on (Level Two manual, "Path descriptors"; System Programmer's Manual,
 -- I$Open and I$ChgDir): a path that was opened on a file is on one that is there and is no directory, a path that was
 -- opened on a directory is on one, and so is each directory of a process.
-use Rattle.std.specs.Prelude.{◌≡◌, ℕ, Bool, true, false, Some}
+use Rattle.std.specs.Prelude.{◌≡◌, ℕ, ◌<◌, Bool, true, false, Some}
 use Rattle.io_model.specs.Path.{desc_of}
 use Rattle.io_model.specs.declared.path.Desc.{Desc}
 use Rattle.io_model.specs.declared.path.Target.{Target}
 use Rattle.io_model.specs.declared.path.Target.TheVariants.{File, Folder, Term, Pipe}
 use Rattle.rbf_model.specs.File.{DiskFile, is_directory}
-use Rattle.file_rules.specs.Files.{Files, directory_of, file_in}
+use Rattle.rbf_model.specs.Volume.{DiskVolume}
+use Rattle.rbf_change.specs.Calls.{cluster_size}
+use Rattle.file_rules.specs.Files.{Files, directory_of, file_in, volume_at}
 use Rattle.file_rules.specs.declared.places.FilePlace.{FilePlace}
 
 -- there is a file at the place, and it is a directory or is none
@@ -23,8 +25,10 @@ IsOnItsKind files (Folder drive number) = IsOfKind files (record { drive = drive
 IsOnItsKind files (Term terminal) = Unit {0}
 IsOnItsKind files (Pipe pipe) = Unit {0}
 
--- each path is on what it was opened on, and each directory of a process, for data and for execution, is a directory
+-- each path is on what it was opened on, and each directory of a process, for data and for execution, is a directory.
+-- The clusters of each mounted volume have sectors: without that a new file could take the number of another
 pub record AreKinds (files : Files) : Type 0 where
   pub paths : (s : ℕ) (desc : Desc) → desc_of files.io.paths s ≡ Some desc → IsOnItsKind files desc.target
   pub directories : (p : ℕ) (execute : Bool) (place : FilePlace) → directory_of files p execute ≡ Some place
       → IsOfKind files place true
+  pub clusters : (drive : ℕ) (v : DiskVolume) → volume_at files drive ≡ Some v → 0 < cluster_size v
