@@ -1,0 +1,5 @@
+pub mod Kept
+pub mod Volumes
+pub mod Paths
+pub mod Steps
+pub mod Opening
