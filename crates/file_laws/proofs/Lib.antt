@@ -3,3 +3,4 @@ pub mod Volumes
 pub mod Paths
 pub mod Steps
 pub mod Opening
+pub mod OnFiles

@@ -1,0 +1,247 @@
+-- Calls on a number of a path: I$Read, I$Write, I$Seek, I$GetStt, I$SetStt and their like move positions and change one
+-- file, which keeps its kind.
+use Rattle.std.proofs.Common.{◌≡◌, ℕ, ◌+◌, ◌%◌, ◌==◌, Bool, true, false, not, Option, Some, None, List, length, min, refl, sym, ap, ◌∙◌, subst}
+use Rattle.std.specs.Prelude.{is_none, nat_le, nat_lt, option_map, option_and_then, take, if◌then◌else◌}
+use Rattle.std.proofs.lemmas.Option.{none-some, option_and_then_some, same_Some}
+use Rattle.os9_base.specs.declared.calls.TheConstants.{I_READ, I_READLN}
+use Rattle.os9_base.specs.declared.errors.TheConstants.{E_BPADDR, E_BMODE, E_EOF, E_FNA, E_FULL, E_UNKSVC}
+use Rattle.os9_base.specs.declared.registers.Regs.{Regs}
+use Rattle.os9_base.specs.declared.registers.TimePacket.{TimePacket}
+use Rattle.call_rules.specs.UserBytes.{user_bytes}
+use Rattle.io_model.specs.Line.{first_line}
+use Rattle.io_model.specs.Path.{desc_of, slot_of, with_desc}
+use Rattle.io_model.specs.declared.path.Desc.{Desc}
+use Rattle.io_model.specs.declared.path.SysPath.{SysPath}
+use Rattle.io_model.specs.declared.terminal.ReadKind.TheVariants.{Bytes, WholeLine}
+use Rattle.rbf_model.specs.File.{DiskFile, is_directory}
+use Rattle.rbf_model.specs.Volume.{DiskVolume}
+use Rattle.rbf_change.specs.Calls.{cluster_size, free_total, is_free_in, SizesFile, WritesFile, with_attributes}
+use Rattle.rbf_change.specs.Contents.{bytes_from, written}
+use Rattle.rbf_change.specs.Growth.{clusters_needed}
+use Rattle.rbf_change.specs.NewFiles.{owns_file}
+use Rattle.io_rules.specs.Io.{Io, OpenPath, open_path, with_paths}
+use Rattle.io_rules.specs.Modes.{can_read, can_write}
+use Rattle.io_rules.specs.Pipes.{count_regs}
+use Rattle.io_rules.specs.Read.{i_read as reads_device, i_readln as reads_device_line}
+use Rattle.io_rules.specs.Status.{i_getstt as gets_of_device, i_setstt as sets_of_device, options}
+use Rattle.io_rules.specs.Step.{IoStep, answers}
+use Rattle.io_rules.specs.Transfer.{line_at}
+use Rattle.io_rules.specs.Write.{i_write as writes_device, i_writln as writes_device_line, f_perr as tells_device, error_line}
+use Rattle.io_rules.specs.declared.modes.TheConstants.{STANDARD_ERROR}
+use Rattle.io_rules.specs.declared.status.TheConstants.{SS_OPT, SS_READY, SS_EOF, OPTION_BYTES}
+use Rattle.file_rules.specs.Change.{Change, Makes, MayLeave, writes, sizes, sets_attributes}
+use Rattle.file_rules.specs.Files.{Files, Asker, OpenFile, open_file, open_file_at, place_of_target, volume_at, with_io, with_position, with_volume}
+use Rattle.file_rules.specs.OnFile.{by_kind, moves_bytes, on_file}
+use Rattle.file_rules.specs.Read.{answers_bytes, bytes_here, i_read, i_readln, reads_file, reads_on}
+use Rattle.file_rules.specs.Seek.{i_seek, long_of, seeks_nothing}
+use Rattle.file_rules.specs.Status.{asked_bytes, descriptor_front, gets_bytes, gets_descriptor, gets_end, gets_size, gets_status, i_getstt, i_setstt, long_regs, sets_attributes_of, sets_size, sets_status}
+use Rattle.file_rules.specs.Step.{FileStep, refused, comes, reaches, changes, leaves_so, done, leaves, needs, refuses, stores}
+use Rattle.file_rules.specs.Write.{changes_file, f_perr, i_write, i_writln, sends_bytes, writes_bytes}
+use Rattle.file_rules.specs.declared.places.FilePlace.{FilePlace}
+use Rattle.file_rules.specs.declared.status.TheConstants.{SS_SIZE, SS_POS, SS_FD, SS_ATTR}
+use Rattle.file_laws.specs.Kinds.{IsOnItsKind, AreKinds}
+use Rattle.file_laws.proofs.Kept.{AllStill, AreOn, kinds-io, kinds-still}
+use Rattle.file_laws.proofs.Paths.{LeavesOn, on-desc, reads-leave, write-leaves, line-leaves, error-leaves, nothing-leaves, get-leaves, set-leaves}
+use Rattle.file_laws.proofs.Steps.{Kept, KeptOn, io-kept, leaves-kept, needs-by, on-changes, on-leaves, on-refused, reaches-kept, refused-kept, refuses-by}
+use Rattle.file_laws.proofs.Volumes.{all-same, attributes-kind, changes-still, size-kind, size-still, write-still}
+
+-- ---- the path that a number names
+
+map-some : {A B P : Type 0} (f : A → B) (o : Option A) (y : B) → option_map f o ≡ Some y → ((x : A) → o ≡ Some x → f x ≡ y → P) → P
+map-some f None y is next = absurd (none-some y is)
+map-some f (Some x) y is next = next x refl (same_Some (f x) y is)
+
+abbrev path_with : SysPath → Desc → OpenPath
+path_with s desc = record { path = s; desc = desc }
+
+abbrev file_with : OpenPath → FilePlace → DiskVolume → DiskFile → OpenFile
+file_with path place v file = record { opened = path; place = place; volume = v; file = file }
+
+pub path-desc : (io : Io) (p n : ℕ) (opened : OpenPath) → open_path io p n ≡ Some opened → desc_of io.paths opened.path.0 ≡ Some opened.desc
+path-desc io p n opened is =
+    option_and_then_some (λ (s : SysPath). option_map (path_with s) (desc_of io.paths s.0)) (slot_of io.paths p n) opened is (λ s at mapped.
+        map-some (path_with s) (desc_of io.paths s.0) opened mapped (λ desc there same.
+            subst (λ (opened : OpenPath). desc_of io.paths opened.path.0 ≡ Some opened.desc) same there))
+
+pub opened-desc : (files : Files) (p n : ℕ) (opened : OpenFile) → open_file files p n ≡ Some opened → desc_of files.io.paths opened.opened.path.0 ≡ Some opened.opened.desc
+opened-desc files p n opened is =
+    option_and_then_some (λ (path : OpenPath). option_and_then (open_file_at files path) (place_of_target path.desc.target)) (open_path files.io p n) opened is (λ path named at.
+        option_and_then_some (open_file_at files path) (place_of_target path.desc.target) opened at (λ place on here.
+            option_and_then_some (λ (v : DiskVolume). option_map (file_with path place v) (v.files place.number)) (volume_at files place.drive) opened here (λ v mounted mapped.
+                map-some (file_with path place v) (v.files place.number) opened mapped (λ file there same.
+                    let same_path : path ≡ opened.opened = ap (λ (o : OpenFile). o.opened) same in
+                    path-desc files.io p n opened.opened (named ∙ ap (λ (path : OpenPath). Some path) same_path)))))
+
+module _ (asker : Asker) (files : Files) (kinds : AreKinds files) where
+  -- a call goes on with a file, or is the other call
+  file-by : (o : Option OpenFile) (otherwise : IoStep) (next : OpenFile → FileStep) → LeavesOn files otherwise asker.caller files.io → ((opened : OpenFile) → o ≡ Some opened → Kept asker files (next opened)) → Kept asker files (by_kind o otherwise next)
+  file-by None otherwise next on kept = io-kept asker files kinds otherwise on
+  file-by (Some opened) otherwise next on kept = kept opened refl
+
+  on-kept : (number : ℕ) (otherwise : IoStep) (next : OpenFile → FileStep) → LeavesOn files otherwise asker.caller files.io → ((opened : OpenFile) → desc_of files.io.paths opened.opened.path.0 ≡ Some opened.opened.desc → Kept asker files (next opened)) → Kept asker files (on_file asker files number otherwise next)
+  on-kept number otherwise next on kept =
+      file-by (open_file files asker.caller.process.0 number) otherwise next on (λ opened is. kept opened (opened-desc files asker.caller.process.0 number opened is))
+
+  none-kept : (number : ℕ) → Kept asker files (refused number)
+  none-kept number = refused-kept asker files kinds number
+
+  module _ (opened : OpenFile) (there : desc_of files.io.paths opened.opened.path.0 ≡ Some opened.opened.desc) where
+    -- the paths with another position of this one
+    position-on : (at : ℕ) → AreOn files (with_desc files.io.paths opened.opened.path.0 (Some (record opened.opened.desc { at = at })))
+    position-on at =
+        on-desc files files.io.paths opened.opened.path.0 (Some (record opened.opened.desc { at = at })) kinds.paths
+        (λ desc is. subst (λ (d : Desc). IsOnItsKind files d.target) (same_Some (record opened.opened.desc { at = at }) desc is) (kinds.paths opened.opened.path.0 opened.opened.desc there))
+
+    moved-kinds : (at : ℕ) → AreKinds (with_position files opened.opened at)
+    moved-kinds at = kinds-io files kinds (with_paths files.io (with_desc files.io.paths opened.opened.path.0 (Some (record opened.opened.desc { at = at })))) (position-on at)
+
+    -- what moves bytes
+    moves-kept : (is_allowed : ℕ → Bool) (next : FileStep) → Kept asker files next → Kept asker files (moves_bytes asker files opened is_allowed next)
+    moves-kept is_allowed next kept =
+        refuses-by (Kept asker files) none-kept (not (is_allowed opened.opened.desc.mode)) E_BMODE (if asker.caller.regs.y == 0 then done asker.caller.regs files else next)
+        (λ allowed. by_count (asker.caller.regs.y == 0))
+      where
+        by_count : (nothing : Bool) → Kept asker files (if nothing then done asker.caller.regs files else next)
+        by_count true = leaves-kept asker files kinds (leaves (answers asker.caller.regs) files) kinds
+        by_count false = kept
+
+    -- ---- I$Read and I$ReadLn
+
+    read-kept : (part : List ℕ → List ℕ) → Kept asker files (reads_file asker files part opened)
+    read-kept part =
+        reaches-kept asker files kinds opened.place.drive (refuses (nat_le (length opened.file.contents) opened.opened.desc.at) E_EOF (comes (leaves_so (answers_bytes asker files opened (part (bytes_here asker opened))))))
+        (refuses-by (KeptOn asker files opened.place.drive) (on-refused asker files kinds opened.place.drive) (nat_le (length opened.file.contents) opened.opened.desc.at) E_EOF (comes (leaves_so (answers_bytes asker files opened (part (bytes_here asker opened)))))
+        (λ more. on-leaves asker files kinds opened.place.drive (answers_bytes asker files opened (part (bytes_here asker opened))) (moved-kinds (opened.opened.desc.at + length (part (bytes_here asker opened))))))
+
+    -- ---- changes of the file
+
+    change-kept : (change : Change) (size : ℕ) (regs : Regs) (io : Io) → AreKinds (with_io files io) → ((was now : DiskVolume) (number : ℕ) → Makes change asker.user asker.now was now number → AllStill was now) → ((was left : DiskVolume) → MayLeave change asker.user asker.now was left → AllStill was left) → Kept asker files (changes_file files opened change size regs (with_io files io))
+    change-kept change size regs io after made left =
+        reaches-kept asker files kinds opened.place.drive (refuses (nat_lt (free_total opened.volume) (clusters_needed (cluster_size opened.volume) opened.file.segments size)) E_FULL (comes (changes (record { drive = opened.place.drive; change = change; effect = λ n. leaves (answers regs) (with_io files io) }))))
+        (refuses-by (KeptOn asker files opened.place.drive) (on-refused asker files kinds opened.place.drive) (nat_lt (free_total opened.volume) (clusters_needed (cluster_size opened.volume) opened.file.segments size)) E_FULL (comes (changes (record { drive = opened.place.drive; change = change; effect = λ n. leaves (answers regs) (with_io files io) })))
+        (λ room. on-changes asker files kinds (record { drive = opened.place.drive; change = change; effect = λ n. leaves (answers regs) (with_io files io) })
+        (λ was now number is makes. kinds-still (with_io files io) opened.place.drive was now is (made was now number makes) after)
+        (λ was left_now is may. kinds-still files opened.place.drive was left_now is (left was left_now may) kinds)))
+
+    write-kept : (bytes : List ℕ) (regs : Regs) → Kept asker files (writes_bytes files opened bytes regs)
+    write-kept bytes regs =
+        change-kept (writes opened.place.number opened.opened.desc.at bytes) (length (written opened.file.contents opened.opened.desc.at bytes)) regs
+        (with_paths files.io (with_desc files.io.paths opened.opened.path.0 (Some (record opened.opened.desc { at = opened.opened.desc.at + length bytes }))))
+        (moved-kinds (opened.opened.desc.at + length bytes))
+        (λ was now number it. changes-still (WritesFile (cluster_size was) (is_free_in was) opened.opened.desc.at bytes asker.now) (λ old new done. ap (λ (file : DiskFile). is_directory file) done.file) was now opened.place.number it)
+        (λ was left it. write-still was left opened.place.number opened.opened.desc.at bytes it)
+
+    send-kept : (bytes : List ℕ) → Kept asker files (sends_bytes asker files opened bytes)
+    send-kept bytes =
+        moves-kept can_write (writes_bytes files opened bytes (count_regs asker.caller (length bytes))) (write-kept bytes (count_regs asker.caller (length bytes)))
+
+    -- ---- I$GetStt
+
+    get-on : (count : ℕ) (bytes : List ℕ) → Kept asker files (gets_bytes asker files count (λ step. step) bytes)
+    get-on count bytes =
+        refuses-by (Kept asker files) none-kept (is_none (user_bytes asker.caller.cells asker.caller.regs.x count)) E_BPADDR (comes (leaves_so (stores asker.caller.regs.x bytes asker.caller.regs files)))
+        (λ fits. leaves-kept asker files kinds (stores asker.caller.regs.x bytes asker.caller.regs files) kinds)
+
+    reach-done : (step : FileStep) → KeptOn asker files opened.place.drive step → Kept asker files (reaches opened.place.drive step)
+    reach-done step kept = reaches-kept asker files kinds opened.place.drive step kept
+
+    descriptor-kept : Kept asker files (gets_descriptor asker files opened)
+    descriptor-kept =
+        refuses-by (Kept asker files) none-kept (is_none (user_bytes asker.caller.cells asker.caller.regs.x (asked_bytes asker))) E_BPADDR (reaches opened.place.drive (comes (leaves_so (stores asker.caller.regs.x (take (asked_bytes asker) (descriptor_front opened.file)) asker.caller.regs files))))
+        (λ fits. reach-done (comes (leaves_so (stores asker.caller.regs.x (take (asked_bytes asker) (descriptor_front opened.file)) asker.caller.regs files)))
+        (on-leaves asker files kinds opened.place.drive (stores asker.caller.regs.x (take (asked_bytes asker) (descriptor_front opened.file)) asker.caller.regs files) kinds))
+
+    size-kept : Kept asker files (gets_size asker files opened)
+    size-kept =
+        reach-done (done (long_regs asker.caller.regs (length opened.file.contents)) files)
+        (on-leaves asker files kinds opened.place.drive (leaves (answers (long_regs asker.caller.regs (length opened.file.contents))) files) kinds)
+
+    end-kept : Kept asker files (gets_end asker files opened)
+    end-kept =
+        reach-done (refuses (nat_le (length opened.file.contents) opened.opened.desc.at) E_EOF (done (record asker.caller.regs { b = 0 }) files))
+        (refuses-by (KeptOn asker files opened.place.drive) (on-refused asker files kinds opened.place.drive) (nat_le (length opened.file.contents) opened.opened.desc.at) E_EOF (done (record asker.caller.regs { b = 0 }) files)
+        (λ more. on-leaves asker files kinds opened.place.drive (leaves (answers (record asker.caller.regs { b = 0 })) files) kinds))
+
+    done-kept : (regs : Regs) → Kept asker files (done regs files)
+    done-kept regs = leaves-kept asker files kinds (leaves (answers regs) files) kinds
+
+    status-by : (opt ready size pos end fd : Bool) → Kept asker files (if opt then gets_bytes asker files OPTION_BYTES (λ step. step) (options opened.opened.desc.target) else (if ready then done (record asker.caller.regs { b = 0 }) files else (if size then gets_size asker files opened else (if pos then done (long_regs asker.caller.regs opened.opened.desc.at) files else (if end then gets_end asker files opened else (if fd then gets_descriptor asker files opened else refused E_UNKSVC))))))
+    status-by true ready size pos end fd = get-on OPTION_BYTES (options opened.opened.desc.target)
+    status-by false true size pos end fd = done-kept (record asker.caller.regs { b = 0 })
+    status-by false false true pos end fd = size-kept
+    status-by false false false true end fd = done-kept (long_regs asker.caller.regs opened.opened.desc.at)
+    status-by false false false false true fd = end-kept
+    status-by false false false false false true = descriptor-kept
+    status-by false false false false false false = none-kept E_UNKSVC
+
+    get-status : (code : ℕ) → Kept asker files (gets_status asker files opened code)
+    get-status code = status-by (code == SS_OPT) (code == SS_READY) (code == SS_SIZE) (code == SS_POS) (code == SS_EOF) (code == SS_FD)
+
+    -- ---- I$SetStt
+
+    set-size : Kept asker files (sets_size asker files opened)
+    set-size =
+        refuses-by (Kept asker files) none-kept (not (can_write opened.opened.desc.mode)) E_BMODE (changes_file files opened (sizes opened.place.number (long_of asker.caller.regs)) (long_of asker.caller.regs) asker.caller.regs files)
+        (λ allowed. change-kept (sizes opened.place.number (long_of asker.caller.regs)) (long_of asker.caller.regs) asker.caller.regs files.io kinds
+        (λ was now number it. changes-still (SizesFile (cluster_size was) (is_free_in was) opened.place.number (long_of asker.caller.regs) asker.now) (size-kind (cluster_size was) (is_free_in was) opened.place.number (long_of asker.caller.regs) asker.now) was now opened.place.number it)
+        (λ was left it. size-still it.0 was left opened.place.number (long_of asker.caller.regs) asker.now it.2))
+
+    set-attributes : Kept asker files (sets_attributes_of asker files opened)
+    set-attributes =
+        reach-done (refuses (not (owns_file opened.file asker.user)) E_FNA (comes (changes (record { drive = opened.place.drive; change = sets_attributes opened.place.number (asker.caller.regs.x % 256); effect = λ n. leaves (answers asker.caller.regs) files }))))
+        (refuses-by (KeptOn asker files opened.place.drive) (on-refused asker files kinds opened.place.drive) (not (owns_file opened.file asker.user)) E_FNA (comes (changes (record { drive = opened.place.drive; change = sets_attributes opened.place.number (asker.caller.regs.x % 256); effect = λ n. leaves (answers asker.caller.regs) files })))
+        (λ owns. on-changes asker files kinds (record { drive = opened.place.drive; change = sets_attributes opened.place.number (asker.caller.regs.x % 256); effect = λ n. leaves (answers asker.caller.regs) files })
+        (λ was now number is it. kinds-still files opened.place.drive was now is
+        (changes-still (λ old new. new ≡ with_attributes old (asker.caller.regs.x % 256) asker.now) (λ old new done. ap (λ (file : DiskFile). is_directory file) done ∙ attributes-kind old.attributes (asker.caller.regs.x % 256)) was now opened.place.number it) kinds)
+        (λ was left is same. kinds-still files opened.place.drive was left is (all-same was left same) kinds)))
+
+    set-by : (size attributes : Bool) → Kept asker files (if size then sets_size asker files opened else (if attributes then sets_attributes_of asker files opened else refused E_UNKSVC))
+    set-by true attributes = set-size
+    set-by false true = set-attributes
+    set-by false false = none-kept E_UNKSVC
+
+  -- ---- the calls
+
+  reads-kept : (otherwise : IoStep) (part : List ℕ → List ℕ) → LeavesOn files otherwise asker.caller files.io → Kept asker files (reads_on asker files otherwise part)
+  reads-kept otherwise part on =
+      on-kept asker.caller.regs.a otherwise (λ opened. refuses (is_none (user_bytes asker.caller.cells asker.caller.regs.x asker.caller.regs.y)) E_BPADDR (moves_bytes asker files opened can_read (reads_file asker files part opened))) on
+      (λ opened there. refuses-by (Kept asker files) none-kept (is_none (user_bytes asker.caller.cells asker.caller.regs.x asker.caller.regs.y)) E_BPADDR (moves_bytes asker files opened can_read (reads_file asker files part opened))
+      (λ fits. moves-kept opened there can_read (reads_file asker files part opened) (read-kept opened there part)))
+
+  pub i_read-kept : Kept asker files (i_read asker files)
+  i_read-kept =
+      reads-kept (reads_device asker.caller files.io) (λ bytes. bytes) (reads-leave files asker.caller files.io kinds.paths Bytes I_READ)
+
+  pub i_readln-kept : Kept asker files (i_readln asker files)
+  i_readln-kept =
+      reads-kept (reads_device_line asker.caller files.io) first_line (reads-leave files asker.caller files.io kinds.paths WholeLine I_READLN)
+
+  pub i_write-kept : Kept asker files (i_write asker files)
+  i_write-kept =
+      on-kept asker.caller.regs.a (writes_device asker.caller files.io) (λ opened. needs (user_bytes asker.caller.cells asker.caller.regs.x asker.caller.regs.y) E_BPADDR (sends_bytes asker files opened)) (write-leaves files asker.caller files.io kinds.paths)
+      (λ opened there. needs-by (Kept asker files) none-kept (user_bytes asker.caller.cells asker.caller.regs.x asker.caller.regs.y) E_BPADDR (sends_bytes asker files opened) (λ bytes is. send-kept opened there bytes))
+
+  pub i_writln-kept : Kept asker files (i_writln asker files)
+  i_writln-kept =
+      on-kept asker.caller.regs.a (writes_device_line asker.caller files.io) (λ opened. needs (line_at asker.caller.cells asker.caller.regs.x asker.caller.regs.y) E_BPADDR (sends_bytes asker files opened)) (line-leaves files asker.caller files.io kinds.paths)
+      (λ opened there. needs-by (Kept asker files) none-kept (line_at asker.caller.cells asker.caller.regs.x asker.caller.regs.y) E_BPADDR (sends_bytes asker files opened) (λ bytes is. send-kept opened there bytes))
+
+  pub f_perr-kept : Kept asker files (f_perr asker files)
+  f_perr-kept =
+      on-kept STANDARD_ERROR (tells_device asker.caller files.io) (λ opened. refuses (not (can_write opened.opened.desc.mode)) E_BMODE (writes_bytes files opened (error_line asker.caller.regs.b) asker.caller.regs)) (error-leaves files asker.caller files.io kinds.paths)
+      (λ opened there. refuses-by (Kept asker files) none-kept (not (can_write opened.opened.desc.mode)) E_BMODE (writes_bytes files opened (error_line asker.caller.regs.b) asker.caller.regs) (λ allowed. write-kept opened there (error_line asker.caller.regs.b) asker.caller.regs))
+
+  pub i_seek-kept : Kept asker files (i_seek asker files)
+  i_seek-kept =
+      on-kept asker.caller.regs.a (seeks_nothing asker.caller files.io) (λ opened. done asker.caller.regs (with_position files opened.opened (long_of asker.caller.regs))) (nothing-leaves files asker.caller files.io kinds.paths)
+      (λ opened there. leaves-kept asker files kinds (leaves (answers asker.caller.regs) (with_position files opened.opened (long_of asker.caller.regs))) (moved-kinds opened there (long_of asker.caller.regs)))
+
+  pub i_getstt-kept : Kept asker files (i_getstt asker files)
+  i_getstt-kept =
+      on-kept asker.caller.regs.a (gets_of_device asker.caller files.io) (λ opened. gets_status asker files opened asker.caller.regs.b) (get-leaves files asker.caller files.io kinds.paths)
+      (λ opened there. get-status opened there asker.caller.regs.b)
+
+  pub i_setstt-kept : Kept asker files (i_setstt asker files)
+  i_setstt-kept =
+      on-kept asker.caller.regs.a (sets_of_device asker.caller files.io) (λ opened. sets_status asker files opened asker.caller.regs.b) (set-leaves files asker.caller files.io kinds.paths)
+      (λ opened there. set-by opened there (asker.caller.regs.b == SS_SIZE) (asker.caller.regs.b == SS_ATTR))
