@@ -4,3 +4,5 @@ pub mod Paths
 pub mod Steps
 pub mod Opening
 pub mod OnFiles
+pub mod Making
+pub mod Deleting
