@@ -47,7 +47,7 @@ AreOn files paths = (s : ℕ) (desc : Desc) → desc_of paths s ≡ Some desc �
 abbrev pub directory_in : Bool → Directories → Option FilePlace
 directory_in execute directories = if execute then directories.execution_directory else directories.data_directory
 
-none-in : (execute : Bool) (place : FilePlace) → directory_in execute no_directories ≡ Some place → ⊥
+pub none-in : (execute : Bool) (place : FilePlace) → directory_in execute no_directories ≡ Some place → ⊥
 none-in true place at = none-some place at
 none-in false place at = none-some place at
 

@@ -6,3 +6,5 @@ pub mod Opening
 pub mod OnFiles
 pub mod Making
 pub mod Deleting
+pub mod Starts
+pub mod Attempts

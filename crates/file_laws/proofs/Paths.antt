@@ -70,7 +70,7 @@ module _ (files : Files) where
       by_places (Some n) (Some s) =
           λ path d there. on-desc paths s (Some desc) on (λ d is. subst (λ (d : Desc). IsOnItsKind files d.target) (same_Some desc d is) new) path d there
 
-  on-dup : (paths : PathTable) (p n : ℕ) → On paths → On (paths_after_dup paths p n)
+  pub on-dup : (paths : PathTable) (p n : ℕ) → On paths → On (paths_after_dup paths p n)
   on-dup paths p n on = by_place (free_number paths p)
     where
       by_place : (free : Option ℕ) → On (option_map_or (λ free. with_slot paths p free (slot_of paths p n)) free paths)
