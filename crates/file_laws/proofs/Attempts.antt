@@ -1,7 +1,7 @@
 -- Every attempt of a call on a path, a file or a directory, and every load, keeps paths and directories on what they
 -- are on.
-use Rattle.std.proofs.Common.{◌≡◌, ℕ, Option, Some, None, List, length, refl, sym, ap, ◌∙◌, subst}
-use Rattle.std.specs.Prelude.{MatchOption}
+use Rattle.std.proofs.Common.{◌≡◌, ℕ, Option, Some, None, List, length, sym, subst, inl, inr, ◌⊎◌}
+use Rattle.std.specs.Prelude.{MatchOption, Result}
 use Rattle.os9_base.specs.Cells.{Cells}
 use Rattle.os9_base.specs.declared.call.CallEnd.{CallEnd}
 use Rattle.os9_base.specs.declared.registers.Regs.{Regs}
@@ -18,15 +18,16 @@ use Rattle.io_rules.specs.Close.{i_close}
 use Rattle.io_rules.specs.Dup.{i_dup}
 use Rattle.io_rules.specs.Io.{with_call}
 use Rattle.file_rules.specs.Attempts.{AskerAttempts, FileAttempts, asker_of, file_step, files_after}
-use Rattle.file_rules.specs.Files.{Files, Asker, with_drives}
+use Rattle.file_rules.specs.Files.{Files, Asker, NoneFailed}
 use Rattle.file_rules.specs.Load.{LoadAttempts}
 use Rattle.file_rules.specs.Program.{ChainAttempts, ForkAttempts, StartsFile, chains, forks, named_program}
-use Rattle.file_rules.specs.ProgramFile.{ProgramFile, ReadsProgram}
+use Rattle.file_rules.specs.ProgramFile.{ProgramFile, ReadingIsBroken, ReadsProgram, reading_of}
 use Rattle.file_rules.specs.Step.{FileEffect, FileDoes, Step}
 use Rattle.file_rules.specs.declared.path_call.PathCall.{PathCall}
 use Rattle.file_rules.specs.declared.path_call.PathCall.TheVariants as Call
-use Rattle.std.specs.Prelude.{Result}
 use Rattle.file_laws.specs.Kinds.{AreKinds}
+use Rattle.file_laws.specs.Mounted.{AreAsMany}
+use Rattle.file_laws.proofs.Counts.{Stands, many-drives, many-io, many-same, many-then, none-many}
 use Rattle.file_laws.proofs.Deleting.{delete-kept, deletx-kept}
 use Rattle.file_laws.proofs.Kept.{kinds-drives, kinds-io}
 use Rattle.file_laws.proofs.Making.{create-kept, makdir-kept}
@@ -56,34 +57,63 @@ module _ (asker : Asker) (files : Files) (kinds : AreKinds files) where
       io-kept asker files kinds (i_close asker.caller files.io) (close-leaves files asker.caller files.io kinds.paths)
   step-kept Call.PErr terms = f_perr-kept asker files kinds
 
-  pub does-kinds : (call : PathCall) (effect : FileEffect) (p : ℕ) (old new : List TerminalState) → FileDoes (file_step call asker files (length old)) asker files effect old new → AreKinds (files_after p effect)
-  does-kinds call effect p old new does =
-      let left : AreKinds effect.files = does-kept asker files kinds (file_step call asker files (length old)) effect old new (step-kept call (length old)) does in
-      kinds-io effect.files left (with_call effect.files.io p (kept_in effect.end)) left.paths
+  pub does-stands : (call : PathCall) (effect : FileEffect) (p : ℕ) (old new : List TerminalState) → FileDoes (file_step call asker files (length old)) asker files effect old new → Stands files (files_after p effect)
+  does-stands call effect p old new does =
+      let left : Stands files effect.files = does-kept asker files kinds (file_step call asker files (length old)) effect old new (step-kept call (length old)) does in
+      record {
+        kinds = kinds-io effect.files left.kinds (with_call effect.files.io p (kept_in effect.end)) left.kinds.paths;
+        many = many-then files effect.files (files_after p effect) left.many (many-io effect.files (with_call effect.files.io p (kept_in effect.end)));
+      }
 
-pub attempt-kinds : (call : PathCall) (inner : Inner) (files : Files) (now : TimePacket) (p : ℕ) (result : CallResult) (new : Files) (old_terms new_terms : List TerminalState) → FileAttempts call inner files now p result new old_terms new_terms → AreKinds files → AreKinds new
-attempt-kinds call inner files now p result new old_terms new_terms it kinds =
-    subst AreKinds (sym it.state) (does-kinds (asker_of inner p now) files kinds call it.effect p old_terms new_terms it.does)
+pub attempt-stands : (call : PathCall) (inner : Inner) (files : Files) (now : TimePacket) (p : ℕ) (result : CallResult) (new : Files) (old_terms new_terms : List TerminalState) → FileAttempts call inner files now p result new old_terms new_terms → AreKinds files → Stands files new
+attempt-stands call inner files now p result new old_terms new_terms it kinds =
+    subst (Stands files) (sym it.state) (does-stands (asker_of inner p now) files kinds call it.effect p old_terms new_terms it.does)
 
-pub asked-kinds : (call : PathCall) (asker : Asker) (files : Files) (end : CallEnd) (regs : Regs) (cells : Cells) (new : Files) (old_terms new_terms : List TerminalState) → AskerAttempts call asker files end regs cells new old_terms new_terms → AreKinds files → AreKinds new
-asked-kinds call asker files end regs cells new old_terms new_terms it kinds =
-    subst AreKinds (sym it.state) (does-kinds asker files kinds call it.effect asker.caller.process.0 old_terms new_terms it.does)
+pub asked-stands : (call : PathCall) (asker : Asker) (files : Files) (end : CallEnd) (regs : Regs) (cells : Cells) (new : Files) (old_terms new_terms : List TerminalState) → AskerAttempts call asker files end regs cells new old_terms new_terms → AreKinds files → Stands files new
+asked-stands call asker files end regs cells new old_terms new_terms it kinds =
+    subst (Stands files) (sym it.state) (does-stands asker files kinds call it.effect asker.caller.process.0 old_terms new_terms it.does)
 
 -- ---- loads
 
-reads-kinds : (step : Step ProgramFile) (reading : Result ProgramFile ℕ) (old new : Files) → ReadsProgram step reading old new → AreKinds old → AreKinds new
-reads-kinds step reading old new it kinds = subst AreKinds (sym it.state) (kinds-drives old kinds it.drives)
+-- what a reading of a file leaves
+module _ (step : Step ProgramFile) (reading : Result ProgramFile ℕ) (old new : Files) (it : ReadsProgram step reading old new) where
+  reads-kinds : AreKinds old → AreKinds new
+  reads-kinds kinds = subst AreKinds (sym it.state) (kinds-drives old kinds it.drives)
 
-pub load-kinds : (inner : Inner) (asker : Asker) (old : Files) (terms p : ℕ) (result : CallResult) (new : Files) → LoadAttempts inner asker old terms p result new → AreKinds old → AreKinds new
-load-kinds inner asker old terms p result new it kinds = reads-kinds _ it.reading old new it.reads kinds
+  reads-many : AreAsMany old new
+  reads-many = subst (AreAsMany old) (sym it.state) (many-drives old it.drives (by_outcome it.outcome))
+    where
+      by_outcome : ((reading ≡ reading_of step) × NoneFailed old.drives it.drives) ⊎ ReadingIsBroken step reading old.drives it.drives → length it.drives ≡ length old.drives
+      by_outcome (inl (is, none)) = none-many old.drives it.drives none
+      by_outcome (inr broken) = broken.failed.as_many
 
-module _ (inner : Inner) (asker : Asker) (old : Files) (terms p : ℕ) (result : CallResult) (new : Files) (kinds : AreKinds old) where
-  starts-kinds : (start : Inner → ℕ → Program → CallResult) (named : CallResult) (o : Option Entered) → MatchOption o (StartsFile start inner asker old terms p result new) (λ entered. (result ≡ named) × (new ≡ old)) → AreKinds new
-  starts-kinds start named None it = reads-kinds _ it.reading old new it.reads kinds
-  starts-kinds start named (Some entered) (is, same) = subst AreKinds (sym same) kinds
+module _ (inner : Inner) (asker : Asker) (old : Files) (terms p : ℕ) (result : CallResult) (new : Files) where
+  pub load-kinds : LoadAttempts inner asker old terms p result new → AreKinds old → AreKinds new
+  load-kinds it kinds = reads-kinds _ it.reading old new it.reads kinds
 
-  pub fork-kinds : ForkAttempts inner asker old terms p result new → AreKinds new
+  pub load-many : LoadAttempts inner asker old terms p result new → AreAsMany old new
+  load-many it = reads-many _ it.reading old new it.reads
+
+  -- what is left where a program of a file is started, or one that is entered
+  abbrev Starts : (Inner → ℕ → Program → CallResult) → CallResult → Option Entered → Type 0
+  Starts start named entered = MatchOption entered (StartsFile start inner asker old terms p result new) (λ entered. (result ≡ named) × (new ≡ old))
+
+  starts-kinds : (start : Inner → ℕ → Program → CallResult) (named : CallResult) (entered : Option Entered) → Starts start named entered → AreKinds old → AreKinds new
+  starts-kinds start named None it kinds = reads-kinds _ it.reading old new it.reads kinds
+  starts-kinds start named (Some entered) (is, same) kinds = subst AreKinds (sym same) kinds
+
+  starts-many : (start : Inner → ℕ → Program → CallResult) (named : CallResult) (entered : Option Entered) → Starts start named entered → AreAsMany old new
+  starts-many start named None it = reads-many _ it.reading old new it.reads
+  starts-many start named (Some entered) (is, same) = subst (AreAsMany old) (sym same) (many-same old)
+
+  pub fork-kinds : ForkAttempts inner asker old terms p result new → AreKinds old → AreKinds new
   fork-kinds it = starts-kinds forks (f_fork inner p) (named_program inner p) it
 
-  pub chain-kinds : ChainAttempts inner asker old terms p result new → AreKinds new
+  pub fork-many : ForkAttempts inner asker old terms p result new → AreAsMany old new
+  fork-many it = starts-many forks (f_fork inner p) (named_program inner p) it
+
+  pub chain-kinds : ChainAttempts inner asker old terms p result new → AreKinds old → AreKinds new
   chain-kinds it = starts-kinds chains (f_chain inner p) (named_program inner p) it
+
+  pub chain-many : ChainAttempts inner asker old terms p result new → AreAsMany old new
+  chain-many it = starts-many chains (f_chain inner p) (named_program inner p) it

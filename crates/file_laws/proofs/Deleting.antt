@@ -1,12 +1,10 @@
 -- I$Delete and I$DeletX: a file that goes is no directory, and no path is on it.
-use Rattle.std.proofs.Common.{◌≡◌, ◌≢◌, ℕ, ◌<◌, ◌≤◌, ◌==◌, Bool, true, false, not, Option, Some, None, Result, List, length, get_or, refl, sym, ap, ◌∙◌, subst, inl, inr, ◌⊎◌}
-use Rattle.std.specs.Prelude.{◌&&◌}
-use Rattle.std.specs.List.{list_any}
+use Rattle.std.proofs.Common.{◌≡◌, ◌≢◌, ℕ, ◌<◌, ◌≤◌, ◌==◌, Bool, true, false, not, Option, Some, None, List, length, refl, sym, ap, ◌∙◌, inl, inr, ◌⊎◌}
 use Rattle.std.specs.Option.{option_map_or}
 use Rattle.std.proofs.lemmas.Bool.{and_from, and_parts, both_ways, cases_lt, eq-eqb, not-true}
 use Rattle.std.proofs.lemmas.List.{get_or_past}
 use Rattle.std.proofs.lemmas.List.Folds.{list_any_at}
-use Rattle.std.proofs.lemmas.Option.{none-some, same_Some}
+use Rattle.std.proofs.lemmas.Option.{none-some}
 use Rattle.os9_base.specs.declared.errors.TheConstants.{E_FNA, E_PNNF, E_SHARE}
 use Rattle.io_model.specs.Path.{desc_of}
 use Rattle.io_model.specs.declared.path.Desc.{Desc}
@@ -27,6 +25,7 @@ use Rattle.file_rules.specs.Step.{FileStep, refused, comes, changes, leaves, nee
 use Rattle.file_rules.specs.Way.{Found, Way, along, to_device, nowhere, before_last, last_of, list_of, way_of}
 use Rattle.file_rules.specs.declared.places.FilePlace.{FilePlace}
 use Rattle.file_laws.specs.Kinds.{AreKinds}
+use Rattle.file_laws.proofs.Counts.{many-same}
 use Rattle.file_laws.proofs.Kept.{file_of, kinds-volume}
 use Rattle.file_laws.proofs.Opening.{mode-kept, of-not}
 use Rattle.file_laws.proofs.Steps.{IsFound, Kept, KeptOn, list-by, needs-by, on-changes, on-refused, refused-kept, refuses-by, walks-kept}
@@ -91,6 +90,7 @@ module _ (asker : Asker) (files : Files) (kinds : AreKinds files) where
         refuses-by (KeptOn asker files dir.place.drive) none-on (not (may_delete (dir.volume.files n) asker.user)) E_FNA (refuses (is_open files (record { drive = dir.place.drive; number = n })) E_SHARE (comes (changes (record { drive = dir.place.drive; change = deletes dir.place.number n name; effect = λ new. leaves (answers (past_list asker.caller.regs list)) files }))))
         (λ may. refuses-by (KeptOn asker files dir.place.drive) none-on (is_open files (record { drive = dir.place.drive; number = n })) E_SHARE (comes (changes (record { drive = dir.place.drive; change = deletes dir.place.number n name; effect = λ new. leaves (answers (past_list asker.caller.regs list)) files })))
         (λ closed. on-changes asker files kinds (record { drive = dir.place.drive; change = deletes dir.place.number n name; effect = λ new. leaves (answers (past_list asker.caller.regs list)) files })
+        (λ number. many-same files)
         (λ was now number is it. gone-kinds n (of-not (may_delete (dir.volume.files n) asker.user) may) closed was now is (deleted-still was now dir.place.number n name it))
         (λ was left is it. gone-kinds n (of-not (may_delete (dir.volume.files n) asker.user) may) closed was left is (deletion-still it.0 was left dir.place.number n name it.2))))
 

@@ -1,4 +1,5 @@
 pub mod Kept
+pub mod Counts
 pub mod Volumes
 pub mod Paths
 pub mod Steps

@@ -1,9 +1,9 @@
 -- I$Create and I$MakDir make a file of a number that no file has; I$Create begins a path on it.
-use Rattle.std.proofs.Common.{◌≡◌, ℕ, ◌%◌, ◌<◌, ◌==◌, Bool, true, false, not, Option, Some, None, Result, List, length, min, refl, sym, ap, ◌∙◌, subst, arith}
+use Rattle.std.proofs.Common.{◌≡◌, ℕ, ◌==◌, Bool, true, false, not, Some, List, length, min, refl, sym, ap, ◌∙◌, arith}
 use Rattle.std.specs.Prelude.{bit_and, is_some, nat_lt, ◌&&◌}
 use Rattle.std.specs.Int.{bit_at}
 use Rattle.std.proofs.lemmas.Bool.{eqb-true}
-use Rattle.std.proofs.lemmas.Nat.Bits.{bit_at_and, bit_at-lt}
+use Rattle.std.proofs.lemmas.Nat.Bits.{bit_at_and}
 use Rattle.os9_base.specs.declared.errors.TheConstants.{E_BPNAM, E_FNA, E_CEF, E_PTHFUL, E_FULL, E_SLF}
 use Rattle.io_model.specs.Path.{new_number, paths_after_begin}
 use Rattle.io_model.specs.declared.path.Target.TheVariants.{File}
@@ -11,9 +11,8 @@ use Rattle.rbf_model.specs.File.{DiskFile, is_directory}
 use Rattle.rbf_model.specs.Volume.{DiskVolume}
 use Rattle.rbf_model.specs.Walk.{look_up}
 use Rattle.rbf_change.specs.Calls.{cluster_size, free_total}
-use Rattle.rbf_change.specs.Faults.{NewFileEnds}
 use Rattle.rbf_change.specs.Names.{may_change}
-use Rattle.rbf_change.specs.NewFiles.{Creates, Enters, MakesDirectory, Plan, directory_plan, entry_clusters, file_plan}
+use Rattle.rbf_change.specs.NewFiles.{Creates, directory_plan, entry_clusters, file_plan}
 use Rattle.io_rules.specs.Io.{new_desc, with_paths}
 use Rattle.io_rules.specs.Lead.{a_new_place}
 use Rattle.io_rules.specs.Modes.{can_write}
@@ -25,13 +24,14 @@ use Rattle.file_rules.specs.Create.{clusters_for, creates_in, creates_on_way, cr
 use Rattle.file_rules.specs.Files.{Files, Asker, volume_at, with_volume}
 use Rattle.file_rules.specs.MakDir.{i_makdir, makes_in, makes_on_way, new_directory_size, past_list}
 use Rattle.file_rules.specs.Open.{is_for_execution, says_directory, tests_mode}
-use Rattle.file_rules.specs.Step.{FileStep, refused, comes, changes, leaves, needs, refuses}
+use Rattle.file_rules.specs.Step.{FileStep, refused, comes, changes, leaves, refuses}
 use Rattle.file_rules.specs.Way.{Found, Way, along, to_device, nowhere, before_last, last_of, list_of, walks, way_to_new}
 use Rattle.file_laws.specs.Kinds.{IsOfKind, AreKinds}
+use Rattle.file_laws.proofs.Counts.{many-io, many-same}
 use Rattle.file_laws.proofs.Kept.{file_of, kinds-io, kinds-still, volume-new}
 use Rattle.file_laws.proofs.Opening.{mode-kept}
 use Rattle.file_laws.proofs.Paths.{on-begin, opens-leaves}
-use Rattle.file_laws.proofs.Steps.{IsFound, Kept, KeptOn, io-kept, list-by, needs-by, on-changes, on-refused, refused-kept, refuses-by, walks-kept}
+use Rattle.file_laws.proofs.Steps.{Kept, KeptOn, io-kept, list-by, needs-by, on-changes, on-refused, refused-kept, refuses-by, walks-kept}
 use Rattle.file_laws.proofs.Volumes.{entered-still, entered-there, new-file-still}
 
 -- attributes that do not say a directory are those of none
@@ -91,6 +91,7 @@ module _ (asker : Asker) (files : Files) (kinds : AreKinds files) where
         needs-by (KeptOn asker files dir.place.drive) none-on (new_number files.io.paths asker.caller.process.0) E_PTHFUL (λ number. has_room_for dir 0 (comes (changes (record { drive = dir.place.drive; change = creates dir.place.number name asker.caller.regs.b; effect = opens_new asker files list dir.place.drive number }))))
         (λ number free. room-kept 0 (comes (changes (record { drive = dir.place.drive; change = creates dir.place.number name asker.caller.regs.b; effect = opens_new asker files list dir.place.drive number })))
         (on-changes asker files kinds (record { drive = dir.place.drive; change = creates dir.place.number name asker.caller.regs.b; effect = opens_new asker files list dir.place.drive number })
+        (λ n. many-io files (with_paths files.io (paths_after_begin files.io.paths asker.caller.process.0 (new_desc (File dir.place.drive n) asker.caller.regs.a))))
         (λ was now n is it. made-kinds name number says was now n is it)
         (λ was left is it. kinds-still files dir.place.drive was left is (new-file-still was left dir.place.number name (λ n. file_plan asker.caller.regs.b asker.user asker.now) it) kinds)))
 
@@ -108,6 +109,7 @@ module _ (asker : Asker) (files : Files) (kinds : AreKinds files) where
         (λ may. refuses-by (KeptOn asker files dir.place.drive) none-on (is_some (look_up dir.file.contents name)) E_CEF (has_room_for dir new_directory_size (comes (changes (record { drive = dir.place.drive; change = makes_directory dir.place.number name asker.caller.regs.b; effect = λ n. leaves (answers (past_list asker.caller.regs list)) files }))))
         (λ new. room-kept new_directory_size (comes (changes (record { drive = dir.place.drive; change = makes_directory dir.place.number name asker.caller.regs.b; effect = λ n. leaves (answers (past_list asker.caller.regs list)) files })))
         (on-changes asker files kinds (record { drive = dir.place.drive; change = makes_directory dir.place.number name asker.caller.regs.b; effect = λ n. leaves (answers (past_list asker.caller.regs list)) files })
+        (λ n. many-same files)
         (λ was now n is it. kinds-still files dir.place.drive was now is (entered-still was now dir.place.number n name (directory_plan asker.caller.regs.b asker.user asker.now dir.place.number n) (kinds.clusters dir.place.drive was is) it) kinds)
         (λ was left is it. kinds-still files dir.place.drive was left is (new-file-still was left dir.place.number name (directory_plan asker.caller.regs.b asker.user asker.now dir.place.number) it) kinds))))
 

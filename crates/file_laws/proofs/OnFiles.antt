@@ -1,12 +1,11 @@
 -- Calls on a number of a path: I$Read, I$Write, I$Seek, I$GetStt, I$SetStt and their like move positions and change one
 -- file, which keeps its kind.
-use Rattle.std.proofs.Common.{◌≡◌, ℕ, ◌+◌, ◌%◌, ◌==◌, Bool, true, false, not, Option, Some, None, List, length, min, refl, sym, ap, ◌∙◌, subst}
+use Rattle.std.proofs.Common.{◌≡◌, ℕ, ◌+◌, ◌%◌, ◌==◌, Bool, true, false, not, Option, Some, None, List, length, refl, ap, ◌∙◌, subst}
 use Rattle.std.specs.Prelude.{is_none, nat_le, nat_lt, option_map, option_and_then, take, if◌then◌else◌}
 use Rattle.std.proofs.lemmas.Option.{none-some, option_and_then_some, same_Some}
 use Rattle.os9_base.specs.declared.calls.TheConstants.{I_READ, I_READLN}
 use Rattle.os9_base.specs.declared.errors.TheConstants.{E_BPADDR, E_BMODE, E_EOF, E_FNA, E_FULL, E_UNKSVC}
 use Rattle.os9_base.specs.declared.registers.Regs.{Regs}
-use Rattle.os9_base.specs.declared.registers.TimePacket.{TimePacket}
 use Rattle.call_rules.specs.UserBytes.{user_bytes}
 use Rattle.io_model.specs.Line.{first_line}
 use Rattle.io_model.specs.Path.{desc_of, slot_of, with_desc}
@@ -16,7 +15,7 @@ use Rattle.io_model.specs.declared.terminal.ReadKind.TheVariants.{Bytes, WholeLi
 use Rattle.rbf_model.specs.File.{DiskFile, is_directory}
 use Rattle.rbf_model.specs.Volume.{DiskVolume}
 use Rattle.rbf_change.specs.Calls.{cluster_size, free_total, is_free_in, SizesFile, WritesFile, with_attributes}
-use Rattle.rbf_change.specs.Contents.{bytes_from, written}
+use Rattle.rbf_change.specs.Contents.{written}
 use Rattle.rbf_change.specs.Growth.{clusters_needed}
 use Rattle.rbf_change.specs.NewFiles.{owns_file}
 use Rattle.io_rules.specs.Io.{Io, OpenPath, open_path, with_paths}
@@ -30,7 +29,7 @@ use Rattle.io_rules.specs.Write.{i_write as writes_device, i_writln as writes_de
 use Rattle.io_rules.specs.declared.modes.TheConstants.{STANDARD_ERROR}
 use Rattle.io_rules.specs.declared.status.TheConstants.{SS_OPT, SS_READY, SS_EOF, OPTION_BYTES}
 use Rattle.file_rules.specs.Change.{Change, Makes, MayLeave, writes, sizes, sets_attributes}
-use Rattle.file_rules.specs.Files.{Files, Asker, OpenFile, open_file, open_file_at, place_of_target, volume_at, with_io, with_position, with_volume}
+use Rattle.file_rules.specs.Files.{Files, Asker, OpenFile, open_file, open_file_at, place_of_target, volume_at, with_io, with_position}
 use Rattle.file_rules.specs.OnFile.{by_kind, moves_bytes, on_file}
 use Rattle.file_rules.specs.Read.{answers_bytes, bytes_here, i_read, i_readln, reads_file, reads_on}
 use Rattle.file_rules.specs.Seek.{i_seek, long_of, seeks_nothing}
@@ -40,7 +39,8 @@ use Rattle.file_rules.specs.Write.{changes_file, f_perr, i_write, i_writln, send
 use Rattle.file_rules.specs.declared.places.FilePlace.{FilePlace}
 use Rattle.file_rules.specs.declared.status.TheConstants.{SS_SIZE, SS_POS, SS_FD, SS_ATTR}
 use Rattle.file_laws.specs.Kinds.{IsOnItsKind, AreKinds}
-use Rattle.file_laws.proofs.Kept.{AllStill, AreOn, kinds-io, kinds-still}
+use Rattle.file_laws.proofs.Counts.{Stands, many-io, many-same, stands-io, stands-same}
+use Rattle.file_laws.proofs.Kept.{AllStill, AreOn, kinds-still}
 use Rattle.file_laws.proofs.Paths.{LeavesOn, on-desc, reads-leave, write-leaves, line-leaves, error-leaves, nothing-leaves, get-leaves, set-leaves}
 use Rattle.file_laws.proofs.Steps.{Kept, KeptOn, io-kept, leaves-kept, needs-by, on-changes, on-leaves, on-refused, reaches-kept, refused-kept, refuses-by}
 use Rattle.file_laws.proofs.Volumes.{all-same, attributes-kind, changes-still, size-kind, size-still, write-still}
@@ -60,17 +60,17 @@ file_with path place v file = record { opened = path; place = place; volume = v;
 pub path-desc : (io : Io) (p n : ℕ) (opened : OpenPath) → open_path io p n ≡ Some opened → desc_of io.paths opened.path.0 ≡ Some opened.desc
 path-desc io p n opened is =
     option_and_then_some (λ (s : SysPath). option_map (path_with s) (desc_of io.paths s.0)) (slot_of io.paths p n) opened is (λ s at mapped.
-        map-some (path_with s) (desc_of io.paths s.0) opened mapped (λ desc there same.
-            subst (λ (opened : OpenPath). desc_of io.paths opened.path.0 ≡ Some opened.desc) same there))
+    map-some (path_with s) (desc_of io.paths s.0) opened mapped (λ desc there same.
+    subst (λ (opened : OpenPath). desc_of io.paths opened.path.0 ≡ Some opened.desc) same there))
 
 pub opened-desc : (files : Files) (p n : ℕ) (opened : OpenFile) → open_file files p n ≡ Some opened → desc_of files.io.paths opened.opened.path.0 ≡ Some opened.opened.desc
 opened-desc files p n opened is =
     option_and_then_some (λ (path : OpenPath). option_and_then (open_file_at files path) (place_of_target path.desc.target)) (open_path files.io p n) opened is (λ path named at.
-        option_and_then_some (open_file_at files path) (place_of_target path.desc.target) opened at (λ place on here.
-            option_and_then_some (λ (v : DiskVolume). option_map (file_with path place v) (v.files place.number)) (volume_at files place.drive) opened here (λ v mounted mapped.
-                map-some (file_with path place v) (v.files place.number) opened mapped (λ file there same.
-                    let same_path : path ≡ opened.opened = ap (λ (o : OpenFile). o.opened) same in
-                    path-desc files.io p n opened.opened (named ∙ ap (λ (path : OpenPath). Some path) same_path)))))
+    option_and_then_some (open_file_at files path) (place_of_target path.desc.target) opened at (λ place on here.
+    option_and_then_some (λ (v : DiskVolume). option_map (file_with path place v) (v.files place.number)) (volume_at files place.drive) opened here (λ v mounted mapped.
+    map-some (file_with path place v) (v.files place.number) opened mapped (λ file there same.
+    let same_path : path ≡ opened.opened = ap (λ (o : OpenFile). o.opened) same in
+    path-desc files.io p n opened.opened (named ∙ ap (λ (path : OpenPath). Some path) same_path)))))
 
 module _ (asker : Asker) (files : Files) (kinds : AreKinds files) where
   -- a call goes on with a file, or is the other call
@@ -92,8 +92,8 @@ module _ (asker : Asker) (files : Files) (kinds : AreKinds files) where
         on-desc files files.io.paths opened.opened.path.0 (Some (record opened.opened.desc { at = at })) kinds.paths
         (λ desc is. subst (λ (d : Desc). IsOnItsKind files d.target) (same_Some (record opened.opened.desc { at = at }) desc is) (kinds.paths opened.opened.path.0 opened.opened.desc there))
 
-    moved-kinds : (at : ℕ) → AreKinds (with_position files opened.opened at)
-    moved-kinds at = kinds-io files kinds (with_paths files.io (with_desc files.io.paths opened.opened.path.0 (Some (record opened.opened.desc { at = at })))) (position-on at)
+    moved-kinds : (at : ℕ) → Stands files (with_position files opened.opened at)
+    moved-kinds at = stands-io files kinds (with_paths files.io (with_desc files.io.paths opened.opened.path.0 (Some (record opened.opened.desc { at = at })))) (position-on at)
 
     -- what moves bytes
     moves-kept : (is_allowed : ℕ → Bool) (next : FileStep) → Kept asker files next → Kept asker files (moves_bytes asker files opened is_allowed next)
@@ -102,7 +102,7 @@ module _ (asker : Asker) (files : Files) (kinds : AreKinds files) where
         (λ allowed. by_count (asker.caller.regs.y == 0))
       where
         by_count : (nothing : Bool) → Kept asker files (if nothing then done asker.caller.regs files else next)
-        by_count true = leaves-kept asker files kinds (leaves (answers asker.caller.regs) files) kinds
+        by_count true = leaves-kept asker files kinds (leaves (answers asker.caller.regs) files) (stands-same files kinds)
         by_count false = kept
 
     -- ---- I$Read and I$ReadLn
@@ -120,6 +120,7 @@ module _ (asker : Asker) (files : Files) (kinds : AreKinds files) where
         reaches-kept asker files kinds opened.place.drive (refuses (nat_lt (free_total opened.volume) (clusters_needed (cluster_size opened.volume) opened.file.segments size)) E_FULL (comes (changes (record { drive = opened.place.drive; change = change; effect = λ n. leaves (answers regs) (with_io files io) }))))
         (refuses-by (KeptOn asker files opened.place.drive) (on-refused asker files kinds opened.place.drive) (nat_lt (free_total opened.volume) (clusters_needed (cluster_size opened.volume) opened.file.segments size)) E_FULL (comes (changes (record { drive = opened.place.drive; change = change; effect = λ n. leaves (answers regs) (with_io files io) })))
         (λ room. on-changes asker files kinds (record { drive = opened.place.drive; change = change; effect = λ n. leaves (answers regs) (with_io files io) })
+        (λ number. many-io files io)
         (λ was now number is makes. kinds-still (with_io files io) opened.place.drive was now is (made was now number makes) after)
         (λ was left_now is may. kinds-still files opened.place.drive was left_now is (left was left_now may) kinds)))
 
@@ -127,7 +128,7 @@ module _ (asker : Asker) (files : Files) (kinds : AreKinds files) where
     write-kept bytes regs =
         change-kept (writes opened.place.number opened.opened.desc.at bytes) (length (written opened.file.contents opened.opened.desc.at bytes)) regs
         (with_paths files.io (with_desc files.io.paths opened.opened.path.0 (Some (record opened.opened.desc { at = opened.opened.desc.at + length bytes }))))
-        (moved-kinds (opened.opened.desc.at + length bytes))
+        (moved-kinds (opened.opened.desc.at + length bytes)).kinds
         (λ was now number it. changes-still (WritesFile (cluster_size was) (is_free_in was) opened.opened.desc.at bytes asker.now) (λ old new done. ap (λ (file : DiskFile). is_directory file) done.file) was now opened.place.number it)
         (λ was left it. write-still was left opened.place.number opened.opened.desc.at bytes it)
 
@@ -140,7 +141,7 @@ module _ (asker : Asker) (files : Files) (kinds : AreKinds files) where
     get-on : (count : ℕ) (bytes : List ℕ) → Kept asker files (gets_bytes asker files count (λ step. step) bytes)
     get-on count bytes =
         refuses-by (Kept asker files) none-kept (is_none (user_bytes asker.caller.cells asker.caller.regs.x count)) E_BPADDR (comes (leaves_so (stores asker.caller.regs.x bytes asker.caller.regs files)))
-        (λ fits. leaves-kept asker files kinds (stores asker.caller.regs.x bytes asker.caller.regs files) kinds)
+        (λ fits. leaves-kept asker files kinds (stores asker.caller.regs.x bytes asker.caller.regs files) (stands-same files kinds))
 
     reach-done : (step : FileStep) → KeptOn asker files opened.place.drive step → Kept asker files (reaches opened.place.drive step)
     reach-done step kept = reaches-kept asker files kinds opened.place.drive step kept
@@ -149,21 +150,21 @@ module _ (asker : Asker) (files : Files) (kinds : AreKinds files) where
     descriptor-kept =
         refuses-by (Kept asker files) none-kept (is_none (user_bytes asker.caller.cells asker.caller.regs.x (asked_bytes asker))) E_BPADDR (reaches opened.place.drive (comes (leaves_so (stores asker.caller.regs.x (take (asked_bytes asker) (descriptor_front opened.file)) asker.caller.regs files))))
         (λ fits. reach-done (comes (leaves_so (stores asker.caller.regs.x (take (asked_bytes asker) (descriptor_front opened.file)) asker.caller.regs files)))
-        (on-leaves asker files kinds opened.place.drive (stores asker.caller.regs.x (take (asked_bytes asker) (descriptor_front opened.file)) asker.caller.regs files) kinds))
+        (on-leaves asker files kinds opened.place.drive (stores asker.caller.regs.x (take (asked_bytes asker) (descriptor_front opened.file)) asker.caller.regs files) (stands-same files kinds)))
 
     size-kept : Kept asker files (gets_size asker files opened)
     size-kept =
         reach-done (done (long_regs asker.caller.regs (length opened.file.contents)) files)
-        (on-leaves asker files kinds opened.place.drive (leaves (answers (long_regs asker.caller.regs (length opened.file.contents))) files) kinds)
+        (on-leaves asker files kinds opened.place.drive (leaves (answers (long_regs asker.caller.regs (length opened.file.contents))) files) (stands-same files kinds))
 
     end-kept : Kept asker files (gets_end asker files opened)
     end-kept =
         reach-done (refuses (nat_le (length opened.file.contents) opened.opened.desc.at) E_EOF (done (record asker.caller.regs { b = 0 }) files))
         (refuses-by (KeptOn asker files opened.place.drive) (on-refused asker files kinds opened.place.drive) (nat_le (length opened.file.contents) opened.opened.desc.at) E_EOF (done (record asker.caller.regs { b = 0 }) files)
-        (λ more. on-leaves asker files kinds opened.place.drive (leaves (answers (record asker.caller.regs { b = 0 })) files) kinds))
+        (λ more. on-leaves asker files kinds opened.place.drive (leaves (answers (record asker.caller.regs { b = 0 })) files) (stands-same files kinds)))
 
     done-kept : (regs : Regs) → Kept asker files (done regs files)
-    done-kept regs = leaves-kept asker files kinds (leaves (answers regs) files) kinds
+    done-kept regs = leaves-kept asker files kinds (leaves (answers regs) files) (stands-same files kinds)
 
     status-by : (opt ready size pos end fd : Bool) → Kept asker files (if opt then gets_bytes asker files OPTION_BYTES (λ step. step) (options opened.opened.desc.target) else (if ready then done (record asker.caller.regs { b = 0 }) files else (if size then gets_size asker files opened else (if pos then done (long_regs asker.caller.regs opened.opened.desc.at) files else (if end then gets_end asker files opened else (if fd then gets_descriptor asker files opened else refused E_UNKSVC))))))
     status-by true ready size pos end fd = get-on OPTION_BYTES (options opened.opened.desc.target)
@@ -191,6 +192,7 @@ module _ (asker : Asker) (files : Files) (kinds : AreKinds files) where
         reach-done (refuses (not (owns_file opened.file asker.user)) E_FNA (comes (changes (record { drive = opened.place.drive; change = sets_attributes opened.place.number (asker.caller.regs.x % 256); effect = λ n. leaves (answers asker.caller.regs) files }))))
         (refuses-by (KeptOn asker files opened.place.drive) (on-refused asker files kinds opened.place.drive) (not (owns_file opened.file asker.user)) E_FNA (comes (changes (record { drive = opened.place.drive; change = sets_attributes opened.place.number (asker.caller.regs.x % 256); effect = λ n. leaves (answers asker.caller.regs) files })))
         (λ owns. on-changes asker files kinds (record { drive = opened.place.drive; change = sets_attributes opened.place.number (asker.caller.regs.x % 256); effect = λ n. leaves (answers asker.caller.regs) files })
+        (λ number. many-same files)
         (λ was now number is it. kinds-still files opened.place.drive was now is
         (changes-still (λ old new. new ≡ with_attributes old (asker.caller.regs.x % 256) asker.now) (λ old new done. ap (λ (file : DiskFile). is_directory file) done ∙ attributes-kind old.attributes (asker.caller.regs.x % 256)) was now opened.place.number it) kinds)
         (λ was left is same. kinds-still files opened.place.drive was left is (all-same was left same) kinds)))

@@ -1,12 +1,12 @@
 -- I$Open begins a path on a file of its kind, and I$ChgDir goes to a directory.
-use Rattle.std.proofs.Common.{◌≡◌, ℕ, Bool, true, false, not, Option, Some, None, Result, List, length, refl, sym, ap, ◌∙◌, subst}
-use Rattle.std.specs.Prelude.{if◌then◌else◌, ◌&&◌}
+use Rattle.std.proofs.Common.{◌≡◌, ℕ, Bool, true, false, not, Some, length, refl, sym, ap, ◌∙◌, subst}
+use Rattle.std.specs.Prelude.{if◌then◌else◌}
 use Rattle.std.proofs.lemmas.Bool.{and_parts, false≢true}
 use Rattle.std.proofs.lemmas.Option.{same_Some}
 use Rattle.os9_base.specs.declared.errors.TheConstants.{E_BMODE, E_FNA, E_SHARE, E_PTHFUL}
 use Rattle.io_model.specs.Path.{new_number, paths_after_begin}
 use Rattle.io_model.specs.declared.path.Target.TheVariants.{File, Folder}
-use Rattle.rbf_model.specs.File.{DiskFile, is_directory}
+use Rattle.rbf_model.specs.File.{is_directory}
 use Rattle.rbf_model.specs.Walk.{file_permits}
 use Rattle.io_rules.specs.Io.{new_desc, with_paths}
 use Rattle.io_rules.specs.Lead.{what_is_there}
@@ -19,12 +19,12 @@ use Rattle.file_rules.specs.Files.{Files, Asker, directories_at, target_on, with
 use Rattle.file_rules.specs.MakDir.{past_list}
 use Rattle.file_rules.specs.Open.{begins_on, i_open, is_for_execution, may_open, opens_found, opens_on_way, tests_mode}
 use Rattle.file_rules.specs.Sharing.{is_not_shared}
-use Rattle.file_rules.specs.Step.{FileStep, refused, comes, done, leaves, leaves_so, refuses}
+use Rattle.file_rules.specs.Step.{FileStep, done, leaves, refuses}
 use Rattle.file_rules.specs.Way.{Found, Way, along, to_device, nowhere, list_of, way_of}
-use Rattle.file_rules.specs.declared.places.Directories.{Directories}
 use Rattle.file_rules.specs.declared.places.FilePlace.{FilePlace}
 use Rattle.file_laws.specs.Kinds.{IsOfKind, IsOnItsKind, AreKinds}
-use Rattle.file_laws.proofs.Kept.{directory_in, file_of, kinds-directories, kinds-io}
+use Rattle.file_laws.proofs.Counts.{stands-directories, stands-io}
+use Rattle.file_laws.proofs.Kept.{directory_in, file_of}
 use Rattle.file_laws.proofs.Paths.{on-begin, opens-leaves}
 use Rattle.file_laws.proofs.Steps.{IsFound, Kept, KeptOn, io-kept, list-by, needs-by, on-leaves, on-refused, refused-kept, refuses-by, walks-kept}
 
@@ -66,7 +66,7 @@ module _ (asker : Asker) (files : Files) (kinds : AreKinds files) where
     begins-kept =
         needs-by (KeptOn asker files found.place.drive) (on-refused asker files kinds found.place.drive) (new_number files.io.paths asker.caller.process.0) E_PTHFUL (λ number. done (opened_regs asker.caller.regs list number) (with_path_table files (paths_after_begin files.io.paths asker.caller.process.0 (new_desc (target_on found.file found.place) asker.caller.regs.a))))
         (λ number free. on-leaves asker files kinds found.place.drive (leaves (answers (opened_regs asker.caller.regs list number)) (with_path_table files (paths_after_begin files.io.paths asker.caller.process.0 (new_desc (target_on found.file found.place) asker.caller.regs.a))))
-        (kinds-io files kinds (with_paths files.io (paths_after_begin files.io.paths asker.caller.process.0 (new_desc (target_on found.file found.place) asker.caller.regs.a)))
+        (stands-io files kinds (with_paths files.io (paths_after_begin files.io.paths asker.caller.process.0 (new_desc (target_on found.file found.place) asker.caller.regs.a)))
         (on-begin files files.io.paths asker.caller.process.0 (new_desc (target_on found.file found.place) asker.caller.regs.a) kinds.paths target-kind)))
 
     opens-kept : On (opens_found asker files list found)
@@ -88,7 +88,7 @@ module _ (asker : Asker) (files : Files) (kinds : AreKinds files) where
     goes-kept =
         refuses-by (KeptOn asker files found.place.drive) (on-refused asker files kinds found.place.drive) (not (may_go_to found.file asker.user asker.caller.regs.a)) E_FNA (done (past_list asker.caller.regs list) (with_directories_of files asker.caller.process.0 (with_directory (directories_at files asker.caller.process.0) (is_for_execution asker.caller.regs.a) found.place)))
         (λ may. on-leaves asker files kinds found.place.drive (leaves (answers (past_list asker.caller.regs list)) (with_directories_of files asker.caller.process.0 (with_directory (directories_at files asker.caller.process.0) (is_for_execution asker.caller.regs.a) found.place)))
-        (kinds-directories files kinds asker.caller.process.0 (with_directory (directories_at files asker.caller.process.0) (is_for_execution asker.caller.regs.a) found.place)
+        (stands-directories files kinds asker.caller.process.0 (with_directory (directories_at files asker.caller.process.0) (is_for_execution asker.caller.regs.a) found.place)
         (new-directory (and_parts (is_directory found.file) (file_permits found.file asker.user asker.caller.regs.a) (of-not (may_go_to found.file asker.user asker.caller.regs.a) may)).0 (is_for_execution asker.caller.regs.a))))
 
   open-way : (terms : ℕ) (list : PathList) (way : Way) → Kept asker files (opens_on_way asker files terms list way)

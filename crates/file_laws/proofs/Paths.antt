@@ -1,13 +1,13 @@
 -- Paths that are on what they were opened on, where one begins, is duplicated, moved or closed, and in an attempt on a
 -- terminal or a pipe: none of these opens a file.
-use Rattle.std.proofs.Common.{◌≡◌, ℕ, zero, suc, ◌<◌, ◌≤◌, ◌==◌, not, Bool, true, false, if◌then◌else◌, Option, Some, None, Result, Ok, Err, List, length, refl, sym, ap, ◌∙◌, subst, inl, inr, ◌⊎◌}
+use Rattle.std.proofs.Common.{◌≡◌, ℕ, zero, suc, ◌<◌, ◌≤◌, ◌==◌, not, Bool, true, false, if◌then◌else◌, Option, Some, None, Result, Ok, Err, List, length, sym, ap, ◌∙◌, subst, inl, inr, ◌⊎◌}
 use Rattle.std.specs.Prelude.{is_none, min}
 use Rattle.std.specs.Option.{option_map_or}
 use Rattle.std.proofs.lemmas.Bool.{cases_eq, cases_lt}
 use Rattle.std.proofs.lemmas.List.{get_or-set_same, get_or-set_other, get_or_past, length-set}
 use Rattle.std.proofs.lemmas.Option.{none-some, same_Some}
-use Rattle.os9_base.specs.declared.calls.TheConstants.{I_READ, I_READLN, I_WRITE, I_WRITLN, F_PERR}
-use Rattle.os9_base.specs.declared.errors.TheConstants.{E_BPADDR, E_BPNAM, E_BPNUM, E_BMODE, E_PTHFUL, E_NOTRDY, E_UNKSVC}
+use Rattle.os9_base.specs.declared.calls.TheConstants.{I_WRITE, I_WRITLN, F_PERR}
+use Rattle.os9_base.specs.declared.errors.TheConstants.{E_BPADDR, E_BPNUM, E_BMODE, E_PTHFUL, E_NOTRDY, E_UNKSVC}
 use Rattle.os9_outer.specs.TerminalState.{TerminalState}
 use Rattle.user_names.specs.declared.name_fault.NameFault.{NameFault}
 use Rattle.user_names.specs.declared.name_fault.NameFault.TheVariants.{Unreadable, NoName}
@@ -26,11 +26,11 @@ use Rattle.io_rules.specs.Attempts.{Does}
 use Rattle.io_rules.specs.Close.{after_close, i_close, without_path, without_target}
 use Rattle.io_rules.specs.Dup.{i_dup}
 use Rattle.io_rules.specs.Io.{Io, OpenPath, kept_at, new_desc, open_path, with_paths, with_pipes}
-use Rattle.io_rules.specs.Lead.{Lead, Search, to_terminal, to_pipe, nowhere, what_is_there, a_new_place, lead_of}
-use Rattle.io_rules.specs.Modes.{can_read, can_write, is_mode}
+use Rattle.io_rules.specs.Lead.{Lead, Search, to_terminal, to_pipe, nowhere, lead_of}
+use Rattle.io_rules.specs.Modes.{can_read, can_write}
 use Rattle.io_rules.specs.Open.{begins, opened_regs, opens_lead, opens, reads_list}
 use Rattle.io_rules.specs.PathList.{PathList, path_list}
-use Rattle.io_rules.specs.Processes.{closed_below, closed_if_open, io_ended, io_started}
+use Rattle.io_rules.specs.Processes.{closed_below, closed_if_open, io_ended}
 use Rattle.io_rules.specs.Read.{reads_path, reads_target}
 use Rattle.io_rules.specs.Status.{gets_end, gets_options, gets_ready, gets_status, i_getstt, i_setstt, options, ready_count}
 use Rattle.io_rules.specs.Step.{Caller, IoEffect, IoStep, answers, refused, comes, reads, writes, needs, refuses, done, stores}

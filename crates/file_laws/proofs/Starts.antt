@@ -1,12 +1,12 @@
 -- What paths and directories of processes are on at the start, and where processes begin and end.
-use Rattle.std.proofs.Common.{◌≡◌, ℕ, zero, suc, ◌-◌, ◌<◌, ◌≤◌, Bool, true, false, Option, Some, None, List, [], ◌∷◌, ◌++◌, codes, length, get_or, map, replicate, refl, sym, ap, ◌∙◌, subst, inl, inr, ◌⊎◌, arith}
+use Rattle.std.proofs.Common.{◌≡◌, ℕ, zero, suc, ◌-◌, ◌<◌, Bool, true, false, Option, Some, None, List, [], ◌∷◌, ◌++◌, codes, length, get_or, map, replicate, refl, sym, ap, ◌∙◌, subst, inl, inr, ◌⊎◌, arith}
 use Rattle.std.specs.Prelude.{if◌then◌else◌, option_and_then, slice_get}
 use Rattle.std.specs.List.{AllZip}
 use Rattle.std.specs.Option.{option_map_or}
 use Rattle.std.proofs.lemmas.Bool.{cases_eq, cases_lt}
 use Rattle.std.proofs.lemmas.List.{get_or-set_same, get_or-set_other, get_or_past, get_or-replicate, length-replicate}
 use Rattle.std.proofs.lemmas.Option.{none-some, option_and_then_some, same_Some}
-use Rattle.io_model.specs.Path.{no_paths, paths_after_begin, paths_after_dup, paths_after_inherit}
+use Rattle.io_model.specs.Path.{no_paths, paths_after_begin, paths_after_dup}
 use Rattle.io_model.specs.declared.path.Desc.{Desc}
 use Rattle.io_model.specs.declared.path.Target.TheVariants.{Term}
 use Rattle.rbf_model.specs.File.{DiskFile, is_directory}
@@ -16,14 +16,15 @@ use Rattle.rbf_model.specs.Walk.{look_up}
 use Rattle.rbf_model.proofs.Owners.{cluster_positive, root_file}
 use Rattle.rbf_change.specs.Calls.{cluster_size, shape}
 use Rattle.rbf_change.proofs.LawfulWrites.{shape-image}
-use Rattle.io_rules.specs.Io.{first_io, first_paths, new_desc, with_paths}
+use Rattle.io_rules.specs.Io.{first_paths, new_desc}
 use Rattle.io_rules.specs.Processes.{io_ended, io_started}
 use Rattle.file_rules.specs.Files.{Files, DriveState, directories_at, directory_of, no_directories, with_io}
-use Rattle.file_rules.specs.Processes.{StartsOn, directories_on, directory_in_root, files_ended, files_started, first_directories, first_files}
+use Rattle.file_rules.specs.Processes.{StartsOn, directory_in_root, files_ended, files_started, first_directories, first_files}
 use Rattle.file_rules.specs.Way.{root_of}
-use Rattle.file_rules.specs.declared.places.Directories.{Directories}
 use Rattle.file_rules.specs.declared.places.FilePlace.{FilePlace}
 use Rattle.file_laws.specs.Kinds.{IsOfKind, AreKinds}
+use Rattle.file_laws.specs.Mounted.{AreAsMany}
+use Rattle.file_laws.proofs.Counts.{many-directories, many-io, many-then}
 use Rattle.file_laws.proofs.Kept.{AreOn, directory_in, file_of, kind-same, kinds-directories, kinds-io, none-in}
 use Rattle.file_laws.proofs.Paths.{on-begin, on-dup, on-ended}
 
@@ -39,6 +40,14 @@ module _ (files : Files) (kinds : AreKinds files) where
   kinds-ended p =
       kinds-directories (with_io files (io_ended files.io p)) (kinds-io files kinds (io_ended files.io p) (on-ended files files.io p kinds.paths)) p no_directories
       (λ execute place at. absurd (none-in execute place at))
+
+pub many-started : (files : Files) (parent child : ℕ) → AreAsMany files (files_started files parent child)
+many-started files parent child =
+    many-then files (with_io files (io_started files.io parent child)) (files_started files parent child) (many-io files (io_started files.io parent child)) (many-directories (with_io files (io_started files.io parent child)) child (directories_at files parent))
+
+pub many-ended : (files : Files) (p : ℕ) → AreAsMany files (files_ended files p)
+many-ended files p =
+    many-then files (with_io files (io_ended files.io p)) (files_ended files p) (many-io files (io_ended files.io p)) (many-directories (with_io files (io_ended files.io p)) p no_directories)
 
 -- ---- the start
 
@@ -112,7 +121,7 @@ module _ (images : List (List ℕ)) (volumes : List DiskVolume) (drives : List D
   cmds-first : (v : DiskVolume) (name : List ℕ) (place : FilePlace) → slice_get volumes 0 ≡ Some v → directory_in_root v (root_of 0 v) name ≡ Some place → IsOfKind First place true
   cmds-first v name place is at =
       option_and_then_some (λ (n : ℕ). option_and_then (λ (file : DiskFile). if is_directory file then Some (record { drive = 0; number = n }) else None) (v.files n)) (option_and_then (λ (file : DiskFile). look_up file.contents name) (v.files (root_of 0 v).number)) place at (λ n named found.
-          option_and_then_some (λ (file : DiskFile). if is_directory file then Some (record { drive = 0; number = n }) else None) (v.files n) place found (λ file there kind. by_kind n file there (is_directory file) refl kind))
+      option_and_then_some (λ (file : DiskFile). if is_directory file then Some (record { drive = 0; number = n }) else None) (v.files n) place found (λ file there kind. by_kind n file there (is_directory file) refl kind))
     where
       by_kind : (n : ℕ) (file : DiskFile) → v.files n ≡ Some file → (kind : Bool) → is_directory file ≡ kind → (if kind then Some (record { drive = 0; number = n }) else None) ≡ Some place → IsOfKind First place true
       by_kind n file there true kind found =

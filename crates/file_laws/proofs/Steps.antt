@@ -1,24 +1,25 @@
 -- Attempts of calls on files that keep paths and directories on what they are on: by their steps, where no drive fails
 -- and where one does.
-use Rattle.std.proofs.Common.{◌≡◌, ℕ, Bool, true, false, Option, Some, None, Result, Ok, Err, List, refl, sym, ap, ◌∙◌, subst, inl, inr, ◌⊎◌}
-use Rattle.std.specs.Prelude.{if◌then◌else◌}
+use Rattle.std.proofs.Common.{◌≡◌, ℕ, Bool, true, false, Option, Some, None, Result, Ok, Err, List, is_some, length, refl, sym, ap, ◌∙◌, subst, inl, inr}
+use Rattle.std.proofs.lemmas.Bool.{false≢true}
 use Rattle.std.proofs.lemmas.Option.{none-some, same_Some}
 use Rattle.os9_base.specs.declared.errors.TheConstants.{E_BPADDR, E_BPNAM, E_MNF, E_FNA, E_PNNF}
 use Rattle.os9_outer.specs.TerminalState.{TerminalState}
 use Rattle.user_names.specs.declared.name_fault.NameFault.{NameFault}
 use Rattle.user_names.specs.declared.name_fault.NameFault.TheVariants.{Unreadable, NoName}
-use Rattle.rbf_model.specs.File.{DiskFile}
 use Rattle.rbf_model.specs.Volume.{DiskVolume}
 use Rattle.rbf_model.specs.Walk.{WalkEnd, arrives, not_allowed, not_found, walk}
 use Rattle.io_rules.specs.PathList.{PathList}
-use Rattle.io_rules.specs.Step.{IoStep, fails}
+use Rattle.io_rules.specs.Step.{IoStep}
 use Rattle.file_rules.specs.Change.{Makes, MayLeave}
-use Rattle.file_rules.specs.Files.{Files, Asker, volume_at, with_io, with_volume}
-use Rattle.file_rules.specs.Step.{Step, refused, comes, reaches, needs, refuses, drive_of, FileEffect, FileStep, VolumeChange, Deed, leaves_so, as_io, changes, deed_of, refuses_so, DoesDeed, MayBeLeft, FileDoes, GoesWell, IsBroken, with_volume_after}
-use Rattle.file_rules.specs.Way.{Found, finds, reads_list, walk_ends, walks}
+use Rattle.file_rules.specs.Files.{Files, Asker, DriveState, volume_at, with_drives, with_volume}
+use Rattle.file_rules.specs.Step.{Step, refused, comes, reaches, needs, refuses, drive_of, FileEffect, FileStep, VolumeChange, Deed, leaves_so, as_io, changes, deed_of, refuses_so, DoesDeed, MayBeLeft, FileDoes}
+use Rattle.file_rules.specs.Way.{Found, reads_list, walk_ends, walks}
 use Rattle.file_rules.specs.declared.places.FilePlace.{FilePlace}
 use Rattle.file_laws.specs.Kinds.{AreKinds}
-use Rattle.file_laws.proofs.Kept.{kinds-drives, kinds-io, kinds-still}
+use Rattle.file_laws.specs.Mounted.{AreAsMany}
+use Rattle.file_laws.proofs.Counts.{Stands, many-then, many-volume, none-many, stands-io, stands-same}
+use Rattle.file_laws.proofs.Kept.{kinds-drives, kinds-still}
 use Rattle.file_laws.proofs.Volumes.{all-same}
 use Rattle.file_laws.proofs.Paths.{LeavesOn}
 
@@ -38,6 +39,11 @@ module _ {E : Type 0} (P : Step E → Type 0) (none : (number : ℕ) → P (refu
   list-by (Err Unreadable) test next tests holds = none E_BPADDR
   list-by (Err NoName) test next tests holds = tests (refused E_BPNAM) (none E_BPNAM)
 
+-- a volume that is there
+volume-of : (o : Option DiskVolume) → is_some o ≡ true → (v : DiskVolume) × (o ≡ Some v)
+volume-of None some = absurd (false≢true some)
+volume-of (Some v) some = (v, refl)
+
 -- a file that was found is on the volume of its drive
 pub record IsFound (files : Files) (found : Found) : Type 0 where
   pub mounted : volume_at files found.place.drive ≡ Some found.volume
@@ -46,11 +52,11 @@ pub record IsFound (files : Files) (found : Found) : Type 0 where
 module _ (asker : Asker) (files : Files) where
   -- what is done keeps them, where no drive fails
   abbrev pub KeptWell : Deed → Type 0
-  KeptWell deed = (effect : FileEffect) (old new : List TerminalState) → DoesDeed deed asker files effect old new → AreKinds effect.files
+  KeptWell deed = (effect : FileEffect) (old new : List TerminalState) → DoesDeed deed asker files effect old new → Stands files effect.files
 
   -- and where this drive does
   abbrev pub KeptBroken : ℕ → Deed → Type 0
-  KeptBroken drive deed = (was left : DiskVolume) → volume_at files drive ≡ Some was → MayBeLeft deed asker was left → AreKinds (with_volume files drive left)
+  KeptBroken drive deed = (was left : DiskVolume) → volume_at files drive ≡ Some was → MayBeLeft deed asker was left → Stands files (with_volume files drive left)
 
   -- what is done on this drive keeps them
   pub record KeptOn (drive : ℕ) (step : FileStep) : Type 0 where
@@ -62,34 +68,46 @@ module _ (asker : Asker) (files : Files) where
     pub broken : (drive : ℕ) → drive_of step ≡ Some drive → KeptBroken drive (deed_of step files)
 
   module _ (kinds : AreKinds files) where
-    leaves-well : (it : FileEffect) → AreKinds it.files → KeptWell (leaves_so it)
-    leaves-well it kept effect old new (is, same) = subst (λ (effect : FileEffect). AreKinds effect.files) (sym is) kept
+    leaves-well : (it : FileEffect) → Stands files it.files → KeptWell (leaves_so it)
+    leaves-well it kept effect old new (is, same) = subst (λ (effect : FileEffect). Stands files effect.files) (sym is) kept
 
     -- the volume is as it was
-    pub same-volume : (drive : ℕ) (was left : DiskVolume) → volume_at files drive ≡ Some was → left ≡ was → AreKinds (with_volume files drive left)
-    same-volume drive was left is same = kinds-still files drive was left is (all-same was left same) kinds
+    pub same-volume : (drive : ℕ) (was left : DiskVolume) → volume_at files drive ≡ Some was → left ≡ was → Stands files (with_volume files drive left)
+    same-volume drive was left is same = record {
+      kinds = kinds-still files drive was left is (all-same was left same) kinds;
+      many = many-volume files drive was left is;
+    }
 
     pub on-refused : (drive number : ℕ) → KeptOn drive (refused number)
-    on-refused drive number = record { well = leaves-well (refuses_so number files) kinds; broken = same-volume drive }
+    on-refused drive number = record { well = leaves-well (refuses_so number files) (stands-same files kinds); broken = same-volume drive }
 
-    pub on-leaves : (drive : ℕ) (it : FileEffect) → AreKinds it.files → KeptOn drive (comes (leaves_so it))
+    pub on-leaves : (drive : ℕ) (it : FileEffect) → Stands files it.files → KeptOn drive (comes (leaves_so it))
     on-leaves drive it kept = record { well = leaves-well it kept; broken = same-volume drive }
 
-    pub on-changes : (it : VolumeChange) → ((was now : DiskVolume) (number : ℕ) → volume_at files it.drive ≡ Some was → Makes it.change asker.user asker.now was now number → AreKinds (with_volume (it.effect number).files it.drive now)) → ((was left : DiskVolume) → volume_at files it.drive ≡ Some was → MayLeave it.change asker.user asker.now was left → AreKinds (with_volume files it.drive left)) → KeptOn it.drive (comes (changes it))
-    on-changes it made left = record { well = well; broken = left }
+    pub on-changes : (it : VolumeChange) → ((number : ℕ) → AreAsMany files (it.effect number).files) → ((was now : DiskVolume) (number : ℕ) → volume_at files it.drive ≡ Some was → Makes it.change asker.user asker.now was now number → AreKinds (with_volume (it.effect number).files it.drive now)) → ((was left : DiskVolume) → volume_at files it.drive ≡ Some was → MayLeave it.change asker.user asker.now was left → AreKinds (with_volume files it.drive left)) → KeptOn it.drive (comes (changes it))
+    on-changes it many made left = record {
+      well = well;
+      broken = λ was left_now is may. record { kinds = left was left_now is may; many = many-volume files it.drive was left_now is };
+    }
       where
+        -- the volume is changed beside what is left
+        changed : (was now : DiskVolume) (number : ℕ) → volume_at files it.drive ≡ Some was → AreAsMany files (with_volume (it.effect number).files it.drive now)
+        changed was now number is =
+            let beside = volume-of (volume_at (it.effect number).files it.drive) ((many number).mounted it.drive ∙ ap is_some is) in
+            many-then files (it.effect number).files (with_volume (it.effect number).files it.drive now) (many number) (many-volume (it.effect number).files it.drive beside.0 now beside.1)
+
         well : KeptWell (changes it)
         well effect old new (inl is, same) =
-            subst (λ (effect : FileEffect). AreKinds effect.files) (sym is.effect_is) (made is.old is.new is.number is.is is.makes)
-        well effect old new (inr is, same) = subst (λ (effect : FileEffect). AreKinds effect.files) (sym is.effect_is) kinds
+            subst (λ (effect : FileEffect). Stands files effect.files) (sym is.effect_is) (record { kinds = made is.old is.new is.number is.is is.makes; many = changed is.old is.new is.number is.is })
+        well effect old new (inr is, same) = subst (λ (effect : FileEffect). Stands files effect.files) (sym is.effect_is) (stands-same files kinds)
 
     pub refused-kept : (number : ℕ) → Kept (refused number)
     refused-kept number = record {
-      well = leaves-well (refuses_so number files) kinds;
+      well = leaves-well (refuses_so number files) (stands-same files kinds);
       broken = λ drive reached. absurd (none-some drive reached);
     }
 
-    pub leaves-kept : (it : FileEffect) → AreKinds it.files → Kept (comes (leaves_so it))
+    pub leaves-kept : (it : FileEffect) → Stands files it.files → Kept (comes (leaves_so it))
     leaves-kept it kept = record {
       well = leaves-well it kept;
       broken = λ drive reached. absurd (none-some drive reached);
@@ -100,7 +118,7 @@ module _ (asker : Asker) (files : Files) where
       where
         well : KeptWell (as_io step)
         well effect old new (it, does, is) =
-            subst (λ (effect : FileEffect). AreKinds effect.files) (sym is) (kinds-io files kinds it.io (on it old new does))
+            subst (λ (effect : FileEffect). Stands files effect.files) (sym is) (stands-io files kinds it.io (on it old new does))
 
     -- a step that reaches a drive, and goes on on it
     pub reaches-kept : (drive : ℕ) (step : FileStep) → KeptOn drive step → Kept (reaches drive step)
@@ -122,10 +140,25 @@ module _ (asker : Asker) (files : Files) where
         by_end v is not_allowed = on-refused place.drive E_FNA
         by_end v is not_found = on-refused place.drive E_PNNF
 
-    -- an attempt
-    pub does-kept : (step : FileStep) (effect : FileEffect) (old new : List TerminalState) → Kept step → FileDoes step asker files effect old new → AreKinds effect.files
+    -- an attempt, where as many drives are there as before
+    many-drives-of : (left : Files) → AreAsMany files left → (drives : List DriveState) → length drives ≡ length files.drives → AreAsMany files (with_drives left drives)
+    many-drives-of left many drives same = record {
+      drives = same;
+      directories = many.directories;
+      volumes = many.volumes;
+      mounted = λ drive. many.mounted drive;
+    }
+
+    pub does-kept : (step : FileStep) (effect : FileEffect) (old new : List TerminalState) → Kept step → FileDoes step asker files effect old new → Stands files effect.files
     does-kept step effect old new kept (inl well) =
-        subst (λ (effect : FileEffect). AreKinds effect.files) (sym well.effect_is) (kinds-drives well.it.files (kept.well well.it old new well.does) well.drives)
+        let left : Stands files well.it.files = kept.well well.it old new well.does in
+        subst (λ (effect : FileEffect). Stands files effect.files) (sym well.effect_is) (record {
+          kinds = kinds-drives well.it.files left.kinds well.drives;
+          many = many-drives-of well.it.files left.many well.drives (none-many files.drives well.drives well.none_failed);
+        })
     does-kept step effect old new kept (inr (broken, same)) =
-        subst (λ (effect : FileEffect). AreKinds effect.files) (sym broken.effect_is)
-        (kinds-drives (with_volume files broken.drive broken.left) (kept.broken broken.drive broken.reached broken.old broken.left broken.is broken.may_be) broken.drives)
+        let left : Stands files (with_volume files broken.drive broken.left) = kept.broken broken.drive broken.reached broken.old broken.left broken.is broken.may_be in
+        subst (λ (effect : FileEffect). Stands files effect.files) (sym broken.effect_is) (record {
+          kinds = kinds-drives (with_volume files broken.drive broken.left) left.kinds broken.drives;
+          many = many-drives-of (with_volume files broken.drive broken.left) left.many broken.drives broken.failed.as_many;
+        })

@@ -5,14 +5,13 @@ use Rattle.std.specs.List.{range_with_len}
 use Rattle.std.proofs.Math.Nat.{mul-div_cancel}
 use Rattle.std.specs.Int.{bit_at}
 use Rattle.std.proofs.lemmas.Bool.{both_ways, cases_eq, eq-eqb, eqb-true, leb-true, not-true, or_left}
-use Rattle.std.proofs.lemmas.Option.{none-some, same_Some}
+use Rattle.std.proofs.lemmas.Option.{same_Some}
 use Rattle.os9_base.specs.declared.registers.TimePacket.{TimePacket}
 use Rattle.rbf_model.specs.File.{DiskFile, is_directory}
 use Rattle.rbf_model.specs.Geometry.{Geometry}
 use Rattle.rbf_model.specs.Segments.{has, sectors_of}
-use Rattle.rbf_model.specs.Space.{has_cluster, own_sectors, is_whole}
+use Rattle.rbf_model.specs.Space.{has_cluster, is_whole}
 use Rattle.rbf_model.specs.Volume.{DiskVolume, in_file, is_free}
-use Rattle.rbf_model.specs.Writes.{put_file, with_lost}
 use Rattle.rbf_model.proofs.Free.{in_file_at}
 use Rattle.rbf_model.proofs.Lists.{all_at, three_parts}
 use Rattle.rbf_model.proofs.Owners.{owns_own}

@@ -1,2 +1,5 @@
-//! Laws of the calls on files: what holds of paths and directories of processes after every attempt.
+//! Laws of the calls on files: what paths and directories of processes are on, and which drives
+//! have a volume, at the start and after every attempt.
 #![tactic(auto)]
+
+pub mod laws;

@@ -1,0 +1,89 @@
+//! What holds at the start and is kept by every attempt: paths and directories of processes are on
+//! what is there, and no volume is lost.
+
+ghost use Rattle.std.specs.Prelude.{ℕ, List};
+ghost use Rattle.os9_base.specs.Cells.{Cells};
+ghost use Rattle.os9_base.specs.declared.call.CallEnd.{CallEnd};
+ghost use Rattle.os9_base.specs.declared.registers.Regs.{Regs};
+ghost use Rattle.os9_base.specs.declared.registers.TimePacket.{TimePacket};
+ghost use Rattle.os9_outer.specs.TerminalState.{TerminalState};
+ghost use Rattle.call_rules.specs.CallResult.{CallResult};
+ghost use Rattle.call_rules.specs.Inner.{Inner};
+ghost use Rattle.file_rules.specs.Attempts.{AskerAttempts, FileAttempts};
+ghost use Rattle.file_rules.specs.Files.{Files, Asker, DriveState};
+ghost use Rattle.file_rules.specs.Load.{LoadAttempts};
+ghost use Rattle.file_rules.specs.Processes.{StartsOn, files_ended, files_started};
+ghost use Rattle.file_rules.specs.Program.{ChainAttempts, ForkAttempts};
+ghost use Rattle.file_rules.specs.declared.path_call.PathCall.{PathCall};
+ghost use Rattle.file_laws.specs.Kinds.{AreKinds};
+ghost use Rattle.file_laws.specs.Mounted.{AreAsMany};
+
+/// At the start the first process's directories are directories on the volume of D0, and no path is
+/// on a file (Level Two manual, "Booting").
+pub fn directories_are_there_at_the_start()
+    ensures { (images : List (List ℕ)) (drives : List DriveState) (files : Files)
+        → StartsOn images drives files → AreKinds files }
+{}
+
+/// Paths and directories of processes stay on what is there where a process begins and where one
+/// ends, and the same drives have volumes (System Programmer's Manual, F$Fork and F$Exit).
+pub fn processes_begin_and_end_on_what_is_there()
+    ensures begins { (files : Files) (parent child : ℕ) → AreKinds files
+        → AreKinds (files_started files parent child) }
+    ensures ends { (files : Files) (p : ℕ) → AreKinds files → AreKinds (files_ended files p) }
+    ensures begins_mounted { (files : Files) (parent child : ℕ)
+        → AreAsMany files (files_started files parent child) }
+    ensures ends_mounted { (files : Files) (p : ℕ) → AreAsMany files (files_ended files p) }
+{}
+
+/// Every attempt of a call on paths, files and directories leaves them on what is there, whether a
+/// drive fails in it or not: a file that goes has no path on it and is no directory, a new file
+/// takes the number of none, and what is changed keeps its kind (System Programmer's Manual, "I/O
+/// service requests"). By the state of the processes, and by the caller's registers and bytes.
+pub fn attempts_stay_on_what_is_there()
+    ensures attempt { (call : PathCall) (m : Inner) (files : Files) (now : TimePacket) (p : ℕ)
+        (result : CallResult) (new : Files) (before after : List TerminalState)
+        → FileAttempts call m files now p result new before after → AreKinds files
+        → AreKinds new }
+    ensures asked { (call : PathCall) (asker : Asker) (files : Files) (end : CallEnd) (regs : Regs)
+        (cells : Cells) (new : Files) (before after : List TerminalState)
+        → AskerAttempts call asker files end regs cells new before after → AreKinds files
+        → AreKinds new }
+{}
+
+/// F$Load, and F$Fork and F$Chain of a program in a file, leave paths and directories on what is
+/// there (System Programmer's Manual, F$Load, F$Fork and F$Chain).
+pub fn loads_stay_on_what_is_there()
+    ensures load { (m : Inner) (asker : Asker) (old : Files) (terms p : ℕ) (result : CallResult)
+        (new : Files) → LoadAttempts m asker old terms p result new → AreKinds old
+        → AreKinds new }
+    ensures fork { (m : Inner) (asker : Asker) (old : Files) (terms p : ℕ) (result : CallResult)
+        (new : Files) → ForkAttempts m asker old terms p result new → AreKinds old
+        → AreKinds new }
+    ensures chain { (m : Inner) (asker : Asker) (old : Files) (terms p : ℕ) (result : CallResult)
+        (new : Files) → ChainAttempts m asker old terms p result new → AreKinds old
+        → AreKinds new }
+{}
+
+/// No attempt loses a volume or mounts one, and none changes how many drives there are, or how many
+/// processes have a place for their directories.
+pub fn attempts_lose_no_volume()
+    ensures attempt { (call : PathCall) (m : Inner) (files : Files) (now : TimePacket) (p : ℕ)
+        (result : CallResult) (new : Files) (before after : List TerminalState)
+        → FileAttempts call m files now p result new before after → AreKinds files
+        → AreAsMany files new }
+    ensures asked { (call : PathCall) (asker : Asker) (files : Files) (end : CallEnd) (regs : Regs)
+        (cells : Cells) (new : Files) (before after : List TerminalState)
+        → AskerAttempts call asker files end regs cells new before after → AreKinds files
+        → AreAsMany files new }
+{}
+
+/// The same of F$Load, and of F$Fork and F$Chain of a program in a file.
+pub fn loads_lose_no_volume()
+    ensures load { (m : Inner) (asker : Asker) (old : Files) (terms p : ℕ) (result : CallResult)
+        (new : Files) → LoadAttempts m asker old terms p result new → AreAsMany old new }
+    ensures fork { (m : Inner) (asker : Asker) (old : Files) (terms p : ℕ) (result : CallResult)
+        (new : Files) → ForkAttempts m asker old terms p result new → AreAsMany old new }
+    ensures chain { (m : Inner) (asker : Asker) (old : Files) (terms p : ℕ) (result : CallResult)
+        (new : Files) → ChainAttempts m asker old terms p result new → AreAsMany old new }
+{}
