@@ -16,7 +16,7 @@ use Rattle.io_rules.specs.Io.{Io}
 use Rattle.file_rules.specs.Files.{Files, DriveState, no_directories, directories_at, directory_of, volume_at, place_of_target, with_io, with_directories_of, with_volume, with_drives}
 use Rattle.file_rules.specs.declared.places.Directories.{Directories}
 use Rattle.file_rules.specs.declared.places.FilePlace.{FilePlace}
-use Rattle.file_laws.specs.Kinds.{IsOfKind, IsOnItsKind, AreKinds}
+use Rattle.file_laws.specs.Kinds.{IsOfKind, IsOnTarget, IsOnItsKind, AreKinds}
 
 -- ---- what stands on the same volumes
 
@@ -30,18 +30,18 @@ kind-same old new place kind same it = record {
   kind = it.kind;
 }
 
-pub on-by : (old new : Files) (target : Target) → ((place : FilePlace) (kind : Bool) → place_of_target target ≡ Some place → IsOfKind old place kind → IsOfKind new place kind) → IsOnItsKind old target → IsOnItsKind new target
-on-by old new (File drive number) carry it = carry (record { drive = drive; number = number }) false refl it
-on-by old new (Folder drive number) carry it = carry (record { drive = drive; number = number }) true refl it
-on-by old new (Term terminal) carry it = tt
-on-by old new (Pipe pipe) carry it = tt
+pub on-by : (old new : Files) (mode : ℕ) (target : Target) → ((place : FilePlace) (kind : Bool) → place_of_target target ≡ Some place → IsOfKind old place kind → IsOfKind new place kind) → IsOnTarget old mode target → IsOnTarget new mode target
+on-by old new mode (File drive number) carry it = carry (record { drive = drive; number = number }) false refl it
+on-by old new mode (Folder drive number) carry it = (carry (record { drive = drive; number = number }) true refl it.0, it.1)
+on-by old new mode (Term terminal) carry it = tt
+on-by old new mode (Pipe pipe) carry it = tt
 
-pub on-same : (old new : Files) (target : Target) → new.volumes ≡ old.volumes → IsOnItsKind old target → IsOnItsKind new target
-on-same old new target same it = on-by old new target (λ place kind at. kind-same old new place kind same) it
+pub on-same : (old new : Files) (desc : Desc) → new.volumes ≡ old.volumes → IsOnItsKind old desc → IsOnItsKind new desc
+on-same old new desc same it = on-by old new desc.mode desc.target (λ place kind at. kind-same old new place kind same) it
 
 -- each path of a table is on what it was opened on
 abbrev pub AreOn : Files → PathTable → Type 0
-AreOn files paths = (s : ℕ) (desc : Desc) → desc_of paths s ≡ Some desc → IsOnItsKind files desc.target
+AreOn files paths = (s : ℕ) (desc : Desc) → desc_of paths s ≡ Some desc → IsOnItsKind files desc
 
 -- a directory of a process, of these
 abbrev pub directory_in : Bool → Directories → Option FilePlace
@@ -56,21 +56,21 @@ none-in false place at = none-some place at
 module _ (files : Files) (kinds : AreKinds files) where
   pub kinds-io : (io : Io) → AreOn files io.paths → AreKinds (with_io files io)
   kinds-io io on = record {
-    paths = λ s desc there. on-same files (with_io files io) desc.target refl (on s desc there);
+    paths = λ s desc there. on-same files (with_io files io) desc refl (on s desc there);
     directories = λ p execute place at. kind-same files (with_io files io) place true refl (kinds.directories p execute place at);
     clusters = λ drive v is. kinds.clusters drive v is;
   }
 
   pub kinds-drives : (drives : List DriveState) → AreKinds (with_drives files drives)
   kinds-drives drives = record {
-    paths = λ s desc there. on-same files (with_drives files drives) desc.target refl (kinds.paths s desc there);
+    paths = λ s desc there. on-same files (with_drives files drives) desc refl (kinds.paths s desc there);
     directories = λ p execute place at. kind-same files (with_drives files drives) place true refl (kinds.directories p execute place at);
     clusters = λ drive v is. kinds.clusters drive v is;
   }
 
   pub kinds-directories : (p : ℕ) (directories : Directories) → ((execute : Bool) (place : FilePlace) → directory_in execute directories ≡ Some place → IsOfKind files place true) → AreKinds (with_directories_of files p directories)
   kinds-directories p directories new = record {
-    paths = λ s desc there. on-same files (with_directories_of files p directories) desc.target refl (kinds.paths s desc there);
+    paths = λ s desc there. on-same files (with_directories_of files p directories) desc refl (kinds.paths s desc there);
     directories = λ q execute place at. kind-same files (with_directories_of files p directories) place true refl (by_process q execute place at (cases_eq q p) (cases_lt p (length files.directories)));
     clusters = λ drive v is. kinds.clusters drive v is;
   }
@@ -128,7 +128,7 @@ module _ (files : Files) (drive : ℕ) (v w : DiskVolume) (is : volume_at files 
       → ((s : ℕ) (desc : Desc) (place : FilePlace) → desc_of files.io.paths s ≡ Some desc → place_of_target desc.target ≡ Some place → place.drive ≡ drive → Still v w place.number)
       → ((p : ℕ) (execute : Bool) (place : FilePlace) → directory_of files p execute ≡ Some place → place.drive ≡ drive → Still v w place.number) → AreKinds (with_volume files drive w)
   kinds-volume kinds ident paths directories = record {
-    paths = λ s desc there. on-by files (with_volume files drive w) desc.target (λ place kind at. kind-volume place kind (paths s desc place there at)) (kinds.paths s desc there);
+    paths = λ s desc there. on-by files (with_volume files drive w) desc.mode desc.target (λ place kind at. kind-volume place kind (paths s desc place there at)) (kinds.paths s desc there);
     directories = λ p execute place at. kind-volume place true (directories p execute place at) (kinds.directories p execute place at);
     clusters = λ other u at. by_drive other u at (cases_eq other drive);
   }

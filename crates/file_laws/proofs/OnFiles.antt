@@ -90,7 +90,7 @@ module _ (asker : Asker) (files : Files) (kinds : AreKinds files) where
     position-on : (at : ℕ) → AreOn files (with_desc files.io.paths opened.opened.path.0 (Some (record opened.opened.desc { at = at })))
     position-on at =
         on-desc files files.io.paths opened.opened.path.0 (Some (record opened.opened.desc { at = at })) kinds.paths
-        (λ desc is. subst (λ (d : Desc). IsOnItsKind files d.target) (same_Some (record opened.opened.desc { at = at }) desc is) (kinds.paths opened.opened.path.0 opened.opened.desc there))
+        (λ desc is. subst (λ (d : Desc). IsOnItsKind files d) (same_Some (record opened.opened.desc { at = at }) desc is) (kinds.paths opened.opened.path.0 opened.opened.desc there))
 
     moved-kinds : (at : ℕ) → Stands files (with_position files opened.opened at)
     moved-kinds at = stands-io files kinds (with_paths files.io (with_desc files.io.paths opened.opened.path.0 (Some (record opened.opened.desc { at = at })))) (position-on at)

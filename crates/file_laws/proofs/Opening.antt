@@ -1,7 +1,7 @@
 -- I$Open begins a path on a file of its kind, and I$ChgDir goes to a directory.
 use Rattle.std.proofs.Common.{◌≡◌, ℕ, Bool, true, false, not, Some, length, refl, sym, ap, ◌∙◌, subst}
-use Rattle.std.specs.Prelude.{if◌then◌else◌}
-use Rattle.std.proofs.lemmas.Bool.{and_parts, false≢true}
+use Rattle.std.specs.Prelude.{◌&&◌, if◌then◌else◌}
+use Rattle.std.proofs.lemmas.Bool.{and_parts, false≢true, not-true}
 use Rattle.std.proofs.lemmas.Option.{same_Some}
 use Rattle.os9_base.specs.declared.errors.TheConstants.{E_BMODE, E_FNA, E_SHARE, E_PTHFUL}
 use Rattle.io_model.specs.Path.{new_number, paths_after_begin}
@@ -10,19 +10,19 @@ use Rattle.rbf_model.specs.File.{is_directory}
 use Rattle.rbf_model.specs.Walk.{file_permits}
 use Rattle.io_rules.specs.Io.{new_desc, with_paths}
 use Rattle.io_rules.specs.Lead.{what_is_there}
-use Rattle.io_rules.specs.Modes.{is_mode}
+use Rattle.io_rules.specs.Modes.{can_write, is_mode}
 use Rattle.io_rules.specs.Open.{i_open as opens, opened_regs}
 use Rattle.io_rules.specs.PathList.{PathList}
 use Rattle.io_rules.specs.Step.{answers}
 use Rattle.file_rules.specs.ChgDir.{goes_on_way, goes_to, i_chgdir, may_go_to}
 use Rattle.file_rules.specs.Files.{Files, Asker, directories_at, target_on, with_directories_of, with_directory, with_path_table}
 use Rattle.file_rules.specs.MakDir.{past_list}
-use Rattle.file_rules.specs.Open.{begins_on, i_open, is_for_execution, may_open, opens_found, opens_on_way, tests_mode}
+use Rattle.file_rules.specs.Open.{begins_on, i_open, is_for_execution, may_open, opens_found, opens_kind, opens_on_way, says_directory, tests_mode}
 use Rattle.file_rules.specs.Sharing.{is_not_shared}
 use Rattle.file_rules.specs.Step.{FileStep, done, leaves, refuses}
 use Rattle.file_rules.specs.Way.{Found, Way, along, to_device, nowhere, list_of, way_of}
 use Rattle.file_rules.specs.declared.places.FilePlace.{FilePlace}
-use Rattle.file_laws.specs.Kinds.{IsOfKind, IsOnItsKind, AreKinds}
+use Rattle.file_laws.specs.Kinds.{IsOfKind, IsOnTarget, IsOnItsKind, AreKinds}
 use Rattle.file_laws.proofs.Counts.{stands-directories, stands-io}
 use Rattle.file_laws.proofs.Kept.{directory_in, file_of}
 use Rattle.file_laws.proofs.Paths.{on-begin, opens-leaves}
@@ -55,24 +55,31 @@ module _ (asker : Asker) (files : Files) (kinds : AreKinds files) where
 
     -- ---- I$Open
 
-    target-kind : IsOnItsKind files (target_on found.file found.place)
-    target-kind = by_kind (is_directory found.file) refl
+    -- a directory is opened without writing
+    target-kind : may_open found.file asker.user asker.caller.regs.a ≡ true → IsOnItsKind files (new_desc (target_on found.file found.place) asker.caller.regs.a)
+    target-kind may =
+        by_kind (is_directory found.file) refl
+        (and_parts (file_permits found.file asker.user asker.caller.regs.a) (opens_kind found.file asker.caller.regs.a) may).1
       where
-        by_kind : (kind : Bool) → is_directory found.file ≡ kind → IsOnItsKind files (if kind then Folder found.place.drive found.place.number else File found.place.drive found.place.number)
-        by_kind true kind = found-kind files found is true kind
-        by_kind false kind = found-kind files found is false kind
+        by_kind : (kind : Bool) → is_directory found.file ≡ kind → (if kind then says_directory asker.caller.regs.a && not (can_write asker.caller.regs.a) else not (says_directory asker.caller.regs.a)) ≡ true
+            → IsOnTarget files asker.caller.regs.a (if kind then Folder found.place.drive found.place.number else File found.place.drive found.place.number)
+        by_kind true kind opens = (
+          found-kind files found is true kind,
+          not-true (can_write asker.caller.regs.a) (and_parts (says_directory asker.caller.regs.a) (not (can_write asker.caller.regs.a)) opens).1,
+        )
+        by_kind false kind opens = found-kind files found is false kind
 
-    begins-kept : On (begins_on asker files list found)
-    begins-kept =
+    begins-kept : may_open found.file asker.user asker.caller.regs.a ≡ true → On (begins_on asker files list found)
+    begins-kept may =
         needs-by (KeptOn asker files found.place.drive) (on-refused asker files kinds found.place.drive) (new_number files.io.paths asker.caller.process.0) E_PTHFUL (λ number. done (opened_regs asker.caller.regs list number) (with_path_table files (paths_after_begin files.io.paths asker.caller.process.0 (new_desc (target_on found.file found.place) asker.caller.regs.a))))
         (λ number free. on-leaves asker files kinds found.place.drive (leaves (answers (opened_regs asker.caller.regs list number)) (with_path_table files (paths_after_begin files.io.paths asker.caller.process.0 (new_desc (target_on found.file found.place) asker.caller.regs.a))))
         (stands-io files kinds (with_paths files.io (paths_after_begin files.io.paths asker.caller.process.0 (new_desc (target_on found.file found.place) asker.caller.regs.a)))
-        (on-begin files files.io.paths asker.caller.process.0 (new_desc (target_on found.file found.place) asker.caller.regs.a) kinds.paths target-kind)))
+        (on-begin files files.io.paths asker.caller.process.0 (new_desc (target_on found.file found.place) asker.caller.regs.a) kinds.paths (target-kind may))))
 
     opens-kept : On (opens_found asker files list found)
     opens-kept =
         refuses-by (KeptOn asker files found.place.drive) (on-refused asker files kinds found.place.drive) (not (may_open found.file asker.user asker.caller.regs.a)) E_FNA (refuses (is_not_shared files found asker.caller.regs.a) E_SHARE (begins_on asker files list found))
-        (λ may. refuses-by (KeptOn asker files found.place.drive) (on-refused asker files kinds found.place.drive) (is_not_shared files found asker.caller.regs.a) E_SHARE (begins_on asker files list found) (λ shared. begins-kept))
+        (λ may. refuses-by (KeptOn asker files found.place.drive) (on-refused asker files kinds found.place.drive) (is_not_shared files found asker.caller.regs.a) E_SHARE (begins_on asker files list found) (λ shared. begins-kept (of-not (may_open found.file asker.user asker.caller.regs.a) may)))
 
     -- ---- I$ChgDir
 

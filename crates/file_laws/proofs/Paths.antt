@@ -48,27 +48,27 @@ module _ (files : Files) where
 
   -- ---- one change of the paths
 
-  pub on-desc : (paths : PathTable) (s : ℕ) (place : Option Desc) → On paths → ((desc : Desc) → place ≡ Some desc → IsOnItsKind files desc.target) → On (with_desc paths s place)
+  pub on-desc : (paths : PathTable) (s : ℕ) (place : Option Desc) → On paths → ((desc : Desc) → place ≡ Some desc → IsOnItsKind files desc) → On (with_desc paths s place)
   on-desc paths s place on new path desc there =
       elim (cases_eq path s) [
         | inl same ↦ at_it same (cases_lt s (length paths.descs))
         | inr apart ↦ on path desc (sym (get_or-set_other paths.descs s path place None apart) ∙ there)
       ]
     where
-      at_it : path ≡ s → (s < length paths.descs) ⊎ (length paths.descs ≤ s) → IsOnItsKind files desc.target
+      at_it : path ≡ s → (s < length paths.descs) ⊎ (length paths.descs ≤ s) → IsOnItsKind files desc
       at_it same (inl within) =
           new desc (sym (ap (desc_of (with_desc paths s place)) same ∙ get_or-set_same paths.descs s place None within) ∙ there)
       at_it same (inr past) =
           absurd (none-some desc (sym (ap (desc_of (with_desc paths s place)) same ∙ get_or_past (with_desc paths s place).descs s None (rw length-set past)) ∙ there))
 
-  pub on-begin : (paths : PathTable) (p : ℕ) (desc : Desc) → On paths → IsOnItsKind files desc.target → On (paths_after_begin paths p desc)
+  pub on-begin : (paths : PathTable) (p : ℕ) (desc : Desc) → On paths → IsOnItsKind files desc → On (paths_after_begin paths p desc)
   on-begin paths p desc on new = by_places (free_number paths p) (free_path paths)
     where
       by_places : (number path : Option ℕ) → On (option_map_or (λ n. option_map_or (with_path paths p desc n) path paths) number paths)
       by_places None path = on
       by_places (Some n) None = on
       by_places (Some n) (Some s) =
-          λ path d there. on-desc paths s (Some desc) on (λ d is. subst (λ (d : Desc). IsOnItsKind files d.target) (same_Some desc d is) new) path d there
+          λ path d there. on-desc paths s (Some desc) on (λ d is. subst (λ (d : Desc). IsOnItsKind files d) (same_Some desc d is) new) path d there
 
   pub on-dup : (paths : PathTable) (p n : ℕ) → On paths → On (paths_after_dup paths p n)
   on-dup paths p n on = by_place (free_number paths p)
@@ -160,7 +160,7 @@ module _ (files : Files) where
     nothing-leaves = leaves-on _ (needs-left (open_path io caller.process.0 caller.regs.a) E_BPNUM (λ opened. done caller.regs io) (λ opened. on))
 
     -- I$Open and I$Create
-    begins-left : (before : Io) (list : PathList) (desc : Desc) → OnIo before → IsOnItsKind files desc.target → Left (begins caller before list desc)
+    begins-left : (before : Io) (list : PathList) (desc : Desc) → OnIo before → IsOnItsKind files desc → Left (begins caller before list desc)
     begins-left before list desc on new =
         needs-left (new_number before.paths caller.process.0) E_PTHFUL (λ number. done (opened_regs caller.regs list number) (with_paths before (paths_after_begin before.paths caller.process.0 desc)))
         (λ number. on-begin before.paths caller.process.0 desc on new)

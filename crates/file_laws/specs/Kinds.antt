@@ -1,6 +1,6 @@
 -- What paths and directories of processes are on (Level Two manual, "Path descriptors"; System Programmer's Manual,
 -- I$Open and I$ChgDir): a path that was opened on a file is on one that is there and is no directory, a path that was
--- opened on a directory is on one, and so is each directory of a process.
+-- opened on a directory is on one and may not be written, and each directory of a process is one.
 use Rattle.std.specs.Prelude.{◌≡◌, ℕ, ◌<◌, Bool, true, false, Some}
 use Rattle.io_model.specs.Path.{desc_of}
 use Rattle.io_model.specs.declared.path.Desc.{Desc}
@@ -9,6 +9,7 @@ use Rattle.io_model.specs.declared.path.Target.TheVariants.{File, Folder, Term, 
 use Rattle.rbf_model.specs.File.{DiskFile, is_directory}
 use Rattle.rbf_model.specs.Volume.{DiskVolume}
 use Rattle.rbf_change.specs.Calls.{cluster_size}
+use Rattle.io_rules.specs.Modes.{can_write}
 use Rattle.file_rules.specs.Files.{Files, directory_of, file_in, volume_at}
 use Rattle.file_rules.specs.declared.places.FilePlace.{FilePlace}
 
@@ -18,17 +19,23 @@ pub record IsOfKind (files : Files) (place : FilePlace) (directory : Bool) : Typ
   pub there : file_in files place ≡ Some file
   pub kind : is_directory file ≡ directory
 
--- what a path was opened on is there, and is a directory or none as the path has it; terminals and pipes are no files
-abbrev pub IsOnItsKind : Files → Target → Type 0
-IsOnItsKind files (File drive number) = IsOfKind files (record { drive = drive; number = number }) false
-IsOnItsKind files (Folder drive number) = IsOfKind files (record { drive = drive; number = number }) true
-IsOnItsKind files (Term terminal) = Unit {0}
-IsOnItsKind files (Pipe pipe) = Unit {0}
+-- what a path with this mode was opened on is there, and is a directory or none as the path has it. A path on a
+-- directory may not be written; terminals and pipes are no files
+abbrev pub IsOnTarget : Files → ℕ → Target → Type 0
+IsOnTarget files mode (File drive number) = IsOfKind files (record { drive = drive; number = number }) false
+IsOnTarget files mode (Folder drive number) =
+    IsOfKind files (record { drive = drive; number = number }) true × (can_write mode ≡ false)
+IsOnTarget files mode (Term terminal) = Unit {0}
+IsOnTarget files mode (Pipe pipe) = Unit {0}
+
+-- the same of a path by its descriptor
+abbrev pub IsOnItsKind : Files → Desc → Type 0
+IsOnItsKind files desc = IsOnTarget files desc.mode desc.target
 
 -- each path is on what it was opened on, and each directory of a process, for data and for execution, is a directory.
 -- The clusters of each mounted volume have sectors: without that a new file could take the number of another
 pub record AreKinds (files : Files) : Type 0 where
-  pub paths : (s : ℕ) (desc : Desc) → desc_of files.io.paths s ≡ Some desc → IsOnItsKind files desc.target
+  pub paths : (s : ℕ) (desc : Desc) → desc_of files.io.paths s ≡ Some desc → IsOnItsKind files desc
   pub directories : (p : ℕ) (execute : Bool) (place : FilePlace) → directory_of files p execute ≡ Some place
       → IsOfKind files place true
   pub clusters : (drive : ℕ) (v : DiskVolume) → volume_at files drive ≡ Some v → 0 < cluster_size v
