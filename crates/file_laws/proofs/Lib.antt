@@ -4,6 +4,7 @@ pub mod Volumes
 pub mod Paths
 pub mod Steps
 pub mod Opening
+pub mod Named
 pub mod OnFiles
 pub mod Making
 pub mod Deleting

@@ -1,16 +1,15 @@
 -- Calls on a number of a path: I$Read, I$Write, I$Seek, I$GetStt, I$SetStt and their like move positions and change one
 -- file, which keeps its kind.
 use Rattle.std.proofs.Common.{◌≡◌, ℕ, ◌+◌, ◌%◌, ◌==◌, Bool, true, false, not, Option, Some, None, List, length, refl, ap, ◌∙◌, subst}
-use Rattle.std.specs.Prelude.{is_none, nat_le, nat_lt, option_map, option_and_then, take, if◌then◌else◌}
-use Rattle.std.proofs.lemmas.Option.{none-some, option_and_then_some, same_Some}
+use Rattle.std.specs.Prelude.{is_none, nat_le, nat_lt, take, if◌then◌else◌}
+use Rattle.std.proofs.lemmas.Option.{same_Some}
 use Rattle.os9_base.specs.declared.calls.TheConstants.{I_READ, I_READLN}
 use Rattle.os9_base.specs.declared.errors.TheConstants.{E_BPADDR, E_BMODE, E_EOF, E_FNA, E_FULL, E_UNKSVC}
 use Rattle.os9_base.specs.declared.registers.Regs.{Regs}
 use Rattle.call_rules.specs.UserBytes.{user_bytes}
 use Rattle.io_model.specs.Line.{first_line}
-use Rattle.io_model.specs.Path.{desc_of, slot_of, with_desc}
+use Rattle.io_model.specs.Path.{desc_of, with_desc}
 use Rattle.io_model.specs.declared.path.Desc.{Desc}
-use Rattle.io_model.specs.declared.path.SysPath.{SysPath}
 use Rattle.io_model.specs.declared.terminal.ReadKind.TheVariants.{Bytes, WholeLine}
 use Rattle.rbf_model.specs.File.{DiskFile, is_directory}
 use Rattle.rbf_model.specs.Volume.{DiskVolume}
@@ -18,7 +17,7 @@ use Rattle.rbf_change.specs.Calls.{cluster_size, free_total, is_free_in, SizesFi
 use Rattle.rbf_change.specs.Contents.{written}
 use Rattle.rbf_change.specs.Growth.{clusters_needed}
 use Rattle.rbf_change.specs.NewFiles.{owns_file}
-use Rattle.io_rules.specs.Io.{Io, OpenPath, open_path, with_paths}
+use Rattle.io_rules.specs.Io.{Io, with_paths}
 use Rattle.io_rules.specs.Modes.{can_read, can_write}
 use Rattle.io_rules.specs.Pipes.{count_regs}
 use Rattle.io_rules.specs.Read.{i_read as reads_device, i_readln as reads_device_line}
@@ -29,48 +28,21 @@ use Rattle.io_rules.specs.Write.{i_write as writes_device, i_writln as writes_de
 use Rattle.io_rules.specs.declared.modes.TheConstants.{STANDARD_ERROR}
 use Rattle.io_rules.specs.declared.status.TheConstants.{SS_OPT, SS_READY, SS_EOF, OPTION_BYTES}
 use Rattle.file_rules.specs.Change.{Change, Makes, MayLeave, writes, sizes, sets_attributes}
-use Rattle.file_rules.specs.Files.{Files, Asker, OpenFile, open_file, open_file_at, place_of_target, volume_at, with_io, with_position}
+use Rattle.file_rules.specs.Files.{Files, Asker, OpenFile, open_file, with_io, with_position}
 use Rattle.file_rules.specs.OnFile.{by_kind, moves_bytes, on_file}
 use Rattle.file_rules.specs.Read.{answers_bytes, bytes_here, i_read, i_readln, reads_file, reads_on}
 use Rattle.file_rules.specs.Seek.{i_seek, long_of, seeks_nothing}
 use Rattle.file_rules.specs.Status.{asked_bytes, descriptor_front, gets_bytes, gets_descriptor, gets_end, gets_size, gets_status, i_getstt, i_setstt, long_regs, sets_attributes_of, sets_size, sets_status}
 use Rattle.file_rules.specs.Step.{FileStep, refused, comes, reaches, changes, leaves_so, done, leaves, needs, refuses, stores}
 use Rattle.file_rules.specs.Write.{changes_file, f_perr, i_write, i_writln, sends_bytes, writes_bytes}
-use Rattle.file_rules.specs.declared.places.FilePlace.{FilePlace}
 use Rattle.file_rules.specs.declared.status.TheConstants.{SS_SIZE, SS_POS, SS_FD, SS_ATTR}
 use Rattle.file_laws.specs.Kinds.{IsOnItsKind, AreKinds}
 use Rattle.file_laws.proofs.Counts.{Stands, many-io, many-same, stands-io, stands-same}
 use Rattle.file_laws.proofs.Kept.{AllStill, AreOn, kinds-still}
+use Rattle.file_laws.proofs.Named.{opened-desc}
 use Rattle.file_laws.proofs.Paths.{LeavesOn, on-desc, reads-leave, write-leaves, line-leaves, error-leaves, nothing-leaves, get-leaves, set-leaves}
 use Rattle.file_laws.proofs.Steps.{Kept, KeptOn, io-kept, leaves-kept, needs-by, on-changes, on-leaves, on-refused, reaches-kept, refused-kept, refuses-by}
 use Rattle.file_laws.proofs.Volumes.{all-same, attributes-kind, changes-still, size-kind, size-still, write-still}
-
--- ---- the path that a number names
-
-map-some : {A B P : Type 0} (f : A → B) (o : Option A) (y : B) → option_map f o ≡ Some y → ((x : A) → o ≡ Some x → f x ≡ y → P) → P
-map-some f None y is next = absurd (none-some y is)
-map-some f (Some x) y is next = next x refl (same_Some (f x) y is)
-
-abbrev path_with : SysPath → Desc → OpenPath
-path_with s desc = record { path = s; desc = desc }
-
-abbrev file_with : OpenPath → FilePlace → DiskVolume → DiskFile → OpenFile
-file_with path place v file = record { opened = path; place = place; volume = v; file = file }
-
-pub path-desc : (io : Io) (p n : ℕ) (opened : OpenPath) → open_path io p n ≡ Some opened → desc_of io.paths opened.path.0 ≡ Some opened.desc
-path-desc io p n opened is =
-    option_and_then_some (λ (s : SysPath). option_map (path_with s) (desc_of io.paths s.0)) (slot_of io.paths p n) opened is (λ s at mapped.
-    map-some (path_with s) (desc_of io.paths s.0) opened mapped (λ desc there same.
-    subst (λ (opened : OpenPath). desc_of io.paths opened.path.0 ≡ Some opened.desc) same there))
-
-pub opened-desc : (files : Files) (p n : ℕ) (opened : OpenFile) → open_file files p n ≡ Some opened → desc_of files.io.paths opened.opened.path.0 ≡ Some opened.opened.desc
-opened-desc files p n opened is =
-    option_and_then_some (λ (path : OpenPath). option_and_then (open_file_at files path) (place_of_target path.desc.target)) (open_path files.io p n) opened is (λ path named at.
-    option_and_then_some (open_file_at files path) (place_of_target path.desc.target) opened at (λ place on here.
-    option_and_then_some (λ (v : DiskVolume). option_map (file_with path place v) (v.files place.number)) (volume_at files place.drive) opened here (λ v mounted mapped.
-    map-some (file_with path place v) (v.files place.number) opened mapped (λ file there same.
-    let same_path : path ≡ opened.opened = ap (λ (o : OpenFile). o.opened) same in
-    path-desc files.io p n opened.opened (named ∙ ap (λ (path : OpenPath). Some path) same_path)))))
 
 module _ (asker : Asker) (files : Files) (kinds : AreKinds files) where
   -- a call goes on with a file, or is the other call

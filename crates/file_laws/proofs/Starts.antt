@@ -1,14 +1,15 @@
 -- What paths and directories of processes are on at the start, and where processes begin and end.
-use Rattle.std.proofs.Common.{◌≡◌, ℕ, zero, suc, ◌-◌, ◌<◌, Bool, true, false, Option, Some, None, List, [], ◌∷◌, ◌++◌, codes, length, get_or, map, replicate, refl, sym, ap, ◌∙◌, subst, inl, inr, ◌⊎◌, arith}
+use Rattle.std.proofs.Common.{◌≡◌, ℕ, zero, suc, ◌-◌, ◌<◌, ◌≤◌, Bool, true, false, Option, Some, None, List, [], ◌∷◌, ◌++◌, codes, length, get_or, map, replicate, refl, sym, ap, ◌∙◌, subst, inl, inr, ◌⊎◌, arith}
 use Rattle.std.specs.Prelude.{if◌then◌else◌, option_and_then, slice_get}
 use Rattle.std.specs.List.{AllZip}
 use Rattle.std.specs.Option.{option_map_or}
 use Rattle.std.proofs.lemmas.Bool.{cases_eq, cases_lt}
-use Rattle.std.proofs.lemmas.List.{get_or-set_same, get_or-set_other, get_or_past, get_or-replicate, length-replicate}
+use Rattle.std.proofs.lemmas.List.{get_or-set_same, get_or-set_other, get_or_past, get_or-replicate, length-replicate, length-set}
 use Rattle.std.proofs.lemmas.Option.{none-some, option_and_then_some, same_Some}
 use Rattle.io_model.specs.Path.{no_paths, paths_after_begin, paths_after_dup}
 use Rattle.io_model.specs.declared.path.Desc.{Desc}
-use Rattle.io_model.specs.declared.path.Target.TheVariants.{Term}
+use Rattle.io_model.specs.declared.path.Target.{Target}
+use Rattle.io_model.specs.declared.path.Target.TheVariants.{File, Folder, Term, Pipe}
 use Rattle.rbf_model.specs.File.{DiskFile, is_directory}
 use Rattle.rbf_model.specs.Geometry.{Geometry, image_geometry, sector}
 use Rattle.rbf_model.specs.Volume.{DiskVolume, Vol}
@@ -16,16 +17,17 @@ use Rattle.rbf_model.specs.Walk.{look_up}
 use Rattle.rbf_model.proofs.Owners.{cluster_positive, root_file}
 use Rattle.rbf_change.specs.Calls.{cluster_size, shape}
 use Rattle.rbf_change.proofs.LawfulWrites.{shape-image}
-use Rattle.io_rules.specs.Io.{first_paths, new_desc}
+use Rattle.io_rules.specs.Io.{Io, first_paths, new_desc}
+use Rattle.io_rules.specs.Waiting.{io_interrupted, wait_target, without_unfinished}
 use Rattle.io_rules.specs.Processes.{io_ended, io_started}
-use Rattle.file_rules.specs.Files.{Files, DriveState, directories_at, directory_of, no_directories, with_io}
+use Rattle.file_rules.specs.Files.{Files, DriveState, directories_at, directory_of, no_directories, volume_at, with_io, with_volume}
 use Rattle.file_rules.specs.Processes.{StartsOn, directory_in_root, files_ended, files_started, first_directories, first_files}
 use Rattle.file_rules.specs.Way.{root_of}
 use Rattle.file_rules.specs.declared.places.FilePlace.{FilePlace}
 use Rattle.file_laws.specs.Kinds.{IsOfKind, AreKinds}
 use Rattle.file_laws.specs.Mounted.{AreAsMany}
 use Rattle.file_laws.proofs.Counts.{many-directories, many-io, many-then}
-use Rattle.file_laws.proofs.Kept.{AreOn, directory_in, file_of, kind-same, kinds-directories, kinds-io, none-in}
+use Rattle.file_laws.proofs.Kept.{AreOn, directory_in, file_of, kind-same, kinds-directories, kinds-io, none-in, on-by}
 use Rattle.file_laws.proofs.Paths.{on-begin, on-dup, on-ended}
 
 -- ---- processes that begin and end
@@ -40,6 +42,20 @@ module _ (files : Files) (kinds : AreKinds files) where
   kinds-ended p =
       kinds-directories (with_io files (io_ended files.io p)) (kinds-io files kinds (io_ended files.io p) (on-ended files files.io p kinds.paths)) p no_directories
       (λ execute place at. absurd (none-in execute place at))
+
+-- where no path changes, as where a key arrives or a call that waits is broken off
+pub kinds-same : (files : Files) (io : Io) → io.paths ≡ files.io.paths → AreKinds files → AreKinds (with_io files io)
+kinds-same files io same kinds = kinds-io files kinds io (subst (AreOn files) (sym same) kinds.paths)
+
+paths-unfinished : (io : Io) (p : ℕ) (target : Option Target) → (without_unfinished io p target).paths ≡ io.paths
+paths-unfinished io p None = refl
+paths-unfinished io p (Some (File drive sector)) = refl
+paths-unfinished io p (Some (Folder drive sector)) = refl
+paths-unfinished io p (Some (Term terminal)) = refl
+paths-unfinished io p (Some (Pipe pipe)) = refl
+
+pub kinds-interrupted : (files : Files) (p : ℕ) → AreKinds files → AreKinds (with_io files (io_interrupted files.io p))
+kinds-interrupted files p kinds = kinds-same files (io_interrupted files.io p) (paths-unfinished files.io p (wait_target files.io p)) kinds
 
 pub many-started : (files : Files) (parent child : ℕ) → AreAsMany files (files_started files parent child)
 many-started files parent child =
@@ -164,3 +180,34 @@ module _ (images : List (List ℕ)) (volumes : List DiskVolume) (drives : List D
 
 pub kinds-start : (images : List (List ℕ)) (drives : List DriveState) (files : Files) → StartsOn images drives files → AreKinds files
 kinds-start images drives files it = subst AreKinds (sym it.is) (first-kinds images it.volumes drives it.mounted)
+
+-- ---- a volume that is mounted in an empty drive
+
+module _ (files : Files) (kinds : AreKinds files) (drive : ℕ) (image : List ℕ) (v : DiskVolume) (empty : volume_at files drive ≡ None) (vol : Vol image v) where
+  -- nothing was on that drive
+  kind-mounted : (place : FilePlace) (kind : Bool) → IsOfKind files place kind → IsOfKind (with_volume files drive v) place kind
+  kind-mounted place kind it = by_drive (cases_eq place.drive drive)
+    where
+      by_drive : (place.drive ≡ drive) ⊎ (place.drive ≡ drive → ⊥) → IsOfKind (with_volume files drive v) place kind
+      by_drive (inl same) =
+          absurd (none-some it.file (sym (ap (file_of place.number) (ap (volume_at files) same ∙ empty)) ∙ it.there))
+      by_drive (inr apart) = record {
+        file = it.file;
+        there = ap (file_of place.number) (get_or-set_other files.volumes drive place.drive (Some v) None apart) ∙ it.there;
+        kind = it.kind;
+      }
+
+  clusters-mounted : (other : ℕ) (u : DiskVolume) → volume_at (with_volume files drive v) other ≡ Some u → (other ≡ drive) ⊎ (other ≡ drive → ⊥) → (drive < length files.volumes) ⊎ (length files.volumes ≤ drive) → 0 < cluster_size u
+  clusters-mounted other u at (inl same) (inl within) =
+      subst (λ (u : DiskVolume). 0 < cluster_size u) (same_Some v u (sym (ap (volume_at (with_volume files drive v)) same ∙ get_or-set_same files.volumes drive (Some v) None within) ∙ at)) (some-clusters image v vol)
+  clusters-mounted other u at (inl same) (inr past) =
+      absurd (none-some u (sym (ap (volume_at (with_volume files drive v)) same ∙ get_or_past (with_volume files drive v).volumes drive None (rw length-set past)) ∙ at))
+  clusters-mounted other u at (inr apart) within =
+      kinds.clusters other u (sym (get_or-set_other files.volumes drive other (Some v) None apart) ∙ at)
+
+  pub kinds-mounted : AreKinds (with_volume files drive v)
+  kinds-mounted = record {
+    paths = λ s desc there. on-by files (with_volume files drive v) desc.mode desc.target (λ place kind at. kind-mounted place kind) (kinds.paths s desc there);
+    directories = λ p execute place at. kind-mounted place true (kinds.directories p execute place at);
+    clusters = λ other u at. clusters-mounted other u at (cases_eq other drive) (cases_lt drive (length files.volumes));
+  }

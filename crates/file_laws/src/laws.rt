@@ -1,16 +1,21 @@
 //! What holds at the start and is kept by every attempt: paths and directories of processes are on
 //! what is there, and no volume is lost.
 
-ghost use Rattle.std.specs.Prelude.{ℕ, List};
+ghost use Rattle.std.specs.Prelude.{◌≡◌, ℕ, Some, None, true, false, List};
 ghost use Rattle.os9_base.specs.Cells.{Cells};
 ghost use Rattle.os9_base.specs.declared.call.CallEnd.{CallEnd};
 ghost use Rattle.os9_base.specs.declared.registers.Regs.{Regs};
 ghost use Rattle.os9_base.specs.declared.registers.TimePacket.{TimePacket};
 ghost use Rattle.os9_outer.specs.TerminalState.{TerminalState};
+ghost use Rattle.rbf_model.specs.File.{is_directory};
+ghost use Rattle.rbf_model.specs.Volume.{DiskVolume, Vol};
 ghost use Rattle.call_rules.specs.CallResult.{CallResult};
 ghost use Rattle.call_rules.specs.Inner.{Inner};
+ghost use Rattle.io_rules.specs.Io.{Io};
+ghost use Rattle.io_rules.specs.Modes.{can_write};
+ghost use Rattle.io_rules.specs.Waiting.{io_interrupted};
 ghost use Rattle.file_rules.specs.Attempts.{AskerAttempts, FileAttempts};
-ghost use Rattle.file_rules.specs.Files.{Files, Asker, DriveState};
+ghost use Rattle.file_rules.specs.Files.{Files, Asker, DriveState, OpenFile, open_file, volume_at, with_io, with_volume};
 ghost use Rattle.file_rules.specs.Load.{LoadAttempts};
 ghost use Rattle.file_rules.specs.Processes.{StartsOn, files_ended, files_started};
 ghost use Rattle.file_rules.specs.Program.{ChainAttempts, ForkAttempts};
@@ -34,6 +39,26 @@ pub fn processes_begin_and_end_on_what_is_there()
     ensures begins_mounted { (files : Files) (parent child : ℕ)
         → AreAsMany files (files_started files parent child) }
     ensures ends_mounted { (files : Files) (p : ℕ) → AreAsMany files (files_ended files p) }
+{}
+
+/// Paths and directories stay on what is there where no path changes, as where a key arrives or a
+/// call that waits is broken off, and where a volume is mounted in a drive that has none.
+pub fn mounts_and_interruptions_keep_what_is_there()
+    ensures same { (files : Files) (io : Io) → io.paths ≡ files.io.paths → AreKinds files
+        → AreKinds (with_io files io) }
+    ensures interrupted { (files : Files) (p : ℕ) → AreKinds files
+        → AreKinds (with_io files (io_interrupted files.io p)) }
+    ensures mounted { (files : Files) (drive : ℕ) (image : List ℕ) (v : DiskVolume)
+        → AreKinds files → volume_at files drive ≡ None → Vol image v
+        → AreKinds (with_volume files drive v) }
+{}
+
+/// A path that may be written is on a file, and on no directory: so I$Write, I$WritLn, F$PErr and
+/// SS.Size change no directory (System Programmer's Manual, I$Open and I$Write).
+pub fn paths_that_may_be_written_are_on_no_directory()
+    ensures { (files : Files) (p n : ℕ) (opened : OpenFile) → AreKinds files
+        → open_file files p n ≡ Some opened → can_write opened.opened.desc.mode ≡ true
+        → is_directory opened.file ≡ false }
 {}
 
 /// Every attempt of a call on paths, files and directories leaves them on what is there, whether a
