@@ -117,6 +117,15 @@ impl Paths {
         self.descs[s.0 as usize].unwrap()
     }
 
+    /// The descriptors, by the numbers of their system paths from 0 on: None for a path that is not
+    /// there.
+    pub fn descs(&self) -> &[Option<Desc>]
+        ensures descs { result.now ≡ self.now.descs }
+        ensures shape { ArePaths self.now }
+    {
+        self.descs.as_slice()
+    }
+
     /// Gives a system path another descriptor.
     pub fn set_desc(&mut self, s: SysPath, d: Desc)
         requires { IsSome (desc_of self.old s.0) }
