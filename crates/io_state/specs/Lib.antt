@@ -1,4 +1,5 @@
 pub mod Again
 pub mod Attempt
+pub mod Files
 pub mod Sound
 pub mod Terminals

@@ -2,6 +2,7 @@
 //! kernel keeps them.
 #![tactic(auto)]
 
+mod files;
 mod processes;
 pub mod state;
 mod streams;
