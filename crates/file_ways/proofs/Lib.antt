@@ -1,0 +1,5 @@
+pub mod NameLemmas
+pub mod ReachLemmas
+pub mod VolumeLemmas
+pub mod WalkLemmas
+pub mod WayLemmas

@@ -1,0 +1,132 @@
+-- The way along which a path list leads, as the code has it.
+use Rattle.std.specs.Prelude.{◌≡◌, ℕ, ◌<◌, ◌&&◌, ◌||◌, not, ⊤, Bool, false, Option, Some, None, Result, Ok, Err, List, length}
+use Rattle.std.specs.Option.{option_map_or}
+use Rattle.os9_base.specs.Cells.{Cells}
+use Rattle.device_table.specs.Names.{device_of}
+use Rattle.device_table.specs.declared.devices.Dev.{Dev}
+use Rattle.device_table.specs.declared.devices.Dev.TheVariants.{Drive, Term, Pipe}
+use Rattle.io_rules.specs.PathList.{PathList}
+use Rattle.rbf_access.specs.declared.volume.Volume.{Volume}
+use Rattle.file_rules.specs.Files.{Asker, Files, directory_of}
+use Rattle.file_rules.specs.Open.{tests_mode}
+use Rattle.file_rules.specs.Step.{Step, refused, comes, reaches}
+use Rattle.file_rules.specs.Way.{along, to_device, nowhere, is_drive, list_of, reads_list, way_of, way_to_new}
+use Rattle.file_rules.specs.Way as Rule
+use Rattle.file_rules.specs.declared.places.FilePlace.{FilePlace}
+use Rattle.file_drives.specs.Drives.{DriveView}
+use Rattle.file_drives.specs.Mounted.{AreMounted, HasFileAt}
+use Rattle.path_lists.specs.Standing.{NamesFrom}
+use Rattle.path_lists.specs.declared.list.Listed.{Listed}
+use Rattle.file_ways.specs.Walks.{SomeFrom}
+use Rattle.file_ways.specs.declared.way.Purpose.{Purpose}
+use Rattle.file_ways.specs.declared.way.Purpose.TheVariants.{Existing, New}
+use Rattle.file_ways.specs.declared.way.Query.{Query}
+use Rattle.file_ways.specs.declared.way.Route.{Route}
+use Rattle.file_ways.specs.declared.way.Way.{Way}
+use Rattle.file_ways.specs.declared.way.Way.TheVariants.{Along, Device}
+
+-- ---- ways
+
+-- the way, or none, as the rules of calls have it of these names
+abbrev pub way_to : Result Way ℕ → List (List ℕ) → Rule.Way
+way_to (Ok (Along from first)) names = along from names
+way_to (Ok Device) names = to_device
+way_to (Err number) names = nowhere number
+
+-- from a start along the names of which the first stands at an address; without a start it is refused
+abbrev pub along_from : Option FilePlace → Option ℕ → ℕ → Result Way ℕ
+along_from None first number = Err number
+along_from (Some from) first number = Ok (Along from first)
+
+-- these are the names of a way
+abbrev pub NamesOn : Cells → Way → List (List ℕ) → Type 0
+NamesOn cells (Along from first) names = NamesFrom cells first names
+NamesOn cells Device names = ⊤
+
+-- a file is there at its start
+abbrev pub StartsOn : List (Option Volume) → List DriveView → Way → Type 0
+StartsOn disks views (Along from first) = HasFileAt disks views from
+StartsOn disks views Device = ⊤
+
+-- it has some names, or none
+abbrev pub HasNames : Cells → Way → Type 0
+HasNames cells (Along from first) = SomeFrom cells first
+HasNames cells Device = ⊤
+
+-- the way along which a list leads, by what the call looks for
+abbrev pub way_for : Purpose → Asker → Files → ℕ → Bool → PathList → Rule.Way
+way_for Existing asker files terms execute list = way_of asker files terms execute list
+way_for New asker files terms execute list = way_to_new asker files terms execute list
+
+-- ---- devices
+
+-- a drive is one of four
+abbrev pub IsDevice : Dev → Type 0
+IsDevice (Drive drive) = drive < 4
+IsDevice (Term terminal) = ⊤
+IsDevice Pipe = ⊤
+
+-- a list is the root of a drive, on a machine with so many drives and terminals
+abbrev pub names_root : ℕ → ℕ → Listed → Bool
+names_root drives terms list =
+    not list.has_names && option_map_or (λ device. is_drive (device_of drives terms device)) list.device false
+
+-- nothing may be made by it
+abbrev pub makes_nothing : Purpose → ℕ → ℕ → Listed → Bool
+makes_nothing Existing drives terms list = false
+makes_nothing New drives terms list = list.dots || names_root drives terms list
+
+-- ---- a call's path list
+
+-- a list that was read, and the way along which it leads
+pub record Led : Type 0 where
+  pub list : PathList
+  pub way : Rule.Way
+
+-- a list that leads nowhere is refused
+abbrev pub led_by : PathList → Rule.Way → Step Led
+led_by list (along from names) = comes (record { list = list; way = along from names })
+led_by list to_device = comes (record { list = list; way = to_device })
+led_by list (nowhere number) = refused number
+
+-- the list of a call, which may have its mode or not
+abbrev pub leads : Asker → Bool → (PathList → Rule.Way) → Step Led
+leads asker allowed way = reads_list (list_of asker) (tests_mode allowed) (λ list. led_by list (way list))
+
+-- what goes on from a step that comes to something
+abbrev pub next_step : {A E : Type 0} → Step A → (A → Step E) → Step E
+next_step (refused number) next = refused number
+next_step (comes it) next = next it
+next_step (reaches drive step) next = reaches drive (next_step step next)
+
+-- a query of an asker whose bytes these are, where these drives are read
+pub record Asks (query : Query) (cells : Cells) (disks : List (Option Volume)) (views : List DriveView) (drives : ℕ)
+    (asker : Asker) (files : Files) (execute : Bool) : Type 0 where
+  pub cells_are : asker.caller.cells ≡ cells
+  pub at_is : asker.caller.regs.x ≡ query.at
+  pub directory_is : directory_of files asker.caller.process.0 execute ≡ query.directory
+  pub mounted : AreMounted disks views files.volumes
+  pub as_many : length files.drives ≡ drives
+
+-- a list that was read leads along this way, or is refused
+pub record IsRouteTo (cells : Cells) (list : PathList) (way : Rule.Way) (route : Route) : Type 0 where
+  pub way_is : way ≡ way_to (Ok route.way) list.names
+  pub next_is : route.next ≡ list.next
+  pub names : NamesOn cells route.way list.names
+
+abbrev pub IsRouteOf : Cells → PathList → Rule.Way → Result Route ℕ → Type 0
+IsRouteOf cells list way (Ok route) = IsRouteTo cells list way route
+IsRouteOf cells list way (Err number) = way ≡ nowhere number
+
+-- a list that leads to files or to a device, as it was read
+pub record IsRoute (cells : Cells) (asker : Asker) (step : Step Led) (route : Route) : Type 0 where
+  pub list : PathList
+  pub read : list_of asker ≡ Ok list
+  pub way : Rule.Way
+  pub comes_to : step ≡ comes (record { list = list; way = way })
+  pub route_is : IsRouteTo cells list way route
+
+-- the route, or the number with which the call is refused
+abbrev pub RouteIs : Cells → Asker → Step Led → Result Route ℕ → Type 0
+RouteIs cells asker step (Ok route) = IsRoute cells asker step route
+RouteIs cells asker step (Err number) = step ≡ refused number

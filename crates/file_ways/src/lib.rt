@@ -1,0 +1,7 @@
+//! The ways along which path lists lead to files: where they start, and the walk from there, name
+//! by name.
+#![tactic(auto)]
+
+pub mod calls;
+pub mod walk;
+pub mod way;
