@@ -26,7 +26,7 @@ use Rattle.file_ways.specs.declared.way.Purpose.TheVariants.{Existing, New}
 use Rattle.file_ways.specs.declared.way.Route.{Route}
 use Rattle.file_ways.specs.declared.way.Way.{Way}
 use Rattle.file_ways.specs.declared.way.Way.TheVariants.{Along, Device}
-use Rattle.file_ways.specs.Ways.{HasNames, IsRouteOf, NamesOn, RouteIs, StartsOn, along_from, led_by, leads, makes_nothing, names_root, next_step, way_for, way_to}
+use Rattle.file_ways.specs.Ways.{HasNames, IsRouteOf, NamesOn, RouteIs, StartsOn, along_from, led_by, leads, makes_nothing, names_root, next_step, refuses_by, mode_refusal, unless_refused, way_for, way_to}
 
 -- ---- by where it starts
 
@@ -74,13 +74,13 @@ pub has-names : (cells : Cells) (way : Way) (names : List (List ℕ)) → NamesO
 has-names cells (Along from first) names stand = record { names = names; from = stand }
 has-names cells Device names stand = tt
 
--- what holds of a route holds of it where the call may have its mode
-pub allowed-ok : (allowed : Bool) (route result : Result Route ℕ) (P : Route → Type 0) → result ≡ (if allowed then route else Err E_BMODE) → IfOk route P → IfOk result P
-allowed-ok allowed route result P is holds = subst (λ (result : Result Route ℕ). IfOk result P) (sym is) (by allowed)
+-- what holds of a route holds of it where the call has no refusal
+pub unless-refused : (refusal : Option ℕ) (route result : Result Route ℕ) (P : Route → Type 0) → result ≡ unless_refused refusal route → IfOk route P → IfOk result P
+unless-refused refusal route result P is holds = subst (λ (result : Result Route ℕ). IfOk result P) (sym is) (by refusal)
   where
-    by : (allowed : Bool) → IfOk (if allowed then route else Err E_BMODE) P
-    by true = holds
-    by false = tt
+    by : (refusal : Option ℕ) → IfOk (unless_refused refusal route) P
+    by None = holds
+    by (Some number) = tt
 
 -- ---- a place for what is made
 
@@ -135,14 +135,14 @@ read-list (Err fault) found is = absurd (let e : Err fault ≡ Ok found = is in 
 
 module _ (cells : Cells) (asker : Asker) (way : PathList → Rule.Way) where
   -- it breaks off
-  pub unreadable-route : (allowed : Bool) → listed_of (list_of asker) ≡ Err Unreadable → leads asker allowed way ≡ refused E_BPADDR
-  unreadable-route allowed is =
-      ap (λ (read : Result PathList NameFault). reads_list read (tests_mode allowed) (λ list. led_by list (way list))) (read-fault (list_of asker) Unreadable is)
+  pub unreadable-route : (refusal : Option ℕ) → listed_of (list_of asker) ≡ Err Unreadable → leads asker refusal way ≡ refused E_BPADDR
+  unreadable-route refusal is =
+      ap (λ (read : Result PathList NameFault). reads_list read (refuses_by refusal) (λ list. led_by list (way list))) (read-fault (list_of asker) Unreadable is)
 
   -- a name is none
-  pub nameless-route : (allowed : Bool) → listed_of (list_of asker) ≡ Err NoName → RouteIs cells asker (leads asker allowed way) (if allowed then Err E_BPNAM else Err E_BMODE)
-  nameless-route true is = ap (λ (read : Result PathList NameFault). reads_list read (tests_mode true) (λ list. led_by list (way list))) (read-fault (list_of asker) NoName is)
-  nameless-route false is = ap (λ (read : Result PathList NameFault). reads_list read (tests_mode false) (λ list. led_by list (way list))) (read-fault (list_of asker) NoName is)
+  pub nameless-route : (refusal : Option ℕ) → listed_of (list_of asker) ≡ Err NoName → RouteIs cells asker (leads asker refusal way) (unless_refused refusal (Err E_BPNAM))
+  nameless-route None is = ap (λ (read : Result PathList NameFault). reads_list read (refuses_by None) (λ list. led_by list (way list))) (read-fault (list_of asker) NoName is)
+  nameless-route (Some number) is = ap (λ (read : Result PathList NameFault). reads_list read (refuses_by (Some number)) (λ list. led_by list (way list))) (read-fault (list_of asker) NoName is)
 
   led-to : (list : PathList) (to : Way) (w : Rule.Way) → w ≡ way_to (Ok to) list.names → led_by list w ≡ comes (record { list = list; way = w })
   led-to list to w is =
@@ -152,22 +152,27 @@ module _ (cells : Cells) (asker : Asker) (way : PathList → Rule.Way) where
       by (Along from first) = refl
       by Device = refl
 
-  pub route-read : (allowed : Bool) (named : PathList) (route : Result Route ℕ) → list_of asker ≡ Ok named → IsRouteOf cells named (way named) route → RouteIs cells asker (leads asker allowed way) (if allowed then route else Err E_BMODE)
-  route-read true named (Ok route) read it = record {
+  pub route-read : (refusal : Option ℕ) (named : PathList) (route : Result Route ℕ) → list_of asker ≡ Ok named → IsRouteOf cells named (way named) route → RouteIs cells asker (leads asker refusal way) (unless_refused refusal route)
+  route-read None named (Ok route) read it = record {
     list = named;
     read = read;
     way = way named;
     comes_to =
-        ap (λ (read : Result PathList NameFault). reads_list read (tests_mode true) (λ list. led_by list (way list))) read
+        ap (λ (read : Result PathList NameFault). reads_list read (refuses_by None) (λ list. led_by list (way list))) read
         ∙ led-to named route.way (way named) it.way_is;
     route_is = it;
   }
-  route-read true named (Err number) read it =
-      ap (λ (read : Result PathList NameFault). reads_list read (tests_mode true) (λ list. led_by list (way list))) read ∙ ap (led_by named) it
-  route-read false named route read it =
-      ap (λ (read : Result PathList NameFault). reads_list read (tests_mode false) (λ list. led_by list (way list))) read
+  route-read None named (Err number) read it =
+      ap (λ (read : Result PathList NameFault). reads_list read (refuses_by None) (λ list. led_by list (way list))) read ∙ ap (led_by named) it
+  route-read (Some number) named route read it =
+      ap (λ (read : Result PathList NameFault). reads_list read (refuses_by (Some number)) (λ list. led_by list (way list))) read
 
 -- ---- for the calls above
+
+-- the test of a mode is a refusal, or none
+pub mode-tested : {E : Type 0} (allowed : Bool) (step : Step E) → tests_mode allowed step ≡ refuses_by (mode_refusal allowed) step
+mode-tested true step = refl
+mode-tested false step = refl
 
 on-led : {E : Type 0} (on : PathList → Rule.Way → Step E) → ((list : PathList) (number : ℕ) → on list (nowhere number) ≡ refused number) → (list : PathList) (w : Rule.Way) → on list w ≡ next_step (led_by list w) (λ led. on led.list led.way)
 on-led on refuses list (along from names) = refl
@@ -175,12 +180,12 @@ on-led on refuses list to_device = refl
 on-led on refuses list (nowhere number) = refuses list number
 
 -- what a call makes of its path list, which is refused where that leads nowhere
-pub leads-on : {E : Type 0} (asker : Asker) (allowed : Bool) (way : PathList → Rule.Way) (on : PathList → Rule.Way → Step E) → ((list : PathList) (number : ℕ) → on list (nowhere number) ≡ refused number) → reads_list (list_of asker) (tests_mode allowed) (λ list. on list (way list)) ≡ next_step (leads asker allowed way) (λ led. on led.list led.way)
-leads-on {E} asker allowed way on refuses = by (list_of asker) allowed
+pub leads-on : {E : Type 0} (asker : Asker) (refusal : Option ℕ) (way : PathList → Rule.Way) (on : PathList → Rule.Way → Step E) → ((list : PathList) (number : ℕ) → on list (nowhere number) ≡ refused number) → reads_list (list_of asker) (refuses_by refusal) (λ list. on list (way list)) ≡ next_step (leads asker refusal way) (λ led. on led.list led.way)
+leads-on {E} asker refusal way on refuses = by (list_of asker) refusal
   where
-    by : (read : Result PathList NameFault) (allowed : Bool) → reads_list read (tests_mode allowed) (λ list. on list (way list)) ≡ next_step (reads_list read (tests_mode allowed) (λ list. led_by list (way list))) (λ led. on led.list led.way)
-    by (Ok list) true = on-led on refuses list (way list)
-    by (Ok list) false = refl
-    by (Err Unreadable) allowed = refl
-    by (Err NoName) true = refl
-    by (Err NoName) false = refl
+    by : (read : Result PathList NameFault) (refusal : Option ℕ) → reads_list read (refuses_by refusal) (λ list. on list (way list)) ≡ next_step (reads_list read (refuses_by refusal) (λ list. led_by list (way list))) (λ led. on led.list led.way)
+    by (Ok list) None = on-led on refuses list (way list)
+    by (Ok list) (Some number) = refl
+    by (Err Unreadable) refusal = refl
+    by (Err NoName) None = refl
+    by (Err NoName) (Some number) = refl

@@ -34,6 +34,7 @@ WalkComes walker files from names (Err NotAllowed) = EndsOn walker files from na
 WalkComes walker files from names (Err BadPath) = ⊥
 WalkComes walker files from names (Err NotFound) = EndsOn walker files from names not_found
 WalkComes walker files from names (Err Exists) = ⊥
-WalkComes walker files from names (Err (File (Device number))) = (v : DiskVolume) × (volume_at files from.drive ≡ Some v)
+WalkComes walker files from names (Err (File (Device number))) =
+    (v : DiskVolume) × (volume_at files from.drive ≡ Some v)
 WalkComes walker files from names (Err (File NoCluster)) = ⊥
 WalkComes walker files from names (Err (File TooManyRuns)) = ⊥

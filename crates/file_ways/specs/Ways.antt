@@ -1,14 +1,14 @@
 -- The way along which a path list leads, as the code has it.
-use Rattle.std.specs.Prelude.{◌≡◌, ℕ, ◌<◌, ◌&&◌, ◌||◌, not, ⊤, Bool, false, Option, Some, None, Result, Ok, Err, List, length}
+use Rattle.std.specs.Prelude.{◌≡◌, ℕ, ◌<◌, ◌&&◌, ◌||◌, not, ⊤, Bool, true, false, Option, Some, None, Result, Ok, Err, List, length}
 use Rattle.std.specs.Option.{option_map_or}
 use Rattle.os9_base.specs.Cells.{Cells}
+use Rattle.os9_base.specs.declared.errors.TheConstants.{E_BMODE}
 use Rattle.device_table.specs.Names.{device_of}
 use Rattle.device_table.specs.declared.devices.Dev.{Dev}
 use Rattle.device_table.specs.declared.devices.Dev.TheVariants.{Drive, Term, Pipe}
 use Rattle.io_rules.specs.PathList.{PathList}
 use Rattle.rbf_access.specs.declared.volume.Volume.{Volume}
 use Rattle.file_rules.specs.Files.{Asker, Files, directory_of}
-use Rattle.file_rules.specs.Open.{tests_mode}
 use Rattle.file_rules.specs.Step.{Step, refused, comes, reaches}
 use Rattle.file_rules.specs.Way.{along, to_device, nowhere, is_drive, list_of, reads_list, way_of, way_to_new}
 use Rattle.file_rules.specs.Way as Rule
@@ -89,9 +89,24 @@ led_by list (along from names) = comes (record { list = list; way = along from n
 led_by list to_device = comes (record { list = list; way = to_device })
 led_by list (nowhere number) = refused number
 
--- the list of a call, which may have its mode or not
-abbrev pub leads : Asker → Bool → (PathList → Rule.Way) → Step Led
-leads asker allowed way = reads_list (list_of asker) (tests_mode allowed) (λ list. led_by list (way list))
+-- what a call tests when the list was read: it is refused with this number, or goes on
+abbrev pub refuses_by : {E : Type 0} → Option ℕ → Step E → Step E
+refuses_by None step = step
+refuses_by (Some number) step = refused number
+
+-- the refusal of a call by its mode, which it may have or not
+abbrev pub mode_refusal : Bool → Option ℕ
+mode_refusal true = None
+mode_refusal false = Some E_BMODE
+
+-- the list of a call with this refusal, if it has one
+abbrev pub leads : Asker → Option ℕ → (PathList → Rule.Way) → Step Led
+leads asker refusal way = reads_list (list_of asker) (refuses_by refusal) (λ list. led_by list (way list))
+
+-- the answer, where the call has no refusal
+abbrev pub unless_refused : {A : Type 0} → Option ℕ → Result A ℕ → Result A ℕ
+unless_refused None answer = answer
+unless_refused (Some number) answer = Err number
 
 -- what goes on from a step that comes to something
 abbrev pub next_step : {A E : Type 0} → Step A → (A → Step E) → Step E

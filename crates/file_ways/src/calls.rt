@@ -40,7 +40,7 @@ pub fn call_route(
         → Asks query (cells_at m query.process.0) disks.now views (vec_len devices.now.drives)
         (asker_of m query.process.0 now) files execute
         → RouteIs (cells_at m query.process.0) (asker_of m query.process.0 now)
-        (leads (asker_of m query.process.0 now) query.allowed (way_for query.purpose
+        (leads (asker_of m query.process.0 now) query.refusal (way_for query.purpose
         (asker_of m query.process.0 now) files (vec_len devices.now.terms) execute)) result }
     ensures names { IfOk result
         (λ route. HasNames (cells_of s.old.memory query.process.0) route.way) }
@@ -98,7 +98,8 @@ pub fn call_walk_to_last(
     requires file { HasFileAt disks.old
         (drive_views ⟦<dyn BlockDriver as BlockDriver>⟧ devices.old.drives.items) from }
     ensures walks { (m : Inner) (names : List (List ℕ)) → Represents s.old m
-        → NamesStand (cells_at m walker.process.0) first names → WalksToLast walker from names result
+        → NamesStand (cells_at m walker.process.0) first names
+        → WalksToLast walker from names result
         disks.old (drive_views ⟦<dyn BlockDriver as BlockDriver>⟧ devices.old.drives.items)
         disks.new (drive_views ⟦<dyn BlockDriver as BlockDriver>⟧ devices.new.drives.items) }
     ensures same { IsSame s.old s.new }

@@ -51,9 +51,9 @@ pub enum Stepped {
 }
 
 /// Goes from a directory along the names of a path list, of which the first stands at an address,
-/// and answers the file that is reached; `from` itself if there are no names. Each directory that is
-/// searched must let the user read it, or execute it in search of a file to execute (OS-9 Technical
-/// Reference, I$Open).
+/// and answers the file that is reached; `from` itself if there are no names. Each directory that
+/// is searched must let the user read it, or execute it in search of a file to execute (OS-9
+/// Technical Reference, I$Open).
 ///
 /// # Errors
 ///
@@ -126,8 +126,8 @@ pub fn walk_to_last(
     }
 }
 
-/// Goes from a directory along the names of a path list but the last, and answers the directory that
-/// is reached and where the last name stands.
+/// Goes from a directory along the names of a path list but the last, and answers the directory
+/// that is reached and where the last name stands.
 ///
 /// # Errors
 ///

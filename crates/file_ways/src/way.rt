@@ -11,7 +11,7 @@ ghost use Rattle.file_drives.specs.Drives.{DriveView};
 ghost use Rattle.file_drives.specs.Mounted.{AreMounted, HasFileAt};
 ghost use Rattle.path_lists.specs.Listed.{listed};
 ghost use Rattle.path_lists.specs.Standing.{NamesFrom};
-ghost use Rattle.file_ways.specs.Ways.{Asks, HasNames, IsDevice, IsRouteOf, NamesOn, RouteIs, StartsOn, along_from, leads, makes_nothing as makes_nothing_lem, names_root, way_for, way_to};
+ghost use Rattle.file_ways.specs.Ways.{Asks, HasNames, IsDevice, IsRouteOf, NamesOn, RouteIs, StartsOn, along_from, leads, makes_nothing as makes_nothing_lem, mode_refusal as mode_refusal_lem, unless_refused as unless_refused_lem, names_root, way_for, way_to};
 
 use device_table::devices::{Dev, Devices};
 use file_drives::disks::Disks;
@@ -41,8 +41,9 @@ pub struct Query {
     /// The directory of the process at which a list starts that names no device.
     pub directory: Option<FilePlace>,
     pub purpose: Purpose,
-    /// The call may have the mode that it has.
-    pub allowed: bool,
+    /// The number with which the call is refused where no byte of its list is missing; None if it
+    /// is to go on.
+    pub refusal: Option<u8>,
 }
 
 /// What a path list leads along.
@@ -70,7 +71,7 @@ pub struct Route {
 /// # Errors
 ///
 /// The number of the refusal: E$BPAddr exactly if a byte of the list that has to be read is in no
-/// named slot or past `FFFF`; else E$BMode exactly if the call may not have its mode; else E$BPNam
+/// named slot or past `FFFF`; else that of the query, if it has one; else E$BPNam
 /// exactly if a name that has to stand there is none, if something is made at the root of a drive
 /// or as a directory itself or the one above it, or if a slash stands behind a terminal or a pipe;
 /// else E$PNNF exactly if the list names no device and the process has no directory, and E$MNF
@@ -85,7 +86,7 @@ pub fn find_route(
     ensures route { (asker : Asker) (files : Files) (execute : Bool) (views : List DriveView)
         → Asks query (cells_of memory.old query.process.0) disks.now views
         (vec_len devices.now.drives) asker files execute
-        → RouteIs (cells_of memory.old query.process.0) asker (leads asker query.allowed
+        → RouteIs (cells_of memory.old query.process.0) asker (leads asker query.refusal
         (way_for query.purpose asker files (vec_len devices.now.terms) execute)) result }
     ensures names { IfOk result
         (λ route. HasNames (cells_of memory.old query.process.0) route.way) }
@@ -96,20 +97,31 @@ pub fn find_route(
 {
     match read_path_list(memory, query.process, query.at) {
         Err(NameFault::Unreadable) => Err(E_BPADDR),
-        Err(NameFault::NoName) => if_allowed(query.allowed, Err(E_BPNAM)),
-        Ok(list) => if_allowed(query.allowed, route_of(disks, devices, query, &list)),
+        Err(NameFault::NoName) => unless_refused(query.refusal, Err(E_BPNAM)),
+        Ok(list) => unless_refused(query.refusal, route_of(disks, devices, query, &list)),
     }
 }
 
-/// The route, if the call may have its mode.
+/// The refusal of a call by its mode (System Programmer's Manual, E$BMode): E$BMode, if it may not
+/// have it.
+pub fn mode_refusal(allowed: bool) -> Option<u8>
+    ensures { result ≡ mode_refusal_lem allowed }
+{
+    if allowed { None } else { Some(E_BMODE) }
+}
+
+/// The route, if the call has no refusal.
 ///
 /// # Errors
 ///
-/// E$BMode exactly if it may not, else the number of the refusal.
-fn if_allowed(allowed: bool, route: Result<Route, u8>) -> Result<Route, u8>
-    ensures { result ≡ (if allowed then route else Err E_BMODE) }
+/// The number of the call's refusal if it has one, else that of the list's.
+fn unless_refused(refusal: Option<u8>, route: Result<Route, u8>) -> Result<Route, u8>
+    ensures { result ≡ unless_refused_lem refusal route }
 {
-    if allowed { route } else { Err(E_BMODE) }
+    match refusal {
+        None => route,
+        Some(number) => Err(number),
+    }
 }
 
 /// The route of a path list that was read.
@@ -212,7 +224,8 @@ fn along(start: Option<FilePlace>, first: Option<u16>, number: u8) -> Result<Way
 ///
 /// E$BPNam exactly if a slash stands behind it.
 fn unless_slash(list: &Listed) -> Result<Way, u8>
-    ensures { result ≡ (if list.now.slash || list.now.has_names then Err E_BPNAM else Ok Way.Device) }
+    ensures { result
+        ≡ (if list.now.slash || list.now.has_names then Err E_BPNAM else Ok Way.Device) }
 {
     if list.slash || list.has_names {
         Err(E_BPNAM)
@@ -235,7 +248,8 @@ fn makes_nothing(purpose: Purpose, devices: &Devices, list: &Listed) -> bool
 
 /// Is the list the root of a drive?
 fn is_root(devices: &Devices, list: &Listed) -> bool
-    ensures { result ≡ names_root (vec_len devices.now.drives) (vec_len devices.now.terms) list.now }
+    ensures { result ≡ names_root (vec_len devices.now.drives) (vec_len devices.now.terms)
+        list.now }
 {
     if list.has_names {
         return false;
