@@ -1,5 +1,5 @@
 -- Paths on files and directories: opened ones, and those of another position.
-use Rattle.std.proofs.Common.{◌≡◌, ◌<◌, ℕ, Option, Some, None, option_map, List, length, get_or, set, inl, inr, sym, ap, ◌∙◌, arith}
+use Rattle.std.proofs.Common.{◌≡◌, ◌<◌, ℕ, Option, Some, None, option_map, length, inl, inr, sym, ap, ◌∙◌}
 use Rattle.std.proofs.lemmas.Bool.{cases_eq, cases_lt}
 use Rattle.std.proofs.lemmas.List.{get_or-set_same, get_or-set_other, get_or_past}
 use Rattle.io_model.specs.declared.path.Desc.{Desc}
@@ -8,7 +8,7 @@ use Rattle.io_model.specs.declared.path.Target.TheVariants.{File, Folder, Term, 
 use Rattle.io_model.specs.Path.{PathTable, ArePaths, desc_of, with_desc}
 use Rattle.io_rules.specs.Io.{Io, with_paths}
 use Rattle.io_state.specs.Files.{IsOnDisk}
-use Rattle.io_state.specs.Sound.{target_at, AreTargets, AreWaits, IsIo}
+use Rattle.io_state.specs.Sound.{target_at, IsIo}
 use Rattle.io_state.proofs.SoundLemmas.{MayOpen, are-fewer, is-io_with_paths}
 use Rattle.io_state.proofs.WaitLemmas.{waits-with_paths}
 

@@ -1,0 +1,5 @@
+pub mod CountLemmas
+pub mod EndLemmas
+pub mod OpenedLemmas
+pub mod ReachedLemmas
+pub mod StateLemmas

@@ -1,0 +1,134 @@
+-- From calls of one drive, as the mounted volumes have them, to the words of the calls on files. A call on files takes
+-- `has-read` after each read and `has-changed` after a change, puts them together by `has-read-then` and
+-- `has-changed-then`, and ends by the lemmas of EndLemmas.
+use Rattle.std.proofs.Common.{◌≡◌, ℕ, zero, suc, ◌≤◌, ◌∙◌, Option, Some, None, option_and_then, List, [], ◌∷◌, map, length, get_or, slice_set, Result, refl, ap, sym, subst}
+use Rattle.std.proofs.lemmas.List.{length-map, set-get_or}
+use Rattle.std.proofs.lemmas.Option.{none-some}
+use Rattle.os9_base.specs.Count.{Rose}
+use Rattle.rbf_model.specs.File.{DiskFile}
+use Rattle.rbf_model.specs.Volume.{DiskVolume}
+use Rattle.rbf_access.specs.Drive.{MovesCounts}
+use Rattle.rbf_walk.specs.Walk.{directory_fault}
+use Rattle.rbf_walk.specs.declared.error.DirError.{DirError}
+use Rattle.file_rules.specs.Files.{DriveState, Files, NoneFailed, drive_at, file_in, volume_at, with_drives, with_volume}
+use Rattle.file_rules.specs.declared.places.FilePlace.{FilePlace}
+use Rattle.file_drives.proofs.DriveLemmas.{changes-weaker, none-failed, one-failed}
+use Rattle.file_drives.specs.Changed.{Asked, ChangesVolume}
+use Rattle.file_drives.specs.Drives.{DriveView, OneDriveMoves, Reads, ReadsDrive, drive_states}
+use Rattle.file_drives.specs.Mounted.{HasFileAt, ReadsFile}
+use Rattle.file_state.specs.Reached.{DrivesMove, HasChanged, HasRead}
+use Rattle.file_state.specs.Tie.{StandsFor}
+use Rattle.file_state.specs.declared.state.FileState.{FileState}
+
+-- ---- where a file is
+
+-- the volume of a file that is there
+pub record OnVolume (files : Files) (place : FilePlace) (file : DiskFile) : Type 0 where
+  pub volume : DiskVolume
+  pub is : volume_at files place.drive ≡ Some volume
+  pub there : volume.files place.number ≡ Some file
+
+pub on-volume : (files : Files) (place : FilePlace) (file : DiskFile) → file_in files place ≡ Some file → OnVolume files place file
+on-volume files place file there = by (volume_at files place.drive) refl there
+  where
+    by : (o : Option DiskVolume) → volume_at files place.drive ≡ o → option_and_then (λ (v : DiskVolume). v.files place.number) o ≡ Some file → OnVolume files place file
+    by None at there = absurd (none-some file there)
+    by (Some v) at there = record { volume = v; is = at; there = there }
+
+-- and back
+pub file-there : (files : Files) (place : FilePlace) (v : DiskVolume) (file : DiskFile) → volume_at files place.drive ≡ Some v → v.files place.number ≡ Some file → file_in files place ≡ Some file
+file-there files place v file is there =
+    ap (option_and_then (λ (v : DiskVolume). v.files place.number)) is ∙ there
+
+-- it is there on the mounted volumes
+pub has-file : (state : FileState) (views : List DriveView) (files : Files) (place : FilePlace) (file : DiskFile) → StandsFor state views files → file_in files place ≡ Some file → HasFileAt state.disks views place
+has-file state views files place file stands there =
+    let on = on-volume files place file there in
+    record { volumes = files.volumes; mounted = stands.mounted; volume = on.volume; is = on.is; file = file; there = on.there }
+
+-- ---- how the drives move
+
+pub drives-move : (fault : Option ℕ) (most n : ℕ) (before after : List DriveView) → OneDriveMoves fault most n before after → DrivesMove fault n (drive_states before) (drive_states after)
+drives-move None most n before after moved = none-failed most n before after moved
+drives-move (Some number) most n before after moved = one-failed number most n before after moved
+
+abbrev count : DriveState → ℕ
+count drive = drive.faults
+
+count-at : (drives : List DriveState) (n : ℕ) → get_or (map count drives) n 0 ≡ (drive_at drives n).faults
+count-at [] n = refl
+count-at (drive ∷ drives) zero = refl
+count-at (drive ∷ drives) (suc n) = count-at drives n
+
+-- where no drive failed each count is as it was
+same-count : (before now : List DriveState) (n : ℕ) → NoneFailed before now → (drive_at now n).faults ≡ (drive_at before n).faults
+same-count before now n none = sym (count-at now n) ∙ ap (λ counts. get_or counts n 0) none ∙ count-at before n
+
+-- calls behind calls that did not fail
+pub moved-then : (fault : Option ℕ) (drive : ℕ) (before mid now : List DriveState) → NoneFailed before mid → DrivesMove fault drive mid now → DrivesMove fault drive before now
+moved-then None drive before mid now none moved = moved ∙ none
+moved-then (Some number) drive before mid now none moved = record {
+  rose = subst (λ m. Rose m (drive_at now drive).faults) (same-count before mid drive none) moved.rose;
+  never_falls = subst (λ m. m ≤ (drive_at now drive).faults) (same-count before mid drive none) moved.never_falls;
+  last = moved.last;
+  others = λ other apart. moved.others other apart ∙ same-count before mid other none;
+  as_many = moved.as_many ∙ sym (length-map mid count) ∙ ap (λ (counts : List ℕ). length counts) none ∙ length-map before count;
+}
+
+-- ---- the files
+
+-- a drive was read
+pub has-read : (state new : FileState) (views now : List DriveView) (files : Files) (place : FilePlace) (file : DiskFile) (fault : Option ℕ) (most : DiskVolume → DiskFile → ℕ) → StandsFor state views files → file_in files place ≡ Some file → new.io ≡ state.io → new.directories ≡ state.directories → ReadsFile place fault most state.disks views new.disks now → HasRead fault place.drive files new now
+has-read state new views now files place file fault most stands there io directories read =
+    let on = on-volume files place file there in
+    let calls = most on.volume file in
+    let drive : ReadsDrive fault calls place.drive views now = read.drive files.volumes on.volume file stands.mounted on.is on.there in
+    let moved = changes-weaker (Reads fault calls) (λ old new. MovesCounts fault calls old.counts new.counts) place.drive views now (λ old new reads. reads.counts) drive in
+    record {
+      moved = subst (λ drives. DrivesMove fault place.drive drives (drive_states now)) (sym stands.drives) (drives-move fault calls place.drive views now moved);
+      stands = record {
+        io = stands.io ∙ sym io;
+        directories = stands.directories ∙ sym directories;
+        drives = refl;
+        mounted = read.mounted files.volumes stands.mounted;
+      };
+    }
+
+-- a volume was changed, or was to be
+pub has-changed : (state new : FileState) (views now : List DriveView) (files : Files) (place : FilePlace) (v : DiskVolume) (file : DiskFile) (asked : Asked) (answer : Result ℕ DirError) (most : DiskVolume → DiskFile → DiskVolume → ℕ) → StandsFor state views files → volume_at files place.drive ≡ Some v → v.files place.number ≡ Some file → new.io ≡ state.io → new.directories ≡ state.directories → ChangesVolume place asked answer most state.disks views new.disks now → HasChanged asked answer place.drive v file files new now
+has-changed state new views now files place v file asked answer most stands is there io directories changes =
+    let it = changes files.volumes v file stands.mounted is there in
+    record {
+      left = it.left;
+      answers = it.answers;
+      moved = subst (λ drives. DrivesMove (directory_fault answer) place.drive drives (drive_states now)) (sym stands.drives) (drives-move (directory_fault answer) (most v file it.left) place.drive views now it.moves);
+      stands = record {
+        io = stands.io ∙ sym io;
+        directories = stands.directories ∙ sym directories;
+        drives = refl;
+        mounted = it.mounted;
+      };
+    }
+
+-- ---- one after another
+
+-- a read behind reads that did not fail
+pub has-read-then : (fault : Option ℕ) (first drive : ℕ) (files : Files) (mid new : FileState) (views now : List DriveView) → HasRead None first files mid views → HasRead fault drive (with_drives files (drive_states views)) new now → HasRead fault drive files new now
+has-read-then fault first drive files mid new views now was is = record {
+  moved = moved-then fault drive files.drives (drive_states views) (drive_states now) was.moved is.moved;
+  stands = is.stands;
+}
+
+-- and a change
+pub has-changed-then : (asked : Asked) (answer : Result ℕ DirError) (first drive : ℕ) (v : DiskVolume) (file : DiskFile) (files : Files) (mid new : FileState) (views now : List DriveView) → HasRead None first files mid views → HasChanged asked answer drive v file (with_drives files (drive_states views)) new now → HasChanged asked answer drive v file files new now
+has-changed-then asked answer first drive v file files mid new views now was is = record {
+  left = is.left;
+  answers = is.answers;
+  moved = moved-then (directory_fault answer) drive files.drives (drive_states views) (drive_states now) was.moved is.moved;
+  stands = is.stands;
+}
+
+-- a volume that is as it was
+pub same-volume : (files : Files) (drive : ℕ) (v : DiskVolume) → volume_at files drive ≡ Some v → with_volume files drive v ≡ files
+same-volume files drive v is =
+    ap (λ volumes. record files { volumes = volumes }) (ap (λ o. slice_set files.volumes drive o) (sym is) ∙ set-get_or files.volumes drive None)

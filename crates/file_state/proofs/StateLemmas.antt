@@ -1,0 +1,153 @@
+-- The kernel's files where paths, positions and directories change, and what is asked of its paths.
+use Rattle.std.proofs.Common.{◌≡◌, ◌≤◌, ℕ, get_or, length, replicate, inl, inr, arith, Bool, false, Option, Some, None, IfSome, List, [], ◌∷◌, slice_set, Result, Ok, Err, refl, ap, sym, subst, ◌∙◌}
+use Rattle.std.specs.Prelude.{◌&&◌, ◌||◌}
+use Rattle.std.specs.List.{list_any}
+use Rattle.std.specs.Option.{option_map_or}
+use Rattle.std.proofs.lemmas.Bool.{cases_lt}
+use Rattle.std.proofs.lemmas.List.{get_or-replicate, get_or_past, length-replicate}
+use Rattle.io_model.specs.Path.{desc_of, with_desc}
+use Rattle.io_model.specs.declared.path.Desc.{Desc}
+use Rattle.io_model.specs.declared.path.Target.{Target}
+use Rattle.io_model.specs.declared.path.Target.TheVariants.{File, Folder, Term, Pipe}
+use Rattle.io_rules.specs.Io.{Io, first_io, with_paths}
+use Rattle.io_rules.specs.Processes.{io_ended}
+use Rattle.io_state.specs.Files.{is_of_file, is_path_on as is_path_of, some_path_on as some_path_of}
+use Rattle.rbf_model.specs.Volume.{DiskVolume}
+use Rattle.rbf_access.specs.declared.faults.VolFault.{VolFault}
+use Rattle.rbf_access.specs.declared.volume.Volume.{Volume}
+use Rattle.file_rules.specs.Files.{Files, directory_of, no_directories, place_of_target, with_directories_of, with_io, with_position}
+use Rattle.file_rules.specs.Processes.{files_ended}
+use Rattle.file_rules.specs.Sharing.{is_path_on, is_same_place, some_path_on}
+use Rattle.file_rules.specs.declared.places.Directories.{Directories}
+use Rattle.file_rules.specs.declared.places.FilePlace.{FilePlace}
+use Rattle.file_drives.specs.Drives.{DriveView, drive_states}
+use Rattle.file_drives.specs.Mounted.{AgreesOnDrive, HasFileAt, MountsAs, kept_at, mounted_at}
+use Rattle.file_laws.specs.Kinds.{AreKinds}
+use Rattle.file_state.proofs.ReachedLemmas.{has-file}
+use Rattle.file_state.specs.Opened.{path_of}
+use Rattle.file_state.specs.Reached.{MountsOn}
+use Rattle.file_state.specs.Tie.{StandsFor}
+use Rattle.file_state.specs.declared.state.FileState.{FileState}
+use Rattle.file_state.specs.declared.state.OpenFile.{OpenFile}
+
+-- ---- the paths on a file
+
+same-place : (place : FilePlace) (target : Target) → is_of_file place.drive place.number target ≡ option_map_or (is_same_place place) (place_of_target target) false
+same-place place (File drive number) = refl
+same-place place (Folder drive number) = refl
+same-place place (Term terminal) = refl
+same-place place (Pipe pipe) = refl
+
+same-test : (place : FilePlace) (test : Desc → Bool) (desc : Option Desc) → is_path_of place.drive place.number test desc ≡ is_path_on place test desc
+same-test place test None = refl
+same-test place test (Some desc) = ap (λ b. b && test desc) (same-place place desc.target)
+
+any-same : {X : Type 0} (test other : X → Bool) → ((x : X) → test x ≡ other x) → (xs : List X) → list_any test xs ≡ list_any other xs
+any-same test other same [] = refl
+any-same test other same (x ∷ xs) =
+    let here = same x in
+    let later = any-same test other same xs in
+    λ i. here i || later i
+
+-- some path on the file at a place passes a test
+pub some-path : (io : Io) (files : Files) (place : FilePlace) (test : Desc → Bool) → files.io ≡ io → some_path_of io place.drive place.number test ≡ some_path_on files place test
+some-path io files place test is =
+    any-same (is_path_of place.drive place.number test) (is_path_on place test) (same-test place test) io.paths.descs
+    ∙ ap (λ (io : Io). list_any (is_path_on place test) io.paths.descs) (sym is)
+
+-- ---- what is changed
+
+-- other paths
+pub stands-with_io : (state : FileState) (views : List DriveView) (files : Files) (io new : Io) → io ≡ new → StandsFor state views files → StandsFor (record { io = new; disks = state.disks; directories = state.directories }) views (with_io files io)
+stands-with_io state views files io new is stands = record {
+  io = is;
+  directories = stands.directories;
+  drives = stands.drives;
+  mounted = stands.mounted;
+}
+
+-- other directories
+pub stands-with_directories : (state : FileState) (views : List DriveView) (files : Files) (p : ℕ) (directories other : Directories) → directories ≡ other → StandsFor state views files → StandsFor (record { io = state.io; disks = state.disks; directories = slice_set state.directories p other }) views (with_directories_of files p directories)
+stands-with_directories state views files p directories other same stands = record {
+  io = stands.io;
+  directories = ap (λ all. slice_set all p directories) stands.directories ∙ ap (slice_set state.directories p) same;
+  drives = stands.drives;
+  mounted = stands.mounted;
+}
+
+if-some : {X : Type 0} (o : Option X) (x : X) (fact : X → Type 0) → IfSome o fact → o ≡ Some x → fact x
+if-some {X} o x fact holds is = subst (λ (o : Option X). IfSome o fact) is holds
+
+-- another position
+pub stands-with_position : (state : FileState) (views : List DriveView) (files : Files) (opened : OpenFile) (at : ℕ) (new : Io) → desc_of state.io.paths opened.path.0 ≡ Some opened.desc → IfSome (desc_of state.io.paths opened.path.0) (λ desc. new ≡ with_paths state.io (with_desc state.io.paths opened.path.0 (Some (record desc { at = at })))) → StandsFor state views files → StandsFor (record { io = new; disks = state.disks; directories = state.directories }) views (with_position files (path_of opened) at)
+stands-with_position state views files opened at new is moved stands =
+    let now = if-some (desc_of state.io.paths opened.path.0) opened.desc (λ desc. new ≡ with_paths state.io (with_desc state.io.paths opened.path.0 (Some (record desc { at = at })))) moved is in
+    stands-with_io state views files (with_paths files.io (with_desc files.io.paths opened.path.0 (Some (record opened.desc { at = at })))) new (ap (λ (io : Io). with_paths io (with_desc io.paths opened.path.0 (Some (record opened.desc { at = at })))) stands.io ∙ sym now) stands
+
+-- ---- the directories of processes
+
+-- each is there
+has-directory : (state : FileState) (views : List DriveView) (files : Files) (p : ℕ) (execute : Bool) (place : FilePlace) → StandsFor state views files → AreKinds files → directory_of files p execute ≡ Some place → HasFileAt state.disks views place
+has-directory state views files p execute place stands kinds is =
+    let kind = kinds.directories p execute place is in
+    has-file state views files place kind.file stands kind.there
+
+pub has-directories : (state : FileState) (views : List DriveView) (files : Files) (p : ℕ) (execute : Bool) (found : Option FilePlace) → StandsFor state views files → AreKinds files → found ≡ directory_of files p execute → IfSome found (HasFileAt state.disks views)
+has-directories state views files p execute None stands kinds is = tt
+has-directories state views files p execute (Some place) stands kinds is = has-directory state views files p execute place stands kinds (sym is)
+
+-- ---- mounting
+
+pub mounts-on : (state : FileState) (result : Result (Unit {0}) VolFault) (n : ℕ) (before after : List DriveView) (disks : List (Option Volume)) → MountsAs result n state.disks before disks after → MountsOn result n state before (record { io = state.io; disks = disks; directories = state.directories }) after
+mounts-on state (Ok done) n before after disks mounts = λ files v stands holds. record {
+  io = stands.io;
+  directories = stands.directories;
+  drives = refl;
+  mounted = mounts files.volumes v stands.mounted holds;
+}
+mounts-on state (Err fault) n before after disks stays = λ files stands. record {
+  io = stands.io;
+  directories = stands.directories;
+  drives = refl;
+  mounted = stays files.volumes stands.mounted;
+}
+
+-- ---- a process ends
+
+pub stands-ended : (state : FileState) (views : List DriveView) (files : Files) (p : ℕ) (new : Io) → new ≡ io_ended state.io p → StandsFor state views files → StandsFor (record { io = new; disks = state.disks; directories = slice_set state.directories p no_directories }) views (files_ended files p)
+stands-ended state views files p new is stands = record {
+  io = ap (λ (io : Io). io_ended io p) stands.io ∙ sym is;
+  directories = ap (λ all. slice_set all p no_directories) stands.directories;
+  drives = stands.drives;
+  mounted = stands.mounted;
+}
+
+-- ---- at the start
+
+abbrev nothing : {X : Type 0} → Option X
+nothing = None
+
+none-at : {X : Type 0} (k n : ℕ) → get_or (replicate k (nothing {X = X})) n None ≡ None
+none-at {X} k n = elim (cases_lt n k) [
+  | inl within ↦ get_or-replicate k n None None within
+  | inr past ↦ get_or_past (replicate k (nothing {X = X})) n None (omega (arith, past, length-replicate k (nothing {X = X})))
+]
+
+-- a new state is that of drives without volumes
+pub stands-first : (state : FileState) (views : List DriveView) → length views ≤ 4 → state.io ≡ first_io → state.disks ≡ replicate 4 None → state.directories ≡ replicate 33 no_directories → StandsFor state views (record { io = first_io; directories = replicate 33 no_directories; volumes = replicate (length views) None; drives = drive_states views })
+stands-first state views few io disks directories = record {
+  io = sym io;
+  directories = sym directories;
+  drives = refl;
+  mounted = record {
+    few = few;
+    as_many = length-replicate (length views) (nothing {X = DiskVolume});
+    each = λ n view is.
+        subst (λ kept. AgreesOnDrive kept view (mounted_at (replicate (length views) None) n)) (sym (nothing-kept n))
+        (subst (λ volume. AgreesOnDrive None view volume) (sym (none-at {X = DiskVolume} (length views) n)) tt);
+    none_behind = λ n past. nothing-kept n;
+  };
+}
+  where
+    nothing-kept : (n : ℕ) → kept_at state.disks n ≡ None
+    nothing-kept n = ap (λ disks. kept_at disks n) disks ∙ none-at {X = Volume} 4 n

@@ -1,0 +1,5 @@
+pub mod Attempt
+pub mod Counted
+pub mod Opened
+pub mod Reached
+pub mod Tie

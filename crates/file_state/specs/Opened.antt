@@ -1,0 +1,55 @@
+-- Files and directories that paths and processes name.
+use Rattle.std.specs.Prelude.{◌≡◌, ℕ, Bool, true, false, Option, Some, None, List, if◌then◌else◌}
+use Rattle.io_model.specs.declared.path.Desc.{Desc}
+use Rattle.io_model.specs.declared.path.SysPath.{SysPath}
+use Rattle.io_model.specs.declared.path.Target.{Target}
+use Rattle.io_model.specs.declared.path.Target.TheVariants.{File, Folder, Term, Pipe}
+use Rattle.rbf_model.specs.File.{is_directory}
+use Rattle.io_rules.specs.Io.{OpenPath}
+use Rattle.io_rules.specs.Modes.{can_write}
+use Rattle.file_rules.specs.Files.{Files, OpenFile as Found, file_in, open_file}
+use Rattle.file_rules.specs.declared.places.Directories.{Directories}
+use Rattle.file_rules.specs.declared.places.FilePlace.{FilePlace}
+use Rattle.file_drives.specs.Drives.{DriveView}
+use Rattle.file_drives.specs.Mounted.{HasDataFileAt, HasFileAt}
+use Rattle.file_state.specs.declared.state.FileState.{FileState}
+use Rattle.file_state.specs.declared.state.OpenFile.{OpenFile}
+
+-- the path of a file that is open
+abbrev pub path_of : OpenFile → OpenPath
+path_of opened = record { path = opened.path; desc = opened.desc }
+
+-- a number of a process names this file or directory, which is there
+pub record IsFileOf (state : FileState) (views : List DriveView) (files : Files) (p n : ℕ) (opened : OpenFile) : Type 0
+  where
+    pub found : Found
+    pub is : open_file files p n ≡ Some found
+    pub path : found.opened ≡ path_of opened
+    pub place : found.place ≡ opened.place
+    pub directory : is_directory found.file ≡ opened.is_directory
+    pub there : file_in files opened.place ≡ Some found.file
+    pub has : HasFileAt state.disks views opened.place
+    -- a path on a directory may not be written
+    pub unwritten : opened.is_directory ≡ true → can_write opened.desc.mode ≡ false
+    pub data_file : opened.is_directory ≡ false → HasDataFileAt state.disks views opened.place
+
+-- by the answer: the file or directory that a number of a process names, or it names none
+abbrev pub NamesFile : FileState → List DriveView → Files → ℕ → ℕ → Option OpenFile → Type 0
+NamesFile state views files p n None = open_file files p n ≡ None
+NamesFile state views files p n (Some opened) = IsFileOf state views files p n opened
+
+-- ---- by descriptors and directories
+
+-- the file or directory of a path that was opened on this
+abbrev pub opened_by : SysPath → Desc → Target → Option OpenFile
+opened_by path desc (File drive number) =
+    Some (record { path = path; desc = desc; place = record { drive = drive; number = number }; is_directory = false })
+opened_by path desc (Folder drive number) =
+    Some (record { path = path; desc = desc; place = record { drive = drive; number = number }; is_directory = true })
+opened_by path desc (Term terminal) = None
+opened_by path desc (Pipe pipe) = None
+
+-- the one for execution, or the one for data
+abbrev pub directory_in : Directories → Bool → Option FilePlace
+directory_in directories execute =
+    if execute then directories.execution_directory else directories.data_directory

@@ -1,0 +1,44 @@
+-- What calls of one drive leave of the kernel's files, in the words of the calls on files.
+use Rattle.std.specs.Prelude.{ℕ, Option, Some, None, List, Result, Ok, Err}
+use Rattle.rbf_model.specs.File.{DiskFile}
+use Rattle.rbf_model.specs.Volume.{DiskVolume}
+use Rattle.rbf_access.specs.declared.faults.VolFault.{VolFault}
+use Rattle.rbf_walk.specs.Walk.{directory_fault}
+use Rattle.rbf_walk.specs.declared.error.DirError.{DirError}
+use Rattle.file_rules.specs.Files.{Files, DriveState, NoneFailed, OneFailed, with_drives, with_volume}
+use Rattle.file_drives.specs.Changed.{Asked, AnswersChange}
+use Rattle.file_drives.specs.Drives.{DriveView, drive_states}
+use Rattle.file_drives.specs.Mounted.{DriveHolds}
+use Rattle.file_state.specs.Tie.{StandsFor}
+use Rattle.file_state.specs.declared.state.FileState.{FileState}
+
+-- the drives after calls of this one, which the fault of this number ended, or none
+abbrev pub DrivesMove : Option ℕ → ℕ → List DriveState → List DriveState → Type 0
+DrivesMove None drive before now = NoneFailed before now
+DrivesMove (Some number) drive before now = OneFailed drive number before now
+
+-- the drive was read, and the files are as they were
+pub record HasRead (fault : Option ℕ) (drive : ℕ) (files : Files) (new : FileState) (now : List DriveView) : Type 0
+  where
+    pub moved : DrivesMove fault drive files.drives (drive_states now)
+    pub stands : StandsFor new now (with_drives files (drive_states now))
+
+-- a change of the volume `v` of the drive was asked for, and this was answered; `file` is the file that was to change,
+-- or the directory in which a file was to be made or deleted
+pub record HasChanged (asked : Asked) (answer : Result ℕ DirError) (drive : ℕ) (v : DiskVolume) (file : DiskFile)
+    (files : Files) (new : FileState) (now : List DriveView) : Type 0 where
+  pub left : DiskVolume
+  pub answers : AnswersChange asked v file left answer
+  pub moved : DrivesMove (directory_fault answer) drive files.drives (drive_states now)
+  pub stands : StandsFor new now (with_drives (with_volume files drive left) (drive_states now))
+
+-- ---- mounting
+
+-- by the answer of an attempt to mount the volume of this drive: it is mounted there, or what was mounted is mounted
+-- still
+abbrev pub MountsOn : Result (Unit {0}) VolFault → ℕ → FileState → List DriveView → FileState → List DriveView → Type 0
+MountsOn (Ok done) n old before new after =
+    (files : Files) (v : DiskVolume) → StandsFor old before files → DriveHolds before n v
+    → StandsFor new after (with_drives (with_volume files n v) (drive_states after))
+MountsOn (Err fault) n old before new after =
+    (files : Files) → StandsFor old before files → StandsFor new after (with_drives files (drive_states after))

@@ -1,0 +1,20 @@
+-- How the kernel's files are tied to those of the machine.
+use Rattle.std.specs.Prelude.{◌≡◌, List}
+use Rattle.file_rules.specs.Files.{Files}
+use Rattle.file_drives.specs.Drives.{DriveView, drive_states}
+use Rattle.file_drives.specs.Mounted.{AreMounted}
+use Rattle.file_laws.specs.Kinds.{AreKinds}
+use Rattle.file_state.specs.declared.state.FileState.{FileState}
+
+-- the kernel's files are those of the machine: its volumes are mounted on the drives, and all else is equal
+pub record StandsFor (state : FileState) (views : List DriveView) (files : Files) : Type 0 where
+  pub io : files.io ≡ state.io
+  pub directories : files.directories ≡ state.directories
+  pub drives : files.drives ≡ drive_states views
+  pub mounted : AreMounted state.disks views files.volumes
+
+-- the kernel's files are those of some state in which paths and directories are on what is there
+pub record IsSound (state : FileState) (views : List DriveView) : Type 0 where
+  pub files : Files
+  pub stands : StandsFor state views files
+  pub kinds : AreKinds files
