@@ -1,7 +1,7 @@
 -- The civil time that the calendar's library has.
 use Rattle.std.specs.Prelude.{pos, ◌-ℤ◌, unsigned_abs}
 use Rattle.jiff_core.specs.declared.civil.datetime.DateTime.{DateTime}
-use Rattle.os9_clock.specs.CivilTime.{CivilTime}
+use Rattle.civil_time.specs.CivilTime.{CivilTime}
 
 -- a date and time from 1900 on, its year counted from 1900
 abbrev pub civil_of : DateTime → CivilTime

@@ -1,2 +1,1 @@
-pub mod CivilTime
 pub mod JiffTime

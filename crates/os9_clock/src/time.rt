@@ -1,5 +1,5 @@
 ghost use Rattle.std.specs.Prelude.{◌≡◌, ◌<◌, ◌+◌, ◌%◌, true, pos, ◌≤ℤ◌};
-ghost use Rattle.os9_clock.specs.CivilTime.{is_time_packet, IsAfter, month_days as month_days_lem, is_leap as is_leap_lem, time_packet};
+ghost use Rattle.civil_time.specs.CivilTime.{is_time_packet, IsAfter, month_days as month_days_lem, is_leap as is_leap_lem, time_packet};
 ghost use Rattle.os9_clock.specs.JiffTime.{civil_of};
 ghost use Rattle.jiff.specs.Words.{IsYmd, IsHms};
 

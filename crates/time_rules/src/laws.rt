@@ -1,0 +1,24 @@
+//! Laws of the clock.
+
+ghost use Rattle.std.specs.Prelude.{◌≡◌, ℕ, ◌≤◌, true};
+ghost use Rattle.os9_base.specs.declared.registers.TimePacket.{TimePacket};
+ghost use Rattle.call_rules.specs.CallResult.{CallResult};
+ghost use Rattle.call_rules.specs.Inner.{Inner};
+ghost use Rattle.civil_time.specs.CivilTime.{is_time_packet};
+ghost use Rattle.time_rules.specs.Attempts.{TimeAttempts};
+ghost use Rattle.time_rules.specs.Clock.{IsClock, first_clock};
+ghost use Rattle.time_rules.specs.declared.clock.Clock.{Clock};
+ghost use Rattle.time_rules.specs.declared.time_call.TimeCall.{TimeCall};
+
+/// A clock was set to a civil date and time, and not after this tick: that holds of the clock of a
+/// machine that starts at such a time, each tick keeps it, and so does each call on the time,
+/// whatever the packet that it is given.
+pub fn clocks_stay_clocks()
+    ensures start { (start : TimePacket) → is_time_packet start ≡ true
+        → IsClock (first_clock start) 0 }
+    ensures tick { (clock : Clock) (tick later : ℕ) → tick ≤ later → IsClock clock tick
+        → IsClock clock later }
+    ensures call { (call : TimeCall) (m : Inner) (clock : Clock) (now : TimePacket) (p : ℕ)
+        (result : CallResult) (new : Clock) → TimeAttempts call m clock now p result new
+        → IsClock clock m.tick → IsClock new m.tick }
+{}

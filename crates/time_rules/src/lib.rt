@@ -1,0 +1,8 @@
+//! The time of the machine: its clock, what F$Time and F$STime answer and leave, and the codes of
+//! these calls.
+#![tactic(auto)]
+
+pub mod clock;
+pub mod laws;
+pub mod rows;
+pub mod time_call;
