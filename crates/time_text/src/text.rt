@@ -1,0 +1,90 @@
+ghost use Rattle.std.specs.Prelude.{◌≡◌, ◌≤◌, ◌+◌, length};
+ghost use Rattle.time_text.specs.TimeText.{has_marks as has_marks_lem, number_at as number_at_lem, packet_in as packet_in_lem, time_in, year_in as year_in_lem};
+
+use number_text::read_number;
+use os9_base::registers::TimePacket;
+use os9_clock::time::is_time;
+
+/// Characters of a date and time.
+const TEXT_BYTES: usize = 19;
+
+/// The first year that a packet can give, and the last.
+const FIRST_YEAR: u32 = 1900;
+const LAST_YEAR: u32 = 2155;
+
+/// The greatest number of two digits.
+const TWO_DIGITS: u32 = 99;
+
+/// The date and time that a text spells as `YYYY-MM-DDThh:mm:ss`; None where it spells none of a
+/// year from 1900 to 2155 (this project's own). Each number has all its digits.
+pub fn read_time(text: &[u8]) -> Option<TimePacket>
+    ensures { result ≡ time_in text.now }
+{
+    if !has_marks(text) {
+        return None;
+    }
+    match packet_in(text) {
+        Some(packet) if is_time(packet) => Some(packet),
+        _ => None,
+    }
+}
+
+/// Has the text nineteen characters, with the marks between the numbers in their places?
+fn has_marks(text: &[u8]) -> bool
+    ensures { result ≡ has_marks_lem text.now }
+{
+    text.len() == TEXT_BYTES
+        && text[4] == b'-'
+        && text[7] == b'-'
+        && text[10] == b'T'
+        && text[13] == b':'
+        && text[16] == b':'
+}
+
+/// The packet whose numbers stand in their places.
+fn packet_in(text: &[u8]) -> Option<TimePacket>
+    requires { length text.now ≡ 19 }
+    ensures { result ≡ packet_in_lem text.now }
+{
+    let year = year_in(text);
+    let month = number_at(text, 5);
+    let day = number_at(text, 8);
+    let hour = number_at(text, 11);
+    let minute = number_at(text, 14);
+    let second = number_at(text, 17);
+    let (Some(year), Some(month), Some(day), Some(hour), Some(minute), Some(second)) =
+        (year, month, day, hour, minute, second)
+    else {
+        return None;
+    };
+    Some(TimePacket {
+        year,
+        month,
+        day,
+        hour,
+        minute,
+        second,
+    })
+}
+
+/// The year that the first four characters spell, less 1900, where it is from 1900 to 2155.
+fn year_in(text: &[u8]) -> Option<u8>
+    requires { length text.now ≡ 19 }
+    ensures { result ≡ year_in_lem text.now }
+{
+    match read_number(&text[0..4], FIRST_YEAR, LAST_YEAR) {
+        None => None,
+        Some(year) => Some((year - FIRST_YEAR) as u8),
+    }
+}
+
+/// The number that two characters from this place on spell.
+fn number_at(text: &[u8], at: usize) -> Option<u8>
+    requires { at + 2 ≤ length text.now }
+    ensures { result ≡ number_at_lem text.now at 2 }
+{
+    match read_number(&text[at..at + 2], 0, TWO_DIGITS) {
+        None => None,
+        Some(number) => Some(number as u8),
+    }
+}
