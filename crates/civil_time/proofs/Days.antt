@@ -3,12 +3,17 @@ use Rattle.std.proofs.Common.{◌≡◌, ◌≤◌, ◌<◌, ◌⊎◌, ℕ, zer
 use Rattle.std.proofs.lemmas.Bool.{and_parts, leb-true, cases_lt}
 use Rattle.civil_time.specs.CivilTime.{is_leap, days_of_years, days_of_months, month_days, year_days, CivilTime, is_civil, day_number, second_number}
 
+-- a month has at most 31 days
+month-short : (year month : ℕ) → month_days year month ≤ 31
+month-short year month = grind (arith)
+
 -- the parts of a civil time
 pub record AreParts (t : CivilTime) : Type 0 where
   pub month_least : 1 ≤ t.month
   pub month_most : t.month ≤ 12
   pub day_least : 1 ≤ t.day
   pub day_most : t.day ≤ month_days (1900 + t.years) t.month
+  pub day_short : t.day ≤ 31
   pub hour : t.hour ≤ 23
   pub minute : t.minute ≤ 59
   pub second : t.second ≤ 59
@@ -28,11 +33,13 @@ parts-of t is =
     let to_d = and_parts (a && b && c) d to_e.0 in
     let to_c = and_parts (a && b) c to_d.0 in
     let to_b = and_parts a b to_c.0 in
+    let day : t.day ≤ month_days (1900 + t.years) t.month = leb-true t.day (month_days (1900 + t.years) t.month) to_d.1 in
     record {
       month_least = leb-true 1 t.month to_b.0;
       month_most = leb-true t.month 12 to_b.1;
       day_least = leb-true 1 t.day to_c.1;
-      day_most = leb-true t.day (month_days (1900 + t.years) t.month) to_d.1;
+      day_most = day;
+      day_short = omega (arith, day, month-short (1900 + t.years) t.month);
       hour = leb-true t.hour 23 to_e.1;
       minute = leb-true t.minute 59 to_f.1;
       second = leb-true t.second 59 to_g.1;

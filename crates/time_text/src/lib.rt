@@ -3,5 +3,6 @@
 
 pub use text::read_time;
 
+pub mod laws;
 mod rows;
 mod text;
