@@ -1,5 +1,5 @@
 -- The days of a civil time, counted.
-use Rattle.std.proofs.Common.{◌≡◌, ◌≤◌, ◌<◌, ◌⊎◌, ℕ, zero, suc, ◌+◌, ◌-◌, ◌*◌, ◌&&◌, Bool, true, false, nat_le, refl, ap, subst, sym, ◌∙◌, arith, inl, inr, if◌then◌else◌}
+use Rattle.std.proofs.Common.{◌≡◌, ◌≤◌, ◌<◌, ℕ, zero, suc, ◌+◌, ◌-◌, ◌&&◌, Bool, true, false, nat_le, refl, ap, subst, sym, arith, inl, inr, if◌then◌else◌}
 use Rattle.std.proofs.lemmas.Bool.{and_parts, leb-true, cases_lt}
 use Rattle.civil_time.specs.CivilTime.{is_leap, days_of_years, days_of_months, month_days, year_days, CivilTime, is_civil, day_number, second_number}
 
@@ -52,8 +52,8 @@ unfolding days_of_months
 months-later year n zero less = absurd (omega arith)
 months-later year n (suc m) less =
     elim (cases_lt n m) [
-    | inl before ↦ omega (arith, months-later year n m before)
-    | inr after ↦
+      | inl before ↦ omega (arith, months-later year n m before)
+      | inr after ↦
           (let same : n ≡ m = omega arith in
           subst (λ (k : ℕ). days_of_months year k + month_days year (suc k) ≤ days_of_months year m + month_days year (suc m)) (sym same) (omega arith))
     ]
@@ -63,8 +63,8 @@ unfolding days_of_years
 years-later n zero less = absurd (omega arith)
 years-later n (suc m) less =
     elim (cases_lt n m) [
-    | inl before ↦ omega (arith, years-later n m before)
-    | inr after ↦
+      | inl before ↦ omega (arith, years-later n m before)
+      | inr after ↦
           (let same : n ≡ m = omega arith in
           subst (λ (k : ℕ). days_of_years k + year_days (1900 + k) ≤ days_of_years m + year_days (1900 + m)) (sym same) (omega arith))
     ]
@@ -105,11 +105,11 @@ before-years t n parts less =
 same-years : (s t : CivilTime) → AreParts s → AreParts t → day_number s ≡ day_number t → s.years ≡ t.years
 same-years s t one other same =
     elim (cases_lt s.years t.years) [
-    | inl before ↦ absurd (omega (arith, before-years s t.years one before))
-    | inr after ↦
+      | inl before ↦ absurd (omega (arith, before-years s t.years one before))
+      | inr after ↦
           elim (cases_lt t.years s.years) [
-          | inl before ↦ absurd (omega (arith, before-years t s.years other before))
-          | inr behind ↦ omega arith
+            | inl before ↦ absurd (omega (arith, before-years t s.years other before))
+            | inr behind ↦ omega arith
           ]
     ]
 
@@ -117,11 +117,11 @@ same-years s t one other same =
 not-later : (s t : CivilTime) → AreParts s → AreParts t → s.years ≡ t.years → day_of_year s ≡ day_of_year t → t.month ≤ s.month
 not-later s t one other year same =
     elim (cases_lt s.month t.month) [
-    | inl before ↦
+      | inl before ↦
           (let less = before-months s (t.month - 1) one (omega arith) in
           let days : days_of_months (1900 + s.years) (t.month - 1) ≡ days_of_months (1900 + t.years) (t.month - 1) = ap (λ (k : ℕ). days_of_months (1900 + k) (t.month - 1)) year in
           absurd (omega (arith, less, days)))
-    | inr after ↦ after
+      | inr after ↦ after
     ]
 
 pub record SameDate (s t : CivilTime) : Type 0 where

@@ -10,6 +10,7 @@ const TEXT_BYTES: usize = 19;
 
 /// The first year that a packet can give, and the last.
 const FIRST_YEAR: u32 = 1900;
+
 const LAST_YEAR: u32 = 2155;
 
 /// The greatest number of two digits.
@@ -52,9 +53,9 @@ fn packet_in(text: &[u8]) -> Option<TimePacket>
     let hour = number_at(text, 11);
     let minute = number_at(text, 14);
     let second = number_at(text, 17);
-    let (Some(year), Some(month), Some(day), Some(hour), Some(minute), Some(second)) =
-        (year, month, day, hour, minute, second)
-    else {
+    let (Some(year), Some(month), Some(day), Some(hour), Some(minute), Some(second)) = (
+        year, month, day, hour, minute, second,
+    ) else {
         return None;
     };
     Some(TimePacket {

@@ -1,4 +1,4 @@
-use Rattle.std.proofs.Common.{◌≡◌, ℕ, ◌≤◌, not, Bool, true, false, Option, Some, None, List, refl, subst, sym, arith}
+use Rattle.std.proofs.Common.{◌≡◌, ℕ, not, Bool, true, false, Option, Some, None, List, refl, subst, sym, arith}
 use Rattle.os9_base.specs.declared.errors.TheConstants.{E_BADTIME, E_BPADDR}
 use Rattle.os9_base.specs.declared.registers.TimePacket.{TimePacket}
 use Rattle.call_rules.specs.Inner.{Inner, regs_at, cells_at}

@@ -1,6 +1,5 @@
-use Rattle.std.proofs.Common.{◌≡◌, ◌≤◌, ◌∙◌, ℕ, ◌+◌, ◌-◌, Bool, true, nat_le, Option, Some, None, option_map, option_and_then, refl, ap, arith, if◌then◌else◌}
+use Rattle.std.proofs.Common.{◌≡◌, ◌≤◌, ◌∙◌, ℕ, ◌+◌, ◌-◌, nat_le, Option, Some, None, option_map, option_and_then, ap, arith, if◌then◌else◌}
 use Rattle.std.proofs.lemmas.Bool.{and_from, le-leb}
-use Rattle.os9_base.specs.declared.registers.TimePacket.{TimePacket}
 use Rattle.civil_time.proofs.Days.{parts-of}
 use Rattle.civil_time.specs.CivilTime.{packet_time}
 use Rattle.number_text.specs.Number.{within}
