@@ -1,7 +1,8 @@
 -- The days of a civil time, counted.
-use Rattle.std.proofs.Common.{◌≡◌, ◌≤◌, ◌<◌, ℕ, zero, suc, ◌+◌, ◌-◌, ◌&&◌, Bool, true, false, nat_le, refl, ap, subst, sym, arith, inl, inr, if◌then◌else◌}
+use Rattle.std.proofs.Common.{◌≡◌, ◌≤◌, ◌<◌, ℕ, zero, suc, ◌+◌, ◌-◌, ◌&&◌, Bool, true, false, nat_le, refl, ap, subst, sym, ◌∙◌, arith, inl, inr, if◌then◌else◌}
 use Rattle.std.proofs.lemmas.Bool.{and_parts, leb-true, cases_lt}
-use Rattle.civil_time.specs.CivilTime.{is_leap, days_of_years, days_of_months, month_days, year_days, CivilTime, is_civil, day_number, second_number}
+use Rattle.os9_base.specs.declared.registers.TimePacket.{TimePacket}
+use Rattle.civil_time.specs.CivilTime.{is_leap, days_of_years, days_of_months, month_days, year_days, CivilTime, is_civil, day_number, second_number, time_packet, IsAfter}
 
 -- a month has at most 31 days
 month-short : (year month : ℕ) → month_days year month ≤ 31
@@ -76,7 +77,7 @@ months-sum : (leap : Bool)
 months-sum true = refl
 months-sum false = refl
 
-year-sum : (year : ℕ) → days_of_months year 12 ≡ year_days year
+pub year-sum : (year : ℕ) → days_of_months year 12 ≡ year_days year
 unfolding days_of_months
 year-sum year = months-sum (is_leap year)
 
@@ -160,3 +161,11 @@ same-time s t one other same =
       minute = minute i;
       second = second i;
     }
+
+-- and so one packet of so many seconds after another
+pub same-packet : (base : TimePacket) (seconds : ℕ) (one other : TimePacket) → IsAfter base seconds one
+    → IsAfter base seconds other → one ≡ other
+same-packet base seconds one other is_one is_other =
+    let same : is_one.time ≡ is_other.time =
+    same-time is_one.time is_other.time (parts-of is_one.time is_one.civil) (parts-of is_other.time is_other.civil) (is_one.later ∙ sym is_other.later) in
+    is_one.given ∙ (ap (λ (t : CivilTime). time_packet t) same ∙ sym is_other.given)

@@ -1,9 +1,12 @@
 ghost use Rattle.std.specs.Prelude.{◌≡◌, ℕ, true};
 ghost use Rattle.os9_base.specs.declared.registers.TimePacket.{TimePacket};
-ghost use Rattle.civil_time.specs.CivilTime.{CivilTime, IsAfter, is_civil, second_number};
+ghost use Rattle.civil_time.specs.CivilTime.{CivilTime, IsAfter, is_civil, is_time_packet, second_number};
 
-/// Each second has one date and time, and so there is one packet of so many seconds after another.
+/// Each second has one date and time: so there is a packet of so many seconds after another, and only
+/// one.
 pub fn each_second_has_one_time()
+    ensures there { (base : TimePacket) (seconds : ℕ) → is_time_packet base ≡ true
+        → (packet : TimePacket) × IsAfter base seconds packet }
     ensures time { (one other : CivilTime) → is_civil one ≡ true → is_civil other ≡ true
         → second_number one ≡ second_number other → one ≡ other }
     ensures packet { (base : TimePacket) (seconds : ℕ) (one other : TimePacket)

@@ -10,9 +10,11 @@ use Rattle.proc_model.specs.MemoryChanges.{stored}
 use Rattle.call_rules.specs.Inner.{Inner, regs_at, cells_at, with_memory}
 use Rattle.call_rules.specs.UserBytes.{user_bytes}
 use Rattle.civil_time.specs.CivilTime.{is_time_packet}
+use Rattle.civil_time.proofs.Next.{later-packet}
 use Rattle.proc_state.specs.declared.state.ProcState.{ProcState}
 use Rattle.proc_state.specs.Tie.{Represents, Comes}
 use Rattle.time_rules.specs.Attempts.{time_step, result_of, clock_after}
+use Rattle.time_rules.specs.Clock.{IsClock, seconds_since}
 use Rattle.time_rules.specs.Packet.{packet_bytes, packet_of}
 use Rattle.time_rules.specs.STime.{f_stime, sets_clock}
 use Rattle.time_rules.specs.Step.{TimeStep, refused, tells, sets, needs, refuses}
@@ -20,7 +22,7 @@ use Rattle.time_rules.specs.Time.{f_time}
 use Rattle.time_rules.specs.declared.clock.Clock.{Clock}
 use Rattle.time_rules.specs.declared.time_call.TimeCall.{TimeCall}
 use Rattle.time_rules.specs.declared.time_call.TimeCall.TheVariants as Call
-use Rattle.time_calls.specs.Attempt.{Attempts, step_end}
+use Rattle.time_calls.specs.Attempt.{Attempts, AttemptsNow, step_end}
 
 -- an attempt whose step is known
 attempt-of : (call : TimeCall) (m : Inner) (clock new : Clock) (now : TimePacket) (p : ℕ) (step : TimeStep) (end : CallEnd)
@@ -38,6 +40,14 @@ attempt-of call m clock new now p step end s is comes set = record {
 -- the tick is that of the kernel's processes
 pub tick_seen : (s : ProcState) (m : Inner) → Represents s m → s.tick ≡ m.tick
 tick_seen s m tied = sym (ap (λ (i : Inner). i.tick) tied.is)
+
+-- an attempt that is the same at any time is one at the time that the clock shows
+pub at-any-time : (call : TimeCall) (m : Inner) (clock new : Clock) (p : ℕ) (end : CallEnd) (s : ProcState)
+    → IsClock clock m.tick → ((now : TimePacket) → Attempts call m clock now p end s new)
+    → AttemptsNow call m clock p end s new
+at-any-time call m clock new p end s is attempts =
+    let shown = later-packet clock.from (seconds_since clock m.tick) is.civil in
+    record { now = shown.0; is = shown.1; attempts = attempts shown.0 }
 
 -- ---- F$Time
 
@@ -77,11 +87,25 @@ time-told m clock now p regs s at there tied =
 same-packet : (a b : TimePacket) → Some a ≡ Some b → a ≡ b
 same-packet a b same = cc
 
+unread-step : (bytes : Option (List ℕ)) (tick : ℕ) → option_map packet_of bytes ≡ None
+    → needs bytes E_BPADDR (λ bytes. sets_clock tick (packet_of bytes)) ≡ refused E_BPADDR
+unread-step None tick read = refl
+unread-step (Some bytes) tick read = absurd (cc)
+
 set-step : (bytes : Option (List ℕ)) (packet : TimePacket) (tick : ℕ) → option_map packet_of bytes ≡ Some packet
     → needs bytes E_BPADDR (λ bytes. sets_clock tick (packet_of bytes)) ≡ sets_clock tick packet
 set-step None packet tick read = absurd (cc)
 set-step (Some bytes) packet tick read =
     ap (λ (it : TimePacket). sets_clock tick it) (same-packet (packet_of bytes) packet read)
+
+pub stime-refused : (m : Inner) (clock : Clock) (now : TimePacket) (p : ℕ) (regs : Regs) (s : ProcState)
+    → regs ≡ regs_at m p → option_map packet_of (user_bytes (cells_at m p) regs.x 6) ≡ None → Represents s m
+    → Attempts Call.STime m clock now p (Error E_BPADDR) s clock
+stime-refused m clock now p regs s at read tied =
+    let missing : option_map packet_of (user_bytes (cells_at m p) (regs_at m p).x 6) ≡ None =
+    subst (λ (r : Regs). option_map packet_of (user_bytes (cells_at m p) r.x 6) ≡ None) at read in
+    attempt-of Call.STime m clock clock now p (refused E_BPADDR) (Error E_BPADDR) s
+    (unread-step (user_bytes (cells_at m p) (regs_at m p).x 6) m.tick missing) (refl, tied) refl
 
 comes-if : (m : Inner) (p : ℕ) (clock : Clock) (s : ProcState) (is : Bool) → Represents s m
     → Comes m p (result_of m p (refuses (not is) E_BADTIME (sets clock)))

@@ -1,7 +1,6 @@
-//! The calls on the time, each as an attempt of it by a process.
+//! The calls on the time, each as an attempt of it by a process, and all of them by their codes.
 
 ghost use Rattle.std.specs.Prelude.{◌≡◌};
-ghost use Rattle.os9_base.specs.declared.registers.TimePacket.{TimePacket};
 ghost use Rattle.proc_rules.specs.Records.{IsLiving};
 ghost use Rattle.call_rules.specs.Inner.{Inner};
 ghost use Rattle.proc_state.specs.Tie.{Represents, IsSame};
@@ -20,6 +19,23 @@ use os9_base::registers::{Pid, TimePacket};
 use os9_clock::time::is_time;
 use proc_state::state::ProcState;
 use time_rules::clock::{Clock, PACKET_BYTES};
+use time_rules::time_call::TimeCall;
+
+/// An attempt of a call on the time: F$Time or F$STime, as they say (System Programmer's Manual,
+/// "System calls").
+pub fn attempt(s: &mut ProcState, clock: &mut Clock, p: Pid, call: TimeCall) -> CallEnd
+    requires lives { IsLiving s.old.table p.0 }
+    requires clock { IsClock clock.old s.old.tick }
+    ensures call { (m : Inner) → Represents s.old m
+        → AttemptsNow call m clock.old p.0 result s.new clock.new }
+    ensures lives { IsLiving s.new.table p.0 }
+    ensures clock { IsClock clock.new s.new.tick }
+{
+    match call {
+        TimeCall::Time => f_time(s, clock, p),
+        TimeCall::STime => f_stime(s, clock, p),
+    }
+}
 
 /// F$Time: asks for the time (System Programmer's Manual, F$Time). Stores the six bytes of its
 /// packet at X: the year less 1900, the month, the day, the hour, the minute and the second.
@@ -66,8 +82,8 @@ fn tell(s: &mut ProcState, p: Pid, packet: TimePacket) -> CallEnd
 pub fn f_stime(s: &mut ProcState, clock: &mut Clock, p: Pid) -> CallEnd
     requires lives { IsLiving s.old.table p.0 }
     requires clock { IsClock clock.old s.old.tick }
-    ensures call { (m : Inner) (now : TimePacket) → Represents s.old m
-        → Attempts Call.STime m clock.old now p.0 result s.new clock.new }
+    ensures call { (m : Inner) → Represents s.old m
+        → AttemptsNow Call.STime m clock.old p.0 result s.new clock.new }
     ensures lives { IsLiving s.new.table p.0 }
     ensures clock { IsClock clock.new s.new.tick }
     ensures same { IsSame s.old s.new }

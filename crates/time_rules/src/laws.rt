@@ -6,7 +6,7 @@ ghost use Rattle.call_rules.specs.CallResult.{CallResult};
 ghost use Rattle.call_rules.specs.Inner.{Inner};
 ghost use Rattle.civil_time.specs.CivilTime.{is_time_packet};
 ghost use Rattle.time_rules.specs.Attempts.{TimeAttempts};
-ghost use Rattle.time_rules.specs.Clock.{IsClock, first_clock};
+ghost use Rattle.time_rules.specs.Clock.{IsClock, IsNow, first_clock};
 ghost use Rattle.time_rules.specs.declared.clock.Clock.{Clock};
 ghost use Rattle.time_rules.specs.declared.time_call.TimeCall.{TimeCall};
 
@@ -21,4 +21,12 @@ pub fn clocks_stay_clocks()
     ensures call { (call : TimeCall) (m : Inner) (clock : Clock) (now : TimePacket) (p : ℕ)
         (result : CallResult) (new : Clock) → TimeAttempts call m clock now p result new
         → IsClock clock m.tick → IsClock new m.tick }
+{}
+
+/// A clock shows one time in each tick.
+pub fn a_clock_shows_one_time()
+    ensures there { (clock : Clock) (tick : ℕ) → IsClock clock tick
+        → (now : TimePacket) × IsNow clock tick now }
+    ensures one { (clock : Clock) (tick : ℕ) (one other : TimePacket) → IsNow clock tick one
+        → IsNow clock tick other → one ≡ other }
 {}

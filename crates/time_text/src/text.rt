@@ -1,4 +1,5 @@
-ghost use Rattle.std.specs.Prelude.{◌≡◌, ◌≤◌, ◌+◌, length};
+ghost use Rattle.std.specs.Prelude.{◌≡◌, ◌≤◌, ◌+◌, IfSome, length, true};
+ghost use Rattle.civil_time.specs.CivilTime.{is_time_packet};
 ghost use Rattle.time_text.specs.TimeText.{has_marks as has_marks_lem, number_at as number_at_lem, packet_in as packet_in_lem, time_in, year_in as year_in_lem};
 
 use number_text::read_number;
@@ -19,7 +20,8 @@ const TWO_DIGITS: u32 = 99;
 /// The date and time that a text spells as `YYYY-MM-DDThh:mm:ss`; None where it spells none of a
 /// year from 1900 to 2155 (this project's own). Each number has all its digits.
 pub fn read_time(text: &[u8]) -> Option<TimePacket>
-    ensures { result ≡ time_in text.now }
+    ensures spelled { result ≡ time_in text.now }
+    ensures civil { IfSome result (λ t. is_time_packet t ≡ true) }
 {
     if !has_marks(text) {
         return None;
