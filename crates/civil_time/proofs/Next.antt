@@ -1,8 +1,8 @@
 -- The date and time of the next second, and so of each later one.
-use Rattle.std.proofs.Common.{◌≡◌, ◌≤◌, ◌<◌, ℕ, zero, suc, ◌+◌, ◌-◌, ◌*◌, ◌&&◌, true, nat_le, refl, ap, sym, subst, ◌∙◌, arith, inl, inr}
+use Rattle.std.proofs.Common.{◌≡◌, ◌≤◌, ℕ, zero, suc, ◌+◌, ◌-◌, true, nat_le, refl, ap, sym, subst, arith, inl, inr}
 use Rattle.std.proofs.lemmas.Bool.{and_from, le-leb, cases_lt}
 use Rattle.os9_base.specs.declared.registers.TimePacket.{TimePacket}
-use Rattle.civil_time.specs.CivilTime.{days_of_years, days_of_months, month_days, year_days, CivilTime, is_civil, second_number, packet_time, time_packet, is_time_packet, IsAfter}
+use Rattle.civil_time.specs.CivilTime.{days_of_years, days_of_months, month_days, CivilTime, is_civil, second_number, packet_time, time_packet, is_time_packet, IsAfter}
 use Rattle.civil_time.proofs.Days.{AreParts, parts-of, year-sum}
 
 -- a date and time so many seconds after another
@@ -60,7 +60,7 @@ next-month : (t : CivilTime) → AreParts t → 59 ≤ t.second → 59 ≤ t.min
     → month_days (1900 + t.years) t.month ≤ t.day → Later t 1
 next-month t parts second minute hour day =
     elim (cases_lt t.month 12) [
-    | inl less ↦
+      | inl less ↦
           (let year = 1900 + t.years in
           let e : suc t.month - 1 ≡ t.month = omega arith in
           let begins : days_of_months year (suc t.month - 1) ≡ days_of_months year t.month = ap (days_of_months year) e in
@@ -68,47 +68,47 @@ next-month t parts second minute hour day =
           follow t (record { years = t.years; month = suc t.month; day = 1; hour = 0; minute = 0; second = 0 })
           (omega arith) (omega (arith, less)) (omega arith) (month-long year (suc t.month)) (omega arith) (omega arith) (omega arith)
           (omega (arith, begins, days, second, minute, hour, day, parts.second, parts.minute, parts.hour, parts.day_most, parts.day_least)))
-    | inr last ↦ next-year t parts second minute hour day last
+      | inr last ↦ next-year t parts second minute hour day last
     ]
 
 next-day : (t : CivilTime) → AreParts t → 59 ≤ t.second → 59 ≤ t.minute → 23 ≤ t.hour → Later t 1
 next-day t parts second minute hour =
     elim (cases_lt t.day (month_days (1900 + t.years) t.month)) [
-    | inl less ↦
+      | inl less ↦
           follow t (record { years = t.years; month = t.month; day = t.day + 1; hour = 0; minute = 0; second = 0 })
           parts.month_least parts.month_most (omega arith) (omega (arith, less)) (omega arith) (omega arith) (omega arith)
           (omega (arith, second, minute, hour, parts.second, parts.minute, parts.hour, parts.day_least))
-    | inr last ↦ next-month t parts second minute hour last
+      | inr last ↦ next-month t parts second minute hour last
     ]
 
 next-hour : (t : CivilTime) → AreParts t → 59 ≤ t.second → 59 ≤ t.minute → Later t 1
 next-hour t parts second minute =
     elim (cases_lt t.hour 23) [
-    | inl less ↦
+      | inl less ↦
           follow t (record t { hour = t.hour + 1; minute = 0; second = 0 })
           parts.month_least parts.month_most parts.day_least parts.day_most (omega (arith, less)) (omega arith) (omega arith)
           (omega (arith, second, minute, parts.second, parts.minute))
-    | inr last ↦ next-day t parts second minute last
+      | inr last ↦ next-day t parts second minute last
     ]
 
 next-minute : (t : CivilTime) → AreParts t → 59 ≤ t.second → Later t 1
 next-minute t parts second =
     elim (cases_lt t.minute 59) [
-    | inl less ↦
+      | inl less ↦
           follow t (record t { minute = t.minute + 1; second = 0 })
           parts.month_least parts.month_most parts.day_least parts.day_most parts.hour (omega (arith, less)) (omega arith)
           (omega (arith, second, parts.second))
-    | inr last ↦ next-hour t parts second last
+      | inr last ↦ next-hour t parts second last
     ]
 
 next : (t : CivilTime) → AreParts t → Later t 1
 next t parts =
     elim (cases_lt t.second 59) [
-    | inl less ↦
+      | inl less ↦
           follow t (record t { second = t.second + 1 })
           parts.month_least parts.month_most parts.day_least parts.day_most parts.hour parts.minute (omega (arith, less))
           (omega arith)
-    | inr last ↦ next-minute t parts last
+      | inr last ↦ next-minute t parts last
     ]
 
 pub later-time : (t : CivilTime) (seconds : ℕ) → is_civil t ≡ true → Later t seconds

@@ -32,7 +32,8 @@ mod tests {
     /// Gives a process a data area of one block.
     fn give_block(s: &mut ProcState, p: Pid) -> bool
         requires { IsLiving s.old.table p.0 }
-        ensures { IsLiving s.new.table p.0 }
+        ensures lives { IsLiving s.new.table p.0 }
+        ensures tick { s.new.tick ≡ s.old.tick }
     {
         s.memory.grow(p, 1).is_ok()
     }
