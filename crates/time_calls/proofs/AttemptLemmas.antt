@@ -16,9 +16,8 @@ use Rattle.proc_state.specs.Tie.{Represents, Comes}
 use Rattle.time_rules.specs.Attempts.{time_step, result_of, clock_after}
 use Rattle.time_rules.specs.Clock.{IsClock, seconds_since}
 use Rattle.time_rules.specs.Packet.{packet_bytes, packet_of}
-use Rattle.time_rules.specs.STime.{f_stime, sets_clock}
+use Rattle.time_rules.specs.STime.{sets_clock}
 use Rattle.time_rules.specs.Step.{TimeStep, refused, tells, sets, needs, refuses}
-use Rattle.time_rules.specs.Time.{f_time}
 use Rattle.time_rules.specs.declared.clock.Clock.{Clock}
 use Rattle.time_rules.specs.declared.time_call.TimeCall.{TimeCall}
 use Rattle.time_rules.specs.declared.time_call.TimeCall.TheVariants as Call
