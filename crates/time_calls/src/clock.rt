@@ -7,9 +7,9 @@ use os9_clock::time::time_at;
 use time_rules::clock::{Clock, TICKS_PER_SECOND};
 
 /// The time in this tick: that which the clock was set to, and one second for every 60 ticks since
-/// then (System Programmer's Manual, F$Time; the ticks are this project's own). The clock was set to
-/// a civil date and time, and not after this tick. The packet need be none: after 2155 its year
-/// counts from 1900 again.
+/// then (System Programmer's Manual, F$Time; the ticks are this project's own). The clock was set
+/// to a civil date and time, and not after this tick. The packet need be no time: after 2155 its
+/// year counts from 1900 again.
 pub fn now(clock: &Clock, tick: u32) -> TimePacket
     requires { IsClock clock.now tick }
     ensures { IsNow clock.now tick result }

@@ -1,5 +1,5 @@
--- The clock of the machine (System Programmer's Manual, F$Time and F$STime; that 60 ticks are a second is this project's
--- own).
+-- The clock of the machine (System Programmer's Manual, F$Time and F$STime; that 60 ticks are a second is this
+-- project's own).
 use Rattle.std.specs.Prelude.{◌≡◌, ℕ, ◌-◌, ◌/◌, ◌≤◌, true}
 use Rattle.os9_base.specs.declared.registers.TimePacket.{TimePacket}
 use Rattle.civil_time.specs.CivilTime.{is_time_packet, IsAfter}

@@ -18,4 +18,5 @@ sets_clock tick packet =
 
 abbrev pub f_stime : Inner → ℕ → TimeStep
 f_stime m p =
-    needs (user_bytes (cells_at m p) (regs_at m p).x PACKET_BYTES) E_BPADDR (λ bytes. sets_clock m.tick (packet_of bytes))
+    needs (user_bytes (cells_at m p) (regs_at m p).x PACKET_BYTES) E_BPADDR
+    (λ bytes. sets_clock m.tick (packet_of bytes))
