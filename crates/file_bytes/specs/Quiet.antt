@@ -1,0 +1,28 @@
+-- Attempts that reach no device.
+use Rattle.std.specs.Prelude.{◌≡◌, ℕ, ⊤}
+use Rattle.os9_base.specs.declared.call.CallEnd.{CallEnd}
+use Rattle.call_rules.specs.Inner.{Inner}
+use Rattle.io_rules.specs.Attempts.{io_after, result_of}
+use Rattle.io_rules.specs.Io.{Io}
+use Rattle.io_rules.specs.Step.{IoEffect, IoStep, refused, comes, reads, writes, leaves, fails}
+use Rattle.proc_state.specs.Tie.{Comes}
+use Rattle.proc_state.specs.declared.state.ProcState.{ProcState}
+
+-- an attempt reaches no device
+abbrev pub IsQuiet : IoStep → Type 0
+IsQuiet (refused number) = ⊤
+IsQuiet (comes effect) = ⊤
+IsQuiet (reads read) = ⊥
+IsQuiet (writes write) = ⊥
+
+-- what such an attempt leaves
+abbrev pub effect_of : IoStep → Io → IoEffect
+effect_of (refused number) io = leaves (fails number) io
+effect_of (comes effect) io = effect
+effect_of (reads read) io = leaves (fails 0) io
+effect_of (writes write) io = leaves (fails 0) io
+
+-- an attempt of a process that reaches no device ends so, and leaves the processes and the state so
+abbrev pub Ends : IoStep → Inner → Io → ℕ → CallEnd → ProcState → Io → Type 0
+Ends step m io p end processes new =
+    Comes m p (result_of m p (effect_of step io)) end processes × (new ≡ io_after p (effect_of step io))

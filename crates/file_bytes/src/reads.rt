@@ -1,0 +1,264 @@
+//! I$Read and I$ReadLn (System Programmer's Manual, I$Read and I$ReadLn).
+
+ghost use Rattle.std.specs.Prelude.{◌≡◌, ◌≢◌, ℕ, ◌+◌, ◌<◌, ◌≤◌, ◌^◌, IfOk, List, take};
+ghost use Rattle.call_rules.specs.Inner.{Inner};
+ghost use Rattle.file_bytes.specs.Ending.{EndsFound};
+ghost use Rattle.file_bytes.specs.Opened.{IsOpened, IsPathOf, ReadsNoTerminal};
+ghost use Rattle.file_bytes.specs.Reading.{EndsRead, part_of, read_file as read_file_lem, read_named as read_named_lem, read_opened as read_opened_lem};
+ghost use Rattle.file_bytes.specs.Trying.{Tries};
+ghost use Rattle.file_drives.specs.Drives.{drive_views};
+ghost use Rattle.file_drives.specs.Mounted.{HasFileAt};
+ghost use Rattle.file_rules.specs.Files.{Files};
+ghost use Rattle.file_rules.specs.declared.path_call.PathCall.TheVariants as Call;
+ghost use Rattle.file_state.specs.Attempt.{Attempts};
+ghost use Rattle.file_laws.specs.Kinds.{AreKinds};
+ghost use Rattle.file_state.specs.Tie.{IsSound, StandsFor};
+ghost use Rattle.guest_memory.specs.Tie.{cells_of};
+ghost use Rattle.os9_base.specs.Cells.{FitsIn};
+ghost use Rattle.os9_base.specs.declared.registers.TimePacket.{TimePacket};
+ghost use Rattle.os9_outer.specs.TerminalState.{TerminalState};
+ghost use Rattle.proc_rules.specs.Records.{IsLiving, record_at};
+ghost use Rattle.proc_state.specs.Tie.{Represents};
+
+use crate::ends::{answer, answer_at, refuse};
+use crate::loading::{load, part_length, store_front};
+use crate::modes::can_read;
+use device_table::devices::Devices;
+use file_state::state::{FileState, OpenFile};
+use io_model::terminal::ReadKind;
+use io_state::state::IoState;
+use os9_base::call::CallEnd;
+use os9_base::errors::{E_BMODE, E_BPADDR, E_EOF};
+use os9_base::registers::{Pid, Regs};
+use os9_outer::drive::BlockDriver;
+use proc_state::state::ProcState;
+use rbf_access::FileFault;
+
+/// I$Read of a file or a directory on a path that the number in A names (System Programmer's Manual,
+/// I$Read). Takes the address of the buffer in X and its most bytes in Y; answers the count in Y.
+/// The position moves past what was read.
+///
+/// # Errors
+///
+/// E$BPAddr exactly if a byte of the buffer is in no named slot or past `FFFF`, else E$BMode exactly
+/// if the path may not be read. A read of no byte is done then. Else the number of the fault, if the
+/// drive fails, or E$EOF exactly if the position is at or past the end. Nothing is stored then.
+pub fn read(
+    s: &mut ProcState,
+    files: &mut FileState,
+    devices: &mut Devices,
+    p: Pid,
+    opened: &OpenFile,
+) -> CallEnd
+    requires lives { IsLiving s.old.table p.0 }
+    requires no_read { ReadsNoTerminal files.old.io p.0 }
+    requires sound { IsSound files.old
+        (drive_views ⟦<dyn BlockDriver as BlockDriver>⟧ devices.old.drives.items) }
+    requires opened { IsOpened files.old p.0 (record_at s.old.table p.0).regs.a opened.now }
+    ensures call { (m : Inner) (was : Files) (now : TimePacket) (terms : List TerminalState)
+        → Represents s.old m
+        → StandsFor files.old
+        (drive_views ⟦<dyn BlockDriver as BlockDriver>⟧ devices.old.drives.items) was
+        → AreKinds was → Attempts Call.Read m was now p.0 result s.new files.new
+        (drive_views ⟦<dyn BlockDriver as BlockDriver>⟧ devices.new.drives.items) terms terms }
+    ensures lives { IsLiving s.new.table p.0 }
+    ensures terms_kept { devices.new.terms ≡ devices.old.terms }
+{
+    let regs = s.table.regs(p);
+    read_opened(s, files, devices, p, regs, opened, ReadKind::Bytes)
+}
+
+/// I$ReadLn of a file or a directory on a path that the number in A names (System Programmer's
+/// Manual, I$ReadLn): as [`read`], up to and with the first carriage return.
+///
+/// # Errors
+///
+/// As [`read`].
+pub fn read_line(
+    s: &mut ProcState,
+    files: &mut FileState,
+    devices: &mut Devices,
+    p: Pid,
+    opened: &OpenFile,
+) -> CallEnd
+    requires lives { IsLiving s.old.table p.0 }
+    requires no_read { ReadsNoTerminal files.old.io p.0 }
+    requires sound { IsSound files.old
+        (drive_views ⟦<dyn BlockDriver as BlockDriver>⟧ devices.old.drives.items) }
+    requires opened { IsOpened files.old p.0 (record_at s.old.table p.0).regs.a opened.now }
+    ensures call { (m : Inner) (was : Files) (now : TimePacket) (terms : List TerminalState)
+        → Represents s.old m
+        → StandsFor files.old
+        (drive_views ⟦<dyn BlockDriver as BlockDriver>⟧ devices.old.drives.items) was
+        → AreKinds was → Attempts Call.ReadLn m was now p.0 result s.new files.new
+        (drive_views ⟦<dyn BlockDriver as BlockDriver>⟧ devices.new.drives.items) terms terms }
+    ensures lives { IsLiving s.new.table p.0 }
+    ensures terms_kept { devices.new.terms ≡ devices.old.terms }
+{
+    let regs = s.table.regs(p);
+    read_opened(s, files, devices, p, regs, opened, ReadKind::WholeLine)
+}
+
+/// An attempt of a read of this kind.
+fn read_opened(
+    s: &mut ProcState,
+    files: &mut FileState,
+    devices: &mut Devices,
+    p: Pid,
+    regs: Regs,
+    opened: &OpenFile,
+    kind: ReadKind,
+) -> CallEnd
+    requires lives { IsLiving s.old.table p.0 }
+    requires no_read { ReadsNoTerminal files.old.io p.0 }
+    requires regs { regs ≡ (record_at s.old.table p.0).regs }
+    requires path { IsPathOf files.old.io opened.now }
+    requires file { HasFileAt files.old.disks
+        (drive_views ⟦<dyn BlockDriver as BlockDriver>⟧ devices.old.drives.items)
+        opened.now.place }
+    ensures call { (now : TimePacket) → Tries (read_opened_lem kind) opened.now now p.0 s.old files.old
+        (drive_views ⟦<dyn BlockDriver as BlockDriver>⟧ devices.old.drives.items) result s.new
+        files.new (drive_views ⟦<dyn BlockDriver as BlockDriver>⟧ devices.new.drives.items) }
+    ensures lives { IsLiving s.new.table p.0 }
+    ensures terms_kept { devices.new.terms ≡ devices.old.terms }
+{
+    if !s.is_named(p, regs.x, regs.y) {
+        return refuse(&mut files.io, p, E_BPADDR);
+    }
+    read_named(s, files, devices, p, regs, opened, kind)
+}
+
+/// An attempt of a read whose buffer is there.
+fn read_named(
+    s: &mut ProcState,
+    files: &mut FileState,
+    devices: &mut Devices,
+    p: Pid,
+    regs: Regs,
+    opened: &OpenFile,
+    kind: ReadKind,
+) -> CallEnd
+    requires lives { IsLiving s.old.table p.0 }
+    requires no_read { ReadsNoTerminal files.old.io p.0 }
+    requires regs { regs ≡ (record_at s.old.table p.0).regs }
+    requires path { IsPathOf files.old.io opened.now }
+    requires file { HasFileAt files.old.disks
+        (drive_views ⟦<dyn BlockDriver as BlockDriver>⟧ devices.old.drives.items)
+        opened.now.place }
+    requires named { FitsIn (cells_of s.old.memory p.0) regs.x regs.y }
+    ensures call { (now : TimePacket) → Tries (read_named_lem kind) opened.now now p.0 s.old files.old
+        (drive_views ⟦<dyn BlockDriver as BlockDriver>⟧ devices.old.drives.items) result s.new
+        files.new (drive_views ⟦<dyn BlockDriver as BlockDriver>⟧ devices.new.drives.items) }
+    ensures lives { IsLiving s.new.table p.0 }
+    ensures terms_kept { devices.new.terms ≡ devices.old.terms }
+{
+    if !can_read(opened.desc.mode) {
+        return refuse(&mut files.io, p, E_BMODE);
+    }
+    if regs.y == 0 {
+        return answer(s, &mut files.io, p, regs);
+    }
+    read_file(s, files, devices, p, regs, opened, kind)
+}
+
+/// An attempt of a read that has a byte to move, on a path that may be read.
+fn read_file(
+    s: &mut ProcState,
+    files: &mut FileState,
+    devices: &mut Devices,
+    p: Pid,
+    regs: Regs,
+    opened: &OpenFile,
+    kind: ReadKind,
+) -> CallEnd
+    requires lives { IsLiving s.old.table p.0 }
+    requires no_read { ReadsNoTerminal files.old.io p.0 }
+    requires regs { regs ≡ (record_at s.old.table p.0).regs }
+    requires path { IsPathOf files.old.io opened.now }
+    requires file { HasFileAt files.old.disks
+        (drive_views ⟦<dyn BlockDriver as BlockDriver>⟧ devices.old.drives.items)
+        opened.now.place }
+    requires named { FitsIn (cells_of s.old.memory p.0) regs.x regs.y }
+    requires some { regs.y ≢ 0 }
+    ensures call { (now : TimePacket) → Tries (read_file_lem kind) opened.now now p.0 s.old files.old
+        (drive_views ⟦<dyn BlockDriver as BlockDriver>⟧ devices.old.drives.items) result s.new
+        files.new (drive_views ⟦<dyn BlockDriver as BlockDriver>⟧ devices.new.drives.items) }
+    ensures lives { IsLiving s.new.table p.0 }
+    ensures terms_kept { devices.new.terms ≡ devices.old.terms }
+{
+    let loaded = load(
+        s,
+        &mut files.disks,
+        devices,
+        opened.place,
+        opened.desc.at,
+        regs.y,
+    );
+    end_read(s, &mut files.io, p, regs, opened, kind, loaded)
+}
+
+/// A read ends by what was answered to it, with the bytes at the front of the buffer.
+fn end_read(
+    s: &mut ProcState,
+    io: &mut IoState,
+    p: Pid,
+    regs: Regs,
+    opened: &OpenFile,
+    kind: ReadKind,
+    loaded: Result<u16, FileFault>,
+) -> CallEnd
+    requires lives { IsLiving s.old.table p.0 }
+    requires no_read { ReadsNoTerminal io.old p.0 }
+    requires path { IsPathOf io.old opened.now }
+    requires named { FitsIn (cells_of s.old.memory p.0) regs.x regs.y }
+    requires few { IfOk loaded (λ count. count ≤ regs.y) }
+    requires fits { IfOk loaded (λ count. opened.now.desc.at + count < 2 ^ 32) }
+    ensures call { (m : Inner) → Represents s.old m → EndsRead loaded kind s.old.buffer.items regs
+        opened.now m p.0 io.old result s.new io.new }
+    ensures lives { IsLiving s.new.table p.0 }
+{
+    match loaded {
+        Ok(count) => give(s, io, p, regs, opened, kind, count),
+        Err(fault) => refuse(io, p, fault.number()),
+    }
+}
+
+/// Gives a process what a read takes of so many bytes at the front of the buffer.
+///
+/// # Errors
+///
+/// E$EOF exactly if they are none.
+fn give(
+    s: &mut ProcState,
+    io: &mut IoState,
+    p: Pid,
+    regs: Regs,
+    opened: &OpenFile,
+    kind: ReadKind,
+    count: u16,
+) -> CallEnd
+    requires lives { IsLiving s.old.table p.0 }
+    requires no_read { ReadsNoTerminal io.old p.0 }
+    requires path { IsPathOf io.old opened.now }
+    requires named { FitsIn (cells_of s.old.memory p.0) regs.x regs.y }
+    requires few { count ≤ regs.y }
+    requires fits { opened.now.desc.at + count < 2 ^ 32 }
+    ensures call { (m : Inner) → Represents s.old m → EndsFound (take count s.old.buffer.items)
+        (part_of kind (take count s.old.buffer.items)) regs opened.now m p.0 io.old result s.new
+        io.new }
+    ensures lives { IsLiving s.new.table p.0 }
+{
+    if count == 0 {
+        return refuse(io, p, E_EOF);
+    }
+    let y = part_length(kind, &s.buffer[..count as usize]) as u16;
+    store_front(s, p, regs.x, y);
+    answer_at(
+        s,
+        io,
+        p,
+        Regs { y, ..regs },
+        opened,
+        opened.desc.at + u32::from(y),
+    )
+}
