@@ -1,0 +1,175 @@
+-- An attempt of a call on files is one on a terminal or a pipe, or it touches none: by its step, where no drive fails and
+-- where one does.
+use Rattle.std.proofs.Common.{◌≡◌, ◌⊎◌, ℕ, Option, Some, None, List, length, refl, sym, ap, ◌∙◌, subst, inl, inr}
+use Rattle.std.proofs.lemmas.Option.{none-some}
+use Rattle.os9_base.specs.declared.registers.Regs.{Regs}
+use Rattle.os9_base.specs.declared.registers.TimePacket.{TimePacket}
+use Rattle.os9_outer.specs.TerminalState.{TerminalState}
+use Rattle.call_rules.specs.CallResult.{CallResult}
+use Rattle.call_rules.specs.Inner.{Inner}
+use Rattle.rbf_model.specs.Volume.{DiskVolume}
+use Rattle.io_rules.specs.Attempts.{Does, io_after, kept_in, result_by, result_of}
+use Rattle.io_rules.specs.Io.{Io, with_call, with_paths}
+use Rattle.io_rules.specs.Step.{IoEffect, IoEnd, IoStep, answers, fails, keeps}
+use Rattle.file_rules.specs.Attempts.{FileAttempts, asker_of, file_step, files_after, io_effect}
+use Rattle.file_rules.specs.Files.{Files, Asker, DriveState, NoneFailed, with_drives, with_io, with_volume}
+use Rattle.file_rules.specs.Step.{FileEffect, FileStep, Deed, leaves_so, as_io, changes, deed_of, refuses_so, on_files, with_drives_after, with_volume_after, IsChanged, DoesDeed, IsBroken, FileDoes, VolumeChange}
+use Rattle.file_rules.specs.declared.path_call.PathCall.{PathCall}
+use Rattle.file_rules.specs.declared.path_call.PathCall.TheVariants as Call
+use Rattle.io_rules.specs.declared.io_call.IoCall.TheVariants as Device
+use Rattle.touch_laws.specs.Devices.{IsOnDevice}
+use Rattle.touch_laws.specs.Touch.{IsDone, IsOver, LeavesDevices, OneVolumeLeft, PathsMove, RefusalLeaves}
+use Rattle.touch_laws.proofs.Splits.{DoesNothing, IsDeviceStep, Leaves, Splits, StepSplits, device-splits, none-splits, not-refused}
+use Rattle.touch_laws.proofs.OnNumbers.{getstt-split, perr-split, read-split, readln-split, seek-split, setstt-split, write-split, writln-split}
+use Rattle.touch_laws.proofs.OnNames.{chgdir-split, create-split, delete-split, deletx-split, makdir-split, open-split}
+
+-- ---- what the step of each call comes to
+
+pub step-splits : (call : PathCall) (asker : Asker) (files : Files) (terms : ℕ) → StepSplits call asker files terms (file_step call asker files terms)
+step-splits Call.Dup asker files terms = device-splits Call.Dup asker files terms Device.Dup refl
+step-splits Call.Create asker files terms = create-split asker files terms
+step-splits Call.Open asker files terms = open-split asker files terms
+step-splits Call.MakDir asker files terms = makdir-split asker files terms
+step-splits Call.ChgDir asker files terms = chgdir-split asker files terms
+step-splits Call.Delete asker files terms = delete-split asker files terms
+step-splits Call.DeletX asker files terms = deletx-split asker files terms
+step-splits Call.Seek asker files terms = seek-split asker files terms
+step-splits Call.Read asker files terms = read-split asker files terms
+step-splits Call.Write asker files terms = write-split asker files terms
+step-splits Call.ReadLn asker files terms = readln-split asker files terms
+step-splits Call.WritLn asker files terms = writln-split asker files terms
+step-splits Call.GetStt asker files terms = getstt-split asker files terms
+step-splits Call.SetStt asker files terms = setstt-split asker files terms
+step-splits Call.Close asker files terms = device-splits Call.Close asker files terms Device.Close refl
+step-splits Call.PErr asker files terms = perr-split asker files terms
+
+-- ---- how it ends
+
+ends-refused : (end : IoEnd) (inner : Inner) (p : ℕ) (effect : IoEffect) (number : ℕ) → result_by end inner p effect ≡ CallResult.refused number → end ≡ fails number
+ends-refused (answers regs) inner p effect number is = absurd cc
+ends-refused (fails other) inner p effect number is = cc
+ends-refused (keeps kept) inner p effect number is = absurd cc
+
+ends-over : (end : IoEnd) (inner : Inner) (p : ℕ) (effect : IoEffect) → kept_in end ≡ None → IsOver inner p (result_by end inner p effect)
+ends-over (answers regs) inner p effect over =
+    inl (record { regs = regs; at = effect.at; bytes = effect.bytes; is = refl })
+ends-over (fails number) inner p effect over = inr (number, refl)
+ends-over (keeps kept) inner p effect over = absurd (none-some kept (sym over))
+
+-- ---- what an effect leaves
+
+module _ (p : ℕ) (files : Files) where
+  record RefusedLeft (left : Files) : Type 0 where
+    pub io : left.io ≡ files.io
+    pub directories : left.directories ≡ files.directories
+    pub volumes : ((left.volumes ≡ files.volumes) × NoneFailed files.drives left.drives) ⊎ OneVolumeLeft files left
+
+  record Left (effect : FileEffect) : Type 0 where
+    pub over : kept_in effect.end ≡ None
+    pub paths : PathsMove files p effect.files.io.paths
+    pub rest : effect.files.io ≡ with_paths files.io effect.files.io.paths
+    pub refusal : (number : ℕ) → effect.end ≡ fails number → RefusedLeft effect.files
+
+  module _ (drives : List DriveState) (none : NoneFailed files.drives drives) where
+    left-so : (it : FileEffect) → Leaves p files it → Left (with_drives_after it drives)
+    left-so it left = record {
+      over = left.over;
+      paths = left.paths;
+      rest = left.rest;
+      refusal =
+          λ number is. subst (λ (f : Files). RefusedLeft (with_drives f drives)) (sym (left.refusal number is)) (record { io = refl; directories = refl; volumes = inl (refl, none) });
+    }
+
+    left-changed : (it : FileEffect) → Leaves p files it → (regs : Regs) → it.end ≡ answers regs → (drive : ℕ) (v : DiskVolume) → Left (with_drives_after (with_volume_after it drive v) drives)
+    left-changed it left regs answered drive v = record {
+      over = left.over;
+      paths = left.paths;
+      rest = left.rest;
+      refusal = λ number is. absurd (not-refused regs number (sym answered ∙ is));
+    }
+
+    left-still : (it : IoEffect) → kept_in it.end ≡ None → it.io ≡ files.io → Left (with_drives_after (on_files files it) drives)
+    left-still it over same = record {
+      over = over;
+      paths = inl (ap (λ (io : Io). io.paths) same);
+      rest = subst (λ (io : Io). io ≡ with_paths files.io io.paths) (sym same) refl;
+      refusal = λ number is. record { io = same; directories = refl; volumes = inl (refl, none) };
+    }
+
+  left-broken : (step : FileStep) (asker : Asker) (effect : FileEffect) → IsBroken step asker files effect → Left effect
+  left-broken step asker effect broken = subst Left (sym broken.effect_is) (record {
+    over = refl;
+    paths = inl refl;
+    rest = refl;
+    refusal =
+        λ number is. record { io = refl; directories = refl; volumes = inr (record { drive = broken.drive; number = broken.number; failed = broken.failed; left = broken.left; is = refl }) };
+  })
+
+  -- what is left by an attempt that ends with the effect
+  left-devices : (inner : Inner) (effect : FileEffect) (old new : List TerminalState) → Left effect → new ≡ old → LeavesDevices inner files p (result_of inner p (io_effect effect)) (files_after p effect) old new
+  left-devices inner effect old new left same = record {
+    over = ends-over effect.end inner p (io_effect effect) left.over;
+    paths = left.paths;
+    rest = call_gone left.rest;
+    refusal = λ number is. refused (left.refusal number (ends-refused effect.end inner p (io_effect effect) number is));
+    terminals = same;
+  }
+    where
+      call_gone : {io : Io} → effect.files.io ≡ io → with_call effect.files.io p (kept_in effect.end) ≡ with_call io p None
+      call_gone is =
+          ap (λ (io : Io). with_call io p (kept_in effect.end)) is ∙ ap (with_call _ p) left.over
+
+      by_volumes : ((effect.files.volumes ≡ files.volumes) × NoneFailed files.drives effect.files.drives) ⊎ OneVolumeLeft files effect.files → ((effect.files.volumes ≡ files.volumes) × NoneFailed files.drives effect.files.drives) ⊎ OneVolumeLeft files (files_after p effect)
+      by_volumes (inl stay) = inl stay
+      by_volumes (inr one) = inr (record { drive = one.drive; number = one.number; failed = one.failed; left = one.left; is = one.is })
+
+      refused : RefusedLeft effect.files → RefusalLeaves files p (files_after p effect)
+      refused it = record { io = call_gone it.io; directories = it.directories; volumes = by_volumes it.volumes }
+
+-- ---- an attempt
+
+module _ (call : PathCall) (inner : Inner) (files : Files) (now : TimePacket) (p : ℕ) (old new : List TerminalState) where
+  abbrev Comes : FileEffect → Type 0
+  Comes effect = IsOnDevice call inner files p (result_of inner p (io_effect effect)) (files_after p effect) old new ⊎ LeavesDevices inner files p (result_of inner p (io_effect effect)) (files_after p effect) old new
+
+  -- a call on a terminal or a pipe
+  pub on-device : (step : IoStep) (it : IoEffect) (drives : List DriveState) → NoneFailed files.drives drives → IsDeviceStep call (asker_of inner p now) files (length old) step → Does step (asker_of inner p now).caller files.io it old new → IsOnDevice call inner files p (result_of inner p it) (files_after p (with_drives_after (on_files files it) drives)) old new
+  on-device step it drives none on does = record {
+    device = on.device;
+    device_is = on.device_is;
+    attempted = record {
+      effect = it;
+      does = subst (λ (step : IoStep). Does step (asker_of inner p now).caller files.io it old new) on.is does;
+      result_is = refl;
+      state = refl;
+    };
+    directories = refl;
+    volumes = refl;
+    none_failed = none;
+  }
+
+  by-deed : (deed : Deed) (it : FileEffect) (drives : List DriveState) → NoneFailed files.drives drives → Splits call (asker_of inner p now) files (length old) deed → DoesDeed deed (asker_of inner p now) files it old new → Comes (with_drives_after it drives)
+  by-deed (leaves_so effect) it drives none left (is, same) =
+      inr (subst (λ (it : FileEffect). LeavesDevices inner files p (result_of inner p (io_effect (with_drives_after it drives))) (files_after p (with_drives_after it drives)) old new) (sym is) (left-devices p files inner (with_drives_after effect drives) old new (left-so p files drives none effect left) same))
+  by-deed (as_io step) it drives none (inl on) (effect, does, is) =
+      inl (subst (λ (it : FileEffect). IsOnDevice call inner files p (result_of inner p (io_effect (with_drives_after it drives))) (files_after p (with_drives_after it drives)) old new) (sym is) (on-device step effect drives none on does))
+  by-deed (as_io step) it drives none (inr still) (effect, does, is) =
+      let nothing = still effect old new does in
+      inr (subst (λ (it : FileEffect). LeavesDevices inner files p (result_of inner p (io_effect (with_drives_after it drives))) (files_after p (with_drives_after it drives)) old new) (sym is) (left-devices p files inner (with_drives_after (on_files files effect) drives) old new (left-still p files drives none effect nothing.over nothing.io) nothing.terminals))
+  by-deed (changes change) it drives none answer (inl changed, same) =
+      let at = answer changed.number in
+      inr (subst (λ (it : FileEffect). LeavesDevices inner files p (result_of inner p (io_effect (with_drives_after it drives))) (files_after p (with_drives_after it drives)) old new) (sym changed.effect_is) (left-devices p files inner (with_drives_after (with_volume_after (change.effect changed.number) change.drive changed.new) drives) old new (left-changed p files drives none (change.effect changed.number) at.0 at.1 at.2 change.drive changed.new) same))
+  by-deed (changes change) it drives none answer (inr long, same) =
+      inr (subst (λ (it : FileEffect). LeavesDevices inner files p (result_of inner p (io_effect (with_drives_after it drives))) (files_after p (with_drives_after it drives)) old new) (sym long.effect_is) (left-devices p files inner (with_drives_after (refuses_so _ files) drives) old new (left-so p files drives none (refuses_so _ files) (none-splits call (asker_of inner p now) files (length old) _)) same))
+
+  does-comes : (step : FileStep) (effect : FileEffect) → StepSplits call (asker_of inner p now) files (length old) step → FileDoes step (asker_of inner p now) files effect old new → Comes effect
+  does-comes step effect splits (inl well) =
+      subst Comes (sym well.effect_is) (by-deed (deed_of step files) well.it well.drives well.none_failed splits well.does)
+  does-comes step effect splits (inr (broken, same)) =
+      inr (left-devices p files inner effect old new (left-broken p files step (asker_of inner p now) effect broken) same)
+
+pub attempt-comes : (call : PathCall) (inner : Inner) (files : Files) (now : TimePacket) (p : ℕ) (result : CallResult) (new : Files) (before after : List TerminalState) → FileAttempts call inner files now p result new before after → IsOnDevice call inner files p result new before after ⊎ LeavesDevices inner files p result new before after
+attempt-comes call inner files now p result new before after it =
+    subst (λ (result : CallResult). IsOnDevice call inner files p result new before after ⊎ LeavesDevices inner files p result new before after) (sym it.result_is)
+    (subst (λ (new : Files). IsOnDevice call inner files p (result_of inner p (io_effect it.effect)) new before after ⊎ LeavesDevices inner files p (result_of inner p (io_effect it.effect)) new before after) (sym it.state)
+    (does-comes call inner files now p before after (file_step call (asker_of inner p now) files (length before)) it.effect (step-splits call (asker_of inner p now) files (length before)) it.does))

@@ -1,0 +1,4 @@
+pub mod Splits
+pub mod OnNumbers
+pub mod OnNames
+pub mod Attempts

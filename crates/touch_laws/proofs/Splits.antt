@@ -1,0 +1,131 @@
+-- What the parts of a step of a call on files come to: a call on a terminal or a pipe, or what touches none.
+use Rattle.std.proofs.Common.{◌≡◌, ◌⊎◌, ℕ, Bool, true, false, Option, Some, None, Result, Ok, Err, List, [], length, refl, subst, sym, inl, inr}
+use Rattle.os9_base.specs.declared.errors.TheConstants.{E_BPADDR, E_BPNAM, E_MNF, E_FNA, E_PNNF}
+use Rattle.os9_base.specs.declared.registers.Regs.{Regs}
+use Rattle.os9_outer.specs.TerminalState.{TerminalState}
+use Rattle.user_names.specs.declared.name_fault.NameFault.{NameFault}
+use Rattle.user_names.specs.declared.name_fault.NameFault.TheVariants.{Unreadable, NoName}
+use Rattle.rbf_model.specs.Volume.{DiskVolume}
+use Rattle.rbf_model.specs.Walk.{WalkEnd, arrives, not_allowed, not_found, walk}
+use Rattle.io_rules.specs.Attempts.{Does, io_step, kept_in}
+use Rattle.io_rules.specs.Io.{with_paths}
+use Rattle.io_rules.specs.PathList.{PathList}
+use Rattle.io_rules.specs.Step.{IoEffect, IoEnd, IoStep, answers, fails}
+use Rattle.io_rules.specs.declared.io_call.IoCall.{IoCall}
+use Rattle.file_rules.specs.Files.{Files, Asker, OpenFile, open_file, volume_at, with_position}
+use Rattle.file_rules.specs.OnFile.{by_kind, moves_bytes, on_file}
+use Rattle.file_rules.specs.Step.{Step, refused, comes, reaches, needs, refuses, FileEffect, FileStep, Deed, leaves_so, as_io, changes, deed_of, leaves, refuses_so, VolumeChange, done}
+use Rattle.file_rules.specs.Way.{Found, reads_list, walk_ends, walks}
+use Rattle.file_rules.specs.declared.path_call.PathCall.{PathCall}
+use Rattle.file_rules.specs.declared.places.FilePlace.{FilePlace}
+use Rattle.touch_laws.specs.Devices.{device_call}
+use Rattle.touch_laws.specs.Touch.{PathsMove}
+
+-- ---- what holds of each part of a step holds of it
+
+module _ {E : Type 0} (P : Step E → Type 0) (none : (number : ℕ) → P (refused number)) where
+  pub needs-by : {A : Type 0} (o : Option A) (number : ℕ) (next : A → Step E) → ((a : A) → o ≡ Some a → P (next a)) → P (needs o number next)
+  needs-by None number next holds = none number
+  needs-by (Some a) number next holds = holds a refl
+
+  pub refuses-by : (test : Bool) (number : ℕ) (next : Step E) → P next → P (refuses test number next)
+  refuses-by true number next holds = none number
+  refuses-by false number next holds = holds
+
+  pub list-by : (list : Result PathList NameFault) (test : Step E → Step E) (next : PathList → Step E) → ((step : Step E) → P step → P (test step)) → ((list : PathList) → P (next list)) → P (reads_list list test next)
+  list-by (Ok list) test next tests holds = tests (next list) (holds list)
+  list-by (Err Unreadable) test next tests holds = none E_BPADDR
+  list-by (Err NoName) test next tests holds = tests (refused E_BPNAM) (none E_BPNAM)
+
+-- ---- what touches no terminal and no pipe
+
+-- of input and output the paths change alone; what is refused changes nothing
+pub record Leaves (p : ℕ) (files : Files) (effect : FileEffect) : Type 0 where
+  pub over : kept_in effect.end ≡ None
+  pub paths : PathsMove files p effect.files.io.paths
+  pub rest : effect.files.io ≡ with_paths files.io effect.files.io.paths
+  pub refusal : (number : ℕ) → effect.end ≡ fails number → effect.files ≡ files
+
+pub not-refused : (regs : Regs) (number : ℕ) → answers regs ≡ fails number → ⊥
+not-refused regs number is = cc
+
+-- it is done, and these are the files then
+pub answered : (p : ℕ) (files new : Files) (at : ℕ) (bytes : List ℕ) (regs : Regs) → PathsMove files p new.io.paths → new.io ≡ with_paths files.io new.io.paths → Leaves p files (record { end = answers regs; at = at; bytes = bytes; files = new })
+answered p files new at bytes regs paths rest = record {
+  over = refl;
+  paths = paths;
+  rest = rest;
+  refusal = λ number is. absurd (not-refused regs number is);
+}
+
+-- nothing of it changes
+pub answered-same : (p : ℕ) (files : Files) (at : ℕ) (bytes : List ℕ) (regs : Regs) → Leaves p files (record { end = answers regs; at = at; bytes = bytes; files = files })
+answered-same p files at bytes regs = answered p files files at bytes regs (inl refl) refl
+
+-- a position moves
+pub answered-at : (p number : ℕ) (files : Files) (found : OpenFile) → open_file files p number ≡ Some found → (place at : ℕ) (bytes : List ℕ) (regs : Regs) → Leaves p files (record { end = answers regs; at = at; bytes = bytes; files = with_position files found.opened place })
+answered-at p number files found named place at bytes regs =
+    answered p files (with_position files found.opened place) at bytes regs
+    (inr (inl (record { number = number; found = found; named = named; at = place; is = refl }))) refl
+
+-- ---- what a step comes to
+
+module _ (call : PathCall) (asker : Asker) (files : Files) (terms : ℕ) where
+  -- what is done is a call on a terminal or a pipe
+  pub record IsDeviceStep (step : IoStep) : Type 0 where
+    pub device : IoCall
+    pub device_is : device_call call ≡ Some device
+    pub is : step ≡ io_step device asker.caller files.io (length files.drives) terms
+
+  -- it does nothing, on any terminals
+  pub record DoesNothing (it : IoEffect) (old new : List TerminalState) : Type 0 where
+    pub over : kept_in it.end ≡ None
+    pub io : it.io ≡ files.io
+    pub terminals : new ≡ old
+
+  abbrev pub IsStill : IoStep → Type 0
+  IsStill step = (it : IoEffect) (old new : List TerminalState) → Does step asker.caller files.io it old new → DoesNothing it old new
+
+  -- a change of a volume is answered
+  abbrev pub Answers : VolumeChange → Type 0
+  Answers it =
+      (n : ℕ) → Leaves asker.caller.process.0 files (it.effect n) × (regs : Regs) × ((it.effect n).end ≡ answers regs)
+
+  abbrev pub Splits : Deed → Type 0
+  Splits (leaves_so it) = Leaves asker.caller.process.0 files it
+  Splits (as_io step) = IsDeviceStep step ⊎ IsStill step
+  Splits (changes it) = Answers it
+
+  abbrev pub StepSplits : FileStep → Type 0
+  StepSplits step = Splits (deed_of step files)
+
+  pub none-splits : (number : ℕ) → StepSplits (refused number)
+  none-splits number =
+      record { over = refl; paths = inl refl; rest = refl; refusal = λ number is. refl }
+
+  pub done-splits : (regs : Regs) → StepSplits (done regs files)
+  done-splits regs = answered-same asker.caller.process.0 files 0 [] regs
+
+  pub device-splits : (device : IoCall) → device_call call ≡ Some device → StepSplits (comes (as_io (io_step device asker.caller files.io (length files.drives) terms)))
+  device-splits device is = inl (record { device = device; device_is = is; is = refl })
+
+  -- a walk, and what is done where it ends
+  pub walks-split : (execute : Bool) (from : FilePlace) (names : List (List ℕ)) (next : Found → FileStep) → ((found : Found) → StepSplits (next found)) → StepSplits (walks asker files execute from names next)
+  walks-split execute from names next holds =
+      needs-by StepSplits none-splits (volume_at files from.drive) E_MNF (λ v. reaches from.drive (walk_ends from.drive v (walk v.files asker.user execute from.number names) next))
+      (λ v is. by_end v (walk v.files asker.user execute from.number names))
+    where
+      by_end : (v : DiskVolume) (end : WalkEnd) → StepSplits (walk_ends from.drive v end next)
+      by_end v (arrives n) =
+          needs-by StepSplits none-splits (v.files n) E_PNNF (λ file. next (record { place = record { drive = from.drive; number = n }; volume = v; file = file }))
+          (λ file there. holds (record { place = record { drive = from.drive; number = n }; volume = v; file = file }))
+      by_end v not_allowed = none-splits E_FNA
+      by_end v not_found = none-splits E_PNNF
+
+  -- a call on a number: on a file, or the other call
+  pub number-splits : (number : ℕ) (otherwise : IoStep) (next : OpenFile → FileStep) → IsDeviceStep otherwise ⊎ IsStill otherwise → ((found : OpenFile) → open_file files asker.caller.process.0 number ≡ Some found → StepSplits (next found)) → StepSplits (on_file asker files number otherwise next)
+  number-splits number otherwise next other holds = by_file (open_file files asker.caller.process.0 number) holds
+    where
+      by_file : (o : Option OpenFile) → ((found : OpenFile) → o ≡ Some found → StepSplits (next found)) → StepSplits (by_kind o otherwise next)
+      by_file None holds = other
+      by_file (Some found) holds = holds found refl

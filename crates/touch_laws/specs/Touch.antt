@@ -1,0 +1,112 @@
+-- What an attempt of a call on paths, files and directories touches of terminals, pipes, paths and calls that wait,
+-- where it is none on a terminal or a pipe (Level Two manual, "I/O system"; System Programmer's Manual, "I/O service
+-- requests").
+use Rattle.std.specs.Prelude.{◌≡◌, ◌≢◌, ◌⊎◌, ℕ, Option, Some, None, List, length, slice_set}
+use Rattle.os9_base.specs.declared.registers.Regs.{Regs}
+use Rattle.os9_outer.specs.TerminalState.{TerminalState}
+use Rattle.proc_model.specs.MemoryChanges.{stored}
+use Rattle.call_rules.specs.CallResult.{CallResult, done, refused}
+use Rattle.call_rules.specs.Inner.{Inner, with_memory, with_regs_of}
+use Rattle.rbf_model.specs.Volume.{DiskVolume}
+use Rattle.io_model.specs.Path.{PathTable, desc_of, new_number, numbers_of, paths_after_begin, with_desc}
+use Rattle.io_model.specs.declared.path.Desc.{Desc}
+use Rattle.io_model.specs.declared.path.Target.{Target}
+use Rattle.io_rules.specs.Io.{Io, OpenPath, kept_at, new_desc, open_path, with_call, with_paths}
+use Rattle.file_rules.specs.Files.{Files, NoneFailed, OneFailed, OpenFile, open_file, place_of_target}
+use Rattle.file_rules.specs.declared.places.FilePlace.{FilePlace}
+use Rattle.touch_laws.specs.Devices.{IsDevice}
+
+-- ---- how it ends
+
+-- the call is done: the process has these registers, and these bytes were stored where it sees them
+pub record IsDone (inner : Inner) (p : ℕ) (result : CallResult) : Type 0 where
+  pub regs : Regs
+  pub at : ℕ
+  pub bytes : List ℕ
+  pub is : result ≡ done (with_regs_of (with_memory inner (stored inner.memory p at bytes)) p regs)
+
+-- the call is done or refused: it does not wait, and the process goes on
+abbrev pub IsOver : Inner → ℕ → CallResult → Type 0
+IsOver inner p result = IsDone inner p result ⊎ ((number : ℕ) × (result ≡ refused number))
+
+-- ---- what becomes of the paths
+
+-- a path on a file or a directory, which a number of the process names, has another position
+pub record MovesPosition (files : Files) (p : ℕ) (paths : PathTable) : Type 0 where
+  pub number : ℕ
+  pub found : OpenFile
+  pub named : open_file files p number ≡ Some found
+  pub at : ℕ
+  pub is : paths ≡ with_desc files.io.paths found.opened.path.0 (Some (record found.opened.desc { at = at }))
+
+-- the process has a new path, on a file or a directory
+pub record BeginsPath (files : Files) (p : ℕ) (paths : PathTable) : Type 0 where
+  pub number : ℕ
+  pub free : new_number files.io.paths p ≡ Some number
+  pub target : Target
+  pub place : FilePlace
+  pub on : place_of_target target ≡ Some place
+  pub mode : ℕ
+  pub is : paths ≡ paths_after_begin files.io.paths p (new_desc target mode)
+
+-- the paths are as they were, or one of these changes them
+abbrev pub PathsMove : Files → ℕ → PathTable → Type 0
+PathsMove files p paths = (paths ≡ files.io.paths) ⊎ MovesPosition files p paths ⊎ BeginsPath files p paths
+
+-- ---- what it leaves
+
+-- a drive has failed, and no volume but its own may have changed
+pub record OneVolumeLeft (files new : Files) : Type 0 where
+  pub drive : ℕ
+  pub number : ℕ
+  pub failed : OneFailed drive number files.drives new.drives
+  pub left : DiskVolume
+  pub is : new.volumes ≡ slice_set files.volumes drive (Some left)
+
+-- what a refusal leaves: paths, pipes, terminals and directories as they were, and the volumes too where no drive has
+-- failed. No call of the process waits then
+pub record RefusalLeaves (files : Files) (p : ℕ) (new : Files) : Type 0 where
+  pub io : new.io ≡ with_call files.io p None
+  pub directories : new.directories ≡ files.directories
+  pub volumes : ((new.volumes ≡ files.volumes) × NoneFailed files.drives new.drives) ⊎ OneVolumeLeft files new
+
+-- an attempt touches no terminal and no pipe: of input and output the paths change alone, and no call of the process
+-- waits then
+pub record LeavesDevices (inner : Inner) (files : Files) (p : ℕ) (result : CallResult) (new : Files)
+    (before after : List TerminalState) : Type 0 where
+  pub over : IsOver inner p result
+  pub paths : PathsMove files p new.io.paths
+  pub rest : new.io ≡ with_call (with_paths files.io new.io.paths) p None
+  pub refusal : (number : ℕ) → result ≡ refused number → RefusalLeaves files p new
+  pub terminals : after ≡ before
+
+-- ---- the same by each path and each process
+
+-- a path that a number names is the same path, opened on the same with the same mode; its position may have changed
+pub record IsSamePath (old new : OpenPath) : Type 0 where
+  pub path : new.path ≡ old.path
+  pub desc : new.desc ≡ record old.desc { at = new.desc.at }
+
+-- each path is still there by its numbers, and one on a terminal or a pipe is as it was. No path on a terminal or a
+-- pipe is new, and no other process has other numbers
+pub record KeepsPaths (p : ℕ) (old new : Io) : Type 0 where
+  pub numbers : (q : ℕ) → q ≢ p → numbers_of new.paths q ≡ numbers_of old.paths q
+  pub paths : (q n : ℕ) (opened : OpenPath) → open_path old q n ≡ Some opened
+      → (now : OpenPath) × (open_path new q n ≡ Some now) × IsSamePath opened now
+  pub devices : (s : ℕ) (desc : Desc) → desc_of old.paths s ≡ Some desc → IsDevice desc.target
+      → desc_of new.paths s ≡ Some desc
+  pub no_device_new : (s : ℕ) (desc : Desc) → desc_of new.paths s ≡ Some desc → IsDevice desc.target
+      → desc_of old.paths s ≡ Some desc
+
+-- no call of the process waits; the calls of the others that wait are as they were, and there is a place for as many
+pub record KeepsCalls (p : ℕ) (old new : Io) : Type 0 where
+  pub none : kept_at new p ≡ None
+  pub others : (q : ℕ) → q ≢ p → kept_at new q ≡ kept_at old q
+  pub places : length new.calls ≡ length old.calls
+
+-- and the terminals and pipes are as they were
+pub record KeepsIo (p : ℕ) (old new : Io) : Type 0 where
+  pub paths : KeepsPaths p old new
+  pub calls : KeepsCalls p old new
+  pub terminals : new.terminals ≡ old.terminals
+  pub pipes : new.pipes ≡ old.pipes
