@@ -53,10 +53,10 @@ pub fn numbers_of_devices_are_theirs()
 /// of terminals and pipes have it, and is not refused (System Programmer's Manual, I$Open and
 /// I$Create).
 pub fn lists_lead_to_the_same_devices()
-    ensures open { (asker : Asker) (files : Files) (terms : ℕ) (execute : Bool) (list : PathList)
+    ensures opened { (asker : Asker) (files : Files) (terms : ℕ) (execute : Bool) (list : PathList)
         → way_of asker files terms execute list ≡ to_device
         → LeadsToDevice (lead_of what_is_there (length files.drives) terms list) }
-    ensures create { (asker : Asker) (files : Files) (terms : ℕ) (execute : Bool) (list : PathList)
+    ensures created { (asker : Asker) (files : Files) (terms : ℕ) (execute : Bool) (list : PathList)
         → way_to_new asker files terms execute list ≡ to_device
         → LeadsToDevice (lead_of a_new_place (length files.drives) terms list) }
 {}
@@ -65,7 +65,7 @@ pub fn lists_lead_to_the_same_devices()
 /// or a pipe; that of a call on files alone, and of I$Seek, is no call's there (System Programmer's
 /// Manual, "System calls").
 pub fn codes_are_the_same_on_devices()
-    ensures some { (code : ℕ) (call : PathCall) → path_call_of code ≡ Some call
+    ensures coded { (code : ℕ) (call : PathCall) → path_call_of code ≡ Some call
         → io_call_of code ≡ device_call call }
     ensures none { (code : ℕ) → path_call_of code ≡ None → io_call_of code ≡ None }
 {}
