@@ -1,6 +1,7 @@
 -- An attempt of a call on files is one on a terminal or a pipe, or it touches none: by its step, where no drive fails and
 -- where one does.
-use Rattle.std.proofs.Common.{◌≡◌, ◌⊎◌, ℕ, Option, Some, None, List, length, refl, sym, ap, ◌∙◌, subst, inl, inr}
+use Rattle.std.proofs.Common.{◌≡◌, ◌≢◌, ◌⊎◌, ℕ, Option, Some, None, List, length, refl, sym, ap, ◌∙◌, subst, inl, inr}
+use Rattle.std.specs.Prelude.{slice_set}
 use Rattle.std.proofs.lemmas.Option.{none-some}
 use Rattle.os9_base.specs.declared.registers.Regs.{Regs}
 use Rattle.os9_base.specs.declared.registers.TimePacket.{TimePacket}
@@ -12,13 +13,13 @@ use Rattle.io_rules.specs.Attempts.{Does, io_after, kept_in, result_by, result_o
 use Rattle.io_rules.specs.Io.{Io, with_call, with_paths}
 use Rattle.io_rules.specs.Step.{IoEffect, IoEnd, IoStep, answers, fails, keeps}
 use Rattle.file_rules.specs.Attempts.{FileAttempts, asker_of, file_step, files_after, io_effect}
-use Rattle.file_rules.specs.Files.{Files, Asker, DriveState, NoneFailed, with_drives, with_io, with_volume}
+use Rattle.file_rules.specs.Files.{Files, Asker, DriveState, NoneFailed, OneFailed, directories_at, volume_at, with_drives, with_io, with_volume}
 use Rattle.file_rules.specs.Step.{FileEffect, FileStep, Deed, leaves_so, as_io, changes, deed_of, refuses_so, on_files, with_drives_after, with_volume_after, IsChanged, DoesDeed, IsBroken, FileDoes, VolumeChange}
 use Rattle.file_rules.specs.declared.path_call.PathCall.{PathCall}
 use Rattle.file_rules.specs.declared.path_call.PathCall.TheVariants as Call
 use Rattle.io_rules.specs.declared.io_call.IoCall.TheVariants as Device
 use Rattle.touch_laws.specs.Devices.{IsOnDevice}
-use Rattle.touch_laws.specs.Touch.{IsDone, IsOver, LeavesDevices, OneVolumeLeft, PathsMove, RefusalLeaves}
+use Rattle.touch_laws.specs.Touch.{IsDone, IsOver, LeavesDevices, NoVolumeChanges, OneDriveFails, OneVolumeChanges, PathsMove, RefusalLeaves}
 use Rattle.touch_laws.proofs.Splits.{DoesNothing, IsDeviceStep, Leaves, Splits, StepSplits, device-splits, none-splits, not-refused}
 use Rattle.touch_laws.proofs.OnNumbers.{getstt-split, perr-split, read-split, readln-split, seek-split, setstt-split, write-split, writln-split}
 use Rattle.touch_laws.proofs.OnNames.{chgdir-split, create-split, delete-split, deletx-split, makdir-split, open-split}
@@ -59,16 +60,29 @@ ends-over (keeps kept) inner p effect over = absurd (none-some kept (sym over))
 -- ---- what an effect leaves
 
 module _ (p : ℕ) (files : Files) where
-  record RefusedLeft (left : Files) : Type 0 where
-    pub io : left.io ≡ files.io
-    pub directories : left.directories ≡ files.directories
-    pub volumes : ((left.volumes ≡ files.volumes) × NoneFailed files.drives left.drives) ⊎ OneVolumeLeft files left
+  -- a drive has failed, and this is the number that is answered
+  record FailsSo (effect : FileEffect) : Type 0 where
+    pub drive : ℕ
+    pub number : ℕ
+    pub failed : OneFailed drive number files.drives effect.files.drives
+    pub answer : effect.end ≡ fails number
+    pub old : DiskVolume
+    pub was : volume_at files drive ≡ Some old
+    pub left : DiskVolume
+    pub is : effect.files.volumes ≡ slice_set files.volumes drive (Some left)
+
+  record RefusedLeft (effect : FileEffect) : Type 0 where
+    pub io : effect.files.io ≡ files.io
+    pub directories : effect.files.directories ≡ files.directories
+    pub volumes : NoVolumeChanges files effect.files ⊎ FailsSo effect
 
   record Left (effect : FileEffect) : Type 0 where
     pub over : kept_in effect.end ≡ None
     pub paths : PathsMove files p effect.files.io.paths
     pub rest : effect.files.io ≡ with_paths files.io effect.files.io.paths
-    pub refusal : (number : ℕ) → effect.end ≡ fails number → RefusedLeft effect.files
+    pub directories : (q : ℕ) → q ≢ p → directories_at effect.files q ≡ directories_at files q
+    pub volumes : NoVolumeChanges files effect.files ⊎ OneVolumeChanges files effect.files ⊎ FailsSo effect
+    pub refusal : (number : ℕ) → effect.end ≡ fails number → RefusedLeft effect
 
   module _ (drives : List DriveState) (none : NoneFailed files.drives drives) where
     left-so : (it : FileEffect) → Leaves p files it → Left (with_drives_after it drives)
@@ -76,15 +90,23 @@ module _ (p : ℕ) (files : Files) where
       over = left.over;
       paths = left.paths;
       rest = left.rest;
-      refusal =
-          λ number is. subst (λ (f : Files). RefusedLeft (with_drives f drives)) (sym (left.refusal number is)) (record { io = refl; directories = refl; volumes = inl (refl, none) });
+      directories = left.directories;
+      volumes = inl (record { volumes = left.volumes; none_failed = none });
+      refusal = λ number is. record {
+        io = ap (λ (f : Files). f.io) (left.refusal number is);
+        directories = ap (λ (f : Files). f.directories) (left.refusal number is);
+        volumes = inl (record { volumes = left.volumes; none_failed = none });
+      };
     }
 
-    left-changed : (it : FileEffect) → Leaves p files it → (regs : Regs) → it.end ≡ answers regs → (drive : ℕ) (v : DiskVolume) → Left (with_drives_after (with_volume_after it drive v) drives)
-    left-changed it left regs answered drive v = record {
+    left-changed : (it : FileEffect) → Leaves p files it → (regs : Regs) → it.end ≡ answers regs → (drive : ℕ) (old v : DiskVolume) → volume_at files drive ≡ Some old → Left (with_drives_after (with_volume_after it drive v) drives)
+    left-changed it left regs answered drive old v was = record {
       over = left.over;
       paths = left.paths;
       rest = left.rest;
+      directories = left.directories;
+      volumes =
+          inr (inl (record { drive = drive; old = old; was = was; changed = v; is = ap (λ (volumes : List (Option DiskVolume)). slice_set volumes drive (Some v)) left.volumes; none_failed = none }));
       refusal = λ number is. absurd (not-refused regs number (sym answered ∙ is));
     }
 
@@ -93,7 +115,10 @@ module _ (p : ℕ) (files : Files) where
       over = over;
       paths = inl (ap (λ (io : Io). io.paths) same);
       rest = subst (λ (io : Io). io ≡ with_paths files.io io.paths) (sym same) refl;
-      refusal = λ number is. record { io = same; directories = refl; volumes = inl (refl, none) };
+      directories = λ q differ. refl;
+      volumes = inl (record { volumes = refl; none_failed = none });
+      refusal =
+          λ number is. record { io = same; directories = refl; volumes = inl (record { volumes = refl; none_failed = none }) };
     }
 
   left-broken : (step : FileStep) (asker : Asker) (effect : FileEffect) → IsBroken step asker files effect → Left effect
@@ -101,9 +126,22 @@ module _ (p : ℕ) (files : Files) where
     over = refl;
     paths = inl refl;
     rest = refl;
-    refusal =
-        λ number is. record { io = refl; directories = refl; volumes = inr (record { drive = broken.drive; number = broken.number; failed = broken.failed; left = broken.left; is = refl }) };
+    directories = λ q differ. refl;
+    volumes = inr (inr fails_so);
+    refusal = λ number is. record { io = refl; directories = refl; volumes = inr fails_so };
   })
+    where
+      fails_so : FailsSo (refuses_so broken.number (with_drives (with_volume files broken.drive broken.left) broken.drives))
+      fails_so = record {
+        drive = broken.drive;
+        number = broken.number;
+        failed = broken.failed;
+        answer = refl;
+        old = broken.old;
+        was = broken.is;
+        left = broken.left;
+        is = refl;
+      }
 
   -- what is left by an attempt that ends with the effect
   left-devices : (inner : Inner) (effect : FileEffect) (old new : List TerminalState) → Left effect → new ≡ old → LeavesDevices inner files p (result_of inner p (io_effect effect)) (files_after p effect) old new
@@ -111,20 +149,43 @@ module _ (p : ℕ) (files : Files) where
     over = ends-over effect.end inner p (io_effect effect) left.over;
     paths = left.paths;
     rest = call_gone left.rest;
-    refusal = λ number is. refused (left.refusal number (ends-refused effect.end inner p (io_effect effect) number is));
     terminals = same;
+    directories = left.directories;
+    volumes = by_volumes left.volumes;
+    refusal = λ number is. refused (left.refusal number (ends-refused effect.end inner p (io_effect effect) number is));
   }
     where
       call_gone : {io : Io} → effect.files.io ≡ io → with_call effect.files.io p (kept_in effect.end) ≡ with_call io p None
       call_gone is =
           ap (λ (io : Io). with_call io p (kept_in effect.end)) is ∙ ap (with_call _ p) left.over
 
-      by_volumes : ((effect.files.volumes ≡ files.volumes) × NoneFailed files.drives effect.files.drives) ⊎ OneVolumeLeft files effect.files → ((effect.files.volumes ≡ files.volumes) × NoneFailed files.drives effect.files.drives) ⊎ OneVolumeLeft files (files_after p effect)
-      by_volumes (inl stay) = inl stay
-      by_volumes (inr one) = inr (record { drive = one.drive; number = one.number; failed = one.failed; left = one.left; is = one.is })
+      same_volumes : NoVolumeChanges files effect.files → NoVolumeChanges files (files_after p effect)
+      same_volumes it = record { volumes = it.volumes; none_failed = it.none_failed }
 
-      refused : RefusedLeft effect.files → RefusalLeaves files p (files_after p effect)
-      refused it = record { io = call_gone it.io; directories = it.directories; volumes = by_volumes it.volumes }
+      one_fails : FailsSo effect → OneDriveFails files (result_of inner p (io_effect effect)) (files_after p effect)
+      one_fails it = record {
+        drive = it.drive;
+        number = it.number;
+        failed = it.failed;
+        answer = ap (λ (end : IoEnd). result_by end inner p (io_effect effect)) it.answer;
+        old = it.old;
+        was = it.was;
+        left = it.left;
+        is = it.is;
+      }
+
+      by_volumes : NoVolumeChanges files effect.files ⊎ OneVolumeChanges files effect.files ⊎ FailsSo effect → NoVolumeChanges files (files_after p effect) ⊎ OneVolumeChanges files (files_after p effect) ⊎ OneDriveFails files (result_of inner p (io_effect effect)) (files_after p effect)
+      by_volumes (inl stay) = inl (same_volumes stay)
+      by_volumes (inr (inl one)) =
+          inr (inl (record { drive = one.drive; old = one.old; was = one.was; changed = one.changed; is = one.is; none_failed = one.none_failed }))
+      by_volumes (inr (inr broken)) = inr (inr (one_fails broken))
+
+      by_refusal : NoVolumeChanges files effect.files ⊎ FailsSo effect → NoVolumeChanges files (files_after p effect) ⊎ OneDriveFails files (result_of inner p (io_effect effect)) (files_after p effect)
+      by_refusal (inl stay) = inl (same_volumes stay)
+      by_refusal (inr broken) = inr (one_fails broken)
+
+      refused : RefusedLeft effect → RefusalLeaves files p (result_of inner p (io_effect effect)) (files_after p effect)
+      refused it = record { io = call_gone it.io; directories = it.directories; volumes = by_refusal it.volumes }
 
 -- ---- an attempt
 
@@ -158,7 +219,7 @@ module _ (call : PathCall) (inner : Inner) (files : Files) (now : TimePacket) (p
       inr (subst (λ (it : FileEffect). LeavesDevices inner files p (result_of inner p (io_effect (with_drives_after it drives))) (files_after p (with_drives_after it drives)) old new) (sym is) (left-devices p files inner (with_drives_after (on_files files effect) drives) old new (left-still p files drives none effect nothing.over nothing.io) nothing.terminals))
   by-deed (changes change) it drives none answer (inl changed, same) =
       let at = answer changed.number in
-      inr (subst (λ (it : FileEffect). LeavesDevices inner files p (result_of inner p (io_effect (with_drives_after it drives))) (files_after p (with_drives_after it drives)) old new) (sym changed.effect_is) (left-devices p files inner (with_drives_after (with_volume_after (change.effect changed.number) change.drive changed.new) drives) old new (left-changed p files drives none (change.effect changed.number) at.0 at.1 at.2 change.drive changed.new) same))
+      inr (subst (λ (it : FileEffect). LeavesDevices inner files p (result_of inner p (io_effect (with_drives_after it drives))) (files_after p (with_drives_after it drives)) old new) (sym changed.effect_is) (left-devices p files inner (with_drives_after (with_volume_after (change.effect changed.number) change.drive changed.new) drives) old new (left-changed p files drives none (change.effect changed.number) at.0 at.1 at.2 change.drive changed.old changed.new changed.is) same))
   by-deed (changes change) it drives none answer (inr long, same) =
       inr (subst (λ (it : FileEffect). LeavesDevices inner files p (result_of inner p (io_effect (with_drives_after it drives))) (files_after p (with_drives_after it drives)) old new) (sym long.effect_is) (left-devices p files inner (with_drives_after (refuses_so _ files) drives) old new (left-so p files drives none (refuses_so _ files) (none-splits call (asker_of inner p now) files (length old) _)) same))
 

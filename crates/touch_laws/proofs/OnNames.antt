@@ -2,6 +2,7 @@
 -- begin a path on a file or a directory at most.
 use Rattle.std.proofs.Common.{◌≡◌, ℕ, ◌==◌, ◌&&◌, ◌||◌, not, Bool, true, false, Option, Some, None, List, [], length, refl, inl, inr}
 use Rattle.std.specs.Prelude.{is_some, nat_lt, if◌then◌else◌}
+use Rattle.std.proofs.lemmas.List.{get_or-set_other}
 use Rattle.os9_base.specs.declared.errors.TheConstants.{E_BPNAM, E_BMODE, E_CEF, E_FNA, E_FULL, E_PNNF, E_PTHFUL, E_SHARE, E_SLF}
 use Rattle.io_model.specs.Path.{new_number, paths_after_begin}
 use Rattle.io_model.specs.declared.path.Target.{Target}
@@ -21,7 +22,7 @@ use Rattle.file_rules.specs.Change.{creates, deletes, makes_directory}
 use Rattle.file_rules.specs.ChgDir.{goes_on_way, goes_to, i_chgdir, may_go_to}
 use Rattle.file_rules.specs.Create.{clusters_for, creates_in, creates_on_way, creates_with_path, has_room_for, i_create, opens_new}
 use Rattle.file_rules.specs.Delete.{deletes_by, deletes_file, deletes_in, deletes_named, i_delete, i_deletx}
-use Rattle.file_rules.specs.Files.{Files, Asker, directories_at, place_of_target, target_on, with_directories_of, with_directory, with_path_table}
+use Rattle.file_rules.specs.Files.{Files, Asker, directories_at, no_directories, place_of_target, target_on, with_directories_of, with_directory, with_path_table}
 use Rattle.file_rules.specs.MakDir.{i_makdir, makes_in, makes_on_way, new_directory_size, past_list}
 use Rattle.file_rules.specs.Open.{begins_on, i_open, is_for_execution, may_open, opens_found, opens_on_way, says_directory, tests_mode}
 use Rattle.file_rules.specs.Sharing.{is_not_shared, is_open}
@@ -44,7 +45,7 @@ target-place file place = by_kind (is_directory file)
 begun : (asker : Asker) (files : Files) (number : ℕ) → new_number files.io.paths asker.caller.process.0 ≡ Some number → (target : Target) (place : FilePlace) → place_of_target target ≡ Some place → (list : PathList) → Leaves asker.caller.process.0 files (leaves (answers (opened_regs asker.caller.regs list number)) (with_path_table files (paths_after_begin files.io.paths asker.caller.process.0 (new_desc target asker.caller.regs.a))))
 begun asker files number free target place on list =
     answered asker.caller.process.0 files (with_path_table files (paths_after_begin files.io.paths asker.caller.process.0 (new_desc target asker.caller.regs.a))) 0 [] (opened_regs asker.caller.regs list number)
-    (inr (inr (record { number = number; free = free; target = target; place = place; on = on; mode = asker.caller.regs.a; is = refl }))) refl
+    (inr (inr (record { number = number; free = free; target = target; place = place; on = on; mode = asker.caller.regs.a; is = refl }))) refl (λ q differ. refl) refl
 
 module _ (call : PathCall) (asker : Asker) (files : Files) (terms : ℕ) where
   abbrev S : FileStep → Type 0
@@ -71,7 +72,8 @@ module _ (call : PathCall) (asker : Asker) (files : Files) (terms : ℕ) where
     goes-split : S (goes_to asker files list found)
     goes-split =
         refuses-by S no (not (may_go_to found.file asker.user asker.caller.regs.a)) E_FNA (done (past_list asker.caller.regs list) (with_directories_of files asker.caller.process.0 (with_directory (directories_at files asker.caller.process.0) (is_for_execution asker.caller.regs.a) found.place)))
-        (answered asker.caller.process.0 files (with_directories_of files asker.caller.process.0 (with_directory (directories_at files asker.caller.process.0) (is_for_execution asker.caller.regs.a) found.place)) 0 [] (past_list asker.caller.regs list) (inl refl) refl)
+        (answered asker.caller.process.0 files (with_directories_of files asker.caller.process.0 (with_directory (directories_at files asker.caller.process.0) (is_for_execution asker.caller.regs.a) found.place)) 0 [] (past_list asker.caller.regs list) (inl refl) refl
+        (λ q differ. get_or-set_other files.directories asker.caller.process.0 q (with_directory (directories_at files asker.caller.process.0) (is_for_execution asker.caller.regs.a) found.place) no_directories differ) refl)
 
     -- ---- I$Create, I$MakDir and I$Delete
 

@@ -1,5 +1,5 @@
 -- What the parts of a step of a call on files come to: a call on a terminal or a pipe, or what touches none.
-use Rattle.std.proofs.Common.{◌≡◌, ◌⊎◌, ℕ, Bool, true, false, Option, Some, None, Result, Ok, Err, List, [], length, refl, subst, sym, inl, inr}
+use Rattle.std.proofs.Common.{◌≡◌, ◌≢◌, ◌⊎◌, ℕ, Bool, true, false, Option, Some, None, Result, Ok, Err, List, [], length, refl, subst, sym, inl, inr}
 use Rattle.os9_base.specs.declared.errors.TheConstants.{E_BPADDR, E_BPNAM, E_MNF, E_FNA, E_PNNF}
 use Rattle.os9_base.specs.declared.registers.Regs.{Regs}
 use Rattle.os9_outer.specs.TerminalState.{TerminalState}
@@ -12,7 +12,7 @@ use Rattle.io_rules.specs.Io.{with_paths}
 use Rattle.io_rules.specs.PathList.{PathList}
 use Rattle.io_rules.specs.Step.{IoEffect, IoEnd, IoStep, answers, fails}
 use Rattle.io_rules.specs.declared.io_call.IoCall.{IoCall}
-use Rattle.file_rules.specs.Files.{Files, Asker, OpenFile, open_file, volume_at, with_position}
+use Rattle.file_rules.specs.Files.{Files, Asker, OpenFile, directories_at, open_file, volume_at, with_position}
 use Rattle.file_rules.specs.OnFile.{by_kind, moves_bytes, on_file}
 use Rattle.file_rules.specs.Step.{Step, refused, comes, reaches, needs, refuses, FileEffect, FileStep, Deed, leaves_so, as_io, changes, deed_of, leaves, refuses_so, VolumeChange, done}
 use Rattle.file_rules.specs.Way.{Found, reads_list, walk_ends, walks}
@@ -44,29 +44,33 @@ pub record Leaves (p : ℕ) (files : Files) (effect : FileEffect) : Type 0 where
   pub over : kept_in effect.end ≡ None
   pub paths : PathsMove files p effect.files.io.paths
   pub rest : effect.files.io ≡ with_paths files.io effect.files.io.paths
+  pub directories : (q : ℕ) → q ≢ p → directories_at effect.files q ≡ directories_at files q
+  pub volumes : effect.files.volumes ≡ files.volumes
   pub refusal : (number : ℕ) → effect.end ≡ fails number → effect.files ≡ files
 
 pub not-refused : (regs : Regs) (number : ℕ) → answers regs ≡ fails number → ⊥
 not-refused regs number is = cc
 
 -- it is done, and these are the files then
-pub answered : (p : ℕ) (files new : Files) (at : ℕ) (bytes : List ℕ) (regs : Regs) → PathsMove files p new.io.paths → new.io ≡ with_paths files.io new.io.paths → Leaves p files (record { end = answers regs; at = at; bytes = bytes; files = new })
-answered p files new at bytes regs paths rest = record {
+pub answered : (p : ℕ) (files new : Files) (at : ℕ) (bytes : List ℕ) (regs : Regs) → PathsMove files p new.io.paths → new.io ≡ with_paths files.io new.io.paths → ((q : ℕ) → q ≢ p → directories_at new q ≡ directories_at files q) → new.volumes ≡ files.volumes → Leaves p files (record { end = answers regs; at = at; bytes = bytes; files = new })
+answered p files new at bytes regs paths rest directories volumes = record {
   over = refl;
   paths = paths;
   rest = rest;
+  directories = directories;
+  volumes = volumes;
   refusal = λ number is. absurd (not-refused regs number is);
 }
 
 -- nothing of it changes
 pub answered-same : (p : ℕ) (files : Files) (at : ℕ) (bytes : List ℕ) (regs : Regs) → Leaves p files (record { end = answers regs; at = at; bytes = bytes; files = files })
-answered-same p files at bytes regs = answered p files files at bytes regs (inl refl) refl
+answered-same p files at bytes regs = answered p files files at bytes regs (inl refl) refl (λ q differ. refl) refl
 
 -- a position moves
 pub answered-at : (p number : ℕ) (files : Files) (found : OpenFile) → open_file files p number ≡ Some found → (place at : ℕ) (bytes : List ℕ) (regs : Regs) → Leaves p files (record { end = answers regs; at = at; bytes = bytes; files = with_position files found.opened place })
 answered-at p number files found named place at bytes regs =
     answered p files (with_position files found.opened place) at bytes regs
-    (inr (inl (record { number = number; found = found; named = named; at = place; is = refl }))) refl
+    (inr (inl (record { number = number; found = found; named = named; at = place; is = refl }))) refl (λ q differ. refl) refl
 
 -- ---- what a step comes to
 
@@ -101,7 +105,7 @@ module _ (call : PathCall) (asker : Asker) (files : Files) (terms : ℕ) where
 
   pub none-splits : (number : ℕ) → StepSplits (refused number)
   none-splits number =
-      record { over = refl; paths = inl refl; rest = refl; refusal = λ number is. refl }
+      record { over = refl; paths = inl refl; rest = refl; directories = λ q differ. refl; volumes = refl; refusal = λ number is. refl }
 
   pub done-splits : (regs : Regs) → StepSplits (done regs files)
   done-splits regs = answered-same asker.caller.process.0 files 0 [] regs

@@ -12,7 +12,7 @@ use Rattle.io_model.specs.Path.{PathTable, desc_of, new_number, numbers_of, path
 use Rattle.io_model.specs.declared.path.Desc.{Desc}
 use Rattle.io_model.specs.declared.path.Target.{Target}
 use Rattle.io_rules.specs.Io.{Io, OpenPath, kept_at, new_desc, open_path, with_call, with_paths}
-use Rattle.file_rules.specs.Files.{Files, NoneFailed, OneFailed, OpenFile, open_file, place_of_target}
+use Rattle.file_rules.specs.Files.{Files, NoneFailed, OneFailed, OpenFile, directories_at, open_file, place_of_target, volume_at}
 use Rattle.file_rules.specs.declared.places.FilePlace.{FilePlace}
 use Rattle.touch_laws.specs.Devices.{IsDevice}
 
@@ -55,30 +55,49 @@ PathsMove files p paths = (paths ≡ files.io.paths) ⊎ MovesPosition files p p
 
 -- ---- what it leaves
 
--- a drive has failed, and no volume but its own may have changed
-pub record OneVolumeLeft (files new : Files) : Type 0 where
+-- no volume has changed, and no drive has failed
+pub record NoVolumeChanges (files new : Files) : Type 0 where
+  pub volumes : new.volumes ≡ files.volumes
+  pub none_failed : NoneFailed files.drives new.drives
+
+-- one volume has changed, and no drive has failed
+pub record OneVolumeChanges (files new : Files) : Type 0 where
+  pub drive : ℕ
+  pub old : DiskVolume
+  pub was : volume_at files drive ≡ Some old
+  pub changed : DiskVolume
+  pub is : new.volumes ≡ slice_set files.volumes drive (Some changed)
+  pub none_failed : NoneFailed files.drives new.drives
+
+-- a drive has failed: the call is refused with the number of its fault, and no volume but its own may have changed
+pub record OneDriveFails (files : Files) (result : CallResult) (new : Files) : Type 0 where
   pub drive : ℕ
   pub number : ℕ
   pub failed : OneFailed drive number files.drives new.drives
+  pub answer : result ≡ refused number
+  pub old : DiskVolume
+  pub was : volume_at files drive ≡ Some old
   pub left : DiskVolume
   pub is : new.volumes ≡ slice_set files.volumes drive (Some left)
 
 -- what a refusal leaves: paths, pipes, terminals and directories as they were, and the volumes too where no drive has
 -- failed. No call of the process waits then
-pub record RefusalLeaves (files : Files) (p : ℕ) (new : Files) : Type 0 where
+pub record RefusalLeaves (files : Files) (p : ℕ) (result : CallResult) (new : Files) : Type 0 where
   pub io : new.io ≡ with_call files.io p None
   pub directories : new.directories ≡ files.directories
-  pub volumes : ((new.volumes ≡ files.volumes) × NoneFailed files.drives new.drives) ⊎ OneVolumeLeft files new
+  pub volumes : NoVolumeChanges files new ⊎ OneDriveFails files result new
 
 -- an attempt touches no terminal and no pipe: of input and output the paths change alone, and no call of the process
--- waits then
+-- waits then. The other processes keep their directories
 pub record LeavesDevices (inner : Inner) (files : Files) (p : ℕ) (result : CallResult) (new : Files)
     (before after : List TerminalState) : Type 0 where
   pub over : IsOver inner p result
   pub paths : PathsMove files p new.io.paths
   pub rest : new.io ≡ with_call (with_paths files.io new.io.paths) p None
-  pub refusal : (number : ℕ) → result ≡ refused number → RefusalLeaves files p new
   pub terminals : after ≡ before
+  pub directories : (q : ℕ) → q ≢ p → directories_at new q ≡ directories_at files q
+  pub volumes : NoVolumeChanges files new ⊎ OneVolumeChanges files new ⊎ OneDriveFails files result new
+  pub refusal : (number : ℕ) → result ≡ refused number → RefusalLeaves files p result new
 
 -- ---- the same by each path and each process
 
