@@ -6,3 +6,4 @@ pub mod Named
 pub mod Codes
 pub mod Keeps
 pub mod Bare
+pub mod Waiting

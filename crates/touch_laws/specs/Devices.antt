@@ -3,9 +3,11 @@
 use Rattle.std.specs.Prelude.{◌≡◌, ℕ, Bool, true, false, Option, Some, None, List, length}
 use Rattle.os9_outer.specs.TerminalState.{TerminalState}
 use Rattle.call_rules.specs.CallResult.{CallResult}
-use Rattle.call_rules.specs.Inner.{Inner}
+use Rattle.call_rules.specs.Inner.{Inner, regs_at}
 use Rattle.io_model.specs.declared.path.Target.{Target}
+use Rattle.io_rules.specs.Again.{path_number}
 use Rattle.io_rules.specs.Attempts.{IoAttempts}
+use Rattle.io_rules.specs.Io.{Io, OpenPath, open_path}
 use Rattle.io_rules.specs.Lead.{Lead, to_terminal, to_pipe, nowhere}
 use Rattle.io_rules.specs.declared.io_call.IoCall.{IoCall}
 use Rattle.io_rules.specs.declared.io_call.IoCall.TheVariants as Device
@@ -53,6 +55,14 @@ pub record IsOnDevice (call : PathCall) (inner : Inner) (files : Files) (p : ℕ
   pub directories : new.directories ≡ files.directories
   pub volumes : new.volumes ≡ files.volumes
   pub none_failed : NoneFailed files.drives new.drives
+
+-- a call of a process waits: it is made on the number of a path on a terminal or a pipe, and the paths are as they were
+pub record WaitsOnDevice (device : IoCall) (inner : Inner) (io : Io) (p : ℕ) (new : Io) : Type 0 where
+  pub takes : takes_number device ≡ true
+  pub opened : OpenPath
+  pub is : open_path io p (path_number device (regs_at inner p)) ≡ Some opened
+  pub on : IsDevice opened.desc.target
+  pub paths : new.paths ≡ io.paths
 
 -- a path list leads to a terminal or a pipe
 abbrev pub LeadsToDevice : Lead → Type 0

@@ -9,7 +9,8 @@ ghost use Rattle.call_rules.specs.Inner.{Inner, regs_at};
 ghost use Rattle.io_rules.specs.Again.{path_number};
 ghost use Rattle.io_rules.specs.Attempts.{IoAttempts};
 ghost use Rattle.io_rules.specs.Codes.{io_call_of};
-ghost use Rattle.io_rules.specs.Io.{Io, OpenPath, open_path};
+ghost use Rattle.io_model.specs.declared.kept.Kept.{Kept};
+ghost use Rattle.io_rules.specs.Io.{Io, OpenPath, kept_at, open_path};
 ghost use Rattle.io_rules.specs.Lead.{lead_of, a_new_place, what_is_there};
 ghost use Rattle.io_rules.specs.PathList.{PathList};
 ghost use Rattle.io_rules.specs.declared.io_call.IoCall.{IoCall};
@@ -18,7 +19,7 @@ ghost use Rattle.file_rules.specs.Codes.{path_call_of};
 ghost use Rattle.file_rules.specs.Files.{Files, Asker, open_file, with_io};
 ghost use Rattle.file_rules.specs.Way.{to_device, way_of, way_to_new};
 ghost use Rattle.file_rules.specs.declared.path_call.PathCall.{PathCall};
-ghost use Rattle.touch_laws.specs.Devices.{device_call, takes_number, HasNoFiles, IsDevice, IsOnDevice, LeadsToDevice};
+ghost use Rattle.touch_laws.specs.Devices.{device_call, takes_number, HasNoFiles, IsDevice, IsOnDevice, LeadsToDevice, WaitsOnDevice};
 ghost use Rattle.touch_laws.specs.Touch.{KeepsIo, LeavesDevices};
 
 /// An attempt of a call on paths, files and directories is an attempt of a call on terminals and
@@ -47,6 +48,26 @@ pub fn numbers_of_devices_are_theirs()
     ensures path { (files : Files) (p n : ℕ) (opened : OpenPath)
         → open_path files.io p n ≡ Some opened → IsDevice opened.desc.target
         → open_file files p n ≡ None }
+{}
+
+/// An attempt that waits is one of a call on terminals and pipes on the number of a path on one, and
+/// leaves the paths as they are; and a call on the number of such a path, as each that waits is
+/// where it is attempted again, is that call (Level Two manual, "I/O system").
+pub fn calls_that_wait_are_on_devices()
+    ensures waits { (call : PathCall) (m : Inner) (files : Files) (now : TimePacket) (p : ℕ)
+        (result : CallResult) (new : Files) (before after : List TerminalState)
+        → FileAttempts call m files now p result new before after
+        → (kept : Kept) → kept_at new.io p ≡ Some kept
+        → (device : IoCall) × (device_call call ≡ Some device)
+        × WaitsOnDevice device m files.io p new.io }
+    ensures again { (call : PathCall) (device : IoCall) (m : Inner) (files : Files)
+        (now : TimePacket) (p : ℕ) (result : CallResult) (new : Files)
+        (before after : List TerminalState) (opened : OpenPath)
+        → FileAttempts call m files now p result new before after
+        → device_call call ≡ Some device → takes_number device ≡ true
+        → open_path files.io p (path_number device (regs_at m p)) ≡ Some opened
+        → IsDevice opened.desc.target
+        → IsOnDevice call m files p result new before after }
 {}
 
 /// Where a path list leads to a terminal or a pipe, the list leads there also as I$Open and I$Create
