@@ -39,7 +39,7 @@ use Rattle.touch_laws.proofs.Named.{is-theirs, step-on-device}
 -- ---- steps
 
 -- a step is that of a call on terminals and pipes, or both are refused with the same number
-abbrev Agrees : FileStep → IoStep → Type 0
+abbrev pub Agrees : FileStep → IoStep → Type 0
 Agrees step device =
     (step ≡ comes (as_io device)) ⊎ ((number : ℕ) × (step ≡ refused number) × (device ≡ io_refused number))
 
@@ -206,15 +206,16 @@ module _ (call : PathCall) (device : IoCall) (inner : Inner) (files : Files) (no
         none_failed = well.none_failed;
       })
 
+  -- a step that agrees with theirs is one of theirs
+  pub agreed-attempt : (left : Files) (old new : List TerminalState) → Agrees (file_step call asker files (length old)) (io_step device asker.caller files.io (length files.drives) (length old)) → FileAttempts call inner files now p result left old new → IsOnDevice call inner files p result left old new
+  agreed-attempt left old new (inl step_is) it = step-on-device call device is inner files now p old new result left it step_is
+  agreed-attempt left old new (inr (number, step_is, device_is)) it =
+      subst (λ (result : CallResult). IsOnDevice call inner files p result left old new) (sym it.result_is)
+      (subst (λ (left : Files). IsOnDevice call inner files p (result_of inner p (io_effect it.effect)) left old new) (sym it.state)
+      (refused-does number it.effect old new device_is (subst (λ (step : FileStep). FileDoes step asker files it.effect old new) step_is it.does)))
+
   pub bare-attempt : (left : Files) (old new : List TerminalState) → HasNoFiles files p → FileAttempts call inner files now p result left old new → IsOnDevice call inner files p result left old new
-  bare-attempt left old new bare it = by_step (agrees-by asker files (length old) bare call device is)
-    where
-      by_step : Agrees (file_step call asker files (length old)) (io_step device asker.caller files.io (length files.drives) (length old)) → IsOnDevice call inner files p result left old new
-      by_step (inl step_is) = step-on-device call device is inner files now p old new result left it step_is
-      by_step (inr (number, step_is, device_is)) =
-          subst (λ (result : CallResult). IsOnDevice call inner files p result left old new) (sym it.result_is)
-          (subst (λ (left : Files). IsOnDevice call inner files p (result_of inner p (io_effect it.effect)) left old new) (sym it.state)
-          (refused-does number it.effect old new device_is (subst (λ (step : FileStep). FileDoes step asker files it.effect old new) step_is it.does)))
+  bare-attempt left old new bare it = agreed-attempt left old new (agrees-by asker files (length old) bare call device is) it
 
   -- and back
   attempts-by : (left : Io) (old new : List TerminalState) (it : IoAttempts device inner files.io (length files.drives) p result left old new) → FileDoes (file_step call asker files (length old)) asker files (on_files files it.effect) old new → FileAttempts call inner files now p result (with_io files left) old new

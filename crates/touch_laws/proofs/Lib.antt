@@ -6,4 +6,6 @@ pub mod Named
 pub mod Codes
 pub mod Keeps
 pub mod Bare
+pub mod Lists
 pub mod Waiting
+pub mod OfAttempts

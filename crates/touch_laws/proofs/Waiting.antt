@@ -208,14 +208,16 @@ kept-put io p put kept is none =
       | inr past ↦ none-some kept (sym (get_or_past (with_call io p put).calls p None (rw length-set past)) ∙ is)
     ]
 
-device-waits : (device : IoCall) (inner : Inner) (io new : Io) (drives p : ℕ) (result : CallResult) (before after : List TerminalState) → IoAttempts device inner io drives p result new before after → (kept : Kept) → kept_at new p ≡ Some kept → WaitsOnDevice device inner io p new
-device-waits device inner io new drives p result before after it kept is =
+device-waits : (call : PathCall) (device : IoCall) → device_call call ≡ Some device → (inner : Inner) (io new : Io) (drives p : ℕ) (result : CallResult) (before after : List TerminalState) → IoAttempts device inner io drives p result new before after → (kept : Kept) → kept_at new p ≡ Some kept → WaitsOnDevice call inner io p new
+device-waits call device device_is inner io new drives p result before after it kept is =
     by_effect (does-waits device (path_number device (regs_at inner p)) (caller_of inner p) io before after _ it.effect (step-waits (caller_of inner p) io device drives (length before)) it.does)
   where
-    by_effect : EffectWaits device (path_number device (regs_at inner p)) (caller_of inner p) io it.effect → WaitsOnDevice device inner io p new
+    by_effect : EffectWaits device (path_number device (regs_at inner p)) (caller_of inner p) io it.effect → WaitsOnDevice call inner io p new
     by_effect (inl over) =
         absurd (kept-put it.effect.io p (kept_in it.effect.end) kept (sym (ap (λ (io : Io). kept_at io p) it.state) ∙ is) over)
     by_effect (inr (names, paths)) = record {
+      device = device;
+      device_is = device_is;
       takes = names.takes;
       opened = names.opened;
       is = names.is;
@@ -224,12 +226,12 @@ device-waits device inner io new drives p result before after it kept is =
     }
 
 -- a call on files that waits
-pub file-waits : (call : PathCall) (inner : Inner) (files : Files) (now : TimePacket) (p : ℕ) (result : CallResult) (new : Files) (before after : List TerminalState) → FileAttempts call inner files now p result new before after → (kept : Kept) → kept_at new.io p ≡ Some kept → (device : IoCall) × (device_call call ≡ Some device) × WaitsOnDevice device inner files.io p new.io
+pub file-waits : (call : PathCall) (inner : Inner) (files : Files) (now : TimePacket) (p : ℕ) (result : CallResult) (new : Files) (before after : List TerminalState) → FileAttempts call inner files now p result new before after → (kept : Kept) → kept_at new.io p ≡ Some kept → WaitsOnDevice call inner files.io p new.io
 file-waits call inner files now p result new before after it kept is =
     by_case (attempt-comes call inner files now p result new before after it)
   where
-    by_case : IsOnDevice call inner files p result new before after ⊎ LeavesDevices inner files p result new before after → (device : IoCall) × (device_call call ≡ Some device) × WaitsOnDevice device inner files.io p new.io
+    by_case : IsOnDevice call inner files p result new before after ⊎ LeavesDevices inner files p result new before after → WaitsOnDevice call inner files.io p new.io
     by_case (inl on) =
-        (on.device, on.device_is, device-waits on.device inner files.io new.io (length files.drives) p result before after on.attempted kept is)
+        device-waits call on.device on.device_is inner files.io new.io (length files.drives) p result before after on.attempted kept is
     by_case (inr left) =
         absurd (none-some kept (sym (io-kept inner files p result new before after left).calls.none ∙ is))

@@ -56,8 +56,11 @@ pub record IsOnDevice (call : PathCall) (inner : Inner) (files : Files) (p : ℕ
   pub volumes : new.volumes ≡ files.volumes
   pub none_failed : NoneFailed files.drives new.drives
 
--- a call of a process waits: it is made on the number of a path on a terminal or a pipe, and the paths are as they were
-pub record WaitsOnDevice (device : IoCall) (inner : Inner) (io : Io) (p : ℕ) (new : Io) : Type 0 where
+-- a call of a process waits: it is one of the call on terminals and pipes, on the number of a path on a terminal or a
+-- pipe, and the paths are as they were
+pub record WaitsOnDevice (call : PathCall) (inner : Inner) (io : Io) (p : ℕ) (new : Io) : Type 0 where
+  pub device : IoCall
+  pub device_is : device_call call ≡ Some device
   pub takes : takes_number device ≡ true
   pub opened : OpenPath
   pub is : open_path io p (path_number device (regs_at inner p)) ≡ Some opened

@@ -1,2 +1,3 @@
+pub mod Attempt
 pub mod Devices
 pub mod Touch

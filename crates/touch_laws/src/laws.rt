@@ -1,50 +1,48 @@
-//! An attempt of a call on paths, files and directories is one on a terminal or a pipe, or it
-//! touches none.
+//! An attempt of a call on paths, files and directories is one of the call on terminals and pipes,
+//! or it touches none of them.
 
-ghost use Rattle.std.specs.Prelude.{◌≡◌, ◌⊎◌, ℕ, Bool, true, false, Some, None, List, length};
+ghost use Rattle.std.specs.Prelude.{◌≡◌, ◌⊎◌, ℕ, Bool, Some, None, IsSome, List, length};
 ghost use Rattle.os9_base.specs.declared.registers.TimePacket.{TimePacket};
 ghost use Rattle.os9_outer.specs.TerminalState.{TerminalState};
 ghost use Rattle.call_rules.specs.CallResult.{CallResult};
-ghost use Rattle.call_rules.specs.Inner.{Inner, regs_at};
-ghost use Rattle.io_rules.specs.Again.{path_number};
+ghost use Rattle.call_rules.specs.Inner.{Inner};
 ghost use Rattle.io_rules.specs.Attempts.{IoAttempts};
 ghost use Rattle.io_rules.specs.Codes.{io_call_of};
-ghost use Rattle.io_model.specs.declared.kept.Kept.{Kept};
 ghost use Rattle.io_rules.specs.Io.{Io, OpenPath, kept_at, open_path};
-ghost use Rattle.io_rules.specs.Lead.{lead_of, a_new_place, what_is_there};
+ghost use Rattle.io_rules.specs.Lead.{a_new_place, lead_of, what_is_there};
 ghost use Rattle.io_rules.specs.PathList.{PathList};
 ghost use Rattle.io_rules.specs.declared.io_call.IoCall.{IoCall};
 ghost use Rattle.file_rules.specs.Attempts.{FileAttempts};
 ghost use Rattle.file_rules.specs.Codes.{path_call_of};
-ghost use Rattle.file_rules.specs.Files.{Files, Asker, open_file, with_io};
+ghost use Rattle.file_rules.specs.Files.{Asker, Files, open_file, with_io};
 ghost use Rattle.file_rules.specs.Way.{to_device, way_of, way_to_new};
 ghost use Rattle.file_rules.specs.declared.path_call.PathCall.{PathCall};
-ghost use Rattle.touch_laws.specs.Devices.{device_call, takes_number, HasNoFiles, IsDevice, IsOnDevice, LeadsToDevice, WaitsOnDevice};
-ghost use Rattle.touch_laws.specs.Touch.{KeepsIo, LeavesDevices};
+ghost use Rattle.file_rules.specs.declared.path_call.PathCall.TheVariants as Call;
+ghost use Rattle.touch_laws.specs.Attempt.{Attempt, HasList, IsOnNumber, IsWithoutFiles, KeepsDevices, OnDevice, TouchesNone, Waits, way_to_create, way_to_open};
+ghost use Rattle.touch_laws.specs.Devices.{HasNoFiles, IsDevice, LeadsToDevice, device_call};
 
 /// An attempt of a call on paths, files and directories is an attempt of a call on terminals and
-/// pipes, or it touches no terminal and no pipe: then one position changes, or the process has a
-/// new path on a file or a directory, or the paths stay, and no call of it waits (System
-/// Programmer's Manual, "I/O service requests").
+/// pipes, or it touches no terminal and no pipe: then a position changes, or the process has a new
+/// path on a file or a directory, or the paths stay; no call of it waits; the other processes keep
+/// their directories, and one volume changes at most (System Programmer's Manual, "I/O service
+/// requests").
 pub fn attempts_are_on_a_device_or_touch_none()
-    ensures { (call : PathCall) (m : Inner) (files : Files) (now : TimePacket) (p : ℕ)
-        (result : CallResult) (new : Files) (before after : List TerminalState)
-        → FileAttempts call m files now p result new before after
-        → IsOnDevice call m files p result new before after
-        ⊎ LeavesDevices m files p result new before after }
+    ensures { (it : Attempt) → OnDevice it ⊎ TouchesNone it }
 {}
 
-/// A call on the number of a path that is on no file and no directory, as one on a terminal or a
-/// pipe, and one on a number that names nothing, is the call on terminals and pipes (System
-/// Programmer's Manual, I$Read, I$Write and I$GetStt).
+/// An attempt that touches no terminal and no pipe leaves each path where it is, and those on
+/// terminals and pipes as they are; the path numbers of other processes, their calls that wait, the
+/// terminals and the pipes stay (Level Two manual, "I/O system").
+pub fn what_touches_no_device_keeps_input_and_output()
+    ensures { (it : Attempt) → TouchesNone it → KeepsDevices it }
+{}
+
+/// A call on the number of a path that is on no file and no directory, as on one of a terminal or a
+/// pipe, or on a number that names nothing, is the call on terminals and pipes (System Programmer's
+/// Manual, I$Read, I$Write and I$GetStt).
 pub fn numbers_of_devices_are_theirs()
-    ensures number { (call : PathCall) (device : IoCall) (m : Inner) (files : Files)
-        (now : TimePacket) (p : ℕ) (result : CallResult) (new : Files)
-        (before after : List TerminalState)
-        → FileAttempts call m files now p result new before after
-        → device_call call ≡ Some device → takes_number device ≡ true
-        → open_file files p (path_number device (regs_at m p)) ≡ None
-        → IsOnDevice call m files p result new before after }
+    ensures number { (it : Attempt) (n : ℕ) → IsOnNumber it n
+        → open_file it.files it.process n ≡ None → OnDevice it }
     ensures path { (files : Files) (p n : ℕ) (opened : OpenPath)
         → open_path files.io p n ≡ Some opened → IsDevice opened.desc.target
         → open_file files p n ≡ None }
@@ -54,20 +52,19 @@ pub fn numbers_of_devices_are_theirs()
 /// leaves the paths as they are; and a call on the number of such a path, as each that waits is
 /// where it is attempted again, is that call (Level Two manual, "I/O system").
 pub fn calls_that_wait_are_on_devices()
-    ensures waits { (call : PathCall) (m : Inner) (files : Files) (now : TimePacket) (p : ℕ)
-        (result : CallResult) (new : Files) (before after : List TerminalState)
-        → FileAttempts call m files now p result new before after
-        → (kept : Kept) → kept_at new.io p ≡ Some kept
-        → (device : IoCall) × (device_call call ≡ Some device)
-        × WaitsOnDevice device m files.io p new.io }
-    ensures again { (call : PathCall) (device : IoCall) (m : Inner) (files : Files)
-        (now : TimePacket) (p : ℕ) (result : CallResult) (new : Files)
-        (before after : List TerminalState) (opened : OpenPath)
-        → FileAttempts call m files now p result new before after
-        → device_call call ≡ Some device → takes_number device ≡ true
-        → open_path files.io p (path_number device (regs_at m p)) ≡ Some opened
-        → IsDevice opened.desc.target
-        → IsOnDevice call m files p result new before after }
+    ensures waits { (it : Attempt) → IsSome (kept_at it.new.io it.process) → Waits it }
+    ensures again { (it : Attempt) (n : ℕ) (opened : OpenPath) → IsOnNumber it n
+        → open_path it.files.io it.process n ≡ Some opened → IsDevice opened.desc.target
+        → OnDevice it }
+{}
+
+/// I$Open and I$Create of a path list that leads to a terminal or a pipe are those of terminals and
+/// pipes, also where their mode is refused (System Programmer's Manual, I$Open and I$Create).
+pub fn lists_to_devices_are_theirs()
+    ensures opened { (it : Attempt) (list : PathList) → it.call ≡ Call.Open → HasList it list
+        → way_to_open it list ≡ to_device → OnDevice it }
+    ensures created { (it : Attempt) (list : PathList) → it.call ≡ Call.Create → HasList it list
+        → way_to_create it list ≡ to_device → OnDevice it }
 {}
 
 /// Where a path list leads to a terminal or a pipe, the list leads there also as I$Open and I$Create
@@ -91,24 +88,11 @@ pub fn codes_are_the_same_on_devices()
     ensures none { (code : ℕ) → path_call_of code ≡ None → io_call_of code ≡ None }
 {}
 
-/// An attempt that touches no terminal and no pipe leaves each path where it is, and those on
-/// terminals and pipes as they are; the path numbers of other processes, their calls that wait, the
-/// terminals and the pipes stay.
-pub fn what_touches_no_device_keeps_input_and_output()
-    ensures { (m : Inner) (files : Files) (p : ℕ) (result : CallResult) (new : Files)
-        (before after : List TerminalState)
-        → LeavesDevices m files p result new before after → KeepsIo p files.io new.io }
-{}
-
 /// Without a mounted volume and a directory of the process, each call that terminals and pipes have
-/// is theirs, and nothing else (this project's own).
+/// is theirs, and nothing else; and each of theirs is one (this project's own).
 pub fn without_files_calls_are_those_of_devices()
-    ensures attempt { (call : PathCall) (device : IoCall) (m : Inner) (files : Files)
-        (now : TimePacket) (p : ℕ) (result : CallResult) (new : Files)
-        (before after : List TerminalState) → HasNoFiles files p
-        → device_call call ≡ Some device
-        → FileAttempts call m files now p result new before after
-        → IsOnDevice call m files p result new before after }
+    ensures attempt { (it : Attempt) → IsWithoutFiles it → IsSome (device_call it.call)
+        → OnDevice it }
     ensures back { (call : PathCall) (device : IoCall) (m : Inner) (files : Files)
         (now : TimePacket) (p : ℕ) (result : CallResult) (io : Io)
         (before after : List TerminalState) → HasNoFiles files p
