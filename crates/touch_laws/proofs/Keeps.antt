@@ -65,10 +65,10 @@ open-by io q n s desc slot there =
     ∙ ap (option_map (path_with s)) there
 
 -- a descriptor stays, but for its position
-abbrev DescStays : PathTable → ℕ → Desc → Type 0
+abbrev pub DescStays : PathTable → ℕ → Desc → Type 0
 DescStays new s desc = (at : ℕ) × (desc_of new s ≡ Some (record desc { at = at }))
 
-record PathsStay (p : ℕ) (old new : PathTable) : Type 0 where
+pub record PathsStay (p : ℕ) (old new : PathTable) : Type 0 where
   pub numbers : (q : ℕ) → q ≢ p → numbers_of new q ≡ numbers_of old q
   pub slots : (q n : ℕ) (s : SysPath) → slot_of old q n ≡ Some s → slot_of new q n ≡ Some s
   pub descs : (s : ℕ) (desc : Desc) → desc_of old s ≡ Some desc → DescStays new s desc
@@ -100,7 +100,7 @@ stay-same p paths = record {
 }
 
 -- a descriptor that is there is in the table
-desc-within : (paths : PathTable) (s : ℕ) (desc : Desc) → desc_of paths s ≡ Some desc → s < length paths.descs
+pub desc-within : (paths : PathTable) (s : ℕ) (desc : Desc) → desc_of paths s ≡ Some desc → s < length paths.descs
 desc-within paths s desc is =
     elim (cases_lt s (length paths.descs)) [
       | inl within ↦ within
@@ -144,11 +144,11 @@ module _ (p : ℕ) (paths : PathTable) (s at : ℕ) (desc : Desc) (place : FileP
   }
 
 -- what a file that a number names is
-record IsNamed (files : Files) (p n : ℕ) (found : OpenFile) : Type 0 where
+pub record IsNamed (files : Files) (p n : ℕ) (found : OpenFile) : Type 0 where
   pub desc : desc_of files.io.paths found.opened.path.0 ≡ Some found.opened.desc
   pub place : place_of_target found.opened.desc.target ≡ Some found.place
 
-file-named : (files : Files) (p n : ℕ) (found : OpenFile) → open_file files p n ≡ Some found → IsNamed files p n found
+pub file-named : (files : Files) (p n : ℕ) (found : OpenFile) → open_file files p n ≡ Some found → IsNamed files p n found
 file-named files p n found is =
     option_and_then_some (λ (path : OpenPath). option_and_then (open_file_at files path) (place_of_target path.desc.target)) (open_path files.io p n) found is (λ path named at.
     option_and_then_some (open_file_at files path) (place_of_target path.desc.target) found at (λ place on here.
@@ -156,7 +156,7 @@ file-named files p n found is =
     map-some (λ (file : DiskFile). record { opened = path; place = place; volume = v; file = file }) (v.files place.number) found mapped (λ file there same.
     subst (IsNamed files p n) same (record { desc = (opened-is files.io p n path named).desc; place = on })))))
 
-stay-position : (files : Files) (p : ℕ) (paths : PathTable) → MovesPosition files p paths → PathsStay p files.io.paths paths
+pub stay-position : (files : Files) (p : ℕ) (paths : PathTable) → MovesPosition files p paths → PathsStay p files.io.paths paths
 stay-position files p paths it =
     let named = file-named files p it.number it.found it.named in
     subst (PathsStay p files.io.paths) (sym it.is) (stay-moved p files.io.paths it.found.opened.path.0 it.at it.found.opened.desc it.found.place named.desc named.place)
@@ -175,26 +175,26 @@ free-at paths s (Some i) at is =
     ap (desc_of paths) (sym same) ∙ sym (get_or_after_one paths.descs i None) ∙ is_nothing (get_or (drop 1 paths.descs) i None) found.1
 
 -- a free path has no descriptor, and a free number names none
-free-desc : (paths : PathTable) (s : ℕ) → free_path paths ≡ Some s → desc_of paths s ≡ None
+pub free-desc : (paths : PathTable) (s : ℕ) → free_path paths ≡ Some s → desc_of paths s ≡ None
 free-desc paths s is = free-at paths s (position is_none (drop 1 paths.descs)) refl is
 
-free-slot : (paths : PathTable) (p n : ℕ) → free_number paths p ≡ Some n → slot_of paths p n ≡ None
+pub free-slot : (paths : PathTable) (p n : ℕ) → free_number paths p ≡ Some n → slot_of paths p n ≡ None
 free-slot paths p n is =
     let found = position-Some is_none (numbers_of paths p) n None is in
     is_nothing (get_or (numbers_of paths p) n None) found.1
 
 module _ (p : ℕ) (paths : PathTable) (target : Target) (mode : ℕ) (place : FilePlace) (on : place_of_target target ≡ Some place) where
   module _ (n s : ℕ) (number : free_number paths p ≡ Some n) (path : free_path paths ≡ Some s) where
-    abbrev begun : PathTable
+    abbrev pub begun : PathTable
     begun = with_path paths p (new_desc target mode) n s
 
-    begun-other : (t : ℕ) → t ≢ s → desc_of begun t ≡ desc_of paths t
+    pub begun-other : (t : ℕ) → t ≢ s → desc_of begun t ≡ desc_of paths t
     begun-other t differ = get_or-set_other paths.descs s t (Some (new_desc target mode)) None differ
 
     there-other : (t : ℕ) (desc : Desc) → desc_of paths t ≡ Some desc → t ≢ s
     there-other t desc is same = none-some desc (sym (free-desc paths s path) ∙ sym (ap (desc_of paths) same) ∙ is)
 
-    begun-numbers : (q : ℕ) → q ≢ p → numbers_of begun q ≡ numbers_of paths q
+    pub begun-numbers : (q : ℕ) → q ≢ p → numbers_of begun q ≡ numbers_of paths q
     begun-numbers q differ = get_or-set_other paths.own p q _ [] differ
 
     begun-own : (m : ℕ) (t : SysPath) → slot_of paths p m ≡ Some t → slot_of begun p m ≡ Some t
@@ -222,7 +222,7 @@ module _ (p : ℕ) (paths : PathTable) (target : Target) (mode : ℕ) (place : F
           | inr past ↦ none-some desc (sym (get_or_past begun.descs s None (rw length-set past)) ∙ sym (ap (desc_of begun) same) ∙ is)
         ]
 
-    stay-new : PathsStay p paths begun
+    pub stay-new : PathsStay p paths begun
     stay-new = record {
       numbers = begun-numbers;
       slots = begun-slot;
@@ -245,7 +245,7 @@ stay-path files p paths it =
 
 -- ---- all of input and output
 
-stays : (files : Files) (p : ℕ) (paths : PathTable) → PathsMove files p paths → PathsStay p files.io.paths paths
+pub stays : (files : Files) (p : ℕ) (paths : PathTable) → PathsMove files p paths → PathsStay p files.io.paths paths
 stays files p paths (inl same) = subst (PathsStay p files.io.paths) (sym same) (stay-same p files.io.paths)
 stays files p paths (inr (inl moves)) = stay-position files p paths moves
 stays files p paths (inr (inr begins)) = stay-path files p paths begins

@@ -5,6 +5,7 @@ pub mod Attempts
 pub mod Named
 pub mod Codes
 pub mod Keeps
+pub mod Tables
 pub mod Bare
 pub mod Lists
 pub mod Waiting

@@ -16,7 +16,7 @@ use Rattle.file_rules.specs.Way.{Way, list_of, to_device, way_of, way_to_new}
 use Rattle.file_rules.specs.declared.path_call.PathCall.{PathCall}
 use Rattle.file_rules.specs.declared.path_call.PathCall.TheVariants as Call
 use Rattle.touch_laws.specs.Devices.{device_call, takes_number, HasNoFiles, IsOnDevice, WaitsOnDevice}
-use Rattle.touch_laws.specs.Touch.{KeepsIo, LeavesDevices}
+use Rattle.touch_laws.specs.Touch.{KeepsIo, KeepsTable, LeavesDevices}
 
 pub record Attempt : Type 0 where
   pub call : PathCall
@@ -47,6 +47,10 @@ TouchesNone it = LeavesDevices it.inner it.files it.process it.result it.new it.
 -- of input and output it leaves all but the position of a path and a new path of the process
 abbrev pub KeepsDevices : Attempt → Type 0
 KeepsDevices it = KeepsIo it.process it.files.io it.new.io
+
+-- the table of its paths stays one
+abbrev pub KeepsPathTable : Attempt → Type 0
+KeepsPathTable it = KeepsTable it.files.io.paths it.new.io.paths
 
 -- it is an attempt of a call that takes the number of a path, and this is the number
 pub record IsOnNumber (it : Attempt) (number : ℕ) : Type 0 where

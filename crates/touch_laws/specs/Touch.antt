@@ -1,14 +1,14 @@
 -- What an attempt of a call on paths, files and directories touches of terminals, pipes, paths and calls that wait,
 -- where it is none on a terminal or a pipe (Level Two manual, "I/O system"; System Programmer's Manual, "I/O service
 -- requests").
-use Rattle.std.specs.Prelude.{◌≡◌, ◌≢◌, ◌⊎◌, ℕ, Option, Some, None, List, length, slice_set}
+use Rattle.std.specs.Prelude.{◌≡◌, ◌≢◌, ◌⊎◌, ℕ, true, Option, Some, None, List, length, slice_set}
 use Rattle.os9_base.specs.declared.registers.Regs.{Regs}
 use Rattle.os9_outer.specs.TerminalState.{TerminalState}
 use Rattle.proc_model.specs.MemoryChanges.{stored}
 use Rattle.call_rules.specs.CallResult.{CallResult, done, refused}
 use Rattle.call_rules.specs.Inner.{Inner, with_memory, with_regs_of}
 use Rattle.rbf_model.specs.Volume.{DiskVolume}
-use Rattle.io_model.specs.Path.{PathTable, desc_of, new_number, numbers_of, paths_after_begin, with_desc}
+use Rattle.io_model.specs.Path.{ArePaths, PathTable, desc_of, is_held, new_number, numbers_of, paths_after_begin, with_desc}
 use Rattle.io_model.specs.declared.path.Desc.{Desc}
 use Rattle.io_model.specs.declared.path.Target.{Target}
 use Rattle.io_rules.specs.Io.{Io, OpenPath, kept_at, new_desc, open_path, with_call, with_paths}
@@ -129,3 +129,12 @@ pub record KeepsIo (p : ℕ) (old new : Io) : Type 0 where
   pub calls : KeepsCalls p old new
   pub terminals : new.terminals ≡ old.terminals
   pub pipes : new.pipes ≡ old.pipes
+
+-- every path that is there is held by some process
+abbrev pub AreHeld : PathTable → Type 0
+AreHeld paths = (s : ℕ) (desc : Desc) → desc_of paths s ≡ Some desc → is_held paths s ≡ true
+
+-- the table of paths stays one, and each path in it stays held
+pub record KeepsTable (old new : PathTable) : Type 0 where
+  pub paths : ArePaths old → ArePaths new
+  pub held : AreHeld old → AreHeld new

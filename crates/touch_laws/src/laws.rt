@@ -18,7 +18,7 @@ ghost use Rattle.file_rules.specs.Files.{Asker, Files, open_file, with_io};
 ghost use Rattle.file_rules.specs.Way.{to_device, way_of, way_to_new};
 ghost use Rattle.file_rules.specs.declared.path_call.PathCall.{PathCall};
 ghost use Rattle.file_rules.specs.declared.path_call.PathCall.TheVariants as Call;
-ghost use Rattle.touch_laws.specs.Attempt.{Attempt, HasList, IsOnNumber, IsWithoutFiles, KeepsDevices, OnDevice, TouchesNone, Waits, way_to_create, way_to_open};
+ghost use Rattle.touch_laws.specs.Attempt.{Attempt, HasList, IsOnNumber, IsWithoutFiles, KeepsDevices, KeepsPathTable, OnDevice, TouchesNone, Waits, way_to_create, way_to_open};
 ghost use Rattle.touch_laws.specs.Devices.{HasNoFiles, IsDevice, LeadsToDevice, device_call};
 
 /// An attempt of a call on paths, files and directories is an attempt of a call on terminals and
@@ -35,6 +35,13 @@ pub fn attempts_are_on_a_device_or_touch_none()
 /// terminals and the pipes stay (Level Two manual, "I/O system").
 pub fn what_touches_no_device_keeps_input_and_output()
     ensures { (it : Attempt) → TouchesNone it → KeepsDevices it }
+{}
+
+/// An attempt that touches no terminal and no pipe leaves the table of paths in order: no number is
+/// an image of a path that is not there, and each path in it is held (Level Two manual, "Path
+/// descriptors").
+pub fn what_touches_no_device_keeps_the_paths_in_order()
+    ensures { (it : Attempt) → TouchesNone it → KeepsPathTable it }
 {}
 
 /// A call on the number of a path that is on no file and no directory, as on one of a terminal or a
