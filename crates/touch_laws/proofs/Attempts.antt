@@ -46,7 +46,7 @@ step-splits Call.PErr asker files terms = perr-split asker files terms
 
 -- ---- how it ends
 
-ends-refused : (end : IoEnd) (inner : Inner) (p : ℕ) (effect : IoEffect) (number : ℕ) → result_by end inner p effect ≡ CallResult.refused number → end ≡ fails number
+pub ends-refused : (end : IoEnd) (inner : Inner) (p : ℕ) (effect : IoEffect) (number : ℕ) → result_by end inner p effect ≡ CallResult.refused number → end ≡ fails number
 ends-refused (answers regs) inner p effect number is = absurd cc
 ends-refused (fails other) inner p effect number is = cc
 ends-refused (keeps kept) inner p effect number is = absurd cc

@@ -10,3 +10,8 @@ pub mod Bare
 pub mod Lists
 pub mod Waiting
 pub mod OfAttempts
+pub mod Caused
+pub mod CausedNumbers
+pub mod CausedNames
+pub mod CausedDeletes
+pub mod CausedAttempts

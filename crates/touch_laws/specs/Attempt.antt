@@ -15,8 +15,9 @@ use Rattle.file_rules.specs.Open.{is_for_execution}
 use Rattle.file_rules.specs.Way.{Way, list_of, to_device, way_of, way_to_new}
 use Rattle.file_rules.specs.declared.path_call.PathCall.{PathCall}
 use Rattle.file_rules.specs.declared.path_call.PathCall.TheVariants as Call
+use Rattle.touch_laws.specs.Causes.{Made}
 use Rattle.touch_laws.specs.Devices.{device_call, takes_number, HasNoFiles, IsOnDevice, WaitsOnDevice}
-use Rattle.touch_laws.specs.Touch.{KeepsIo, KeepsTable, LeavesDevices}
+use Rattle.touch_laws.specs.Touch.{KeepsIo, KeepsTable, LeavesDevices, OneDriveFails}
 
 pub record Attempt : Type 0 where
   pub call : PathCall
@@ -76,3 +77,11 @@ way_to_create it list = way_to_new (asker_in it) it.files (length it.before) (is
 -- no volume is mounted, and its process has no directory
 abbrev pub IsWithoutFiles : Attempt → Type 0
 IsWithoutFiles it = HasNoFiles it.files it.process
+
+-- a drive failed in it, and the number of that fault is answered
+abbrev pub HasFault : Attempt → Type 0
+HasFault it = OneDriveFails it.files it.result it.new
+
+-- the call that it is an attempt of
+abbrev pub made_in : Attempt → Made
+made_in it = record { call = it.call; asker = asker_in it; files = it.files; terms = length it.before }

@@ -1,3 +1,4 @@
 pub mod Attempt
+pub mod Causes
 pub mod Devices
 pub mod Touch

@@ -4,7 +4,7 @@
 ghost use Rattle.std.specs.Prelude.{◌≡◌, ◌⊎◌, ℕ, Bool, Some, None, IsSome, List, length};
 ghost use Rattle.os9_base.specs.declared.registers.TimePacket.{TimePacket};
 ghost use Rattle.os9_outer.specs.TerminalState.{TerminalState};
-ghost use Rattle.call_rules.specs.CallResult.{CallResult};
+ghost use Rattle.call_rules.specs.CallResult.{CallResult, refused};
 ghost use Rattle.call_rules.specs.Inner.{Inner};
 ghost use Rattle.io_rules.specs.Attempts.{IoAttempts};
 ghost use Rattle.io_rules.specs.Codes.{io_call_of};
@@ -18,7 +18,8 @@ ghost use Rattle.file_rules.specs.Files.{Asker, Files, open_file, with_io};
 ghost use Rattle.file_rules.specs.Way.{to_device, way_of, way_to_new};
 ghost use Rattle.file_rules.specs.declared.path_call.PathCall.{PathCall};
 ghost use Rattle.file_rules.specs.declared.path_call.PathCall.TheVariants as Call;
-ghost use Rattle.touch_laws.specs.Attempt.{Attempt, HasList, IsOnNumber, IsWithoutFiles, KeepsDevices, KeepsPathTable, OnDevice, TouchesNone, Waits, way_to_create, way_to_open};
+ghost use Rattle.touch_laws.specs.Attempt.{Attempt, HasFault, HasList, IsOnNumber, IsWithoutFiles, KeepsDevices, KeepsPathTable, OnDevice, TouchesNone, Waits, made_in, way_to_create, way_to_open};
+ghost use Rattle.touch_laws.specs.Causes.{FileCause};
 ghost use Rattle.touch_laws.specs.Devices.{HasNoFiles, IsDevice, LeadsToDevice, device_call};
 
 /// An attempt of a call on paths, files and directories is an attempt of a call on terminals and
@@ -84,6 +85,15 @@ pub fn lists_lead_to_the_same_devices()
     ensures created { (asker : Asker) (files : Files) (terms : ℕ) (execute : Bool) (list : PathList)
         → way_to_new asker files terms execute list ≡ to_device
         → LeadsToDevice (lead_of a_new_place (length files.drives) terms list) }
+{}
+
+/// A refused call on paths, files and directories is one of the call on terminals and pipes; or a
+/// drive failed in it, whose fault it answers; or its number comes from its cause, which is of the
+/// list that it reads, of the walk along it, of what is found there, of the path that its number
+/// names, or of the room on the volume (System Programmer's Manual, "I/O service requests").
+pub fn refusals_on_files_have_their_causes()
+    ensures { (it : Attempt) (number : ℕ) → it.result ≡ refused number
+        → OnDevice it ⊎ HasFault it ⊎ FileCause (made_in it) number }
 {}
 
 /// The code of a call on paths, files and directories is that of the call that it is on a terminal

@@ -1,0 +1,272 @@
+-- Why a call on files is refused that is none on a terminal or a pipe (System Programmer's Manual, "I/O service
+-- requests"; OS-9 Technical Reference, Random Block File Manager), but for the fault of a drive.
+use Rattle.std.specs.Prelude.{◌≡◌, ◌≢◌, ◌⊎◌, ℕ, ◌+◌, ◌<◌, ◌≤◌, ⊤, Bool, true, false, IsSome, Option, Some, None, Result, Ok, Err, List, length, if◌then◌else◌}
+use Rattle.os9_base.specs.declared.errors.TheConstants.{E_BPADDR, E_BPNAM, E_BPNUM, E_BMODE, E_CEF, E_EOF, E_FNA, E_FULL, E_MNF, E_PNNF, E_PTHFUL, E_SHARE, E_SLF, E_UNKSVC}
+use Rattle.user_names.specs.declared.name_fault.NameFault.TheVariants.{Unreadable, NoName}
+use Rattle.call_rules.specs.UserBytes.{user_bytes}
+use Rattle.io_model.specs.Path.{new_number}
+use Rattle.rbf_model.specs.Volume.{DiskVolume}
+use Rattle.rbf_model.specs.Walk.{WalkEnd, arrives, look_up, not_allowed, not_found, walk}
+use Rattle.rbf_change.specs.Calls.{cluster_size, free_total}
+use Rattle.rbf_change.specs.Contents.{written}
+use Rattle.rbf_change.specs.Growth.{clusters_needed}
+use Rattle.rbf_change.specs.Names.{may_change, may_delete}
+use Rattle.rbf_change.specs.NewFiles.{entry_clusters, owns_file}
+use Rattle.io_rules.specs.Io.{open_path}
+use Rattle.io_rules.specs.Modes.{can_read, can_write, is_mode}
+use Rattle.io_rules.specs.PathList.{PathList}
+use Rattle.io_rules.specs.Transfer.{line_at}
+use Rattle.io_rules.specs.Write.{error_line}
+use Rattle.io_rules.specs.declared.modes.TheConstants.{STANDARD_ERROR}
+use Rattle.io_rules.specs.declared.status.TheConstants.{SS_EOF, SS_OPT, SS_READY, OPTION_BYTES}
+use Rattle.file_rules.specs.Attempts.{file_step}
+use Rattle.file_rules.specs.Change.{MayBeTooLong}
+use Rattle.file_rules.specs.ChgDir.{may_go_to}
+use Rattle.file_rules.specs.Create.{clusters_for}
+use Rattle.file_rules.specs.Files.{Asker, Files, OpenFile, open_file, volume_at}
+use Rattle.file_rules.specs.Open.{is_for_execution, may_open, says_directory}
+use Rattle.file_rules.specs.Seek.{long_of}
+use Rattle.file_rules.specs.Sharing.{is_not_shared, is_open}
+use Rattle.file_rules.specs.Status.{asked_bytes}
+use Rattle.file_rules.specs.Step.{VolumeChange, changes, deed_of}
+use Rattle.file_rules.specs.Way.{Found, Way, along, before_last, last_of, list_of, nowhere, to_device, way_of, way_to_new}
+use Rattle.file_rules.specs.declared.path_call.PathCall.{PathCall}
+use Rattle.file_rules.specs.declared.path_call.PathCall.TheVariants as Call
+use Rattle.file_rules.specs.declared.places.FilePlace.{FilePlace}
+use Rattle.file_rules.specs.declared.status.TheConstants.{SS_ATTR, SS_FD, SS_POS, SS_SIZE}
+
+-- a call that a process makes, on a machine with so many terminals
+pub record Made : Type 0 where
+  pub call : PathCall
+  pub asker : Asker
+  pub files : Files
+  pub terms : ℕ
+
+-- ---- the list that it reads, and where that leads
+
+-- a call reads a path list
+abbrev pub reads_list : PathCall → Bool
+reads_list Call.Create = true
+reads_list Call.Open = true
+reads_list Call.MakDir = true
+reads_list Call.ChgDir = true
+reads_list Call.Delete = true
+reads_list Call.DeletX = true
+reads_list call = false
+
+-- it makes what its list names, and not: it names what is there
+abbrev pub makes_new : PathCall → Bool
+makes_new Call.Create = true
+makes_new Call.MakDir = true
+makes_new call = false
+
+-- it looks for execution, by its mode
+abbrev pub executes : PathCall → ℕ → Bool
+executes Call.MakDir mode = false
+executes Call.Delete mode = false
+executes call mode = is_for_execution mode
+
+-- the names that it walks along; what it makes or deletes is in the directory that it finds so
+abbrev pub walked : PathCall → List (List ℕ) → List (List ℕ)
+walked Call.Open names = names
+walked Call.ChgDir names = names
+walked call names = before_last names
+
+abbrev pub way_in : Made → PathList → Way
+way_in m list =
+    if makes_new m.call then way_to_new m.asker m.files m.terms (executes m.call m.asker.caller.regs.a) list
+    else way_of m.asker m.files m.terms (executes m.call m.asker.caller.regs.a) list
+
+-- its list leads this way
+pub record Leads (m : Made) (way : Way) : Type 0 where
+  pub reads : reads_list m.call ≡ true
+  pub list : PathList
+  pub read : list_of m.asker ≡ Ok list
+  pub is : way_in m list ≡ way
+
+-- it walks along these names on a volume, and ends so
+pub record Walks (m : Made) (names : List (List ℕ)) (place : FilePlace) (v : DiskVolume) (end : WalkEnd) : Type 0 where
+  pub leads : Leads m (along place names)
+  pub mounted : volume_at m.files place.drive ≡ Some v
+  pub is : walk v.files m.asker.user (executes m.call m.asker.caller.regs.a) place.number (walked m.call names) ≡ end
+
+-- it finds a file
+pub record Finds (m : Made) (names : List (List ℕ)) (found : Found) : Type 0 where
+  pub start : ℕ
+  pub walks : Walks m names (record { drive = found.place.drive; number = start }) found.volume
+      (arrives found.place.number)
+  pub there : found.volume.files found.place.number ≡ Some found.file
+
+-- it finds a directory, and this is the name of what it makes or deletes there
+pub record FindsIn (m : Made) (found : Found) (name : List ℕ) : Type 0 where
+  pub names : List (List ℕ)
+  pub finds : Finds m names found
+  pub last : last_of names ≡ Some name
+
+-- the number of a path that a call takes
+abbrev pub number_in : PathCall → Asker → ℕ
+number_in Call.PErr asker = STANDARD_ERROR
+number_in call asker = asker.caller.regs.a
+
+-- its number names a path on this file
+abbrev pub Names : Made → OpenFile → Type 0
+Names m found = open_file m.files m.asker.caller.process.0 (number_in m.call m.asker) ≡ Some found
+
+-- ---- the cause of each number
+
+-- the list breaks off at a byte that is not there, or the bytes that the call moves are not
+abbrev pub IsUnreadable : PathCall → Asker → Type 0
+IsUnreadable Call.Read asker = user_bytes asker.caller.cells asker.caller.regs.x asker.caller.regs.y ≡ None
+IsUnreadable Call.ReadLn asker = user_bytes asker.caller.cells asker.caller.regs.x asker.caller.regs.y ≡ None
+IsUnreadable Call.Write asker = user_bytes asker.caller.cells asker.caller.regs.x asker.caller.regs.y ≡ None
+IsUnreadable Call.WritLn asker = line_at asker.caller.cells asker.caller.regs.x asker.caller.regs.y ≡ None
+IsUnreadable Call.GetStt asker =
+    (asker.caller.regs.b ≡ SS_OPT) × (user_bytes asker.caller.cells asker.caller.regs.x OPTION_BYTES ≡ None)
+    ⊎ (asker.caller.regs.b ≡ SS_FD) × (user_bytes asker.caller.cells asker.caller.regs.x (asked_bytes asker) ≡ None)
+IsUnreadable call asker = (reads_list call ≡ true) × (list_of asker ≡ Err Unreadable)
+
+-- the mode of the call, or of its path, has no bit of those that it needs
+abbrev pub LacksMode : PathCall → Asker → OpenFile → Type 0
+LacksMode Call.Read asker found = can_read found.opened.desc.mode ≡ false
+LacksMode Call.ReadLn asker found = can_read found.opened.desc.mode ≡ false
+LacksMode Call.Write asker found = can_write found.opened.desc.mode ≡ false
+LacksMode Call.WritLn asker found = can_write found.opened.desc.mode ≡ false
+LacksMode Call.PErr asker found = can_write found.opened.desc.mode ≡ false
+LacksMode Call.SetStt asker found = (asker.caller.regs.b ≡ SS_SIZE) × (can_write found.opened.desc.mode ≡ false)
+LacksMode call asker found = ⊥
+
+abbrev pub HasBadMode : PathCall → ℕ → Type 0
+HasBadMode Call.Open mode = is_mode mode ≡ false
+HasBadMode Call.ChgDir mode = is_mode mode ≡ false
+HasBadMode Call.DeletX mode = is_mode mode ≡ false
+HasBadMode Call.Create mode = can_write mode ≡ false
+HasBadMode call mode = ⊥
+
+-- what is found may not be used so: a file that is opened, and a directory that a process goes to
+abbrev pub IsForbidden : PathCall → Asker → Found → Type 0
+IsForbidden Call.Open asker found = may_open found.file asker.user asker.caller.regs.a ≡ false
+IsForbidden Call.ChgDir asker found = may_go_to found.file asker.user asker.caller.regs.a ≡ false
+IsForbidden call asker found = ⊥
+
+-- the directory may not be changed, or a file with bit 7 in its attributes is to be made there, or the file of this
+-- name there may not be deleted
+abbrev pub IsForbiddenIn : Made → Found → List ℕ → Type 0
+IsForbiddenIn m found name =
+    (may_change found.file m.asker.user (executes m.call m.asker.caller.regs.a) ≡ false)
+    ⊎ (m.call ≡ Call.Create) × (says_directory m.asker.caller.regs.b ≡ true)
+    ⊎ (n : ℕ) × (makes_new m.call ≡ false) × (look_up found.file.contents name ≡ Some n)
+    × (may_delete (found.volume.files n) m.asker.user ≡ false)
+
+-- how many bytes a new file begins with
+abbrev pub first_size : PathCall → ℕ
+first_size Call.MakDir = 64
+first_size call = 0
+
+-- a new file and its entry have no room on the volume, or the entry none in the segments of its directory
+pub record HasNoRoom (m : Made) : Type 0 where
+  pub makes : makes_new m.call ≡ true
+  pub found : Found
+  pub name : List ℕ
+  pub finds : FindsIn m found name
+  pub full : free_total found.volume < clusters_for found (first_size m.call)
+
+pub record HasNoSegment (m : Made) : Type 0 where
+  pub makes : makes_new m.call ≡ true
+  pub found : Found
+  pub name : List ℕ
+  pub finds : FindsIn m found name
+  pub needs : 0 < entry_clusters (cluster_size found.volume) found.file
+  pub full : length found.file.segments ≡ 48
+
+-- the size that a call makes a file have
+abbrev pub Sizes : PathCall → Asker → OpenFile → ℕ → Type 0
+Sizes Call.Write asker found size =
+    (bytes : List ℕ) × (user_bytes asker.caller.cells asker.caller.regs.x asker.caller.regs.y ≡ Some bytes)
+    × (size ≡ length (written found.file.contents found.opened.desc.at bytes))
+Sizes Call.WritLn asker found size =
+    (bytes : List ℕ) × (line_at asker.caller.cells asker.caller.regs.x asker.caller.regs.y ≡ Some bytes)
+    × (size ≡ length (written found.file.contents found.opened.desc.at bytes))
+Sizes Call.PErr asker found size =
+    size ≡ length (written found.file.contents found.opened.desc.at (error_line asker.caller.regs.b))
+Sizes Call.SetStt asker found size = (asker.caller.regs.b ≡ SS_SIZE) × (size ≡ long_of asker.caller.regs)
+Sizes call asker found size = ⊥
+
+-- a file is to have a size for which too few clusters are free
+pub record CannotGrow (m : Made) : Type 0 where
+  pub found : OpenFile
+  pub names : Names m found
+  pub size : ℕ
+  pub asks : Sizes m.call m.asker found size
+  pub full : free_total found.volume < clusters_needed (cluster_size found.volume) found.file.segments size
+
+-- the change of a volume that the call is finds no place for a cluster in a list of segments
+pub record FindsNoSegment (m : Made) : Type 0 where
+  pub it : VolumeChange
+  pub is : deed_of (file_step m.call m.asker m.files m.terms) m.files ≡ changes it
+  pub v : DiskVolume
+  pub mounted : volume_at m.files it.drive ≡ Some v
+  pub full : MayBeTooLong it.change v
+
+-- the call takes bytes from the position on, or asks whether there are any
+abbrev pub NeedsByte : PathCall → ℕ → Type 0
+NeedsByte Call.Read code = ⊤
+NeedsByte Call.ReadLn code = ⊤
+NeedsByte Call.GetStt code = code ≡ SS_EOF
+NeedsByte call code = ⊥
+
+-- the call has no such status
+abbrev pub HasNoStatus : PathCall → ℕ → Type 0
+HasNoStatus Call.GetStt code =
+    (code ≢ SS_OPT) × (code ≢ SS_READY) × (code ≢ SS_SIZE) × (code ≢ SS_POS) × (code ≢ SS_EOF) × (code ≢ SS_FD)
+HasNoStatus Call.SetStt code = (code ≢ SS_SIZE) × (code ≢ SS_ATTR)
+HasNoStatus call code = ⊥
+
+-- the cause of a refusal, by its number
+pub data FileCause (m : Made) (number : ℕ) : Type 0 where
+  bad_address : number ≡ E_BPADDR → IsUnreadable m.call m.asker → FileCause m number
+  bad_mode : number ≡ E_BMODE → HasBadMode m.call m.asker.caller.regs.a → FileCause m number
+  path_mode : (found : OpenFile) → number ≡ E_BMODE → Names m found → LacksMode m.call m.asker found
+      → FileCause m number
+  bad_number : number ≡ E_BPNUM → m.call ≡ Call.Seek
+      → open_path m.files.io m.asker.caller.process.0 m.asker.caller.regs.a ≡ None → FileCause m number
+  no_name : number ≡ E_BPNAM → reads_list m.call ≡ true → list_of m.asker ≡ Err NoName → FileCause m number
+  no_last : (names : List (List ℕ)) (place : FilePlace) → number ≡ E_BPNAM → makes_new m.call ≡ true
+      → Leads m (along place names) → last_of names ≡ None → FileCause m number
+  -- the list leads nowhere: E$BPNam, E$MNF or E$PNNF
+  leads_nowhere : Leads m (nowhere number) → FileCause m number
+  no_volume : (names : List (List ℕ)) (place : FilePlace) → number ≡ E_MNF → Leads m (along place names)
+      → volume_at m.files place.drive ≡ None → FileCause m number
+  a_device : number ≡ E_FNA → m.call ≢ Call.Open → m.call ≢ Call.Create → Leads m to_device → FileCause m number
+  finds_nothing : (names : List (List ℕ)) (place : FilePlace) (v : DiskVolume) → number ≡ E_PNNF
+      → Walks m names place v WalkEnd.not_found → FileCause m number
+  not_there : (names : List (List ℕ)) (place : FilePlace) (v : DiskVolume) (n : ℕ) → number ≡ E_PNNF
+      → Walks m names place v (arrives n) → v.files n ≡ None → FileCause m number
+  not_in : (found : Found) (name : List ℕ) → number ≡ E_PNNF → makes_new m.call ≡ false → FindsIn m found name
+      → look_up found.file.contents name ≡ None → FileCause m number
+  may_not_pass : (names : List (List ℕ)) (place : FilePlace) (v : DiskVolume) → number ≡ E_FNA
+      → Walks m names place v WalkEnd.not_allowed → FileCause m number
+  forbidden : (names : List (List ℕ)) (found : Found) → number ≡ E_FNA → Finds m names found
+      → IsForbidden m.call m.asker found → FileCause m number
+  forbidden_in : (found : Found) (name : List ℕ) → number ≡ E_FNA → FindsIn m found name
+      → IsForbiddenIn m found name → FileCause m number
+  a_root : (names : List (List ℕ)) (place : FilePlace) → number ≡ E_FNA → makes_new m.call ≡ false
+      → Leads m (along place names) → last_of names ≡ None → FileCause m number
+  not_owned : (found : OpenFile) → number ≡ E_FNA → m.call ≡ Call.SetStt → m.asker.caller.regs.b ≡ SS_ATTR
+      → Names m found → owns_file found.file m.asker.user ≡ false → FileCause m number
+  there_already : (found : Found) (name : List ℕ) → number ≡ E_CEF → makes_new m.call ≡ true → FindsIn m found name
+      → IsSome (look_up found.file.contents name) → FileCause m number
+  not_shared : (names : List (List ℕ)) (found : Found) → number ≡ E_SHARE → m.call ≡ Call.Open → Finds m names found
+      → is_not_shared m.files found m.asker.caller.regs.a ≡ true → FileCause m number
+  is_used : (found : Found) (name : List ℕ) (n : ℕ) → number ≡ E_SHARE → makes_new m.call ≡ false
+      → FindsIn m found name → look_up found.file.contents name ≡ Some n
+      → is_open m.files (record { drive = found.place.drive; number = n }) ≡ true → FileCause m number
+  no_number : number ≡ E_PTHFUL → reads_list m.call ≡ true
+      → new_number m.files.io.paths m.asker.caller.process.0 ≡ None → FileCause m number
+  no_room : number ≡ E_FULL → HasNoRoom m → FileCause m number
+  cannot_grow : number ≡ E_FULL → CannotGrow m → FileCause m number
+  no_segment : number ≡ E_SLF → HasNoSegment m → FileCause m number
+  finds_no_segment : number ≡ E_SLF → FindsNoSegment m → FileCause m number
+  end_of_file : (found : OpenFile) → number ≡ E_EOF → NeedsByte m.call m.asker.caller.regs.b → Names m found
+      → length found.file.contents ≤ found.opened.desc.at → FileCause m number
+  no_status : (found : OpenFile) → number ≡ E_UNKSVC → Names m found → HasNoStatus m.call m.asker.caller.regs.b
+      → FileCause m number
