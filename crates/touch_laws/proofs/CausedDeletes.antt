@@ -23,7 +23,8 @@ use Rattle.file_rules.specs.Way.{Found, Way, along, before_last, last_of, list_o
 use Rattle.file_rules.specs.declared.path_call.PathCall.{PathCall}
 use Rattle.file_rules.specs.declared.path_call.PathCall.TheVariants as Call
 use Rattle.file_rules.specs.declared.places.FilePlace.{FilePlace}
-use Rattle.touch_laws.specs.Causes.{FileCause, Finds, FindsIn, Leads, Made, Walks, a_device, a_root, executes, forbidden_in, is_used, leads_nowhere, makes_new, not_in, reads_list}
+use Rattle.touch_laws.specs.Causes.{FileCause, Finds, FindsIn, Leads, Made, Walks, a_device, a_root, executes, forbidden_in, is_used, makes_new, not_in, reads_list}
+use Rattle.touch_laws.proofs.Nowhere.{nowhere-caused}
 use Rattle.touch_laws.proofs.Caused.{StepCaused, caused-list, caused-needs, caused-refused, caused-refuses, caused-walks, not-is}
 use Rattle.touch_laws.proofs.CausedNames.{tests}
 use Rattle.touch_laws.proofs.CausedNumbers.{made}
@@ -66,7 +67,7 @@ module _ (m : Made) (reads : reads_list m.call ≡ true) (finds_it : makes_new m
       caused-walks m execute names (before_last names) (λ place v end leads mounted is. walks_so names place v end leads mounted is) place (deletes_in m.asker m.files execute list name) leads
       (λ found finds. in-it list name found (record { names = names; finds = finds; last = last_is place names refl }))
   delete-way list to_device leads last last_is = caused-refused m E_FNA (a_device refl other_open other_create leads)
-  delete-way list (nowhere number) leads last last_is = caused-refused m number (leads_nowhere leads)
+  delete-way list (nowhere number) leads last last_is = caused-refused m number (nowhere-caused m number leads)
 
 -- ---- the names behind the start of a way are those of the list
 

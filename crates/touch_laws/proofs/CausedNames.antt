@@ -31,7 +31,8 @@ use Rattle.file_rules.specs.Way.{Found, Way, along, before_last, last_of, list_o
 use Rattle.file_rules.specs.declared.path_call.PathCall.{PathCall}
 use Rattle.file_rules.specs.declared.path_call.PathCall.TheVariants as Call
 use Rattle.file_rules.specs.declared.places.FilePlace.{FilePlace}
-use Rattle.touch_laws.specs.Causes.{FileCause, Finds, FindsIn, HasBadMode, IsUnreadable, Leads, Made, Walks, a_device, a_root, bad_mode, executes, first_size, forbidden, forbidden_in, is_used, leads_nowhere, makes_new, no_last, no_number, no_room, no_segment, not_in, not_shared, reads_list, there_already}
+use Rattle.touch_laws.specs.Causes.{FileCause, Finds, FindsIn, HasBadMode, IsUnreadable, Leads, Made, Walks, a_device, a_root, bad_mode, executes, first_size, forbidden, forbidden_in, is_used, makes_new, no_last, no_number, no_room, no_segment, not_in, not_shared, reads_list, there_already}
+use Rattle.touch_laws.proofs.Nowhere.{nowhere-caused}
 use Rattle.touch_laws.proofs.Caused.{StepCaused, caused-done, caused-list, caused-needs, caused-refused, caused-refuses, caused-walks, not-is}
 use Rattle.touch_laws.proofs.CausedNumbers.{made}
 
@@ -87,7 +88,7 @@ module _ (asker : Asker) (files : Files) (terms : ℕ) where
       (number-free opening refl (λ number. done (opened_regs asker.caller.regs list number) (with_path_table files (paths_after_begin files.io.paths asker.caller.process.0 (new_desc (target_on found.file found.place) asker.caller.regs.a))))
       (λ number. caused-done opening (opened_regs asker.caller.regs list number) (with_path_table files (paths_after_begin files.io.paths asker.caller.process.0 (new_desc (target_on found.file found.place) asker.caller.regs.a)))))))
   open-way list to_device leads = inl (record { device = Device.Open; device_is = refl; is = refl })
-  open-way list (nowhere number) leads = caused-refused opening number (leads_nowhere leads)
+  open-way list (nowhere number) leads = caused-refused opening number (nowhere-caused opening number leads)
 
   pub open-caused : StepCaused (made Call.Open asker files terms) (i_open asker files terms)
   open-caused =
@@ -116,7 +117,7 @@ module _ (asker : Asker) (files : Files) (terms : ℕ) where
           (λ number. room creating refl refl found name finds (comes (changes (record { drive = found.place.drive; change = creates found.place.number name asker.caller.regs.b; effect = opens_new asker files list found.place.drive number })))
           (λ n. (opened_regs asker.caller.regs list number, refl))))))
   create-way list to_device leads = inl (record { device = Device.Create; device_is = refl; is = refl })
-  create-way list (nowhere number) leads = caused-refused creating number (leads_nowhere leads)
+  create-way list (nowhere number) leads = caused-refused creating number (nowhere-caused creating number leads)
 
   pub create-caused : StepCaused (made Call.Create asker files terms) (i_create asker files terms)
   create-caused =
@@ -142,7 +143,7 @@ module _ (asker : Asker) (files : Files) (terms : ℕ) where
           (room making refl refl found name finds (comes (changes (record { drive = found.place.drive; change = makes_directory found.place.number name asker.caller.regs.b; effect = λ n. leaves (answers (past_list asker.caller.regs list)) files })))
           (λ n. (past_list asker.caller.regs list, refl))))
   make-way list to_device leads = caused-refused making E_FNA (a_device refl (λ same. cc) (λ same. cc) leads)
-  make-way list (nowhere number) leads = caused-refused making number (leads_nowhere leads)
+  make-way list (nowhere number) leads = caused-refused making number (nowhere-caused making number leads)
 
   pub makdir-caused : StepCaused (made Call.MakDir asker files terms) (i_makdir asker files terms)
   makdir-caused =
@@ -162,7 +163,7 @@ module _ (asker : Asker) (files : Files) (terms : ℕ) where
       (λ test. forbidden names found refl finds (not-is (may_go_to found.file asker.user asker.caller.regs.a) test))
       (caused-done going (past_list asker.caller.regs list) (with_directories_of files asker.caller.process.0 (with_directory (directories_at files asker.caller.process.0) (is_for_execution asker.caller.regs.a) found.place))))
   go-way list to_device leads = caused-refused going E_FNA (a_device refl (λ same. cc) (λ same. cc) leads)
-  go-way list (nowhere number) leads = caused-refused going number (leads_nowhere leads)
+  go-way list (nowhere number) leads = caused-refused going number (nowhere-caused going number leads)
 
   pub chgdir-caused : StepCaused (made Call.ChgDir asker files terms) (i_chgdir asker files terms)
   chgdir-caused =

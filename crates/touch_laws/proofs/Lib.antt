@@ -11,6 +11,7 @@ pub mod Lists
 pub mod Waiting
 pub mod OfAttempts
 pub mod Caused
+pub mod Nowhere
 pub mod CausedNumbers
 pub mod CausedNames
 pub mod CausedDeletes

@@ -1,7 +1,10 @@
 -- Why a call on files is refused that is none on a terminal or a pipe (System Programmer's Manual, "I/O service
 -- requests"; OS-9 Technical Reference, Random Block File Manager), but for the fault of a drive.
-use Rattle.std.specs.Prelude.{◌≡◌, ◌≢◌, ◌⊎◌, ℕ, ◌+◌, ◌<◌, ◌≤◌, ⊤, Bool, true, false, IsSome, Option, Some, None, Result, Ok, Err, List, length, if◌then◌else◌}
+use Rattle.std.specs.Prelude.{◌≡◌, ◌≢◌, ◌⊎◌, ℕ, ◌+◌, ◌<◌, ◌≤◌, ⊤, Bool, true, false, IsSome, Option, Some, None, Result, Ok, Err, List, length, option_and_then, if◌then◌else◌}
 use Rattle.os9_base.specs.declared.errors.TheConstants.{E_BPADDR, E_BPNAM, E_BPNUM, E_BMODE, E_CEF, E_EOF, E_FNA, E_FULL, E_MNF, E_PNNF, E_PTHFUL, E_SHARE, E_SLF, E_UNKSVC}
+use Rattle.device_table.specs.Names.{device_of}
+use Rattle.device_table.specs.declared.devices.Dev.{Dev}
+use Rattle.device_table.specs.declared.devices.Dev.TheVariants as Device
 use Rattle.user_names.specs.declared.name_fault.NameFault.TheVariants.{Unreadable, NoName}
 use Rattle.call_rules.specs.UserBytes.{user_bytes}
 use Rattle.io_model.specs.Path.{new_number}
@@ -14,7 +17,7 @@ use Rattle.rbf_change.specs.Names.{may_change, may_delete}
 use Rattle.rbf_change.specs.NewFiles.{entry_clusters, owns_file}
 use Rattle.io_rules.specs.Io.{open_path}
 use Rattle.io_rules.specs.Modes.{can_read, can_write, is_mode}
-use Rattle.io_rules.specs.PathList.{PathList}
+use Rattle.io_rules.specs.PathList.{PathList, ends_in_dots, has_slash_behind_device}
 use Rattle.io_rules.specs.Transfer.{line_at}
 use Rattle.io_rules.specs.Write.{error_line}
 use Rattle.io_rules.specs.declared.modes.TheConstants.{STANDARD_ERROR}
@@ -23,13 +26,14 @@ use Rattle.file_rules.specs.Attempts.{file_step}
 use Rattle.file_rules.specs.Change.{MayBeTooLong}
 use Rattle.file_rules.specs.ChgDir.{may_go_to}
 use Rattle.file_rules.specs.Create.{clusters_for}
-use Rattle.file_rules.specs.Files.{Asker, Files, OpenFile, open_file, volume_at}
+use Rattle.file_rules.specs.Files.{Asker, Files, OpenFile, directory_of, open_file, volume_at}
+use Rattle.file_rules.specs.MakDir.{new_directory_size}
 use Rattle.file_rules.specs.Open.{is_for_execution, may_open, says_directory}
 use Rattle.file_rules.specs.Seek.{long_of}
 use Rattle.file_rules.specs.Sharing.{is_not_shared, is_open}
 use Rattle.file_rules.specs.Status.{asked_bytes}
 use Rattle.file_rules.specs.Step.{VolumeChange, changes, deed_of}
-use Rattle.file_rules.specs.Way.{Found, Way, along, before_last, last_of, list_of, nowhere, to_device, way_of, way_to_new}
+use Rattle.file_rules.specs.Way.{Found, Way, along, before_last, is_root, last_of, list_of, to_device, way_of, way_to_new}
 use Rattle.file_rules.specs.declared.path_call.PathCall.{PathCall}
 use Rattle.file_rules.specs.declared.path_call.PathCall.TheVariants as Call
 use Rattle.file_rules.specs.declared.places.FilePlace.{FilePlace}
@@ -83,6 +87,31 @@ pub record Leads (m : Made) (way : Way) : Type 0 where
   pub list : PathList
   pub read : list_of m.asker ≡ Ok list
   pub is : way_in m list ≡ way
+
+-- the device at which a list starts, if it names one that is there
+abbrev pub device_in : Made → PathList → Option Dev
+device_in m list = option_and_then (device_of (length m.files.drives) m.terms) list.device
+
+-- a device that is no drive
+abbrev pub IsNoDrive : Dev → Type 0
+IsNoDrive (Device.Drive drive) = ⊥
+IsNoDrive (Device.Term terminal) = ⊤
+IsNoDrive Device.Pipe = ⊤
+
+-- why a list leads nowhere, by the number
+pub data LeadsNowhere (m : Made) (list : PathList) (number : ℕ) : Type 0 where
+  -- the last name of what is to be made is that of a directory itself or of the one above it
+  dots : number ≡ E_BPNAM → makes_new m.call ≡ true → ends_in_dots list ≡ true → LeadsNowhere m list number
+  -- the root of a drive is to be made
+  root : number ≡ E_BPNAM → makes_new m.call ≡ true → is_root m.files m.terms list ≡ true → LeadsNowhere m list number
+  slash : (device : Dev) → number ≡ E_BPNAM → device_in m list ≡ Some device → IsNoDrive device
+      → has_slash_behind_device list ≡ true → LeadsNowhere m list number
+  no_device : number ≡ E_MNF → IsSome list.device → device_in m list ≡ None → LeadsNowhere m list number
+  not_mounted : (drive : ℕ) → number ≡ E_MNF → device_in m list ≡ Some (Device.Drive drive)
+      → volume_at m.files drive ≡ None → LeadsNowhere m list number
+  no_directory : number ≡ E_PNNF → list.device ≡ None
+      → directory_of m.files m.asker.caller.process.0 (executes m.call m.asker.caller.regs.a) ≡ None
+      → LeadsNowhere m list number
 
 -- it walks along these names on a volume, and ends so
 pub record Walks (m : Made) (names : List (List ℕ)) (place : FilePlace) (v : DiskVolume) (end : WalkEnd) : Type 0 where
@@ -159,7 +188,7 @@ IsForbiddenIn m found name =
 
 -- how many bytes a new file begins with
 abbrev pub first_size : PathCall → ℕ
-first_size Call.MakDir = 64
+first_size Call.MakDir = new_directory_size
 first_size call = 0
 
 -- a new file and its entry have no room on the volume, or the entry none in the segments of its directory
@@ -232,8 +261,8 @@ pub data FileCause (m : Made) (number : ℕ) : Type 0 where
   no_name : number ≡ E_BPNAM → reads_list m.call ≡ true → list_of m.asker ≡ Err NoName → FileCause m number
   no_last : (names : List (List ℕ)) (place : FilePlace) → number ≡ E_BPNAM → makes_new m.call ≡ true
       → Leads m (along place names) → last_of names ≡ None → FileCause m number
-  -- the list leads nowhere: E$BPNam, E$MNF or E$PNNF
-  leads_nowhere : Leads m (nowhere number) → FileCause m number
+  leads_nowhere : (list : PathList) → reads_list m.call ≡ true → list_of m.asker ≡ Ok list
+      → LeadsNowhere m list number → FileCause m number
   no_volume : (names : List (List ℕ)) (place : FilePlace) → number ≡ E_MNF → Leads m (along place names)
       → volume_at m.files place.drive ≡ None → FileCause m number
   a_device : number ≡ E_FNA → m.call ≢ Call.Open → m.call ≢ Call.Create → Leads m to_device → FileCause m number
