@@ -9,18 +9,18 @@ use Rattle.os9_outer.specs.TerminalState.{TerminalState}
 use Rattle.call_rules.specs.CallResult.{CallResult}
 use Rattle.call_rules.specs.Inner.{Inner}
 use Rattle.rbf_model.specs.Volume.{DiskVolume}
-use Rattle.io_rules.specs.Attempts.{Does, io_after, kept_in, result_by, result_of}
+use Rattle.io_rules.specs.Attempts.{Does, kept_in, result_by, result_of}
 use Rattle.io_rules.specs.Io.{Io, with_call, with_paths}
 use Rattle.io_rules.specs.Step.{IoEffect, IoEnd, IoStep, answers, fails, keeps}
 use Rattle.file_rules.specs.Attempts.{FileAttempts, asker_of, file_step, files_after, io_effect}
-use Rattle.file_rules.specs.Files.{Files, Asker, DriveState, NoneFailed, OneFailed, directories_at, volume_at, with_drives, with_io, with_volume}
-use Rattle.file_rules.specs.Step.{FileEffect, FileStep, Deed, leaves_so, as_io, changes, deed_of, refuses_so, on_files, with_drives_after, with_volume_after, IsChanged, DoesDeed, IsBroken, FileDoes, VolumeChange}
+use Rattle.file_rules.specs.Files.{Files, Asker, DriveState, NoneFailed, OneFailed, directories_at, volume_at, with_drives, with_volume}
+use Rattle.file_rules.specs.Step.{FileEffect, FileStep, Deed, leaves_so, as_io, changes, deed_of, refuses_so, on_files, with_drives_after, with_volume_after, DoesDeed, IsBroken, FileDoes}
 use Rattle.file_rules.specs.declared.path_call.PathCall.{PathCall}
 use Rattle.file_rules.specs.declared.path_call.PathCall.TheVariants as Call
 use Rattle.io_rules.specs.declared.io_call.IoCall.TheVariants as Device
 use Rattle.touch_laws.specs.Devices.{IsOnDevice}
-use Rattle.touch_laws.specs.Touch.{IsDone, IsOver, LeavesDevices, NoVolumeChanges, OneDriveFails, OneVolumeChanges, PathsMove, RefusalLeaves}
-use Rattle.touch_laws.proofs.Splits.{DoesNothing, IsDeviceStep, Leaves, Splits, StepSplits, device-splits, none-splits, not-refused}
+use Rattle.touch_laws.specs.Touch.{IsOver, LeavesDevices, NoVolumeChanges, OneDriveFails, OneVolumeChanges, PathsMove, RefusalLeaves}
+use Rattle.touch_laws.proofs.Splits.{IsDeviceStep, Leaves, Splits, StepSplits, device-splits, none-splits, not-refused}
 use Rattle.touch_laws.proofs.OnNumbers.{getstt-split, perr-split, read-split, readln-split, seek-split, setstt-split, write-split, writln-split}
 use Rattle.touch_laws.proofs.OnNames.{chgdir-split, create-split, delete-split, deletx-split, makdir-split, open-split}
 

@@ -1,5 +1,5 @@
 -- Without a mounted volume and a directory of the process, the calls that terminals and pipes have are theirs.
-use Rattle.std.proofs.Common.{◌≡◌, ◌⊎◌, ℕ, ◌==◌, ◌&&◌, ◌||◌, Bool, true, false, not, Option, Some, None, Result, Ok, Err, List, length, refl, sym, ap, ◌∙◌, subst, inl, inr}
+use Rattle.std.proofs.Common.{◌≡◌, ◌⊎◌, ℕ, ◌==◌, ◌&&◌, ◌||◌, Bool, true, false, Option, Some, None, Result, Ok, Err, List, length, refl, sym, ap, ◌∙◌, subst, inl, inr}
 use Rattle.std.specs.Prelude.{MatchOption, option_and_then, option_map, if◌then◌else◌}
 use Rattle.std.specs.Option.{option_map_or}
 use Rattle.std.proofs.lemmas.Option.{none-some}
@@ -9,24 +9,24 @@ use Rattle.os9_outer.specs.TerminalState.{TerminalState}
 use Rattle.user_names.specs.declared.name_fault.NameFault.{NameFault}
 use Rattle.user_names.specs.declared.name_fault.NameFault.TheVariants.{Unreadable, NoName}
 use Rattle.call_rules.specs.CallResult.{CallResult}
-use Rattle.call_rules.specs.Inner.{Inner, regs_at}
+use Rattle.call_rules.specs.Inner.{Inner}
 use Rattle.device_table.specs.Names.{device_of}
 use Rattle.device_table.specs.declared.devices.Dev.{Dev}
 use Rattle.device_table.specs.declared.devices.Dev.TheVariants.{Drive, Term, Pipe}
 use Rattle.rbf_model.specs.Volume.{DiskVolume}
 use Rattle.io_rules.specs.Again.{path_number}
-use Rattle.io_rules.specs.Attempts.{Does, IoAttempts, io_after, io_step, result_of}
+use Rattle.io_rules.specs.Attempts.{Does, IoAttempts, io_step, result_of}
 use Rattle.io_rules.specs.Io.{Io, OpenPath, open_path}
-use Rattle.io_rules.specs.Lead.{Lead, Search, a_new_place, lead_by_device, lead_of, on_device, on_drive, what_is_there, nowhere as leads_nowhere}
+use Rattle.io_rules.specs.Lead.{Lead, a_new_place, lead_by_device, lead_of, on_device, what_is_there, nowhere as leads_nowhere}
 use Rattle.io_rules.specs.Modes.{can_write, is_mode}
 use Rattle.io_rules.specs.Open.{i_create as creates_device, i_open as opens_device, opens_lead, reads_list as reads_device_list}
-use Rattle.io_rules.specs.PathList.{PathList, ends_in_dots, has_slash_behind_device, path_list}
-use Rattle.io_rules.specs.Step.{IoEffect, IoStep, refused as io_refused}
+use Rattle.io_rules.specs.PathList.{PathList, ends_in_dots, has_slash_behind_device}
+use Rattle.io_rules.specs.Step.{IoStep, refused as io_refused}
 use Rattle.io_rules.specs.declared.io_call.IoCall.{IoCall}
 use Rattle.io_rules.specs.declared.io_call.IoCall.TheVariants as Device
 use Rattle.file_rules.specs.Attempts.{FileAttempts, asker_of, file_step, files_after, io_effect}
 use Rattle.file_rules.specs.Create.{creates_on_way}
-use Rattle.file_rules.specs.Files.{Files, Asker, OpenFile, directory_of, open_file, open_file_at, place_of_target, volume_at, with_io}
+use Rattle.file_rules.specs.Files.{Files, Asker, directory_of, open_file, open_file_at, place_of_target, volume_at, with_io}
 use Rattle.file_rules.specs.Open.{is_for_execution, opens_on_way, tests_mode}
 use Rattle.file_rules.specs.Step.{FileEffect, FileStep, refused, comes, as_io, FileDoes, on_files, refuses_so, with_drives_after}
 use Rattle.file_rules.specs.Way.{Way, is_drive, is_root, list_of, nowhere, reads_list, to_device, to_device_of, way_by, way_from, way_of, way_of_device, way_on_drive, way_to_new}

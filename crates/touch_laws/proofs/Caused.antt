@@ -1,24 +1,21 @@
 -- Why the parts of a step of a call on files refuse: the tests, the list that is read, and the walk.
-use Rattle.std.proofs.Common.{◌≡◌, ◌⊎◌, ℕ, ◌≤◌, not, Bool, true, false, Option, Some, None, Result, Ok, Err, List, [], ◌∷◌, length, is_none, refl, sym, ap, ◌∙◌, subst, inl, inr}
-use Rattle.std.specs.Prelude.{slice_get}
+use Rattle.std.proofs.Common.{◌≡◌, ◌⊎◌, ℕ, not, Bool, true, false, Option, Some, None, Result, Ok, Err, List, is_none, refl, subst}
 use Rattle.std.proofs.lemmas.Bool.{false≢true}
-use Rattle.os9_base.specs.declared.errors.TheConstants.{E_BPADDR, E_BPNAM, E_FNA, E_MNF, E_PNNF, E_SLF}
+use Rattle.os9_base.specs.declared.errors.TheConstants.{E_BPADDR, E_BPNAM, E_FNA, E_MNF, E_PNNF}
 use Rattle.os9_base.specs.declared.registers.Regs.{Regs}
 use Rattle.os9_outer.specs.TerminalState.{TerminalState}
 use Rattle.user_names.specs.declared.name_fault.NameFault.{NameFault}
 use Rattle.user_names.specs.declared.name_fault.NameFault.TheVariants.{Unreadable, NoName}
-use Rattle.rbf_model.specs.File.{DiskFile}
 use Rattle.rbf_model.specs.Volume.{DiskVolume}
 use Rattle.rbf_model.specs.Walk.{WalkEnd, arrives, not_allowed, not_found, walk}
 use Rattle.io_rules.specs.Attempts.{Does}
 use Rattle.io_rules.specs.PathList.{PathList}
-use Rattle.io_rules.specs.Step.{IoEffect, IoEnd, IoStep, answers, fails}
-use Rattle.file_rules.specs.Change.{Change}
+use Rattle.io_rules.specs.Step.{IoEffect, answers, fails}
 use Rattle.file_rules.specs.Files.{Files, volume_at}
-use Rattle.file_rules.specs.Step.{Step, refused, comes, reaches, needs, refuses, FileEffect, FileStep, Deed, leaves_so, as_io, changes, deed_of, done, leaves}
-use Rattle.file_rules.specs.Way.{Found, Way, along, list_of, reads_list as reads_list_of, walk_ends, walks}
+use Rattle.file_rules.specs.Step.{refused, reaches, needs, refuses, FileStep, Deed, leaves_so, as_io, changes, deed_of, done}
+use Rattle.file_rules.specs.Way.{Found, along, list_of, reads_list as reads_list_of, walk_ends, walks}
 use Rattle.file_rules.specs.declared.places.FilePlace.{FilePlace}
-use Rattle.touch_laws.specs.Causes.{FileCause, Finds, IsUnreadable, Leads, Made, Walks, bad_address, finds_no_segment, finds_nothing, may_not_pass, no_name, no_volume, not_there, reads_list, way_in}
+use Rattle.touch_laws.specs.Causes.{FileCause, Finds, IsUnreadable, Leads, Made, Walks, bad_address, finds_nothing, may_not_pass, no_name, no_volume, not_there, reads_list}
 use Rattle.touch_laws.proofs.Splits.{IsDeviceStep, not-refused}
 
 pub is_nothing : {X : Type 0} (o : Option X) → is_none o ≡ true → o ≡ None

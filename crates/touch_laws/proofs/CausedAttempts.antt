@@ -5,12 +5,12 @@ use Rattle.os9_base.specs.declared.registers.TimePacket.{TimePacket}
 use Rattle.os9_outer.specs.TerminalState.{TerminalState}
 use Rattle.call_rules.specs.CallResult.{CallResult}
 use Rattle.call_rules.specs.Inner.{Inner}
-use Rattle.io_rules.specs.Attempts.{result_by, result_of}
-use Rattle.io_rules.specs.Step.{IoEffect, IoEnd, answers, fails}
+use Rattle.io_rules.specs.Attempts.{result_of}
+use Rattle.io_rules.specs.Step.{fails}
 use Rattle.io_rules.specs.declared.io_call.IoCall.TheVariants as Device
 use Rattle.file_rules.specs.Attempts.{FileAttempts, asker_of, file_step, files_after, io_effect}
 use Rattle.file_rules.specs.Files.{Asker, DriveState, Files, NoneFailed}
-use Rattle.file_rules.specs.Step.{Deed, DoesDeed, FileDoes, FileEffect, FileStep, IsBroken, IsTooLong, VolumeChange, as_io, changes, deed_of, leaves_so, on_files, with_drives_after}
+use Rattle.file_rules.specs.Step.{Deed, DoesDeed, FileDoes, FileEffect, FileStep, as_io, changes, deed_of, leaves_so, with_drives_after}
 use Rattle.file_rules.specs.declared.path_call.PathCall.{PathCall}
 use Rattle.file_rules.specs.declared.path_call.PathCall.TheVariants as Call
 use Rattle.touch_laws.specs.Causes.{FileCause, finds_no_segment}

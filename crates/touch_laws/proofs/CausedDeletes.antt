@@ -1,6 +1,6 @@
 -- Why I$Delete and I$DeletX are refused.
-use Rattle.std.proofs.Common.{◌≡◌, ◌≢◌, ◌⊎◌, ℕ, ◌-◌, not, Bool, true, false, Option, Some, None, List, [], ◌∷◌, length, refl, sym, ap, ◌∙◌, subst, inl, inr, arith}
-use Rattle.std.specs.Prelude.{slice_get, take, if◌then◌else◌}
+use Rattle.std.proofs.Common.{◌≡◌, ◌≢◌, ℕ, not, Bool, true, false, Option, Some, None, List, [], ◌∷◌, length, refl, sym, ap, ◌∙◌, inl, inr, arith}
+use Rattle.std.specs.Prelude.{slice_get, if◌then◌else◌}
 use Rattle.std.proofs.lemmas.Option.{none-some}
 use Rattle.os9_base.specs.declared.errors.TheConstants.{E_BPNAM, E_FNA, E_PNNF, E_SHARE}
 use Rattle.device_table.specs.Names.{device_of}
@@ -13,17 +13,16 @@ use Rattle.io_rules.specs.Modes.{is_mode}
 use Rattle.io_rules.specs.PathList.{PathList, has_slash_behind_device}
 use Rattle.io_rules.specs.Step.{answers}
 use Rattle.file_rules.specs.Change.{deletes}
-use Rattle.file_rules.specs.Delete.{deletes_by, deletes_file, deletes_in, deletes_named, i_delete, i_deletx}
+use Rattle.file_rules.specs.Delete.{deletes_file, deletes_in, deletes_named, i_delete, i_deletx}
 use Rattle.file_rules.specs.Files.{Files, Asker, directory_of, volume_at}
 use Rattle.file_rules.specs.MakDir.{past_list}
 use Rattle.file_rules.specs.Open.{is_for_execution, tests_mode}
 use Rattle.file_rules.specs.Sharing.{is_open}
 use Rattle.file_rules.specs.Step.{FileStep, refused, comes, changes, leaves, needs, refuses}
-use Rattle.file_rules.specs.Way.{Found, Way, along, before_last, last_of, list_of, nowhere, to_device, walks, way_by, way_from, way_of, way_of_device, way_on_drive}
-use Rattle.file_rules.specs.declared.path_call.PathCall.{PathCall}
+use Rattle.file_rules.specs.Way.{Found, Way, along, before_last, last_of, list_of, nowhere, to_device, way_by, way_from, way_of, way_of_device, way_on_drive}
 use Rattle.file_rules.specs.declared.path_call.PathCall.TheVariants as Call
 use Rattle.file_rules.specs.declared.places.FilePlace.{FilePlace}
-use Rattle.touch_laws.specs.Causes.{FileCause, Finds, FindsIn, Leads, Made, Walks, a_device, a_root, executes, forbidden_in, is_used, makes_new, not_in, reads_list}
+use Rattle.touch_laws.specs.Causes.{FindsIn, Leads, Made, Walks, a_device, a_root, executes, forbidden_in, is_used, makes_new, not_in, reads_list}
 use Rattle.touch_laws.proofs.Nowhere.{nowhere-caused}
 use Rattle.touch_laws.proofs.Caused.{StepCaused, caused-list, caused-needs, caused-refused, caused-refuses, caused-walks, not-is}
 use Rattle.touch_laws.proofs.CausedNames.{tests}

@@ -1,16 +1,12 @@
 -- Why calls on path lists are refused that lead to no terminal and no pipe.
-use Rattle.std.proofs.Common.{◌≡◌, ◌≢◌, ◌⊎◌, ℕ, ◌==◌, ◌&&◌, not, Bool, true, false, Option, Some, None, Err, Ok, List, [], ◌∷◌, length, refl, sym, ap, ◌∙◌, subst, inl, inr}
-use Rattle.std.specs.Prelude.{is_some, nat_lt, slice_get, take, if◌then◌else◌}
+use Rattle.std.proofs.Common.{◌≡◌, ℕ, ◌==◌, ◌&&◌, not, Bool, true, false, List, length, refl, inl, inr}
+use Rattle.std.specs.Prelude.{is_some, nat_lt}
 use Rattle.std.proofs.lemmas.Bool.{and_parts, eqb-true, ltb-true}
-use Rattle.std.proofs.lemmas.Option.{none-some}
-use Rattle.os9_base.specs.declared.errors.TheConstants.{E_BPNAM, E_BMODE, E_CEF, E_FNA, E_FULL, E_PNNF, E_PTHFUL, E_SHARE, E_SLF}
-use Rattle.os9_base.specs.declared.registers.Regs.{Regs}
-use Rattle.user_names.specs.declared.name_fault.NameFault.TheVariants.{Unreadable}
+use Rattle.os9_base.specs.declared.errors.TheConstants.{E_BPNAM, E_BMODE, E_CEF, E_FNA, E_FULL, E_PTHFUL, E_SHARE, E_SLF}
 use Rattle.io_model.specs.Path.{new_number, paths_after_begin}
-use Rattle.rbf_model.specs.Volume.{DiskVolume}
-use Rattle.rbf_model.specs.Walk.{WalkEnd, look_up, walk}
+use Rattle.rbf_model.specs.Walk.{look_up}
 use Rattle.rbf_change.specs.Calls.{cluster_size, free_total}
-use Rattle.rbf_change.specs.Names.{may_change, may_delete}
+use Rattle.rbf_change.specs.Names.{may_change}
 use Rattle.rbf_change.specs.NewFiles.{entry_clusters}
 use Rattle.io_rules.specs.Io.{new_desc}
 use Rattle.io_rules.specs.Modes.{can_write, is_mode}
@@ -18,20 +14,17 @@ use Rattle.io_rules.specs.Open.{opened_regs}
 use Rattle.io_rules.specs.PathList.{PathList}
 use Rattle.io_rules.specs.Step.{answers}
 use Rattle.io_rules.specs.declared.io_call.IoCall.TheVariants as Device
-use Rattle.file_rules.specs.Change.{creates, deletes, makes_directory}
+use Rattle.file_rules.specs.Change.{creates, makes_directory}
 use Rattle.file_rules.specs.ChgDir.{goes_on_way, goes_to, i_chgdir, may_go_to}
 use Rattle.file_rules.specs.Create.{clusters_for, creates_in, creates_on_way, creates_with_path, has_room_for, i_create, opens_new}
-use Rattle.file_rules.specs.Delete.{deletes_by, deletes_file, deletes_in, deletes_named, i_delete, i_deletx}
-use Rattle.file_rules.specs.Files.{Files, Asker, directories_at, target_on, volume_at, with_directories_of, with_directory, with_path_table}
+use Rattle.file_rules.specs.Files.{Files, Asker, directories_at, target_on, with_directories_of, with_directory, with_path_table}
 use Rattle.file_rules.specs.MakDir.{i_makdir, makes_in, makes_on_way, new_directory_size, past_list}
 use Rattle.file_rules.specs.Open.{begins_on, i_open, is_for_execution, may_open, opens_found, opens_on_way, says_directory, tests_mode}
-use Rattle.file_rules.specs.Sharing.{is_not_shared, is_open}
-use Rattle.file_rules.specs.Step.{FileStep, refused, comes, changes, done, leaves, needs, refuses}
+use Rattle.file_rules.specs.Sharing.{is_not_shared}
+use Rattle.file_rules.specs.Step.{FileStep, comes, changes, done, leaves, needs, refuses}
 use Rattle.file_rules.specs.Way.{Found, Way, along, before_last, last_of, list_of, nowhere, to_device, walks, way_of, way_to_new}
-use Rattle.file_rules.specs.declared.path_call.PathCall.{PathCall}
 use Rattle.file_rules.specs.declared.path_call.PathCall.TheVariants as Call
-use Rattle.file_rules.specs.declared.places.FilePlace.{FilePlace}
-use Rattle.touch_laws.specs.Causes.{FileCause, Finds, FindsIn, HasBadMode, IsUnreadable, Leads, Made, Walks, a_device, a_root, bad_mode, executes, first_size, forbidden, forbidden_in, is_used, makes_new, no_last, no_number, no_room, no_segment, not_in, not_shared, reads_list, there_already}
+use Rattle.touch_laws.specs.Causes.{FindsIn, HasBadMode, Leads, Made, a_device, bad_mode, executes, first_size, forbidden, forbidden_in, makes_new, no_last, no_number, no_room, no_segment, not_shared, reads_list, there_already}
 use Rattle.touch_laws.proofs.Nowhere.{nowhere-caused}
 use Rattle.touch_laws.proofs.Caused.{StepCaused, caused-done, caused-list, caused-needs, caused-refused, caused-refuses, caused-walks, not-is}
 use Rattle.touch_laws.proofs.CausedNumbers.{made}

@@ -1,5 +1,5 @@
 -- Why calls on the number of a path are refused on a file or a directory.
-use Rattle.std.proofs.Common.{◌≡◌, ◌≢◌, ◌⊎◌, ℕ, ◌+◌, ◌==◌, ◌%◌, not, Bool, true, false, Option, Some, None, List, [], length, refl, sym, ap, ◌∙◌, inl, inr}
+use Rattle.std.proofs.Common.{◌≡◌, ℕ, ◌+◌, ◌==◌, ◌%◌, not, Bool, true, false, Option, Some, None, List, length, refl, sym, ap, ◌∙◌, inl, inr}
 use Rattle.std.specs.Prelude.{is_none, nat_le, nat_lt, take, if◌then◌else◌}
 use Rattle.std.proofs.lemmas.Bool.{eqb-false, eqb-true, leb-true, ltb-true}
 use Rattle.os9_base.specs.declared.errors.TheConstants.{E_BPADDR, E_BPNUM, E_BMODE, E_EOF, E_FNA, E_FULL, E_UNKSVC}
@@ -17,7 +17,7 @@ use Rattle.io_rules.specs.Modes.{can_read, can_write}
 use Rattle.io_rules.specs.Pipes.{count_regs}
 use Rattle.io_rules.specs.Read.{i_read as reads_device, i_readln as reads_device_line}
 use Rattle.io_rules.specs.Status.{i_getstt as gets_of_device, i_setstt as sets_of_device, options}
-use Rattle.io_rules.specs.Step.{IoEffect, IoEnd, IoStep, answers, fails, needs as io_needs, done as io_done}
+use Rattle.io_rules.specs.Step.{IoEffect, IoStep, answers, fails, needs as io_needs, done as io_done}
 use Rattle.io_rules.specs.Transfer.{line_at}
 use Rattle.io_rules.specs.Write.{i_write as writes_device, i_writln as writes_device_line, f_perr as tells_device, error_line}
 use Rattle.io_rules.specs.declared.modes.TheConstants.{STANDARD_ERROR}
@@ -27,10 +27,10 @@ use Rattle.io_rules.specs.declared.io_call.IoCall.TheVariants as Device
 use Rattle.file_rules.specs.Change.{Change, writes, sizes, sets_attributes}
 use Rattle.file_rules.specs.Files.{Files, Asker, OpenFile, open_file, with_position}
 use Rattle.file_rules.specs.OnFile.{by_kind, moves_bytes, on_file}
-use Rattle.file_rules.specs.Read.{answers_bytes, bytes_here, i_read, i_readln, reads_file, reads_on}
+use Rattle.file_rules.specs.Read.{answers_bytes, bytes_here, i_read, i_readln, reads_file}
 use Rattle.file_rules.specs.Seek.{i_seek, long_of, seeks_nothing}
-use Rattle.file_rules.specs.Status.{asked_bytes, descriptor_front, gets_bytes, gets_descriptor, gets_end, gets_size, gets_status, i_getstt, i_setstt, long_regs, sets_attributes_of, sets_size, sets_status}
-use Rattle.file_rules.specs.Step.{FileStep, refused, comes, reaches, as_io, changes, leaves_so, done, leaves, needs, refuses, stores}
+use Rattle.file_rules.specs.Status.{asked_bytes, descriptor_front, gets_bytes, gets_descriptor, gets_end, gets_size, i_getstt, i_setstt, long_regs, sets_attributes_of, sets_size}
+use Rattle.file_rules.specs.Step.{FileStep, refused, comes, reaches, as_io, changes, leaves_so, done, leaves, refuses, stores}
 use Rattle.file_rules.specs.Write.{changes_file, f_perr, i_write, i_writln, sends_bytes, writes_bytes}
 use Rattle.file_rules.specs.declared.path_call.PathCall.{PathCall}
 use Rattle.file_rules.specs.declared.path_call.PathCall.TheVariants as Call
@@ -38,7 +38,7 @@ use Rattle.file_rules.specs.declared.status.TheConstants.{SS_SIZE, SS_POS, SS_FD
 use Rattle.touch_laws.specs.Causes.{FileCause, LacksMode, Made, Names, NeedsByte, Sizes, bad_address, bad_number, cannot_grow, end_of_file, no_status, not_owned, path_mode}
 use Rattle.touch_laws.specs.Devices.{device_call}
 use Rattle.touch_laws.proofs.Caused.{StepCaused, caused-done, caused-needs, caused-refused, caused-refuses, is_nothing, not-is}
-use Rattle.touch_laws.proofs.Splits.{IsDeviceStep, not-refused}
+use Rattle.touch_laws.proofs.Splits.{not-refused}
 
 -- a call, as it is made
 abbrev pub made : PathCall → Asker → Files → ℕ → Made

@@ -1,5 +1,5 @@
 -- What touches no terminal and no pipe keeps paths, calls that wait, terminals and pipes.
-use Rattle.std.proofs.Common.{◌≡◌, ◌≢◌, ◌⊎◌, ℕ, ◌+◌, ◌<◌, ◌≤◌, Bool, true, false, Option, Some, None, is_none, List, [], length, drop, position, get_or, refl, sym, ap, ◌∙◌, subst, inl, inr, arith}
+use Rattle.std.proofs.Common.{◌≡◌, ◌≢◌, ℕ, ◌+◌, ◌<◌, true, Option, Some, None, is_none, List, [], length, drop, position, get_or, refl, sym, ap, ◌∙◌, subst, inl, inr, arith}
 use Rattle.std.specs.Prelude.{option_map, option_and_then, slice_index_or, slice_set}
 use Rattle.std.specs.Option.{option_map_or}
 use Rattle.std.proofs.lemmas.Bool.{cases_eq, cases_lt, false≢true}
@@ -11,7 +11,6 @@ use Rattle.os9_outer.specs.TerminalState.{TerminalState}
 use Rattle.call_rules.specs.CallResult.{CallResult}
 use Rattle.call_rules.specs.Inner.{Inner}
 use Rattle.io_model.specs.Path.{PathTable, desc_of, free_number, free_path, numbers_of, paths_after_begin, slot_of, with_desc, with_path}
-use Rattle.io_model.specs.declared.kept.Kept.{Kept}
 use Rattle.io_model.specs.declared.path.Desc.{Desc}
 use Rattle.io_model.specs.declared.path.SysPath.{SysPath}
 use Rattle.io_model.specs.declared.path.Target.{Target}
@@ -21,7 +20,7 @@ use Rattle.io_rules.specs.Io.{Io, OpenPath, kept_at, new_desc, open_path, with_c
 use Rattle.file_rules.specs.Files.{Files, OpenFile, open_file, open_file_at, place_of_target, volume_at}
 use Rattle.file_rules.specs.declared.places.FilePlace.{FilePlace}
 use Rattle.touch_laws.specs.Devices.{IsDevice}
-use Rattle.touch_laws.specs.Touch.{BeginsPath, IsSamePath, KeepsCalls, KeepsIo, KeepsPaths, LeavesDevices, MovesPosition, PathsMove}
+use Rattle.touch_laws.specs.Touch.{BeginsPath, KeepsCalls, KeepsIo, KeepsPaths, LeavesDevices, MovesPosition, PathsMove}
 
 -- ---- calls that wait
 
@@ -80,8 +79,7 @@ paths-kept p io new stay = record {
   numbers = stay.numbers;
   paths = λ q n opened is.
       let it = opened-is io q n opened is in
-      let (at, there) = stay.descs opened.path.0 opened.desc it.desc in
-      (
+      let (at, there) = stay.descs opened.path.0 opened.desc it.desc in (
         path_with opened.path (record opened.desc { at = at }),
         open-by (with_call (with_paths io new) p None) q n opened.path (record opened.desc { at = at }) (stay.slots q n opened.path it.slot) there,
         record { path = refl; desc = refl },

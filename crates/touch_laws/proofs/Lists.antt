@@ -1,16 +1,16 @@
 -- I$Open and I$Create of a path list that leads to a terminal or a pipe are those of terminals and pipes.
-use Rattle.std.proofs.Common.{◌≡◌, ◌⊎◌, ℕ, not, Bool, true, false, Result, Ok, Err, List, length, refl, sym, ap, ◌∙◌, inl, inr}
+use Rattle.std.proofs.Common.{◌≡◌, ℕ, Bool, true, false, Result, Ok, length, refl, sym, ap, ◌∙◌, inl, inr}
 use Rattle.os9_base.specs.declared.errors.TheConstants.{E_BMODE}
 use Rattle.user_names.specs.declared.name_fault.NameFault.{NameFault}
 use Rattle.io_rules.specs.Lead.{Lead, a_new_place, lead_of, what_is_there}
 use Rattle.io_rules.specs.Modes.{can_write, is_mode}
 use Rattle.io_rules.specs.Open.{i_create as creates_device, i_open as opens_device, opens_lead, reads_list as reads_device_list}
 use Rattle.io_rules.specs.PathList.{PathList}
-use Rattle.io_rules.specs.Step.{IoStep, refused as io_refused}
+use Rattle.io_rules.specs.Step.{IoStep}
 use Rattle.file_rules.specs.Create.{creates_on_way, i_create}
 use Rattle.file_rules.specs.Files.{Files, Asker}
 use Rattle.file_rules.specs.Open.{i_open, is_for_execution, opens_on_way, tests_mode}
-use Rattle.file_rules.specs.Step.{FileStep, refused, comes, as_io}
+use Rattle.file_rules.specs.Step.{FileStep, comes, as_io}
 use Rattle.file_rules.specs.Way.{list_of, reads_list, to_device, way_of, way_to_new}
 use Rattle.touch_laws.proofs.Bare.{Agrees}
 

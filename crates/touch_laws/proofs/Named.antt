@@ -1,8 +1,7 @@
 -- Calls that are those of terminals and pipes: by the number of a path that is on no file, and by what a path list leads
 -- to.
-use Rattle.std.proofs.Common.{◌≡◌, ◌⊎◌, ℕ, ◌==◌, ◌&&◌, ◌||◌, Bool, true, false, Option, Some, None, List, length, refl, sym, ap, ◌∙◌, subst, inl, inr}
+use Rattle.std.proofs.Common.{◌≡◌, ℕ, ◌||◌, Bool, true, false, Option, Some, None, List, length, refl, sym, ap, ◌∙◌, subst, inl, inr}
 use Rattle.std.specs.Prelude.{MatchOption, option_and_then, if◌then◌else◌}
-use Rattle.std.specs.Option.{option_map_or}
 use Rattle.std.proofs.lemmas.Bool.{false≢true}
 use Rattle.std.proofs.lemmas.Option.{none-some}
 use Rattle.os9_base.specs.declared.errors.TheConstants.{E_BPNAM}
@@ -16,7 +15,7 @@ use Rattle.device_table.specs.declared.devices.Dev.TheVariants.{Drive, Term, Pip
 use Rattle.io_rules.specs.Again.{path_number}
 use Rattle.io_rules.specs.Attempts.{io_step, result_of}
 use Rattle.io_rules.specs.Io.{OpenPath, open_path}
-use Rattle.io_rules.specs.Lead.{Lead, Search, a_new_place, lead_by_device, lead_of, on_device, unless_slash, what_is_there, to_terminal, to_pipe, nowhere as leads_nowhere}
+use Rattle.io_rules.specs.Lead.{Lead, Search, a_new_place, lead_by_device, lead_of, on_device, what_is_there, to_terminal, to_pipe, nowhere as leads_nowhere}
 use Rattle.io_rules.specs.PathList.{PathList, ends_in_dots, has_slash_behind_device}
 use Rattle.io_rules.specs.Step.{IoStep}
 use Rattle.io_rules.specs.declared.io_call.IoCall.{IoCall}
@@ -24,8 +23,8 @@ use Rattle.rbf_model.specs.Volume.{DiskVolume}
 use Rattle.file_rules.specs.Attempts.{FileAttempts, asker_of, file_step, files_after, io_effect}
 use Rattle.file_rules.specs.Files.{Files, Asker, OpenFile, directory_of, open_file, open_file_at, place_of_target, volume_at}
 use Rattle.file_rules.specs.OnFile.{by_kind}
-use Rattle.file_rules.specs.Step.{FileEffect, FileStep, comes, as_io, FileDoes, on_files, with_drives_after}
-use Rattle.file_rules.specs.Way.{Way, along, is_drive, is_root, nowhere, to_device, to_device_of, way_by, way_from, way_of, way_of_device, way_on_drive, way_to_new}
+use Rattle.file_rules.specs.Step.{FileEffect, FileStep, comes, as_io, FileDoes, with_drives_after}
+use Rattle.file_rules.specs.Way.{along, is_root, nowhere, to_device, way_by, way_from, way_of, way_of_device, way_on_drive, way_to_new}
 use Rattle.file_rules.specs.declared.path_call.PathCall.{PathCall}
 use Rattle.file_rules.specs.declared.path_call.PathCall.TheVariants as Call
 use Rattle.file_rules.specs.declared.places.FilePlace.{FilePlace}

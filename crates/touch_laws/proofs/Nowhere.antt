@@ -1,5 +1,5 @@
 -- Why a path list leads nowhere.
-use Rattle.std.proofs.Common.{◌≡◌, ◌⊎◌, ℕ, ◌||◌, Bool, true, false, Option, Some, None, List, length, refl, sym, ap, ◌∙◌, subst}
+use Rattle.std.proofs.Common.{◌≡◌, ℕ, ◌||◌, Bool, true, false, Option, Some, None, List, length, refl, ap}
 use Rattle.std.specs.Prelude.{IsSome, is_some, option_and_then, if◌then◌else◌}
 use Rattle.os9_base.specs.declared.errors.TheConstants.{E_BPNAM, E_MNF, E_PNNF}
 use Rattle.device_table.specs.Names.{device_of}
@@ -8,9 +8,9 @@ use Rattle.device_table.specs.declared.devices.Dev.TheVariants.{Drive, Term, Pip
 use Rattle.rbf_model.specs.Volume.{DiskVolume}
 use Rattle.io_rules.specs.PathList.{PathList, ends_in_dots, has_slash_behind_device}
 use Rattle.file_rules.specs.Files.{directory_of, volume_at}
-use Rattle.file_rules.specs.Way.{Way, along, is_root, nowhere, to_device, way_by, way_from, way_of, way_of_device, way_on_drive, way_to_new}
+use Rattle.file_rules.specs.Way.{along, is_root, nowhere, to_device, way_by, way_from, way_of, way_of_device, way_on_drive, way_to_new}
 use Rattle.file_rules.specs.declared.places.FilePlace.{FilePlace}
-use Rattle.touch_laws.specs.Causes.{FileCause, IsNoDrive, Leads, LeadsNowhere, Made, device_in, dots, executes, leads_nowhere, makes_new, no_device, no_directory, not_mounted, root, slash, way_in}
+use Rattle.touch_laws.specs.Causes.{FileCause, IsNoDrive, Leads, LeadsNowhere, Made, device_in, dots, executes, leads_nowhere, makes_new, no_device, no_directory, not_mounted, root, slash}
 
 same-nowhere : (n m : ℕ) → nowhere n ≡ nowhere m → m ≡ n
 same-nowhere n m is = cc

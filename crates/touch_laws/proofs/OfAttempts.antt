@@ -4,7 +4,6 @@ use Rattle.std.specs.Prelude.{IsSome}
 use Rattle.std.proofs.lemmas.Bool.{false≢true}
 use Rattle.io_rules.specs.Io.{OpenPath, kept_at, open_path}
 use Rattle.io_rules.specs.PathList.{PathList}
-use Rattle.io_rules.specs.declared.io_call.IoCall.{IoCall}
 use Rattle.io_rules.specs.declared.io_call.IoCall.TheVariants as Device
 use Rattle.file_rules.specs.Attempts.{FileAttempts}
 use Rattle.file_rules.specs.Files.{open_file}

@@ -1,6 +1,6 @@
 -- Calls on path lists: where the list leads to a terminal or a pipe they are those of terminals and pipes, and else they
 -- begin a path on a file or a directory at most.
-use Rattle.std.proofs.Common.{◌≡◌, ℕ, ◌==◌, ◌&&◌, ◌||◌, not, Bool, true, false, Option, Some, None, List, [], length, refl, inl, inr}
+use Rattle.std.proofs.Common.{◌≡◌, ℕ, ◌==◌, ◌&&◌, not, Bool, true, false, Option, Some, None, List, [], length, refl, inl, inr}
 use Rattle.std.specs.Prelude.{is_some, nat_lt, if◌then◌else◌}
 use Rattle.std.proofs.lemmas.List.{get_or-set_other}
 use Rattle.os9_base.specs.declared.errors.TheConstants.{E_BPNAM, E_BMODE, E_CEF, E_FNA, E_FULL, E_PNNF, E_PTHFUL, E_SHARE, E_SLF}
@@ -31,7 +31,7 @@ use Rattle.file_rules.specs.Way.{Found, Way, along, before_last, last_of, list_o
 use Rattle.file_rules.specs.declared.path_call.PathCall.{PathCall}
 use Rattle.file_rules.specs.declared.path_call.PathCall.TheVariants as Call
 use Rattle.file_rules.specs.declared.places.FilePlace.{FilePlace}
-use Rattle.touch_laws.proofs.Splits.{Answers, Leaves, StepSplits, answered, answered-same, device-splits, list-by, needs-by, none-splits, refuses-by, walks-split}
+use Rattle.touch_laws.proofs.Splits.{Leaves, StepSplits, answered, answered-same, device-splits, list-by, needs-by, none-splits, refuses-by, walks-split}
 
 -- what is opened on a file is on it
 target-place : (file : DiskFile) (place : FilePlace) → place_of_target (target_on file place) ≡ Some place

@@ -1,6 +1,6 @@
 -- Calls on a number of a path: on a terminal or a pipe they are those of terminals and pipes, and on a file they move its
 -- position at most.
-use Rattle.std.proofs.Common.{◌≡◌, ℕ, ◌+◌, ◌==◌, ◌%◌, not, Bool, true, false, Option, Some, None, List, [], length, refl, ap, ◌∙◌, inl, inr}
+use Rattle.std.proofs.Common.{◌≡◌, ℕ, ◌+◌, ◌==◌, ◌%◌, not, Bool, true, false, Option, Some, None, List, [], length, refl, ap, inl, inr}
 use Rattle.std.specs.Prelude.{is_none, nat_le, nat_lt, take, if◌then◌else◌}
 use Rattle.os9_base.specs.declared.errors.TheConstants.{E_BPADDR, E_BPNUM, E_BMODE, E_EOF, E_FNA, E_FULL, E_UNKSVC}
 use Rattle.os9_base.specs.declared.registers.Regs.{Regs}
@@ -12,12 +12,12 @@ use Rattle.rbf_change.specs.Contents.{written}
 use Rattle.rbf_change.specs.Growth.{clusters_needed}
 use Rattle.rbf_change.specs.NewFiles.{owns_file}
 use Rattle.io_rules.specs.Attempts.{Does, io_step, kept_in}
-use Rattle.io_rules.specs.Io.{Io, OpenPath, open_path}
+use Rattle.io_rules.specs.Io.{OpenPath, open_path}
 use Rattle.io_rules.specs.Modes.{can_read, can_write}
 use Rattle.io_rules.specs.Pipes.{count_regs}
 use Rattle.io_rules.specs.Read.{i_read as reads_device, i_readln as reads_device_line}
 use Rattle.io_rules.specs.Status.{i_getstt as gets_of_device, i_setstt as sets_of_device, options}
-use Rattle.io_rules.specs.Step.{Caller, IoEffect, IoStep, answers, needs as io_needs, done as io_done}
+use Rattle.io_rules.specs.Step.{IoEffect, IoStep, answers, needs as io_needs, done as io_done}
 use Rattle.io_rules.specs.Transfer.{line_at}
 use Rattle.io_rules.specs.Write.{i_write as writes_device, i_writln as writes_device_line, f_perr as tells_device, error_line}
 use Rattle.io_rules.specs.declared.modes.TheConstants.{STANDARD_ERROR}
@@ -26,7 +26,7 @@ use Rattle.io_rules.specs.declared.io_call.IoCall.{IoCall}
 use Rattle.io_rules.specs.declared.io_call.IoCall.TheVariants as Device
 use Rattle.file_rules.specs.Change.{Change, writes, sizes, sets_attributes}
 use Rattle.file_rules.specs.Files.{Files, Asker, OpenFile, open_file, with_position}
-use Rattle.file_rules.specs.OnFile.{by_kind, moves_bytes, on_file}
+use Rattle.file_rules.specs.OnFile.{moves_bytes}
 use Rattle.file_rules.specs.Read.{answers_bytes, bytes_here, i_read, i_readln, reads_file, reads_on}
 use Rattle.file_rules.specs.Seek.{i_seek, long_of, seeks_nothing}
 use Rattle.file_rules.specs.Status.{asked_bytes, descriptor_front, gets_bytes, gets_descriptor, gets_end, gets_size, gets_status, i_getstt, i_setstt, long_regs, sets_attributes_of, sets_size, sets_status}
@@ -36,7 +36,7 @@ use Rattle.file_rules.specs.declared.path_call.PathCall.{PathCall}
 use Rattle.file_rules.specs.declared.path_call.PathCall.TheVariants as Call
 use Rattle.file_rules.specs.declared.status.TheConstants.{SS_SIZE, SS_POS, SS_FD, SS_ATTR}
 use Rattle.touch_laws.specs.Devices.{device_call}
-use Rattle.touch_laws.proofs.Splits.{DoesNothing, IsDeviceStep, IsStill, Leaves, StepSplits, answered-at, answered-same, device-splits, done-splits, needs-by, none-splits, number-splits, refuses-by}
+use Rattle.touch_laws.proofs.Splits.{DoesNothing, IsDeviceStep, Leaves, StepSplits, answered-at, answered-same, done-splits, needs-by, none-splits, number-splits, refuses-by}
 
 module _ (call : PathCall) (asker : Asker) (files : Files) (terms : ℕ) where
   abbrev S : FileStep → Type 0

@@ -1,5 +1,5 @@
 -- What the parts of a step of a call on files come to: a call on a terminal or a pipe, or what touches none.
-use Rattle.std.proofs.Common.{◌≡◌, ◌≢◌, ◌⊎◌, ℕ, Bool, true, false, Option, Some, None, Result, Ok, Err, List, [], length, refl, subst, sym, inl, inr}
+use Rattle.std.proofs.Common.{◌≡◌, ◌≢◌, ◌⊎◌, ℕ, Bool, true, false, Option, Some, None, Result, Ok, Err, List, [], length, refl, inl, inr}
 use Rattle.os9_base.specs.declared.errors.TheConstants.{E_BPADDR, E_BPNAM, E_MNF, E_FNA, E_PNNF}
 use Rattle.os9_base.specs.declared.registers.Regs.{Regs}
 use Rattle.os9_outer.specs.TerminalState.{TerminalState}
@@ -10,11 +10,11 @@ use Rattle.rbf_model.specs.Walk.{WalkEnd, arrives, not_allowed, not_found, walk}
 use Rattle.io_rules.specs.Attempts.{Does, io_step, kept_in}
 use Rattle.io_rules.specs.Io.{with_paths}
 use Rattle.io_rules.specs.PathList.{PathList}
-use Rattle.io_rules.specs.Step.{IoEffect, IoEnd, IoStep, answers, fails}
+use Rattle.io_rules.specs.Step.{IoEffect, IoStep, answers, fails}
 use Rattle.io_rules.specs.declared.io_call.IoCall.{IoCall}
 use Rattle.file_rules.specs.Files.{Files, Asker, OpenFile, directories_at, open_file, volume_at, with_position}
-use Rattle.file_rules.specs.OnFile.{by_kind, moves_bytes, on_file}
-use Rattle.file_rules.specs.Step.{Step, refused, comes, reaches, needs, refuses, FileEffect, FileStep, Deed, leaves_so, as_io, changes, deed_of, leaves, refuses_so, VolumeChange, done}
+use Rattle.file_rules.specs.OnFile.{by_kind, on_file}
+use Rattle.file_rules.specs.Step.{Step, refused, comes, reaches, needs, refuses, FileEffect, FileStep, Deed, leaves_so, as_io, changes, deed_of, VolumeChange, done}
 use Rattle.file_rules.specs.Way.{Found, reads_list, walk_ends, walks}
 use Rattle.file_rules.specs.declared.path_call.PathCall.{PathCall}
 use Rattle.file_rules.specs.declared.places.FilePlace.{FilePlace}

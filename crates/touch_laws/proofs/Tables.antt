@@ -1,11 +1,10 @@
 -- What touches no terminal and no pipe keeps the table of paths in order.
-use Rattle.std.proofs.Common.{◌≡◌, ◌≢◌, ◌⊎◌, ℕ, zero, suc, ◌∷◌, ◌+◌, ◌<◌, ◌==◌, Bool, true, false, Option, Some, None, is_none, List, [], length, drop, position, get_or, refl, sym, ap, ◌∙◌, subst, inl, inr, arith}
+use Rattle.std.proofs.Common.{◌≡◌, ◌≢◌, ℕ, zero, suc, ◌∷◌, ◌+◌, ◌<◌, Bool, true, false, Option, Some, None, is_none, List, [], length, drop, position, get_or, refl, sym, ap, ◌∙◌, subst, inl, inr, arith}
 use Rattle.std.specs.Prelude.{IsSome, is_some, option_map, slice_index_or, slice_set}
 use Rattle.std.specs.List.{list_any}
 use Rattle.std.specs.Option.{option_map_or}
 use Rattle.std.proofs.lemmas.Bool.{cases_eq, cases_lt, eq-eqb, false≢true, or_cases, or_left, or_right}
 use Rattle.std.proofs.lemmas.List.{get_or-set_same, get_or-set_other, get_or_past, length-set}
-use Rattle.std.proofs.lemmas.List.Folds.{list_any_at}
 use Rattle.std.proofs.lemmas.List.Quantifiers.{position-Some}
 use Rattle.std.proofs.lemmas.Option.{none-some, same_Some}
 use Rattle.os9_outer.specs.TerminalState.{TerminalState}
@@ -18,7 +17,7 @@ use Rattle.io_model.specs.declared.path.Target.{Target}
 use Rattle.io_rules.specs.Io.{new_desc}
 use Rattle.file_rules.specs.Files.{Files, place_of_target}
 use Rattle.file_rules.specs.declared.places.FilePlace.{FilePlace}
-use Rattle.touch_laws.specs.Touch.{AreHeld, BeginsPath, KeepsTable, LeavesDevices, MovesPosition, PathsMove}
+use Rattle.touch_laws.specs.Touch.{KeepsTable, LeavesDevices, PathsMove}
 use Rattle.touch_laws.proofs.Keeps.{begun, begun-numbers, begun-other, desc-within, file-named, free-slot}
 
 -- a test that a list passes is passed at a place

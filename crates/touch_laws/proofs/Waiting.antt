@@ -1,6 +1,6 @@
 -- An attempt that waits is one on a terminal or a pipe, which the number of its call names, and leaves the paths as they
 -- are.
-use Rattle.std.proofs.Common.{◌≡◌, ◌⊎◌, ℕ, ◌==◌, ◌<◌, not, Bool, true, false, Option, Some, None, Result, Ok, Err, List, length, refl, sym, ap, ◌∙◌, subst, inl, inr}
+use Rattle.std.proofs.Common.{◌≡◌, ◌⊎◌, ℕ, ◌==◌, not, Bool, true, false, Option, Some, None, Result, Ok, Err, List, length, refl, sym, ap, ◌∙◌, subst, inl, inr}
 use Rattle.std.specs.Prelude.{is_none, min, if◌then◌else◌}
 use Rattle.std.proofs.lemmas.Bool.{cases_lt}
 use Rattle.std.proofs.lemmas.List.{get_or-set_same, get_or_past, length-set}
@@ -18,7 +18,6 @@ use Rattle.io_model.specs.Path.{free_number, new_number, slot_of}
 use Rattle.io_model.specs.Pipe.{free_pipe, pipes_after_begin}
 use Rattle.io_model.specs.declared.kept.Kept.{Kept}
 use Rattle.io_model.specs.declared.path.Desc.{Desc}
-use Rattle.io_model.specs.declared.path.SysPath.{SysPath}
 use Rattle.io_model.specs.declared.path.Target.{Target}
 use Rattle.io_model.specs.declared.path.Target.TheVariants.{File, Folder, Term, Pipe}
 use Rattle.io_model.specs.declared.terminal.Progress.{Progress}
@@ -27,19 +26,17 @@ use Rattle.io_model.specs.declared.terminal.ReadKind.{ReadKind}
 use Rattle.io_model.specs.declared.terminal.ReadKind.TheVariants.{Bytes, WholeLine}
 use Rattle.io_rules.specs.Again.{path_number}
 use Rattle.io_rules.specs.Attempts.{Does, IoAttempts, caller_of, io_step, kept_in}
-use Rattle.io_rules.specs.Close.{i_close}
-use Rattle.io_rules.specs.Dup.{i_dup}
 use Rattle.io_rules.specs.Io.{Io, OpenPath, kept_at, new_desc, open_path, with_call, with_pipes}
 use Rattle.io_rules.specs.Lead.{Lead, a_new_place, lead_of, nowhere, to_pipe, to_terminal, what_is_there}
 use Rattle.io_rules.specs.Modes.{can_read, can_write, is_mode}
 use Rattle.io_rules.specs.Open.{begins, opens_lead, reads_list}
 use Rattle.io_rules.specs.PathList.{PathList, path_list}
 use Rattle.io_rules.specs.Read.{reads_path, reads_target}
-use Rattle.io_rules.specs.Status.{gets_end, gets_options, gets_ready, gets_status, options, ready_count}
-use Rattle.io_rules.specs.Step.{Caller, IoEffect, IoEnd, IoStep, TerminalWrite, answers, comes, done, fails, keeps, needs, reads, refused, refuses, stores, writes}
+use Rattle.io_rules.specs.Status.{gets_end, gets_options, gets_ready, options, ready_count}
+use Rattle.io_rules.specs.Step.{Caller, IoEffect, IoEnd, IoStep, TerminalWrite, answers, comes, done, fails, needs, reads, refused, refuses, stores, writes}
 use Rattle.io_rules.specs.Terminals.{write_ends}
 use Rattle.io_rules.specs.Transfer.{call_now, on_path, unless_nothing}
-use Rattle.io_rules.specs.Write.{Sending, f_perr, line_bytes, sends_on, sent_bytes, sent_error, sent_line, writes_target}
+use Rattle.io_rules.specs.Write.{Sending, line_bytes, sends_on, sent_bytes, sent_error, sent_line, writes_target}
 use Rattle.io_rules.specs.declared.io_call.IoCall.{IoCall}
 use Rattle.io_rules.specs.declared.io_call.IoCall.TheVariants as Call
 use Rattle.io_rules.specs.declared.modes.TheConstants.{STANDARD_ERROR}

@@ -1,6 +1,6 @@
 -- An attempt of a call on paths, files and directories by a process, as the laws speak of it (System Programmer's Manual,
 -- "I/O service requests").
-use Rattle.std.specs.Prelude.{◌≡◌, ℕ, true, Option, Some, Result, Ok, List, length}
+use Rattle.std.specs.Prelude.{◌≡◌, ℕ, true, Some, Ok, List, length}
 use Rattle.os9_base.specs.declared.registers.Regs.{Regs}
 use Rattle.os9_base.specs.declared.registers.TimePacket.{TimePacket}
 use Rattle.os9_outer.specs.TerminalState.{TerminalState}
@@ -12,9 +12,8 @@ use Rattle.io_rules.specs.declared.io_call.IoCall.{IoCall}
 use Rattle.file_rules.specs.Attempts.{FileAttempts, asker_of}
 use Rattle.file_rules.specs.Files.{Files, Asker}
 use Rattle.file_rules.specs.Open.{is_for_execution}
-use Rattle.file_rules.specs.Way.{Way, list_of, to_device, way_of, way_to_new}
+use Rattle.file_rules.specs.Way.{Way, list_of, way_of, way_to_new}
 use Rattle.file_rules.specs.declared.path_call.PathCall.{PathCall}
-use Rattle.file_rules.specs.declared.path_call.PathCall.TheVariants as Call
 use Rattle.touch_laws.specs.Causes.{Made}
 use Rattle.touch_laws.specs.Devices.{device_call, takes_number, HasNoFiles, IsOnDevice, WaitsOnDevice}
 use Rattle.touch_laws.specs.Touch.{KeepsIo, KeepsTable, LeavesDevices, OneDriveFails}

@@ -1,6 +1,6 @@
 -- Why a call on files is refused that is none on a terminal or a pipe (System Programmer's Manual, "I/O service
 -- requests"; OS-9 Technical Reference, Random Block File Manager), but for the fault of a drive.
-use Rattle.std.specs.Prelude.{◌≡◌, ◌≢◌, ◌⊎◌, ℕ, ◌+◌, ◌<◌, ◌≤◌, ⊤, Bool, true, false, IsSome, Option, Some, None, Result, Ok, Err, List, length, option_and_then, if◌then◌else◌}
+use Rattle.std.specs.Prelude.{◌≡◌, ◌≢◌, ◌⊎◌, ℕ, ◌<◌, ◌≤◌, ⊤, Bool, true, false, IsSome, Option, Some, None, Ok, Err, List, length, option_and_then, if◌then◌else◌}
 use Rattle.os9_base.specs.declared.errors.TheConstants.{E_BPADDR, E_BPNAM, E_BPNUM, E_BMODE, E_CEF, E_EOF, E_FNA, E_FULL, E_MNF, E_PNNF, E_PTHFUL, E_SHARE, E_SLF, E_UNKSVC}
 use Rattle.device_table.specs.Names.{device_of}
 use Rattle.device_table.specs.declared.devices.Dev.{Dev}
@@ -9,7 +9,7 @@ use Rattle.user_names.specs.declared.name_fault.NameFault.TheVariants.{Unreadabl
 use Rattle.call_rules.specs.UserBytes.{user_bytes}
 use Rattle.io_model.specs.Path.{new_number}
 use Rattle.rbf_model.specs.Volume.{DiskVolume}
-use Rattle.rbf_model.specs.Walk.{WalkEnd, arrives, look_up, not_allowed, not_found, walk}
+use Rattle.rbf_model.specs.Walk.{WalkEnd, arrives, look_up, walk}
 use Rattle.rbf_change.specs.Calls.{cluster_size, free_total}
 use Rattle.rbf_change.specs.Contents.{written}
 use Rattle.rbf_change.specs.Growth.{clusters_needed}

@@ -1,7 +1,7 @@
 -- What an attempt of a call on paths, files and directories touches of terminals, pipes, paths and calls that wait,
 -- where it is none on a terminal or a pipe (Level Two manual, "I/O system"; System Programmer's Manual, "I/O service
 -- requests").
-use Rattle.std.specs.Prelude.{◌≡◌, ◌≢◌, ◌⊎◌, ℕ, true, Option, Some, None, List, length, slice_set}
+use Rattle.std.specs.Prelude.{◌≡◌, ◌≢◌, ◌⊎◌, ℕ, true, Some, None, List, length, slice_set}
 use Rattle.os9_base.specs.declared.registers.Regs.{Regs}
 use Rattle.os9_outer.specs.TerminalState.{TerminalState}
 use Rattle.proc_model.specs.MemoryChanges.{stored}
