@@ -16,3 +16,4 @@ pub mod CausedNumbers
 pub mod CausedNames
 pub mod CausedDeletes
 pub mod CausedAttempts
+pub mod Loads

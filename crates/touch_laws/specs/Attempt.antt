@@ -1,5 +1,5 @@
--- An attempt of a call on paths, files and directories by a process, as the laws speak of it (System Programmer's Manual,
--- "I/O service requests").
+-- An attempt of a call on paths, files and directories by a process, as the laws speak of it (System Programmer's
+-- Manual, "I/O service requests").
 use Rattle.std.specs.Prelude.{◌≡◌, ℕ, true, Some, Ok, List, length}
 use Rattle.os9_base.specs.declared.registers.Regs.{Regs}
 use Rattle.os9_base.specs.declared.registers.TimePacket.{TimePacket}

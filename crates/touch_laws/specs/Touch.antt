@@ -99,6 +99,21 @@ pub record LeavesDevices (inner : Inner) (files : Files) (p : ℕ) (result : Cal
   pub volumes : NoVolumeChanges files new ⊎ OneVolumeChanges files new ⊎ OneDriveFails files result new
   pub refusal : (number : ℕ) → result ≡ refused number → RefusalLeaves files p result new
 
+-- a drive has failed, and the number of its fault is answered
+pub record FaultAnswers (old : Files) (result : CallResult) (new : Files) : Type 0 where
+  pub drive : ℕ
+  pub number : ℕ
+  pub failed : OneFailed drive number old.drives new.drives
+  pub answer : result ≡ refused number
+
+-- what F$Load, F$Fork and F$Chain leave of all that calls on files change: only what the drives counted is not as it
+-- was. The paths and directories of a child are given to it beside
+pub record LeavesFiles (old : Files) (result : CallResult) (new : Files) : Type 0 where
+  pub io : new.io ≡ old.io
+  pub directories : new.directories ≡ old.directories
+  pub volumes : new.volumes ≡ old.volumes
+  pub drives : NoneFailed old.drives new.drives ⊎ FaultAnswers old result new
+
 -- ---- the same by each path and each process
 
 -- a path that a number names is the same path, opened on the same with the same mode; its position may have changed

@@ -15,11 +15,14 @@ ghost use Rattle.io_rules.specs.declared.io_call.IoCall.{IoCall};
 ghost use Rattle.file_rules.specs.Attempts.{FileAttempts};
 ghost use Rattle.file_rules.specs.Codes.{path_call_of};
 ghost use Rattle.file_rules.specs.Files.{Asker, Files, open_file, with_io};
+ghost use Rattle.file_rules.specs.Load.{LoadAttempts};
+ghost use Rattle.file_rules.specs.Program.{ChainAttempts, ForkAttempts};
 ghost use Rattle.file_rules.specs.Way.{to_device, way_of, way_to_new};
 ghost use Rattle.file_rules.specs.declared.path_call.PathCall.{PathCall};
 ghost use Rattle.file_rules.specs.declared.path_call.PathCall.TheVariants as Call;
 ghost use Rattle.touch_laws.specs.Attempt.{Attempt, HasFault, HasList, IsOnNumber, IsWithoutFiles, KeepsDevices, KeepsPathTable, OnDevice, TouchesNone, Waits, made_in, way_to_create, way_to_open};
 ghost use Rattle.touch_laws.specs.Causes.{FileCause};
+ghost use Rattle.touch_laws.specs.Touch.{LeavesFiles};
 ghost use Rattle.touch_laws.specs.Devices.{HasNoFiles, IsDevice, LeadsToDevice, device_call};
 
 /// An attempt of a call on paths, files and directories is an attempt of a call on terminals and
@@ -56,8 +59,8 @@ pub fn numbers_of_devices_are_theirs()
         → open_file files p n ≡ None }
 {}
 
-/// An attempt that waits is one of a call on terminals and pipes on the number of a path on one, and
-/// leaves the paths as they are; and a call on the number of such a path, as each that waits is
+/// An attempt that waits is one of a call on terminals and pipes on the number of a path on one,
+/// and leaves the paths as they are; and a call on the number of such a path, as each that waits is
 /// where it is attempted again, is that call (Level Two manual, "I/O system").
 pub fn calls_that_wait_are_on_devices()
     ensures waits { (it : Attempt) → IsSome (kept_at it.new.io it.process) → Waits it }
@@ -75,9 +78,9 @@ pub fn lists_to_devices_are_theirs()
         → way_to_create it list ≡ to_device → OnDevice it }
 {}
 
-/// Where a path list leads to a terminal or a pipe, the list leads there also as I$Open and I$Create
-/// of terminals and pipes have it, and is not refused (System Programmer's Manual, I$Open and
-/// I$Create).
+/// Where a path list leads to a terminal or a pipe, the list leads there also as I$Open and
+/// I$Create of terminals and pipes have it, and is not refused (System Programmer's Manual, I$Open
+/// and I$Create).
 pub fn lists_lead_to_the_same_devices()
     ensures opened { (asker : Asker) (files : Files) (terms : ℕ) (execute : Bool) (list : PathList)
         → way_of asker files terms execute list ≡ to_device
@@ -94,6 +97,21 @@ pub fn lists_lead_to_the_same_devices()
 pub fn refusals_on_files_have_their_causes()
     ensures { (it : Attempt) (number : ℕ) → it.result ≡ refused number
         → OnDevice it ⊎ HasFault it ⊎ FileCause (made_in it) number }
+{}
+
+/// F$Load, and F$Fork and F$Chain of a program in a file, read a drive at most, and leave paths,
+/// pipes, terminals, calls that wait, directories and volumes as they are; the paths of a child are
+/// given to it beside (System Programmer's Manual, F$Load, F$Fork and F$Chain).
+pub fn loads_touch_no_device()
+    ensures load { (m : Inner) (asker : Asker) (old : Files) (terms p : ℕ) (result : CallResult)
+        (new : Files) → LoadAttempts m asker old terms p result new
+        → LeavesFiles old result new }
+    ensures fork { (m : Inner) (asker : Asker) (old : Files) (terms p : ℕ) (result : CallResult)
+        (new : Files) → ForkAttempts m asker old terms p result new
+        → LeavesFiles old result new }
+    ensures chain { (m : Inner) (asker : Asker) (old : Files) (terms p : ℕ) (result : CallResult)
+        (new : Files) → ChainAttempts m asker old terms p result new
+        → LeavesFiles old result new }
 {}
 
 /// The code of a call on paths, files and directories is that of the call that it is on a terminal
