@@ -1,2 +1,3 @@
 pub mod ModuleLemmas
 pub mod NameLemmas
+pub mod RandomLemmas

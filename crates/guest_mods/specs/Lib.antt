@@ -1,1 +1,2 @@
 pub mod GuestModule
+pub mod Random

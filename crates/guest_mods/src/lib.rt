@@ -2,3 +2,5 @@
 #![tactic(auto)]
 
 pub mod module;
+mod random;
+pub mod slices;
