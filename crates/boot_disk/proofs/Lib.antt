@@ -1,0 +1,5 @@
+pub mod Parts
+pub mod Marks
+pub mod Fields
+pub mod Rules
+pub mod Volume
