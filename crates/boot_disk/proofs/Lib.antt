@@ -3,3 +3,4 @@ pub mod Marks
 pub mod Fields
 pub mod Rules
 pub mod Volume
+pub mod Free

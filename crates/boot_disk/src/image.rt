@@ -119,11 +119,25 @@ fn descriptor(size: u16) -> [u8; 21]
     let [high, low] = size.to_be_bytes();
     [
         0x03, // FD.ATT: a file that its owner may read and write
-        0x00, 0x00, // FD.OWN
-        0x00, 0x00, 0x00, 0x00, 0x00, // FD.DAT
+        0x00,
+        0x00, // FD.OWN
+        0x00,
+        0x00,
+        0x00,
+        0x00,
+        0x00, // FD.DAT
         0x01, // FD.LNK
-        0x00, 0x00, high, low, // FD.SIZ
-        0x00, 0x00, 0x00, // FD.CREAT
-        0x00, 0x00, 0x06, 0x00, sectors_for(size), // FD.SEG: from sector 6 on
+        0x00,
+        0x00,
+        high,
+        low, // FD.SIZ
+        0x00,
+        0x00,
+        0x00, // FD.CREAT
+        0x00,
+        0x00,
+        0x06,
+        0x00,
+        sectors_for(size), // FD.SEG: from sector 6 on
     ]
 }

@@ -76,8 +76,8 @@ module _ (name : List ℕ) (kind attr storage : ℕ) (code : List ℕ) where
   body-long : length body + 3 ≡ size
   body-long = omega (arith, long-by (is_program_kind kind), length-append (marked_name name) code, length-marked_name name)
 
-  length-is : length whole ≡ size
-  length-is = omega (arith, length-append body end, body-long)
+  pub length-guest_module : length whole ≡ size
+  length-guest_module = omega (arith, length-append body end, body-long)
 
   dropped-by : (program : Bool) → drop (if program then 13 else 9) (body_by program ++ end) ≡ behind
   dropped-by true = refl
@@ -131,7 +131,7 @@ module _ (name : List ℕ) (kind attr storage : ℕ) (code : List ℕ) where
   size-kept is filled =
       and_from (nat_le (header_length whole + 4) (module_size whole)) (nat_le (module_size whole) (length whole))
       (le-leb (header_length whole + 4) (module_size whole) (omega (arith, size-is, is.not_empty)))
-      (le-leb (module_size whole) (length whole) (omega (arith, size-is, length-is)))
+      (le-leb (module_size whole) (length whole) (omega (arith, size-is, length-guest_module)))
 
   name-kept : IsName name → has_module_name whole ≡ true
   name-kept is =
@@ -158,7 +158,7 @@ module _ (name : List ℕ) (kind attr storage : ℕ) (code : List ℕ) where
   guest_module-is is filled short kind_fits attr_fits =
       let header_kept : keeps_header_rule whole ≡ true = and_from (has_sync whole && has_size whole && has_module_name whole) (has_entry whole) (and_from (has_sync whole && has_size whole) (has_module_name whole) (and_from (has_sync whole) (has_size whole) sync-kept (size-kept is filled)) (name-kept is)) (entry-kept filled) in
       record {
-        whole = size-is ∙ sym length-is;
+        whole = size-is ∙ sym length-guest_module;
         accepted = rules-kept (keeps_header_rule whole) (keeps_parity_rule whole) (keeps_crc_rule whole) header_kept (parity-kept (omega arith) kind_fits attr_fits) crc-kept;
       }
 

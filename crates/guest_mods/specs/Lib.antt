@@ -1,2 +1,4 @@
+pub mod Accepted
 pub mod GuestModule
 pub mod Random
+pub mod Stress

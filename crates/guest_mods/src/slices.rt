@@ -1,5 +1,5 @@
 ghost use Rattle.std.specs.Prelude.{◌≡◌, ◌<◌, ◌≤◌, ◌++◌, ◌∷◌, [], IfOk};
-ghost use Rattle.guest_mods.specs.Random.{draws, slice_lengths};
+ghost use Rattle.guest_mods.specs.Random.{slice_lengths};
 
 use crate::random::{draw, next_random, random_at};
 use os9_base::call::OutOfMemory;
@@ -40,9 +40,3 @@ fn push_length(lengths: &mut Vec<u32>, length: u32) -> Result<(), OutOfMemory>
         Err(_) => Err(OutOfMemory),
     }
 }
-
-/// The first draws of two seeds, as they were worked out by hand.
-pub fn first_draws()
-    ensures first { draws 0 32 0 2 ≡ 1 ∷ 29 ∷ [] }
-    ensures other { draws 1 32 0 1 ≡ 7 ∷ [] }
-{}

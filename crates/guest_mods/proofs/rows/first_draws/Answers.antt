@@ -1,7 +1,7 @@
 -- The draws compute.
 use Rattle.std.proofs.Common.{◌≡◌, refl}
 use Rattle.guest_mods.specs.Random.{random}
-use Rattle.guest_mods.proofs.slices.first_draws.Goals as goal
+use Rattle.guest_mods.proofs.rows.first_draws.Goals as goal
 
 pub returns-clause-first : goal.returns-clause-first
 unfolding random

@@ -1,0 +1,42 @@
+-- What the command `stress` boots (this project's own).
+use Rattle.std.specs.Prelude.{ℕ, ◌*◌, ◌<◌, ◌≤◌, List, [], ◌∷◌, ◌++◌, codes}
+use Rattle.guest_mods.specs.declared.load.Load.{Load}
+use Rattle.guest_mods.specs.declared.programs.TheConstants.{SYSGO, WORKER}
+use Rattle.guest_mods.specs.GuestModule.{guest_module}
+use Rattle.guest_mods.specs.Random.{draws}
+
+-- a load that there may be
+pub record IsLoad (load : Load) : Type 0 where
+  pub seed : load.seed < 2147483648
+  pub some_workers : 1 ≤ load.workers
+  pub few_workers : load.workers ≤ 4
+  pub some_passes : 1 ≤ load.passes
+  pub few_passes : load.passes ≤ 40
+  pub some_records : 1 ≤ load.records
+  pub few_records : load.records ≤ 200
+
+-- how many bytes each record has, at most 32: those of the first Worker, then those of the second, and so on
+abbrev pub record_lengths : Load → List ℕ
+record_lengths load = draws load.seed 32 0 (load.workers * load.records)
+
+-- the code of SysGo, with how many Workers there are
+unfoldable pub sysgo_code : ℕ → List ℕ
+sysgo_code workers = SYSGO ++ workers ∷ []
+
+-- the code of Worker, with the passes, the records of a pass, and their lengths
+unfoldable pub worker_code : Load → List ℕ
+worker_code load = WORKER ++ load.passes ∷ load.records ∷ record_lengths load
+
+-- a program in 6809 code of revision 1, with 200 bytes of data memory
+abbrev pub program_module : List ℕ → List ℕ → List ℕ
+program_module name code = guest_module name 0x11 0x81 200 code
+
+abbrev pub sysgo_module : ℕ → List ℕ
+sysgo_module workers = program_module (codes "SysGo") (sysgo_code workers)
+
+abbrev pub worker_module : Load → List ℕ
+worker_module load = program_module (codes "Worker") (worker_code load)
+
+-- the boot file: both programs
+abbrev pub stress_file : Load → List ℕ
+stress_file load = sysgo_module load.workers ++ worker_module load
