@@ -1,7 +1,8 @@
-ghost use Rattle.std.specs.Prelude.{◌≡◌, ◌≤◌, ◌<◌, ◌∷◌, [], IfOk, length};
+ghost use Rattle.std.specs.Prelude.{◌≡◌, ◌-◌, ◌≤◌, ◌<◌, ◌∷◌, [], IfOk, length};
 ghost use Rattle.os9_base.specs.declared.limits.TheConstants.{MOST_GROUP_BYTES};
-ghost use Rattle.rbf_model.specs.Volume.{Vol};
-ghost use Rattle.boot_disk.specs.BootDisk.{boot_image as boot_image_lem, used_part as used_part_lem, boot_volume, BootsFile, ident_front, file_front, root_front, root_entries, sectors_for as sectors_for_lem};
+ghost use Rattle.rbf_model.specs.Volume.{Vol, free_clusters};
+ghost use Rattle.rbf_model.specs.Geometry.{image_geometry};
+ghost use Rattle.boot_disk.specs.BootDisk.{boot_image as boot_image_lem, used_part as used_part_lem, boot_volume, used_sectors, BootsFile, ident_front, file_front, root_front, root_entries, sectors_for as sectors_for_lem};
 
 use crate::sectors::{SECTOR_BYTES, push_map, push_sector, push_zeros};
 use os9_base::call::OutOfMemory;
@@ -27,6 +28,9 @@ pub fn boot_image(alloc: Global, file: &[u8]) -> Result<Vec<u8>, OutOfMemory>
     ensures bytes { IfOk result (λ image. image.items ≡ boot_image_lem file.now) }
     ensures volume { IfOk result (λ image. Vol image.items (boot_volume file.now)) }
     ensures boots { IfOk result (λ image. BootsFile image.items file.now) }
+    ensures free { IfOk result (λ image. length
+        (free_clusters (image_geometry image.items) (boot_volume file.now))
+        ≡ 4096 - used_sectors (length file.now)) }
 {
     let mut image = used_part(alloc, file)?;
     let used = image.len();
@@ -117,27 +121,32 @@ fn descriptor(size: u16) -> [u8; 21]
     ensures { result ≡ file_front size }
 {
     let [high, low] = size.to_be_bytes();
+    let count = sectors_for(size);
     [
         0x03, // FD.ATT: a file that its owner may read and write
-        0x00,
-        0x00, // FD.OWN
-        0x00,
-        0x00,
-        0x00,
-        0x00,
-        0x00, // FD.DAT
+        0x00, 0x00, // FD.OWN
+        0x00, 0x00, 0x00, 0x00, 0x00, // FD.DAT
         0x01, // FD.LNK
-        0x00,
-        0x00,
-        high,
-        low, // FD.SIZ
-        0x00,
-        0x00,
-        0x00, // FD.CREAT
-        0x00,
-        0x00,
-        0x06,
-        0x00,
-        sectors_for(size), // FD.SEG: from sector 6 on
+        0x00, 0x00, high, low, // FD.SIZ
+        0x00, 0x00, 0x00, // FD.CREAT
+        0x00, 0x00, 0x06, 0x00, count, // FD.SEG: from sector 6 on
     ]
+}
+
+#[cfg(test)]
+mod tests {
+    use super::*;
+    use std::test::Fail;
+
+    // Of a file of 257 bytes the volume has two sectors.
+    #[test]
+    fn file_of_two_sectors(rt: HostRuntime) -> Result<(), Fail> {
+        let image = boot_image(rt.alloc(), &[0x12; 257])?;
+        assert_eq!(rt; image.len(), 1_048_576);
+        assert_eq!(rt; (image.get(24), image.get(25)), (Some(&1), Some(&1)));
+        assert_eq!(rt; (image.get(256), image.get(257)), (Some(&0xff), Some(&0)));
+        assert_eq!(rt; (image.get(1300), image.get(1301)), (Some(&2), Some(&0)));
+        assert_eq!(rt; (image.get(1792), image.get(1793)), (Some(&0x12), Some(&0)));
+        Ok(())
+    }
 }

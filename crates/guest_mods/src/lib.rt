@@ -1,5 +1,5 @@
-//! Modules made of their parts: the one maker of modules for tests and examples; and what the command
-//! `stress` runs, an image with a boot file of such modules and a list of slices.
+//! Modules made of their parts: the one maker of modules for tests and examples; and what the
+//! command `stress` runs, an image with a boot file of such modules and a list of slices.
 #![tactic(auto)]
 
 pub use load::Load;

@@ -1,5 +1,6 @@
-/// What the programs of the command `stress` do (this project's own): how many Workers there are, how
-/// often each writes its file anew, in how many records, and the seed of the records' lengths.
+/// What the programs of the command `stress` do (this project's own): the seed of the lengths of
+/// records, below 2,147,483,648; how many Workers there are, from 1 to 4; how often each writes its
+/// file anew, from 1 to 40; and in how many records, from 1 to 200.
 #[derive(Clone, Copy, Debug, PartialEq, Eq)]
 pub struct Load {
     pub seed: u32,

@@ -26,7 +26,8 @@ const STORAGE: u16 = 200;
 const LONGEST_RECORD: u32 = 32;
 
 /// The code of `SysGo`. Behind it stands how many Workers there are. It forks them, each with a
-/// letter from `A` on, waits for as many ends, and exits with status 0, or with the error of a call.
+/// letter from `A` on, waits for as many ends, and exits with status 0, or with the error of a
+/// call.
 pub const SYSGO: [u8; 58] = [
     0xa6, 0x8c, 0x37, // start: lda workers,pcr
     0x97, 0x01, // sta <1 ; 1: how many Workers are to begin

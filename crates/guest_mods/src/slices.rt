@@ -11,8 +11,8 @@ const WRITES: u32 = 800;
 /// The most instructions of a slice.
 const LONGEST_SLICE: u32 = 500;
 
-/// How many instructions each slice of the command `stress` has, in order, for a seed and a count of
-/// slices (this project's own).
+/// How many instructions each slice of the command `stress` has, in order, for a seed and a count
+/// of slices (this project's own).
 ///
 /// # Errors
 ///
@@ -38,5 +38,18 @@ fn push_length(lengths: &mut Vec<u32>, length: u32) -> Result<(), OutOfMemory>
     match lengths.push(length) {
         Ok(()) => Ok(()),
         Err(_) => Err(OutOfMemory),
+    }
+}
+
+#[cfg(test)]
+mod tests {
+    use super::*;
+    use std::test::Fail;
+
+    #[test]
+    fn first_slices(rt: HostRuntime) -> Result<(), Fail> {
+        let slices = stress_slices(rt.alloc(), 0, 2)?;
+        assert_eq!(rt; slices.as_slice(), [397, 175].as_slice());
+        Ok(())
     }
 }

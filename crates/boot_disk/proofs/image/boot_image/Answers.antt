@@ -1,8 +1,10 @@
 -- The parts make the image, which represents the volume.
 use Rattle.std.proofs.Common.{◌≡◌, ◌≤◌, ◌-◌, ◌++◌, ℕ, List, length, replicate, arith, sym, ap, ◌∙◌, subst}
-use Rattle.rbf_model.specs.Volume.{Vol}
-use Rattle.boot_disk.specs.BootDisk.{boot_image, used_part, boot_volume, BootsFile}
+use Rattle.rbf_model.specs.Geometry.{image_geometry}
+use Rattle.rbf_model.specs.Volume.{Vol, free_clusters}
+use Rattle.boot_disk.specs.BootDisk.{boot_image, used_part, used_sectors, boot_volume, BootsFile}
 use Rattle.boot_disk.proofs.Parts.{used-long, image-put}
+use Rattle.boot_disk.proofs.Free.{free-count}
 use Rattle.boot_disk.proofs.Volume.{represents-volume, boots-file}
 use Rattle.boot_disk.proofs.image.boot_image.Goals as goal
 
@@ -28,3 +30,9 @@ returns-clause-boots c =
     let long : c.len-used.result ≡ length (used_part c.args.file.now) = omega (arith, ap length c.in_ok-image.ensures) in
     let bytes : c.push_zeros.new.image.items ≡ boot_image c.args.file.now = c.in_ok-push_zeros.ensures ∙ image-put c.args.file.now c.in_ok-image.image.items c.len-used.result c.in_ok-image.ensures long in
     subst (λ b. BootsFile b c.args.file.now) (sym bytes) (boots-file c.args.file.now c.requires.some c.requires.short)
+
+pub returns-clause-free : goal.returns-clause-free
+returns-clause-free c =
+    let long : c.len-used.result ≡ length (used_part c.args.file.now) = omega (arith, ap length c.in_ok-image.ensures) in
+    let bytes : c.push_zeros.new.image.items ≡ boot_image c.args.file.now = c.in_ok-push_zeros.ensures ∙ image-put c.args.file.now c.in_ok-image.image.items c.len-used.result c.in_ok-image.ensures long in
+    subst (λ b. length (free_clusters (image_geometry b) (boot_volume c.args.file.now)) ≡ 4096 - used_sectors (length c.args.file.now)) (sym bytes) (free-count c.args.file.now c.requires.some c.requires.short)

@@ -1,0 +1,43 @@
+-- An accepted boot file starts a machine.
+use Rattle.std.proofs.Common.{◌≡◌, ℕ, ◌+◌, ◌/◌, ◌≤◌, max, Ok, List, [], refl, ap, ◌∙◌, arith}
+use Rattle.os9_outer.specs.TerminalState.{TerminalState}
+use Rattle.proc_model.specs.Memory.{MemoryState}
+use Rattle.proc_model.specs.MemoryChanges.{started}
+use Rattle.call_rules.specs.Program.{area_pages, blocks_of_pages}
+use Rattle.io_rules.specs.Io.{first_io}
+use Rattle.machine_model.specs.declared.ends.BootFault.{BootFault}
+use Rattle.machine_model.specs.Start.{Refuses, Starts, boot_memory, first_process, first_start, only_process}
+use Rattle.machine_model.specs.State.{State}
+use Rattle.std.specs.Prelude.{None}
+use Rattle.machine_model.proofs.StartLaws.{never-both}
+use Rattle.guest_mods.specs.Accepted.{IsAccepted}
+
+module _ (file : List ℕ) (blocks : ℕ) (accepted : IsAccepted file blocks) where
+  -- the data area of the first process takes one block
+  one-block : blocks_of_pages (area_pages accepted.entry 0 0) ≡ 1
+  one-block = let few = accepted.storage in omega arith
+
+  pub starts-accepted : (drives : ℕ) (terms : List TerminalState) → (s : State) × Starts file blocks drives terms s
+  starts-accepted drives terms = (
+    record {
+      inner = only_process accepted.memory (first_start accepted.number accepted.entry);
+      io = first_io;
+      chosen = None;
+      drives = drives;
+      terms = terms;
+    },
+    record {
+      entries = accepted.entries;
+      number = accepted.number;
+      entry = accepted.entry;
+      memory = accepted.memory;
+      has = record { short = accepted.short; entered = accepted.entered; found_it = accepted.found; is = accepted.is };
+      begins = ap (λ count. started (boot_memory file blocks accepted.entries) first_process.0 accepted.number count) one-block ∙ accepted.begins;
+      is = refl;
+    },
+  )
+
+  pub never-refused-accepted : (fault : BootFault) → Refuses file blocks fault → ⊥
+  never-refused-accepted fault refusal =
+      let starts = starts-accepted 0 [] in
+      never-both file blocks 0 [] starts.0 fault starts.1 refusal
