@@ -1,14 +1,13 @@
 -- What the descriptors and LSN 0 say.
-use Rattle.std.proofs.Common.{◌≡◌, ℕ, zero, suc, ltb, ◌^◌, ◌+◌, ◌-◌, ◌*◌, ◌/◌, ◌%◌, ◌<◌, ◌≤◌, ◌==◌, Bool, true, false, not, List, [], ◌∷◌, ◌++◌, length, take, map, Some, refl, sym, ap, ◌∙◌, arith}
+use Rattle.std.proofs.Common.{◌≡◌, ℕ, ltb, ◌^◌, ◌+◌, ◌*◌, ◌<◌, ◌≤◌, ◌==◌, Bool, true, false, not, List, [], ◌∷◌, ◌++◌, length, take, map, refl, ap, ◌∙◌, arith}
 use Rattle.std.specs.Prelude.{flat_map, take_while}
 use Rattle.std.specs.List.{range_with_len}
 use Rattle.std.proofs.lemmas.Bool.{ne_eqb}
 use Rattle.std.proofs.lemmas.List.{append-nil, take_at}
-use Rattle.rbf_model.specs.Fields.{segment_field, segments_field, has_sectors, size_field, directory_entry, descriptor_field, entry_name_field, is_used, boot_field, boot_size_field}
+use Rattle.rbf_model.specs.Fields.{segment_field, segments_field, has_sectors, size_field, directory_entry, is_used, boot_field, boot_size_field}
 use Rattle.rbf_model.specs.File.{file_at, file_from, segment_bytes}
 use Rattle.rbf_model.specs.Space.{is_marked}
 use Rattle.rbf_model.specs.Geometry.{Geometry, geometry, sector, image_geometry}
-use Rattle.rbf_model.specs.Segments.{sectors_of}
 use Rattle.rbf_model.specs.Tree.{dot, dot_dot, IsEntry}
 use Rattle.boot_disk.specs.BootDisk.{sector_with, sectors_for, used_sectors, ident_front, root_front, root_entries, file_front, boot_image, root_directory, boot_entry}
 use Rattle.boot_disk.proofs.Marks.{marked-are}

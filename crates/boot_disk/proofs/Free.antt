@@ -1,5 +1,5 @@
 -- How many clusters are free: all behind those in use.
-use Rattle.std.proofs.Common.{◌≡◌, ℕ, zero, suc, ◌+◌, ◌-◌, ◌*◌, ◌<◌, ◌≤◌, ◌&&◌, ltb, leb, Bool, true, false, not, List, [], ◌∷◌, length, refl, sym, ap, ◌∙◌, ⊎_elim, arith}
+use Rattle.std.proofs.Common.{◌≡◌, ℕ, zero, suc, ◌+◌, ◌-◌, ◌*◌, ◌<◌, ◌≤◌, ◌&&◌, ltb, Bool, true, false, not, List, ◌∷◌, length, ap, ◌∙◌, ⊎_elim, arith}
 use Rattle.std.specs.Prelude.{filter}
 use Rattle.std.specs.List.{range_with_len}
 use Rattle.std.proofs.lemmas.Bool.{cases_lt, cond-true, cond-false, lt-ltb, le-ltb, le-leb}
@@ -7,7 +7,7 @@ use Rattle.rbf_model.specs.Geometry.{Geometry, image_geometry, sector}
 use Rattle.rbf_model.specs.Space.{is_whole, is_marked, cluster_count}
 use Rattle.rbf_model.specs.Volume.{free_clusters}
 use Rattle.rbf_model.proofs.Free.{free_clusters_are}
-use Rattle.boot_disk.specs.BootDisk.{sectors_for, used_sectors, boot_image, boot_volume}
+use Rattle.boot_disk.specs.BootDisk.{used_sectors, boot_image, boot_volume}
 use Rattle.boot_disk.proofs.Marks.{marked-are}
 use Rattle.boot_disk.proofs.Fields.{boot_geometry, image-geometry}
 use Rattle.boot_disk.proofs.Volume.{represents-volume}

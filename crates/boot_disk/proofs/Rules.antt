@@ -1,24 +1,24 @@
 -- A disk with a boot file keeps the nine rules.
-use Rattle.std.proofs.Common.{◌≡◌, ◌≢◌, ◌⊎◌, ℕ, zero, suc, ◌+◌, ◌*◌, ◌/◌, ◌<◌, ◌≤◌, ◌==◌, ltb, leb, Bool, true, false, not, List, [], ◌∷◌, ◌++◌, length, Some, refl, sym, ap, ◌∙◌, subst, inl, inr, ⊎_elim, arith}
+use Rattle.std.proofs.Common.{◌≡◌, ◌≢◌, ◌⊎◌, ℕ, suc, ◌+◌, ◌*◌, ◌/◌, ◌<◌, ◌≤◌, leb, true, false, List, [], ◌∷◌, length, refl, sym, ap, ◌∙◌, subst, inl, inr, ⊎_elim, arith}
 use Rattle.std.specs.List.{range_with_len, list_all}
 use Rattle.std.proofs.lemmas.Bool.{cond-true, cond-false, lt-ltb, le-leb, cases_lt, cases_eq, false≢true}
 use Rattle.std.proofs.lemmas.List.Elements.{All-nil, All-cons}
 use Rattle.std.proofs.lemmas.List.{append-nil}
 use Rattle.std.proofs.lemmas.List.FromFn.{length-range_with_len}
 use Rattle.rbf_model.specs.Fields.{size_field, segments_field, directory_entry, descriptor_field, entry_name_field}
-use Rattle.rbf_model.specs.Geometry.{Geometry, IsNumber, HasMap, LieWithin, is_within}
+use Rattle.rbf_model.specs.Geometry.{IsNumber, LieWithin, is_within}
 use Rattle.rbf_model.specs.Disk.{Disk, disk_of}
 use Rattle.rbf_model.specs.Segments.{AreDistinct, has, sectors_of}
 use Rattle.rbf_model.specs.File.{DiskFile, file_at, is_directory, is_directory_size, has_room}
 use Rattle.rbf_model.specs.Space.{is_marked, owned, owns, has_cluster}
-use Rattle.rbf_model.specs.Tree.{dot, dot_dot, HasEntry, EntryNames, Reached, root, named, Links, IsEntry, IsParent, of_root, HasDots, parent_first, HasNames, HasDifferentNames, IsProper}
+use Rattle.rbf_model.specs.Tree.{dot, dot_dot, HasEntry, EntryNames, Reached, root, named, Links, IsEntry, of_root, HasDots, parent_first, HasNames, HasDifferentNames, IsProper}
 use Rattle.rbf_model.specs.Search.{is_searchable, searchable_bytes, IsReachedOn}
 use Rattle.rbf_model.specs.Keeps.{Keeps}
 use Rattle.rbf_model.proofs.Lists.{four_pass, first_fails}
 use Rattle.rbf_model.proofs.Segments.{range_has, has_range}
 use Rattle.rbf_model.proofs.Space.{cluster_from_owns, owns_from_cluster}
 use Rattle.rbf_model.proofs.Growth.{distinct_range}
-use Rattle.boot_disk.specs.BootDisk.{root_directory, root_entries, boot_entry, sectors_for, used_sectors}
+use Rattle.boot_disk.specs.BootDisk.{root_entries, sectors_for, used_sectors}
 use Rattle.boot_disk.proofs.Parts.{length-root_entries}
 use Rattle.boot_disk.proofs.Fields.{boot_geometry, boot_name, first-entry, second-entry, third-entry, third-used, HasParts}
 

@@ -1,5 +1,5 @@
 -- The image represents the volume of its file.
-use Rattle.std.proofs.Common.{◌≡◌, ◌≢◌, ◌⊎◌, ℕ, suc, ◌+◌, ◌*◌, ◌<◌, ◌≤◌, ◌==◌, ◌&&◌, ◌||◌, leb, Bool, true, false, not, List, [], ◌∷◌, length, take, drop, Option, Some, None, refl, sym, ap, ◌∙◌, subst, inl, inr, ⊎_elim, arith, eqb-true, eq-eqb}
+use Rattle.std.proofs.Common.{◌≡◌, ◌⊎◌, ℕ, ◌+◌, ◌*◌, ◌≤◌, ◌==◌, ◌&&◌, ◌||◌, Bool, true, false, not, List, [], ◌∷◌, length, drop, Some, None, refl, sym, ap, ◌∙◌, subst, inl, inr, ⊎_elim, arith, eqb-true}
 use Rattle.std.specs.Prelude.{if◌then◌else◌}
 use Rattle.std.specs.List.{list_any}
 use Rattle.std.proofs.lemmas.Bool.{cases_lt, cases_eq, le-ltb, or_cases, or_left, or_right, false≢true, ne_eqb, lt-leb}
@@ -12,7 +12,7 @@ use Rattle.rbf_model.specs.Segments.{has}
 use Rattle.rbf_model.specs.Space.{is_whole, is_marked, has_cluster}
 use Rattle.rbf_model.specs.Search.{IsFound, IsReachedOn, image_volume}
 use Rattle.rbf_model.specs.Keeps.{Keeps}
-use Rattle.rbf_model.specs.Volume.{DiskVolume, Vol}
+use Rattle.rbf_model.specs.Volume.{Vol}
 use Rattle.rbf_model.proofs.Images.{vol_from_keeps}
 use Rattle.boot_disk.specs.BootDisk.{sectors_for, boot_image, boot_files, boot_volume, BootsFile}
 use Rattle.boot_disk.proofs.Parts.{image-long, sector-0, file-there}

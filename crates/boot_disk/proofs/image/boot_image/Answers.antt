@@ -1,5 +1,5 @@
 -- The parts make the image, which represents the volume.
-use Rattle.std.proofs.Common.{◌≡◌, ◌≤◌, ◌-◌, ◌++◌, ℕ, List, length, replicate, arith, sym, ap, ◌∙◌, subst}
+use Rattle.std.proofs.Common.{◌≡◌, ◌-◌, length, arith, sym, ap, ◌∙◌, subst}
 use Rattle.rbf_model.specs.Geometry.{image_geometry}
 use Rattle.rbf_model.specs.Volume.{Vol, free_clusters}
 use Rattle.boot_disk.specs.BootDisk.{boot_image, used_part, used_sectors, boot_volume, BootsFile}

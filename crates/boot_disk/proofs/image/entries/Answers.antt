@@ -1,5 +1,5 @@
 -- The bytes are those of the three entries.
-use Rattle.std.proofs.Common.{◌≡◌, refl}
+use Rattle.std.proofs.Common.{refl}
 use Rattle.boot_disk.specs.BootDisk.{root_entries}
 use Rattle.boot_disk.proofs.image.entries.Goals as goal
 

@@ -1,5 +1,5 @@
 -- The parts stand one behind the other.
-use Rattle.std.proofs.Common.{◌≡◌, ◌+◌, ◌++◌, ℕ, List, [], length, arith, sym, ap, ◌∙◌}
+use Rattle.std.proofs.Common.{◌≡◌, ◌+◌, ◌++◌, ℕ, List, [], length, arith, ap, ◌∙◌}
 use Rattle.boot_disk.specs.BootDisk.{ident_front, root_front, root_entries, file_front, used_sectors, sector_with, marks_map}
 use Rattle.boot_disk.proofs.Parts.{parts-put}
 use Rattle.boot_disk.proofs.image.used_part.Goals as goal
