@@ -1,5 +1,5 @@
 -- The boot file of a load is accepted.
-use Rattle.std.proofs.Common.{◌≡◌, ◌≢◌, ℕ, ◌+◌, ◌*◌, ◌<◌, ◌≤◌, ◌&&◌, Bool, true, Option, Some, Ok, List, [], ◌∷◌, ◌++◌, length, drop, map, get_or, refl, sym, ap, ◌∙◌, subst, arith, length-append}
+use Rattle.std.proofs.Common.{◌≡◌, ℕ, ◌+◌, ◌*◌, ◌≤◌, true, Option, Ok, List, [], ◌∷◌, length, map, refl, sym, ap, ◌∙◌, subst, arith, length-append}
 use Rattle.std.specs.Prelude.{All, codes}
 use Rattle.std.specs.List.{list_all, range_with_len}
 use Rattle.std.proofs.lemmas.Bool.{and_parts}
@@ -9,13 +9,13 @@ use Rattle.os9_base.specs.Name.{IsName, is_stored_character}
 use Rattle.proc_model.specs.Loading.{EntersModules, at_end, entered, no_entries, with_module}
 use Rattle.proc_model.specs.Memory.{MemoryState, first_memory}
 use Rattle.proc_model.specs.MemoryChanges.{started, with_first_slots}
-use Rattle.proc_model.specs.Module.{IsModule, info_at, step_from}
+use Rattle.proc_model.specs.Module.{IsModule, step_from}
 use Rattle.proc_model.specs.ModuleList.{ModuleEntry, new_entry}
-use Rattle.proc_model.specs.Objects.{file_block, file_blocks, file_objects}
+use Rattle.proc_model.specs.Objects.{file_block, file_blocks}
 use Rattle.proc_model.specs.declared.module.ModuleInfo.{ModuleInfo}
-use Rattle.proc_model.specs.declared.module.ModuleStep.TheVariants.{Module, End}
+use Rattle.proc_model.specs.declared.module.ModuleStep.TheVariants.{Module}
 use Rattle.guest_mods.specs.declared.load.Load.{Load}
-use Rattle.guest_mods.specs.GuestModule.{guest_module, guest_info}
+use Rattle.guest_mods.specs.GuestModule.{guest_info}
 use Rattle.guest_mods.specs.Stress.{IsLoad, sysgo_code, worker_code, sysgo_module, worker_module, stress_file}
 use Rattle.guest_mods.specs.Accepted.{IsAccepted}
 use Rattle.guest_mods.proofs.ModuleLemmas.{guest_module-is, guest_info-is, length-guest_module}

@@ -8,11 +8,8 @@ use Rattle.std.proofs.lemmas.Bool.{cases_lt, and_parts, and_from, leb-true, le-l
 use Rattle.byteorder.specs.Endian.{big_number}
 use Rattle.os9_base.specs.Name.{stored_name}
 use Rattle.proc_model.specs.Crc.{crc_of}
-use Rattle.proc_model.specs.declared.module.ModuleInfo.{ModuleInfo}
-use Rattle.proc_model.specs.Module.{header_word, module_size, name_offset, module_kind, module_attributes, is_program, header_length, program_word, module_entry, module_storage, crc_offset, module_name, has_sync, has_size, has_module_name, has_entry, keeps_header_rule, keeps_parity_rule, crc_field, keeps_crc_rule, module_fault, info_at, next_place, step_at, step_from, IsModule}
-use Rattle.proc_model.specs.declared.module.ModuleFault.{ModuleFault}
+use Rattle.proc_model.specs.Module.{header_word, module_size, name_offset, module_kind, module_attributes, is_program, header_length, program_word, module_entry, crc_offset, module_name, has_sync, has_size, has_module_name, has_entry, keeps_header_rule, keeps_parity_rule, crc_field, keeps_crc_rule, module_fault, info_at, next_place, step_at, step_from, IsModule}
 use Rattle.proc_model.specs.declared.module.ModuleFault.TheVariants.{BadSync, BadParity, BadCrc}
-use Rattle.proc_model.specs.declared.module.ModuleStep.{ModuleStep}
 use Rattle.proc_model.specs.declared.module.ModuleStep.TheVariants.{Module, End, Fault}
 
 -- ---- parts of a list that has bytes behind it

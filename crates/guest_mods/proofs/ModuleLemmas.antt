@@ -1,15 +1,14 @@
 -- A module that is made of its parts breaks no rule, and its header says what they are.
-use Rattle.std.proofs.Common.{◌≡◌, ◌≤◌, ◌<◌, ℕ, zero, suc, ◌+◌, ◌-◌, ◌*◌, ◌/◌, ◌%◌, ◌^◌, ◌==◌, ◌&&◌, bit_xor, Bool, true, false, nat_le, nat_lt, eqb, Option, Some, None, is_some, unwrap_or, List, [], ◌∷◌, ◌++◌, length, take, drop, fold, slice_range, get_or, refl, sym, ap, ◌∙◌, subst, arith, append_assoc, length-append, if◌then◌else◌}
+use Rattle.std.proofs.Common.{◌≡◌, ◌≤◌, ◌<◌, ℕ, ◌+◌, ◌-◌, ◌*◌, ◌/◌, ◌%◌, ◌^◌, ◌&&◌, bit_xor, Bool, true, false, nat_le, eqb, Some, None, is_some, unwrap_or, List, [], ◌∷◌, ◌++◌, length, take, drop, fold, slice_range, refl, sym, ap, ◌∙◌, arith, length-append, if◌then◌else◌}
 use Rattle.std.proofs.lemmas.Bool.{le-leb, lt-ltb, and_from, eq-eqb, agree_below_at, eqb-true}
 use Rattle.std.proofs.lemmas.List.{take_at, drop_at}
 use Rattle.std.proofs.lemmas.Nat.{xor_of_8}
 use Rattle.byteorder.specs.Endian.{big_number}
 use Rattle.os9_base.specs.Name.{stored_name, IsName}
 use Rattle.proc_model.specs.Crc.{crc_of}
-use Rattle.proc_model.specs.declared.module.ModuleInfo.{ModuleInfo}
-use Rattle.proc_model.specs.Module.{header_word, module_size, name_offset, module_kind, is_program, header_length, program_word, module_entry, module_storage, crc_offset, module_name, has_sync, has_size, has_module_name, has_entry, keeps_header_rule, keeps_parity_rule, crc_field, keeps_crc_rule, module_fault, info_at, IsModule}
+use Rattle.proc_model.specs.Module.{header_word, module_size, name_offset, header_length, module_entry, module_storage, crc_offset, module_name, has_sync, has_size, has_module_name, has_entry, keeps_header_rule, keeps_parity_rule, crc_field, keeps_crc_rule, info_at, IsModule}
 use Rattle.proc_model.specs.declared.module.ModuleFault.TheVariants.{BadSync, BadParity, BadCrc}
-use Rattle.guest_mods.specs.GuestModule.{is_program_kind, kind_header_length, code_offset, guest_size, marked_name, header_front, parity_of, program_fields, guest_body, crc_bytes, guest_module, guest_info}
+use Rattle.guest_mods.specs.GuestModule.{is_program_kind, kind_header_length, code_offset, guest_size, marked_name, header_front, parity_of, guest_body, crc_bytes, guest_module, guest_info}
 use Rattle.guest_mods.proofs.NameLemmas.{stored_name-marked, length-marked_name}
 
 -- ---- the parity

@@ -1,5 +1,5 @@
 -- The last character gets bit 7.
-use Rattle.std.proofs.Common.{◌≡◌, ◌+◌, ◌-◌, ◌<◌, length, arith, ap, ◌∙◌, append_assoc, sym}
+use Rattle.std.proofs.Common.{◌≡◌, ◌+◌, ◌-◌, length, arith, append_assoc}
 use Rattle.std.proofs.lemmas.Grind.{common_steps}
 use Rattle.guest_mods.proofs.NameLemmas.{marked_name-last, last-below, take-next}
 use Rattle.guest_mods.proofs.module.push_name.Goals as goal

@@ -1,5 +1,5 @@
 -- Each turn of the loop draws the next length.
-use Rattle.std.proofs.Common.{◌≡◌, ◌+◌, ◌<◌, List, ℕ, ◌++◌, ◌∷◌, [], sym, ap, ◌∙◌, append_assoc}
+use Rattle.std.proofs.Common.{◌≡◌, ◌+◌, List, ℕ, ◌++◌, ◌∷◌, [], sym, ap, ◌∙◌, append_assoc}
 use Rattle.std.proofs.lemmas.List.{append-nil}
 use Rattle.guest_mods.specs.Random.{random, random_after, draws}
 use Rattle.guest_mods.proofs.RandomLemmas.{random-first, random-behind, draws-next}

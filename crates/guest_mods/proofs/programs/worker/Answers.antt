@@ -1,8 +1,7 @@
 -- The code is the table, the passes, the records and their lengths.
-use Rattle.std.proofs.Common.{◌≡◌, ◌≤◌, List, ℕ, ◌++◌, ◌∷◌, [], length, ap, ◌∙◌, subst, arith, append_assoc}
+use Rattle.std.proofs.Common.{◌≡◌, List, ℕ, length, ap, subst, arith}
 use Rattle.std.specs.Prelude.{IfOk, codes}
-use Rattle.guest_mods.specs.Stress.{worker_code, record_lengths, program_module}
-use Rattle.guest_mods.specs.declared.programs.TheConstants.{WORKER}
+use Rattle.guest_mods.specs.Stress.{worker_code, program_module}
 use Rattle.guest_mods.proofs.StressLemmas.{length-worker_code, few-lengths, worker_code-put}
 use Rattle.guest_mods.proofs.programs.worker.Goals as goal
 

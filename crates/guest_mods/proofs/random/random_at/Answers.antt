@@ -1,6 +1,5 @@
 -- Each turn of the loop makes the next random number.
-use Rattle.std.proofs.Common.{◌≡◌, sym, arith}
-use Rattle.guest_mods.specs.Random.{random}
+use Rattle.std.proofs.Common.{sym}
 use Rattle.guest_mods.proofs.RandomLemmas.{random-first, random-next}
 use Rattle.guest_mods.proofs.random.random_at.Goals as goal
 

@@ -1,5 +1,5 @@
 -- The draws compute.
-use Rattle.std.proofs.Common.{◌≡◌, refl}
+use Rattle.std.proofs.Common.{refl}
 use Rattle.guest_mods.specs.Random.{random}
 use Rattle.guest_mods.proofs.rows.first_draws.Goals as goal
 

@@ -1,5 +1,5 @@
 -- The boot file is that of the load, and it is accepted.
-use Rattle.std.proofs.Common.{◌≡◌, ◌≤◌, List, ℕ, length, ap, ◌∙◌, subst, arith}
+use Rattle.std.proofs.Common.{◌≡◌, List, ℕ, length, ap, ◌∙◌, subst, arith}
 use Rattle.std.specs.Prelude.{IfOk}
 use Rattle.rbf_model.specs.Volume.{Vol}
 use Rattle.boot_disk.specs.BootDisk.{boot_image, boot_volume, BootsFile}
