@@ -1,7 +1,6 @@
 -- An accepted boot file starts a machine.
-use Rattle.std.proofs.Common.{◌≡◌, ℕ, ◌+◌, ◌/◌, ◌≤◌, max, Ok, List, [], refl, ap, ◌∙◌, arith}
+use Rattle.std.proofs.Common.{◌≡◌, ℕ, List, [], refl, ap, ◌∙◌, arith}
 use Rattle.os9_outer.specs.TerminalState.{TerminalState}
-use Rattle.proc_model.specs.Memory.{MemoryState}
 use Rattle.proc_model.specs.MemoryChanges.{started}
 use Rattle.call_rules.specs.Program.{area_pages, blocks_of_pages}
 use Rattle.io_rules.specs.Io.{first_io}
