@@ -1,6 +1,7 @@
-ghost use Rattle.std.specs.Prelude.{◌≡◌, IfOk};
-ghost use Rattle.rbf_model.specs.Volume.{Vol};
-ghost use Rattle.boot_disk.specs.BootDisk.{boot_image as boot_image_lem, boot_volume, BootsFile};
+ghost use Rattle.std.specs.Prelude.{◌≡◌, ◌-◌, IfOk, length};
+ghost use Rattle.rbf_model.specs.Geometry.{image_geometry};
+ghost use Rattle.rbf_model.specs.Volume.{Vol, free_clusters};
+ghost use Rattle.boot_disk.specs.BootDisk.{boot_image as boot_image_lem, boot_volume, used_sectors, BootsFile};
 ghost use Rattle.guest_mods.specs.Stress.{IsLoad, stress_file as stress_file_lem};
 ghost use Rattle.guest_mods.specs.Accepted.{IsAccepted};
 
@@ -22,6 +23,9 @@ pub fn stress_image(alloc: Global, load: &Load) -> Result<Vec<u8>, OutOfMemory>
     ensures volume { IfOk result (λ image. Vol image.items
         (boot_volume (stress_file_lem load.now))) }
     ensures boots { IfOk result (λ image. BootsFile image.items (stress_file_lem load.now)) }
+    ensures free { IfOk result (λ image. length (free_clusters (image_geometry image.items)
+        (boot_volume (stress_file_lem load.now)))
+        ≡ 4096 - used_sectors (length (stress_file_lem load.now))) }
     // The machine of the command has 64 blocks.
     ensures accepted { IsAccepted (stress_file_lem load.now) 64 }
 {
