@@ -14,7 +14,6 @@ loop-i-init c = record {
 
 pub loop-i-preserved : goal.loop-i-preserved
 loop-i-preserved c =
-    let seed : ℕ = c.args.load.now.seed in
     let after : c.next_random-x.result ≡ random_after (random c.args.load.now.seed (0 + c.loop-i._i)) = cc in
     record {
       number = after ∙ sym (random-behind c.args.load.now.seed 0 c.loop-i._i);
