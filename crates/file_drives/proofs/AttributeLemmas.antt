@@ -44,12 +44,14 @@ module _ (slot : Option Volume) (volume new : Volume) (before after : DriveView)
         };
         on = mounted-left new after.media it.volume mounted it.on;
         counts = counts v file was.on there;
+        refused = λ h. absurd h;
       }
   leaves (Err NotAllowed) ok answer stayed counts v file was there = record {
     left = v;
     answers = record { forbidden = answer v file was.on there; same = refl };
     on = mounted-still volume new before.media after.media v kept_same stayed was;
     counts = counts v file was.on there;
+    refused = λ _. stayed;
   }
   leaves (Err BadPath) ok answer stayed counts v file was there = absurd (answer v file was.on there)
   leaves (Err NotFound) ok answer stayed counts v file was there = absurd (answer v file was.on there)
@@ -59,6 +61,7 @@ module _ (slot : Option Volume) (volume new : Volume) (before after : DriveView)
     answers = record { may_be = refl; refused = λ _. refl };
     on = mounted-still volume new before.media after.media v kept_same stayed was;
     counts = counts v file was.on there;
+    refused = λ h. absurd h;
   }
   leaves (Err (File NoCluster)) ok answer stayed counts v file was there = absurd (answer v file was.on there)
   leaves (Err (File TooManyRuns)) ok answer stayed counts v file was there = absurd (answer v file was.on there)

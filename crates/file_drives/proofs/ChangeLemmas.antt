@@ -130,6 +130,7 @@ module _ (slot : Option Volume) (volume new : Volume) (before after : DriveView)
             subst (λ f. MovesCounts None (write_calls v file (marks_made (Ok done) v file f) at (length bytes)) before.counts after.counts) (sym here)
             (counts v file on there (marking_sectors (shape v) (is_gained (cluster_size v) file.segments it.writes.new.segments))
             (λ w shown other is_there. ap (λ (f : DiskFile). marking_sectors (shape v) (is_gained (cluster_size v) file.segments f.segments)) (shown-once after.media it.volume w n it.writes.new shown it.on other here is_there)));
+        refused = λ h. absurd h;
       }
   leaves user (Err (Device number)) answer few counts v file on there = by (answer v file on there)
     where
@@ -142,6 +143,7 @@ module _ (slot : Option Volume) (volume new : Volume) (before after : DriveView)
         answers = record { may_be = ends-before v file there some; refused = λ _. refl };
         on = stayed_on v same on;
         counts = moved;
+        refused = λ h. absurd h;
       }
       by (stopped it) = record {
         left = it.volume;
@@ -155,6 +157,7 @@ module _ (slot : Option Volume) (volume new : Volume) (before after : DriveView)
         };
         on = mounted-left new after.media it.volume mounted it.on;
         counts = moved;
+        refused = λ h. absurd h;
       }
   leaves user (Err NoCluster) answer few counts v file on there =
       let it = answer v file on there in
@@ -163,6 +166,7 @@ module _ (slot : Option Volume) (volume new : Volume) (before after : DriveView)
         answers = record { allowed = refl; few = lt-ltb (free_total v) (clusters_needed (cluster_size v) file.segments (length (written file.contents at bytes))) it.few; same = refl };
         on = stayed_on v it.media_kept on;
         counts = refusal_counts _ before.counts after.counts (few refl) (counts v file on there (map_sectors (shape v)) refl);
+        refused = λ _. it.media_kept;
       }
   leaves user (Err TooManyRuns) answer few counts v file on there =
       let it = answer v file on there in
@@ -176,6 +180,7 @@ module _ (slot : Option Volume) (volume new : Volume) (before after : DriveView)
         };
         on = stayed_on v it.media_kept on;
         counts = refusal_counts _ before.counts after.counts (few refl) (counts v file on there (map_sectors (shape v)) refl);
+        refused = λ _. it.media_kept;
       }
 
   pub writes-on : (result : Result (Unit {0}) FileFault) → OnVolumeFile before.media n (λ v file. AnswersWrite v file (record { number = n; at = at; bytes = bytes; now = now }) before.media after.media result) → OnErr result (IsRefusal result → after.counts.calls ≤ before.counts.calls + 1) → OnMarked before.media after.media n result (λ v file marks. MovesCounts (file_fault result) (write_calls v file marks at (length bytes)) before.counts after.counts) → WritesOn n at bytes now result slot before (Some new) after
@@ -229,6 +234,7 @@ module _ (slot : Option Volume) (volume new : Volume) (before after : DriveView)
             subst (λ f. MovesCounts None (size_calls v file (marks_made (Ok done) v file f) sizing) before.counts after.counts) (sym here)
             (counts v file on there (marking_sectors (shape v) (is_gained (cluster_size v) file.segments it.sets.new.segments))
             (λ w shown other is_there. ap (λ (f : DiskFile). marking_sectors (shape v) (is_gained (cluster_size v) file.segments f.segments)) (shown-once after.media it.volume w n it.sets.new shown it.on other here is_there)));
+        refused = λ h. absurd h;
       }
   size_leaves user (Err (Device number)) answer few counts v file on there =
       let it = answer v file on there in
@@ -240,6 +246,7 @@ module _ (slot : Option Volume) (volume new : Volume) (before after : DriveView)
         };
         on = mounted-left new after.media it.volume mounted it.on;
         counts = counts v file on there (map_sectors (shape v)) refl;
+        refused = λ h. absurd h;
       }
   size_leaves user (Err NoCluster) answer few counts v file on there =
       let it = answer v file on there in
@@ -248,6 +255,7 @@ module _ (slot : Option Volume) (volume new : Volume) (before after : DriveView)
         answers = record { allowed = refl; few = lt-ltb (free_total v) (clusters_needed (cluster_size v) file.segments size) it.few; same = refl };
         on = size_stayed v it.media_kept on;
         counts = refusal_counts _ before.counts after.counts (few refl) (counts v file on there (map_sectors (shape v)) refl);
+        refused = λ _. it.media_kept;
       }
   size_leaves user (Err TooManyRuns) answer few counts v file on there =
       let it = answer v file on there in
@@ -261,6 +269,7 @@ module _ (slot : Option Volume) (volume new : Volume) (before after : DriveView)
         };
         on = size_stayed v it.media_kept on;
         counts = refusal_counts _ before.counts after.counts (few refl) (counts v file on there (map_sectors (shape v)) refl);
+        refused = λ _. it.media_kept;
       }
 
   pub sizes-on : (result : Result (Unit {0}) FileFault) → OnVolumeFile before.media n (λ v file. AnswersSize v file sizing before.media after.media result) → OnErr result (IsNone (file_fault result) → after.counts.calls ≤ before.counts.calls + 1) → OnMarked before.media after.media n result (λ v file marks. MovesCounts (file_fault result) (size_calls v file marks sizing) before.counts after.counts) → SizesOn n size now result slot before (Some new) after

@@ -51,12 +51,14 @@ module _ (slot : Option Volume) (volume new : Volume) (before after : DriveView)
     };
     on = mounted-left new after.media it.after mounted (record { image = it.now; is = it.is; vol = it.vol });
     counts = counts;
+    refused = λ h. absurd h;
   }
   deletion_leaves n name user now (Err (Device number)) v dir on (inl same) counts = record {
     left = v;
     answers = record { may_be = (on.image, on.vol, ends.before refl); refused = λ _. refl };
     on = mounted-left new after.media v mounted (record { image = on.image; is = same ∙ on.is; vol = on.vol });
     counts = counts;
+    refused = λ h. absurd h;
   }
   deletion_leaves n name user now (Err (Device number)) v dir on (inr half) counts = record {
     left = half.left;
@@ -66,6 +68,7 @@ module _ (slot : Option Volume) (volume new : Volume) (before after : DriveView)
     };
     on = mounted-left new after.media half.left mounted (record { image = half.now; is = half.is; vol = half.vol });
     counts = counts;
+    refused = λ h. absurd h;
   }
   deletion_leaves n name user now (Err NoCluster) v dir on it counts = absurd it
   deletion_leaves n name user now (Err TooManyRuns) v dir on it counts = absurd it

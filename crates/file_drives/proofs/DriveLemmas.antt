@@ -1,13 +1,13 @@
 -- A driver in the list is replaced: of the drives that the lists tell, exactly that one changed. And what the calls on
 -- files tell of that.
-use Rattle.std.proofs.Common.{◌≡◌, ◌≢◌, ℕ, ◌<◌, ◌≤◌, ◌∙◌, Some, None, option_map, List, map, length, get_or, set, slice_get, slice_set, refl, ap, sym, subst}
+use Rattle.std.proofs.Common.{◌≡◌, ◌≢◌, ℕ, ◌<◌, ◌≤◌, ◌∙◌, Option, Some, None, option_map, List, map, length, get_or, set, slice_get, slice_set, refl, ap, sym, subst}
 use Rattle.std.proofs.lemmas.List.{map-set, length-set, length-map, get_or-map, get_or-set_same, get_or-set_other, set-get_or}
 use Rattle.std.proofs.lemmas.Option.{slice_get-map, slice_get_read, slice_get_within, get_or_from_slice_get}
 use Rattle.os9_base.specs.Count.{Rose}
 use Rattle.os9_outer.specs.Drive.{drive_error}
 use Rattle.file_rules.specs.Files.{DriveState, NoneFailed, OneFailed, drive_at, new_drive}
 use Rattle.rbf_access.specs.Drive.{MovesCounts}
-use Rattle.file_drives.specs.Drives.{DriveView, ChangesOneDrive, OneDriveMoves, drive_state, drive_states}
+use Rattle.file_drives.specs.Drives.{DriveView, ChangesOneDrive, OneDriveMoves, drive_state, drive_states, media_of}
 
 pub changes-one : {Driver : Type 0} (view : Driver → DriveView) (change : DriveView → DriveView → Type 0) (drivers : List Driver) (n : ℕ) (old new : Driver) → n < length drivers → old ≡ get_or drivers n old → change (view old) (view new) → ChangesOneDrive change n (map view drivers) (map view (slice_set drivers n new))
 changes-one view change drivers n old new inside here changed = (
@@ -17,6 +17,18 @@ changes-one view change drivers n old new inside here changed = (
   map-set view drivers n new,
   changed,
 )
+
+-- the media of all stay where that of the one stayed
+pub media-kept : {Driver : Type 0} (view : Driver → DriveView) (drivers : List Driver) (n : ℕ) (old new : Driver) → n < length drivers → old ≡ get_or drivers n old → (view new).media ≡ (view old).media → media_of (map view (slice_set drivers n new)) ≡ media_of (map view drivers)
+media-kept view drivers n old new inside here same =
+    let media : DriveView → Option (List ℕ) = λ w. w.media in
+    let within : n < length (map view drivers) = subst (λ k. n < k) (sym (length-map drivers view)) inside in
+    let before : get_or (media_of (map view drivers)) n None ≡ (view old).media =
+    get_or-map media (map view drivers) n (view old) None within ∙ ap media (get_or-map view drivers n old (view old) inside ∙ ap view (sym here)) in
+    ap media_of (map-set view drivers n new)
+    ∙ map-set media (map view drivers) n (view new)
+    ∙ ap (λ m. set (media_of (map view drivers)) n m) (same ∙ sym before)
+    ∙ set-get_or (media_of (map view drivers)) n None
 
 -- a weaker change
 pub changes-weaker : (change other : DriveView → DriveView → Type 0) (n : ℕ) (before after : List DriveView) → ((old new : DriveView) → change old new → other old new) → ChangesOneDrive change n before after → ChangesOneDrive other n before after

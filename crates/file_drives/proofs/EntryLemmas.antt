@@ -116,6 +116,7 @@ module _ (slot : Option Volume) (volume new : Volume) (before after : DriveView)
         answers = record { allowed = refl; enough = room.0; list = room.1; makes = it.enters };
         on = on-left it.after (record { image = it.now; is = it.is; vol = it.vol });
         counts = counts;
+        refused = λ h. absurd h;
       }
   create_leaves (Err (Device number)) v dir on it counts = by it.1
     where
@@ -125,6 +126,7 @@ module _ (slot : Option Volume) (volume new : Volume) (before after : DriveView)
         answers = record { may_be = ends.before refl; refused = λ _. refl };
         on = stayed-on v same on;
         counts = counts;
+        refused = λ h. absurd h;
       }
       by (took some) = record {
         left = some.left;
@@ -134,12 +136,14 @@ module _ (slot : Option Volume) (volume new : Volume) (before after : DriveView)
         };
         on = on-left some.left (record { image = some.now; is = some.is; vol = some.vol });
         counts = counts;
+        refused = λ h. absurd h;
       }
   create_leaves (Err NoCluster) v dir on it counts = record {
     left = v;
     answers = record { allowed = refl; few = is_full v dir file_asked 0 refl it.because; same = refl };
     on = stayed-on v it.media_kept on;
     counts = counts;
+    refused = λ _. it.media_kept;
   }
   create_leaves (Err TooManyRuns) v dir on it counts =
       let long = is_long v dir file_asked 0 refl it.because in
@@ -148,6 +152,7 @@ module _ (slot : Option Volume) (volume new : Volume) (before after : DriveView)
         answers = record { allowed = refl; enough = long.0; full = inl long.1; same = refl };
         on = stayed-on v it.media_kept on;
         counts = counts;
+        refused = λ _. it.media_kept;
       }
 
   pub creates-on : (result : Result ℕ FileFault) → OnVolumeFile before.media found.dir.number (λ v dir. AnswersEntering v dir file_asked before.media after.media (widened result)) → OnVolumeFile before.media found.dir.number (λ v dir. MovesCounts (file_fault result) (entering_calls v dir 2 (widened result)) before.counts after.counts) → CreatesOn found name attributes now result slot before (Some new) after
@@ -188,6 +193,7 @@ module _ (slot : Option Volume) (volume new : Volume) (before after : DriveView)
         answers = record { allowed = refl; enough = room.0; list = room.1; makes = it.enters };
         on = on-left it.after here;
         counts = subst (λ made. MovesCounts None (entering_calls v dir made (Ok n)) before.counts after.counts) (same_calls v it.after n it.enters.both.file it.now it.is here there) counts;
+        refused = λ h. absurd h;
       }
     where
       put-there : (files : ℕ → Option DiskFile) (n : ℕ) (file : Option DiskFile) → put_file files n file n ≡ file
@@ -200,6 +206,7 @@ module _ (slot : Option Volume) (volume new : Volume) (before after : DriveView)
         answers = record { may_be = ends.before refl; refused = λ _. refl };
         on = stayed-on v same on;
         counts = counts;
+        refused = λ h. absurd h;
       }
       by (took some) = record {
         left = some.left;
@@ -209,12 +216,14 @@ module _ (slot : Option Volume) (volume new : Volume) (before after : DriveView)
         };
         on = on-left some.left (record { image = some.now; is = some.is; vol = some.vol });
         counts = counts;
+        refused = λ h. absurd h;
       }
   make_leaves (Err NoCluster) v dir on it counts = record {
     left = v;
     answers = record { allowed = refl; few = is_full v dir folder_asked new_directory_size folder_size it.because; same = refl };
     on = stayed-on v it.media_kept on;
     counts = counts;
+    refused = λ _. it.media_kept;
   }
   make_leaves (Err TooManyRuns) v dir on it counts =
       let long = is_long v dir folder_asked new_directory_size folder_size it.because in
@@ -223,6 +232,7 @@ module _ (slot : Option Volume) (volume new : Volume) (before after : DriveView)
         answers = record { allowed = refl; enough = long.0; full = inl long.1; same = refl };
         on = stayed-on v it.media_kept on;
         counts = counts;
+        refused = λ _. it.media_kept;
       }
 
   pub makes-on : (result : Result ℕ FileFault) → OnVolumeFile before.media found.dir.number (λ v dir. AnswersEntering v dir folder_asked before.media after.media (widened result)) → OnVolumeFile before.media found.dir.number (λ v dir. MovesCounts (file_fault result) (entering_calls v dir (folder_calls v after.media result) (widened result)) before.counts after.counts) → MakesDirectoryOn found name attributes now result slot before (Some new) after

@@ -12,7 +12,7 @@ use Rattle.rbf_walk.specs.Walk.{AnswersWalk, directory_fault}
 use Rattle.rbf_walk.specs.declared.error.DirError.{DirError}
 use Rattle.rbf_walk.specs.declared.error.DirError.TheVariants.{NotAllowed, BadPath, NotFound, Exists, File}
 use Rattle.file_rules.specs.declared.places.FilePlace.{FilePlace}
-use Rattle.file_drives.proofs.DriveLemmas.{changes-one}
+use Rattle.file_drives.proofs.DriveLemmas.{changes-one, media-kept}
 use Rattle.file_drives.proofs.MountedLemmas.{mounted-below, mounted-set, stay-set}
 use Rattle.file_drives.specs.Changed.{Asked, ChangesVolume}
 use Rattle.file_drives.specs.Drives.{DriveView, Reads}
@@ -160,6 +160,7 @@ module _ {Driver : Type 0} (view : Driver → DriveView) (items disks : List (Op
             (subst (λ views. AreMounted (set disks place.drive new) views (set volumes place.drive (Some it.left))) (sym (map-set view drivers place.drive after))
             (mounted-set disks (map view drivers) volumes place.drive new (view after) (Some it.left) (subst (λ d. place.drive < length d) same there) (subst (λ k. place.drive < k) (sym (length-map drivers view)) inside) it.on mounted));
         moves = changes-one view (λ old now. MovesCounts (directory_fault answer) (most v file it.left) old.counts now.counts) drivers place.drive driver after inside driver_is it.counts;
+        refused = λ h. media-kept view drivers place.drive driver after inside driver_is (it.refused h);
       }
 
   -- where the call names the file by another number that is the same

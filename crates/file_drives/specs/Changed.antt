@@ -17,7 +17,7 @@ use Rattle.rbf_walk.specs.declared.error.DirError.TheVariants.{NotAllowed, BadPa
 use Rattle.file_rules.specs.Change.{Change, writes, sizes, sets_attributes, creates, makes_directory, deletes, Makes, MayLeave, MayBeTooLong}
 use Rattle.file_rules.specs.MakDir.{new_directory_size}
 use Rattle.file_rules.specs.declared.places.FilePlace.{FilePlace}
-use Rattle.file_drives.specs.Drives.{DriveView, OneDriveMoves}
+use Rattle.file_drives.specs.Drives.{DriveView, OneDriveMoves, media_of}
 use Rattle.file_drives.specs.Mounted.{AreMounted, mounted_at}
 
 -- a change of a volume that a user asks for, at a time
@@ -115,6 +115,17 @@ AnswersChange asked v file left (Err (File (Device number))) = ChangeIsBroken as
 AnswersChange asked v file left (Err (File NoCluster)) = ChangeIsFull asked v file left
 AnswersChange asked v file left (Err (File TooManyRuns)) = ChangeIsTooLong asked v file left
 
+-- it is refused, and no fault of the drive ended it
+abbrev pub IsRefused : Result ℕ DirError → Type 0
+IsRefused (Ok n) = ⊥
+IsRefused (Err NotAllowed) = Unit {0}
+IsRefused (Err BadPath) = Unit {0}
+IsRefused (Err NotFound) = Unit {0}
+IsRefused (Err Exists) = Unit {0}
+IsRefused (Err (File (Device number))) = ⊥
+IsRefused (Err (File NoCluster)) = Unit {0}
+IsRefused (Err (File TooManyRuns)) = Unit {0}
+
 -- an answer without a number; no file has the number 0
 abbrev pub numbered : Result (Unit {0}) DirError → Result ℕ DirError
 numbered (Ok done) = Ok 0
@@ -128,7 +139,7 @@ file_answer (Err fault) = Err (File fault)
 -- ---- the drives
 
 -- a volume on a drive has been changed, or not, as the answer says: it is mounted there then, and the others are as
--- they were. `most` is how many calls of the drive there may be
+-- they were. `most` is how many calls of the drive there may be. A refusal writes nothing
 pub record LeavesVolume (asked : Asked) (answer : Result ℕ DirError) (most : DiskVolume → ℕ) (v : DiskVolume)
     (file : DiskFile) (drive : ℕ) (volumes : List (Option DiskVolume)) (before : List DriveView)
     (new : List (Option Volume)) (after : List DriveView) : Type 0 where
@@ -136,6 +147,7 @@ pub record LeavesVolume (asked : Asked) (answer : Result ℕ DirError) (most : D
   pub answers : AnswersChange asked v file left answer
   pub mounted : AreMounted new after (slice_set volumes drive (Some left))
   pub moves : OneDriveMoves (directory_fault answer) (most left) drive before after
+  pub refused : IsRefused answer → media_of after ≡ media_of before
 
 -- the same for the volume and the file at a place, whichever volumes are mounted
 abbrev pub ChangesVolume : FilePlace → Asked → Result ℕ DirError → (DiskVolume → DiskFile → DiskVolume → ℕ)

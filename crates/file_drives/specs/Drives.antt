@@ -31,6 +31,10 @@ abbrev pub drive_views : {Table : Type 0} {Driver : Table → Type 0} → ((tabl
     → List (DynBox Table Global Driver) → List DriveView
 drive_views members drives = map (boxed_drive_view members) drives
 
+-- the bytes of the image that is in each drive
+abbrev pub media_of : List DriveView → List (Option (List ℕ))
+media_of views = map (λ view. view.media) views
+
 -- what the calls on files tell of a drive
 abbrev pub drive_state : DriveView → DriveState
 drive_state view = record { faults = view.counts.faults; last = view.counts.last }

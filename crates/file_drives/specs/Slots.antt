@@ -8,7 +8,7 @@ use Rattle.rbf_access.specs.declared.volume.Volume.{Volume}
 use Rattle.rbf_walk.specs.Walk.{directory_fault}
 use Rattle.rbf_walk.specs.declared.error.DirError.{DirError}
 use Rattle.file_rules.specs.Change.{Change}
-use Rattle.file_drives.specs.Changed.{Asked, AnswersChange}
+use Rattle.file_drives.specs.Changed.{Asked, AnswersChange, IsRefused}
 use Rattle.file_drives.specs.Drives.{DriveView, Reads}
 use Rattle.file_drives.specs.Mounted.{AgreesOnDrive}
 
@@ -51,6 +51,7 @@ pub record LeavesMounted (asked : Asked) (answer : Result ℕ DirError) (most : 
   pub answers : AnswersChange asked v file left answer
   pub on : AgreesOnDrive new after (Some left)
   pub counts : MovesCounts (directory_fault answer) (most left) before.counts after.counts
+  pub refused : IsRefused answer → after.media ≡ before.media
 
 -- the same for each change of file n that the call makes
 pub record ChangesMounted (n : ℕ) (asks : Asked → Type 0) (answer : Result ℕ DirError)
