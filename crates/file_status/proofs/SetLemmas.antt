@@ -1,0 +1,197 @@
+-- I$SetStt of a file or a directory.
+use Rattle.std.proofs.Common.{◌≡◌, ℕ, ◌+◌, ◌%◌, ◌≤◌, ◌∙◌, min, Bool, true, false, not, nat_lt, ◌||◌, Option, List, length, Result, Ok, Err, refl, ap, sym, subst, ⊎_elim, arith}
+use Rattle.std.specs.Prelude.{if◌then◌else◌}
+use Rattle.os9_base.specs.declared.call.CallEnd.{CallEnd}
+use Rattle.os9_base.specs.declared.errors.TheConstants.{E_FULL, E_FNA, E_BMODE}
+use Rattle.os9_base.specs.declared.registers.Regs.{Regs}
+use Rattle.os9_base.specs.declared.registers.TimePacket.{TimePacket}
+use Rattle.call_rules.specs.Inner.{Inner, regs_at, user_at, with_regs_of}
+use Rattle.io_model.specs.declared.path.Desc.{Desc}
+use Rattle.io_rules.specs.Modes.{can_write}
+use Rattle.proc_state.specs.Tie.{Represents}
+use Rattle.proc_state.specs.declared.state.ProcState.{ProcState}
+use Rattle.rbf_model.specs.File.{DiskFile}
+use Rattle.rbf_model.specs.Volume.{DiskVolume}
+use Rattle.rbf_change.specs.Calls.{cluster_size, free_total}
+use Rattle.rbf_change.specs.Growth.{clusters_needed}
+use Rattle.rbf_change.specs.NewFiles.{owns_file}
+use Rattle.rbf_access.specs.Faults.{file_error}
+use Rattle.rbf_access.specs.declared.faults.FileFault.{FileFault}
+use Rattle.rbf_access.specs.declared.faults.FileFault.TheVariants.{Device, NoCluster, TooManyRuns}
+use Rattle.rbf_access.specs.declared.volume.Volume.{Volume}
+use Rattle.rbf_update.specs.Attributes.{attribute_calls}
+use Rattle.rbf_write.specs.Outcomes.{laying_calls}
+use Rattle.rbf_write.specs.Sizes.{Sizing, giving_calls, size_calls}
+use Rattle.rbf_walk.specs.Walk.{directory_error}
+use Rattle.rbf_walk.specs.declared.error.DirError.{DirError}
+use Rattle.rbf_walk.specs.declared.error.DirError.TheVariants.{NotAllowed, BadPath, NotFound, Exists, File}
+use Rattle.file_rules.specs.Attempts.{asker_of}
+use Rattle.file_rules.specs.Change.{Change, sizes, sets_attributes}
+use Rattle.file_rules.specs.Files.{Files, OpenFile}
+use Rattle.file_rules.specs.Seek.{long_of}
+use Rattle.file_rules.specs.Status.{sets_attributes_of, sets_size}
+use Rattle.file_rules.specs.Step.{FileStep, comes, changes, leaves, reaches, refuses}
+use Rattle.io_rules.specs.Step.{answers}
+use Rattle.file_rules.specs.declared.places.FilePlace.{FilePlace}
+use Rattle.file_drives.specs.Calls.{sizing_calls as drive_calls}
+use Rattle.file_drives.specs.Changed.{ChangesVolume, file_answer, numbered}
+use Rattle.file_drives.specs.Drives.{DriveView}
+use Rattle.file_state.specs.Tie.{StandsFor}
+use Rattle.file_state.specs.declared.state.FileState.{FileState}
+use Rattle.file_state.specs.declared.state.OpenFile.{OpenFile as KernelFile}
+use Rattle.file_status.proofs.GetLemmas.{passes, stops}
+use Rattle.file_status.proofs.StandLemmas.{change-broken, change-made, change-refused, change-too_long, with_disks}
+use Rattle.file_status.specs.Ends.{Ends, IsOpen, sizing_calls, uncalled}
+
+-- nothing is less than nothing
+none-lacking : (free : ℕ) → nat_lt free 0 ≡ true → ⊥
+none-lacking free h = grind arith
+
+-- a file gains no more sectors of marks than clusters
+size-at-most : (v : DiskVolume) (file : DiskFile) (marks : ℕ) (sizing : Sizing) → size_calls v file marks sizing ≤ size_calls v file (clusters_needed (cluster_size v) file.segments sizing.size) sizing
+size-at-most v file marks sizing = by (nat_lt (length file.contents) sizing.size)
+  where
+    gained : ℕ
+    gained = clusters_needed (cluster_size v) file.segments sizing.size
+
+    rest : ℕ
+    rest = if nat_lt sizing.size (length file.contents) then 2 + giving_calls v file sizing else 1
+
+    fewer : min gained marks ≤ min gained gained
+    fewer = grind arith
+
+    by : (longer : Bool) → (if longer then 1 + laying_calls v file marks sizing.size sizing.size else rest) ≤ (if longer then 1 + laying_calls v file gained sizing.size sizing.size else rest)
+    by true = omega (arith, fewer)
+    by false = omega arith
+
+one-at-least : (v : DiskVolume) (file : DiskFile) (marks : ℕ) (sizing : Sizing) → 1 ≤ size_calls v file marks sizing
+one-at-least v file marks sizing = by (nat_lt (length file.contents) sizing.size) (nat_lt sizing.size (length file.contents))
+  where
+    by : (longer shorter : Bool) → 1 ≤ (if longer then 1 + laying_calls v file marks sizing.size sizing.size else (if shorter then 2 + giving_calls v file sizing else 1))
+    by true shorter = omega arith
+    by false true = omega arith
+    by false false = omega arith
+
+module _ (m : Inner) (files : Files) (now : TimePacket) (p : ℕ) (end : CallEnd) (processes : ProcState) (state new : FileState) (before after : List DriveView) (disks : List (Option Volume)) (opened : KernelFile) (it : OpenFile) (stands : StandsFor state before files) (open_is : IsOpen files opened it) (new_is : new ≡ uncalled (with_disks state disks) p) where
+  abbrev place : FilePlace
+  place = opened.place
+
+  -- ---- SS.Size
+
+  abbrev sizing : ℕ → Change
+  sizing size = sizes place.number size
+
+  abbrev needs_more : ℕ → Bool
+  needs_more size = nat_lt (free_total it.volume) (clusters_needed (cluster_size it.volume) it.file.segments size)
+
+  -- how often the drive is called for it
+  abbrev size_bound : ℕ → FilePlace → ℕ
+  size_bound size at = size_calls it.volume it.file (clusters_needed (cluster_size it.volume) it.file.segments size) (record { number = at.number; size = size; now = now })
+
+  abbrev size_deed : ℕ → FilePlace → FileStep
+  size_deed size at =
+      refuses (needs_more size) E_FULL
+      (comes (changes (record { drive = at.drive; change = sizes at.number size; effect = λ n. leaves (answers (regs_at m p)) files })))
+
+  -- by the size that the registers have
+  size-step : (size : ℕ) → size ≡ long_of (regs_at m p) → can_write opened.desc.mode ≡ true → Ends (reaches place.drive (size_deed size place)) (size_bound size place) m files now p end processes new before after → Ends (sets_size (asker_of m p now) files it) (sizing_calls (asker_of m p now) it (long_of (regs_at m p))) m files now p end processes new before after
+  size-step size size_is may ends =
+      passes (sizing_calls (asker_of m p now) it (long_of (regs_at m p))) m files now p end processes new before after (not (can_write it.opened.desc.mode)) E_BMODE (reaches it.place.drive (size_deed (long_of (regs_at m p)) it.place))
+      (ap (λ (desc : Desc). not (can_write desc.mode)) open_is.desc_is ∙ ap not may)
+      (subst (λ (at : FilePlace). Ends (reaches at.drive (size_deed (long_of (regs_at m p)) at)) (size_bound (long_of (regs_at m p)) at) m files now p end processes new before after) (sym open_is.place_is)
+      (subst (λ n. Ends (reaches place.drive (size_deed n place)) (size_bound n place) m files now p end processes new before after) size_is ends))
+
+  abbrev SizeChanges : ℕ → Result (Unit {0}) FileFault → Type 0
+  SizeChanges size result = (user : ℕ) → ChangesVolume place (record { change = sizing size; user = user; now = now }) (file_answer result) (drive_calls (record { number = place.number; size = size; now = now }) result) state.disks before disks after
+
+  pub size-set : (regs : Regs) (size : ℕ) → regs ≡ regs_at m p → size ≡ long_of (regs_at m p) → can_write opened.desc.mode ≡ true → SizeChanges size (Ok tt) → end ≡ CallEnd.Done → Represents processes (with_regs_of m p regs) → Ends (sets_size (asker_of m p now) files it) (sizing_calls (asker_of m p now) it (long_of (regs_at m p))) m files now p end processes new before after
+  size-set regs size same size_is may changed is_end tied =
+      let made = changed (user_at m p) files.volumes it.volume it.file stands.mounted open_is.volume_is open_is.file_is in
+      size-step size size_is may
+      (change-made (size_bound size place) m files now p end processes state new before after disks place.drive it.volume stands open_is.volume_is new_is (sizing size) (regs_at m p) (needs_more size) E_FULL
+      made.left 0 (drive_calls (record { number = place.number; size = size; now = now }) (Ok tt) it.volume it.file made.left) (size-at-most it.volume it.file _ (record { number = place.number; size = size; now = now })) made.answers.enough made.answers.makes made.mounted made.moves is_end (subst (λ (r : Regs). Represents processes (with_regs_of m p r)) same tied))
+
+  pub size-failed : (size : ℕ) (fault : FileFault) → size ≡ long_of (regs_at m p) → can_write opened.desc.mode ≡ true → SizeChanges size (Err fault) → end ≡ CallEnd.Error (file_error fault) → Represents processes m → Ends (sets_size (asker_of m p now) files it) (sizing_calls (asker_of m p now) it (long_of (regs_at m p))) m files now p end processes new before after
+  size-failed size (Device number) size_is may changed is_end tied =
+      let broken = changed (user_at m p) files.volumes it.volume it.file stands.mounted open_is.volume_is open_is.file_is in
+      size-step size size_is may
+      (change-broken (size_bound size place) m files now p end processes state new before after disks place.drive it.volume stands open_is.volume_is new_is (sizing size) (regs_at m p) (needs_more size) E_FULL
+      broken.left number (drive_calls (record { number = place.number; size = size; now = now }) (Err (Device number)) it.volume it.file broken.left) (size-at-most it.volume it.file _ (record { number = place.number; size = size; now = now })) broken.answers.may_be (λ full. broken.answers.refused (either-way (needs_more size) full)) broken.mounted broken.moves is_end tied)
+    where
+      either-way : (full : Bool) → full ≡ true → (not true || (full || false)) ≡ true
+      either-way true h = refl
+      either-way false h = h
+  size-failed size NoCluster size_is may changed is_end tied =
+      let full = changed (user_at m p) files.volumes it.volume it.file stands.mounted open_is.volume_is open_is.file_is in
+      size-step size size_is may
+      (change-refused (size_bound size place) m files now p end processes state new before after disks place.drive it.volume stands open_is.volume_is new_is (sizing size) (regs_at m p) (needs_more size) E_FULL
+      full.left 1 (one-at-least it.volume it.file _ (record { number = place.number; size = size; now = now })) full.answers.few full.answers.same full.mounted full.moves is_end tied)
+  size-failed size TooManyRuns size_is may changed is_end tied =
+      let long = changed (user_at m p) files.volumes it.volume it.file stands.mounted open_is.volume_is open_is.file_is in
+      size-step size size_is may
+      (change-too_long (size_bound size place) m files now p end processes state new before after disks place.drive it.volume stands open_is.volume_is new_is (sizing size) (regs_at m p) (needs_more size) E_FULL
+      long.left 1 (one-at-least it.volume it.file _ (record { number = place.number; size = size; now = now })) long.answers.enough (⊎_elim (λ e. absurd (let e : false ≡ true = e in cc)) (λ it. it) long.answers.full) long.answers.same long.mounted long.moves is_end tied)
+
+  -- ---- SS.Attr
+
+  abbrev attributing : Regs → Change
+  attributing regs = sets_attributes place.number (regs.x % 256)
+
+  abbrev is_foreign : ℕ → Bool
+  is_foreign user = not (owns_file it.file user)
+
+  abbrev attribute_deed : Regs → FilePlace → FileStep
+  attribute_deed regs at =
+      refuses (is_foreign (user_at m p)) E_FNA
+      (comes (changes (record { drive = at.drive; change = sets_attributes at.number (regs.x % 256); effect = λ n. leaves (answers (regs_at m p)) files })))
+
+  attribute-step : (regs : Regs) → regs ≡ regs_at m p → Ends (reaches place.drive (attribute_deed regs place)) (attribute_calls it.file (user_at m p)) m files now p end processes new before after → Ends (sets_attributes_of (asker_of m p now) files it) (attribute_calls it.file (user_at m p)) m files now p end processes new before after
+  attribute-step regs same ends =
+      subst (λ (at : FilePlace). Ends (reaches at.drive (attribute_deed (regs_at m p) at)) (attribute_calls it.file (user_at m p)) m files now p end processes new before after) (sym open_is.place_is)
+      (subst (λ (r : Regs). Ends (reaches place.drive (attribute_deed r place)) (attribute_calls it.file (user_at m p)) m files now p end processes new before after) same ends)
+
+  abbrev AttributesChange : Regs → ℕ → Result (Unit {0}) DirError → Type 0
+  AttributesChange regs user result = ChangesVolume place (record { change = attributing regs; user = user; now = now }) (numbered result) (λ v file left. attribute_calls file user) state.disks before disks after
+
+  owned : (owns : Bool) → owns ≡ true → not owns ≡ false
+  owned true h = refl
+  owned false h = sym h
+
+  foreign : (owns : Bool) → owns ≡ false → not owns ≡ true
+  foreign true h = sym h
+  foreign false h = refl
+
+  pub attributes-set : (regs : Regs) (user : ℕ) → regs ≡ regs_at m p → user ≡ user_at m p → AttributesChange regs user (Ok tt) → end ≡ CallEnd.Done → Represents processes (with_regs_of m p regs) → Ends (sets_attributes_of (asker_of m p now) files it) (attribute_calls it.file (user_at m p)) m files now p end processes new before after
+  attributes-set regs user same who changed is_end tied =
+      let made = subst (λ u. AttributesChange regs u (Ok tt)) who changed files.volumes it.volume it.file stands.mounted open_is.volume_is open_is.file_is in
+      attribute-step regs same
+      (change-made (attribute_calls it.file (user_at m p)) m files now p end processes state new before after disks place.drive it.volume stands open_is.volume_is new_is (attributing regs) (regs_at m p) (is_foreign (user_at m p)) E_FNA
+      made.left 0 (attribute_calls it.file (user_at m p)) (omega arith) (owned (owns_file it.file (user_at m p)) made.answers.allowed) made.answers.makes made.mounted made.moves is_end (subst (λ (r : Regs). Represents processes (with_regs_of m p r)) same tied))
+
+  pub attributes-failed : (regs : Regs) (user : ℕ) (error : DirError) → regs ≡ regs_at m p → user ≡ user_at m p → AttributesChange regs user (Err error) → end ≡ CallEnd.Error (directory_error error) → Represents processes m → Ends (sets_attributes_of (asker_of m p now) files it) (attribute_calls it.file (user_at m p)) m files now p end processes new before after
+  attributes-failed regs user NotAllowed same who changed is_end tied =
+      let closed = subst (λ u. AttributesChange regs u (Err NotAllowed)) who changed files.volumes it.volume it.file stands.mounted open_is.volume_is open_is.file_is in
+      attribute-step regs same
+      (change-refused (attribute_calls it.file (user_at m p)) m files now p end processes state new before after disks place.drive it.volume stands open_is.volume_is new_is (attributing regs) (regs_at m p) (is_foreign (user_at m p)) E_FNA
+      closed.left (attribute_calls it.file (user_at m p)) (omega arith) (foreign (owns_file it.file (user_at m p)) closed.answers.forbidden) closed.answers.same closed.mounted closed.moves is_end tied)
+  attributes-failed regs user BadPath same who changed is_end tied = absurd (changed files.volumes it.volume it.file stands.mounted open_is.volume_is open_is.file_is).answers
+  attributes-failed regs user NotFound same who changed is_end tied = absurd (changed files.volumes it.volume it.file stands.mounted open_is.volume_is open_is.file_is).answers
+  attributes-failed regs user Exists same who changed is_end tied = absurd (changed files.volumes it.volume it.file stands.mounted open_is.volume_is open_is.file_is).answers
+  attributes-failed regs user (File (Device number)) same who changed is_end tied =
+      let broken = subst (λ u. AttributesChange regs u (Err (File (Device number)))) who changed files.volumes it.volume it.file stands.mounted open_is.volume_is open_is.file_is in
+      attribute-step regs same
+      (change-broken (attribute_calls it.file (user_at m p)) m files now p end processes state new before after disks place.drive it.volume stands open_is.volume_is new_is (attributing regs) (regs_at m p) (is_foreign (user_at m p)) E_FNA
+      broken.left number (attribute_calls it.file (user_at m p)) (omega arith) broken.answers.may_be (λ refused. broken.answers.may_be) broken.mounted broken.moves is_end tied)
+  attributes-failed regs user (File NoCluster) same who changed is_end tied =
+      absurd (none-lacking (free_total it.volume) (changed files.volumes it.volume it.file stands.mounted open_is.volume_is open_is.file_is).answers.few)
+  attributes-failed regs user (File TooManyRuns) same who changed is_end tied =
+      absurd (⊎_elim (λ e. let e : false ≡ true = e in cc) (λ it. it) (changed files.volumes it.volume it.file stands.mounted open_is.volume_is open_is.file_is).answers.full)
+
+-- a path that may not be written
+pub size-stopped : (m : Inner) (files : Files) (now : TimePacket) (p : ℕ) (end : CallEnd) (processes : ProcState) (state new : FileState) (views : List DriveView) (opened : KernelFile) (it : OpenFile) → StandsFor state views files → IsOpen files opened it → new ≡ uncalled state p → not (can_write opened.desc.mode) ≡ true → end ≡ CallEnd.Error E_BMODE → Represents processes m → Ends (sets_size (asker_of m p now) files it) (sizing_calls (asker_of m p now) it (long_of (regs_at m p))) m files now p end processes new views views
+size-stopped m files now p end processes state new views opened it stands open_is new_is closed is_end tied =
+    stops (sizing_calls (asker_of m p now) it (long_of (regs_at m p))) m files now p end processes new views state (not (can_write it.opened.desc.mode)) E_BMODE
+    (reaches it.place.drive
+    (refuses (nat_lt (free_total it.volume) (clusters_needed (cluster_size it.volume) it.file.segments (long_of (regs_at m p)))) E_FULL
+    (comes (changes (record { drive = it.place.drive; change = sizes it.place.number (long_of (regs_at m p)); effect = λ n. leaves (answers (regs_at m p)) files })))))
+    (ap (λ (desc : Desc). not (can_write desc.mode)) open_is.desc_is ∙ closed) is_end tied stands new_is

@@ -1,0 +1,83 @@
+-- How an attempt of a call on a file ends.
+use Rattle.std.specs.Prelude.{◌≡◌, ℕ, ◌==◌, Some, None, List, if◌then◌else◌}
+use Rattle.os9_base.specs.declared.call.CallEnd.{CallEnd}
+use Rattle.os9_base.specs.declared.registers.TimePacket.{TimePacket}
+use Rattle.os9_outer.specs.TerminalState.{TerminalState}
+use Rattle.call_rules.specs.Inner.{Inner}
+use Rattle.io_rules.specs.Attempts.{result_of}
+use Rattle.io_rules.specs.Io.{with_call}
+use Rattle.io_rules.specs.Status.{options}
+use Rattle.io_rules.specs.declared.status.TheConstants.{OPTION_BYTES}
+use Rattle.rbf_change.specs.Calls.{cluster_size}
+use Rattle.rbf_change.specs.Growth.{clusters_needed}
+use Rattle.rbf_update.specs.Attributes.{attribute_calls}
+use Rattle.rbf_write.specs.Sizes.{size_calls}
+use Rattle.proc_rules.specs.Records.{record_at}
+use Rattle.proc_state.specs.Tie.{Comes}
+use Rattle.proc_state.specs.declared.state.ProcState.{ProcState}
+use Rattle.file_rules.specs.Attempts.{asker_of, files_after, io_effect}
+use Rattle.file_rules.specs.Files.{Asker, Files, OpenFile, place_of_target, volume_at}
+use Rattle.file_rules.specs.Status.{gets_bytes}
+use Rattle.file_rules.specs.Seek.{long_of}
+use Rattle.file_rules.specs.Step.{FileEffect, FileStep, FileDoes, comes, reaches, refused}
+use Rattle.file_rules.specs.declared.status.TheConstants.{SS_SIZE}
+use Rattle.file_drives.specs.Drives.{DriveView}
+use Rattle.file_laws.specs.Kinds.{AreKinds}
+use Rattle.file_state.specs.Counted.{CalledAtMost}
+use Rattle.file_state.specs.Opened.{IsFileOf}
+use Rattle.file_state.specs.Tie.{StandsFor}
+use Rattle.file_state.specs.declared.state.FileState.{FileState}
+use Rattle.file_state.specs.declared.state.OpenFile.{OpenFile as KernelFile}
+
+-- the state where nothing is kept of a call of a process
+abbrev pub uncalled : FileState → ℕ → FileState
+uncalled files p = record files { io = with_call files.io p None }
+
+-- a path on a file, as the kernel has it, is this one of the machine
+pub record IsOpen (files : Files) (opened : KernelFile) (it : OpenFile) : Type 0 where
+  pub path_is : it.opened.path ≡ opened.path
+  pub desc_is : it.opened.desc ≡ opened.desc
+  pub place_is : it.place ≡ opened.place
+  pub target_is : place_of_target opened.desc.target ≡ Some opened.place
+  pub volume_is : volume_at files opened.place.drive ≡ Some it.volume
+  pub file_is : it.volume.files opened.place.number ≡ Some it.file
+
+-- A of a process names this file or directory
+abbrev pub IsNamedInA : FileState → List DriveView → ProcState → ℕ → KernelFile → Type 0
+IsNamedInA state views processes p opened =
+    (files : Files) → StandsFor state views files → AreKinds files
+    → IsFileOf state views files p (record_at processes.table p).regs.a opened
+
+-- SS.Opt of a path on a file
+abbrev pub gets_options : Asker → Files → OpenFile → FileStep
+gets_options asker files opened =
+    gets_bytes asker files OPTION_BYTES (λ step. step) (options opened.opened.desc.target)
+
+-- how often the drives are called in an attempt, by what the step comes to: where it reaches none not at all
+abbrev pub calls_of : FileStep → ℕ → ℕ
+calls_of (refused number) most = 0
+calls_of (comes deed) most = 0
+calls_of (reaches drive step) most = most
+
+-- for a size that a file is given: a sector of the map has a mark for each cluster that it gains at most
+abbrev pub sizing_calls : Asker → OpenFile → ℕ → ℕ
+sizing_calls asker opened size =
+    size_calls opened.volume opened.file
+    (clusters_needed (cluster_size opened.volume) opened.file.segments size)
+    (record { number = opened.place.number; size = size; now = asker.now })
+
+-- by the code
+abbrev pub setting_calls : Asker → OpenFile → ℕ → ℕ
+setting_calls asker opened code =
+    if code == SS_SIZE then sizing_calls asker opened (long_of asker.caller.regs)
+    else attribute_calls opened.file asker.user
+
+-- an attempt of a process, at a time, comes to what a step has, and calls the drives at most so often where it reaches
+-- one: so the call ends, and these are the processes, the state and the drives then
+pub record Ends (step : FileStep) (most : ℕ) (m : Inner) (files : Files) (now : TimePacket) (p : ℕ) (end : CallEnd)
+    (processes : ProcState) (new : FileState) (before after : List DriveView) : Type 0 where
+  pub effect : FileEffect
+  pub does : (terms : List TerminalState) → FileDoes step (asker_of m p now) files effect terms terms
+  pub comes : Comes m p (result_of m p (io_effect effect)) end processes
+  pub stands : StandsFor new after (files_after p effect)
+  pub calls : CalledAtMost (calls_of step most) before after

@@ -1,0 +1,38 @@
+//! How calls on files end.
+
+ghost use Rattle.std.specs.Prelude.{◌≡◌, ◌<◌, None};
+ghost use Rattle.io_rules.specs.Io.{kept_at};
+ghost use Rattle.proc_rules.specs.Records.{IsLiving};
+ghost use Rattle.call_rules.specs.Inner.{Inner, with_regs_of};
+ghost use Rattle.proc_state.specs.Tie.{Represents};
+ghost use Rattle.file_status.specs.Ends.{uncalled};
+
+use file_state::state::FileState;
+use os9_base::call::CallEnd;
+use os9_base::registers::{Pid, Regs};
+use proc_state::state::ProcState;
+
+/// The call is refused with this number. Nothing is kept of it.
+pub(crate) fn refuse(files: &mut FileState, p: Pid, number: u8) -> CallEnd
+    requires process { p.0 < 33 }
+    requires first { kept_at files.old.io p.0 ≡ None }
+    ensures end { result ≡ CallEnd.Error number }
+    ensures files { files.new ≡ uncalled files.old p.0 }
+{
+    files.io.keep(p, None);
+    CallEnd::Error(number)
+}
+
+/// The call is done, and its process has these registers. Nothing is kept of it.
+pub(crate) fn answer(s: &mut ProcState, files: &mut FileState, p: Pid, regs: Regs) -> CallEnd
+    requires lives { IsLiving s.old.table p.0 }
+    requires first { kept_at files.old.io p.0 ≡ None }
+    ensures end { result ≡ CallEnd.Done }
+    ensures tied { (m : Inner) → Represents s.old m → Represents s.new (with_regs_of m p.0 regs) }
+    ensures files { files.new ≡ uncalled files.old p.0 }
+    ensures lives { IsLiving s.new.table p.0 }
+{
+    s.set_regs(p, regs);
+    files.io.keep(p, None);
+    CallEnd::Done
+}

@@ -1,0 +1,235 @@
+//! I$GetStt of a file or a directory.
+
+ghost use Rattle.std.specs.Prelude.{◌≡◌, ℕ, min, None, List};
+ghost use Rattle.os9_base.specs.declared.registers.TimePacket.{TimePacket};
+ghost use Rattle.os9_outer.specs.TerminalState.{TerminalState};
+ghost use Rattle.proc_rules.specs.Records.{IsLiving};
+ghost use Rattle.call_rules.specs.Inner.{Inner, regs_at};
+ghost use Rattle.io_rules.specs.Io.{kept_at};
+ghost use Rattle.proc_state.specs.Tie.{Represents};
+ghost use Rattle.file_rules.specs.Attempts.{asker_of};
+ghost use Rattle.file_rules.specs.Files.{Files, OpenFile as RulesFile};
+ghost use Rattle.file_rules.specs.declared.path_call.PathCall.TheVariants as Call;
+ghost use Rattle.file_rules.specs.Status.{i_getstt as i_getstt_lem, gets_status as gets_status_lem, gets_size as gets_size_lem, gets_end as gets_end_lem, gets_descriptor as gets_descriptor_lem};
+ghost use Rattle.file_drives.specs.Drives.{DriveView, drive_views};
+ghost use Rattle.file_drives.specs.Mounted.{HasFileAt};
+ghost use Rattle.file_laws.specs.Kinds.{AreKinds};
+ghost use Rattle.file_state.specs.Attempt.{Attempts};
+ghost use Rattle.file_state.specs.Counted.{CalledAtMost};
+ghost use Rattle.file_state.specs.Tie.{IsSound, StandsFor};
+ghost use Rattle.file_state.specs.declared.state.OpenFile.{OpenFile as KernelFile};
+ghost use Rattle.file_status.specs.Ends.{Ends, IsNamedInA, IsOpen, calls_of, gets_options as gets_options_lem};
+
+use crate::ends::{answer, refuse};
+use crate::front::{descriptor_front, file_options, long_regs};
+use device_table::devices::Devices;
+use file_rules::status::{DESCRIPTOR_BYTES, SS_FD, SS_POS, SS_SIZE};
+use file_state::state::{FileState, OpenFile};
+use io_rules::status::{OPTION_BYTES, SS_EOF, SS_OPT, SS_READY};
+use os9_base::call::CallEnd;
+use os9_base::errors::{E_BPADDR, E_EOF, E_UNKSVC};
+use os9_base::registers::{Pid, Regs};
+use os9_outer::drive::BlockDriver;
+use proc_state::state::ProcState;
+
+/// I$GetStt of a file or a directory (System Programmer's Manual, I$GetStt): asks for the status of
+/// the path in A, by the code in B. SS.Opt stores 32 bytes at X. SS.Ready answers B 0. SS.Size
+/// answers the size and SS.Pos the position, in bytes, in X, the high half, and U. SS.EOF answers B
+/// 0. SS.FD stores the first bytes of the descriptor at X, as many as Y asks for and at most 16.
+///
+/// # Errors
+///
+/// In this order: E$UnkSvc exactly if the code is another one; of SS.Opt and SS.FD E$BPAddr exactly
+/// if one of the bytes is in no named slot or past `FFFF`; of SS.Size, SS.EOF and SS.FD the number
+/// of the drive's fault if it fails; of SS.EOF E$EOF exactly if the position is not before the end.
+/// Nothing has changed then, but for the counts of the drive. That is called once at most, and not
+/// at all where the call is refused before it is reached.
+pub fn get_status(
+    s: &mut ProcState,
+    files: &mut FileState,
+    devices: &mut Devices,
+    p: Pid,
+    opened: &OpenFile,
+) -> CallEnd
+    requires lives { IsLiving s.old.table p.0 }
+    requires first { kept_at files.old.io p.0 ≡ None }
+    requires sound { IsSound files.old
+        (drive_views ⟦<dyn BlockDriver as BlockDriver>⟧ devices.old.drives.items) }
+    requires named { IsNamedInA files.old
+        (drive_views ⟦<dyn BlockDriver as BlockDriver>⟧ devices.old.drives.items) s.old p.0
+        opened.now }
+    ensures call { (m : Inner) (was : Files) (now : TimePacket) (terms : List TerminalState)
+        → Represents s.old m → StandsFor files.old
+        (drive_views ⟦<dyn BlockDriver as BlockDriver>⟧ devices.old.drives.items) was
+        → AreKinds was → Attempts Call.GetStt m was now p.0 result s.new files.new
+        (drive_views ⟦<dyn BlockDriver as BlockDriver>⟧ devices.new.drives.items) terms terms }
+    ensures calls { (m : Inner) (was : Files) (now : TimePacket) → Represents s.old m → StandsFor
+        files.old (drive_views ⟦<dyn BlockDriver as BlockDriver>⟧ devices.old.drives.items) was
+        → AreKinds was
+        → CalledAtMost (calls_of (i_getstt_lem (asker_of m p.0 now) was) 1)
+        (drive_views ⟦<dyn BlockDriver as BlockDriver>⟧ devices.old.drives.items)
+        (drive_views ⟦<dyn BlockDriver as BlockDriver>⟧ devices.new.drives.items) }
+    ensures lives { IsLiving s.new.table p.0 }
+    ensures terms_kept { devices.new.terms ≡ devices.old.terms }
+{
+    get_status_of(s, files, devices, p, opened)
+}
+
+/// Asks for the status of a file or a directory, by the code in B.
+fn get_status_of(
+    s: &mut ProcState,
+    files: &mut FileState,
+    devices: &mut Devices,
+    p: Pid,
+    opened: &OpenFile,
+) -> CallEnd
+    requires lives { IsLiving s.old.table p.0 }
+    requires first { kept_at files.old.io p.0 ≡ None }
+    requires there { HasFileAt files.old.disks
+        (drive_views ⟦<dyn BlockDriver as BlockDriver>⟧ devices.old.drives.items) opened.now.place }
+    ensures call { (m : Inner) (was : Files) (now : TimePacket) (it : RulesFile)
+        → Represents s.old m → StandsFor files.old
+        (drive_views ⟦<dyn BlockDriver as BlockDriver>⟧ devices.old.drives.items) was
+        → IsOpen was opened.now it → (code : ℕ) → code ≡ (regs_at m p.0).b
+        → Ends (gets_status_lem (asker_of m p.0 now) was it code) 1 m was now p.0 result s.new
+        files.new (drive_views ⟦<dyn BlockDriver as BlockDriver>⟧ devices.old.drives.items)
+        (drive_views ⟦<dyn BlockDriver as BlockDriver>⟧ devices.new.drives.items) }
+    ensures lives { IsLiving s.new.table p.0 }
+    ensures terms_kept { devices.new.terms ≡ devices.old.terms }
+{
+    let regs = s.regs(p);
+    match regs.b {
+        SS_OPT => get_options(s, files, p),
+        SS_READY => answer(s, files, p, Regs { b: 0, ..regs }),
+        SS_SIZE => get_size(s, files, devices, p, opened),
+        SS_POS => answer(s, files, p, long_regs(regs, opened.desc.at)),
+        SS_EOF => get_end(s, files, devices, p, opened),
+        SS_FD => get_descriptor(s, files, devices, p, opened),
+        _ => refuse(files, p, E_UNKSVC),
+    }
+}
+
+/// SS.Opt: stores the options of the path.
+fn get_options(s: &mut ProcState, files: &mut FileState, p: Pid) -> CallEnd
+    requires lives { IsLiving s.old.table p.0 }
+    requires first { kept_at files.old.io p.0 ≡ None }
+    ensures call { (m : Inner) (was : Files) (now : TimePacket) (it : RulesFile)
+        (opened : KernelFile) (views : List DriveView) → Represents s.old m
+        → StandsFor files.old views was → IsOpen was opened it
+        → Ends (gets_options_lem (asker_of m p.0 now) was it) 1 m was now p.0 result s.new
+        files.new views views }
+    ensures lives { IsLiving s.new.table p.0 }
+{
+    let regs = s.regs(p);
+    if !s.is_named(p, regs.x, OPTION_BYTES as u16) {
+        return refuse(files, p, E_BPADDR);
+    }
+    s.store(p, regs.x, &file_options());
+    answer(s, files, p, regs)
+}
+
+/// SS.Size: answers the size in X and U.
+fn get_size(
+    s: &mut ProcState,
+    files: &mut FileState,
+    devices: &mut Devices,
+    p: Pid,
+    opened: &OpenFile,
+) -> CallEnd
+    requires lives { IsLiving s.old.table p.0 }
+    requires first { kept_at files.old.io p.0 ≡ None }
+    requires there { HasFileAt files.old.disks
+        (drive_views ⟦<dyn BlockDriver as BlockDriver>⟧ devices.old.drives.items) opened.now.place }
+    ensures call { (m : Inner) (was : Files) (now : TimePacket) (it : RulesFile)
+        → Represents s.old m → StandsFor files.old
+        (drive_views ⟦<dyn BlockDriver as BlockDriver>⟧ devices.old.drives.items) was
+        → IsOpen was opened.now it
+        → Ends (gets_size_lem (asker_of m p.0 now) was it) 1 m was now p.0 result s.new
+        files.new (drive_views ⟦<dyn BlockDriver as BlockDriver>⟧ devices.old.drives.items)
+        (drive_views ⟦<dyn BlockDriver as BlockDriver>⟧ devices.new.drives.items) }
+    ensures lives { IsLiving s.new.table p.0 }
+    ensures terms_kept { devices.new.terms ≡ devices.old.terms }
+{
+    let regs = s.regs(p);
+    match files.disks.fd(devices, opened.place) {
+        Ok(fd) => answer(s, files, p, long_regs(regs, fd.size)),
+        Err(fault) => refuse(files, p, fault.number()),
+    }
+}
+
+/// SS.EOF: answers B 0 if the position is before the end of the file.
+fn get_end(
+    s: &mut ProcState,
+    files: &mut FileState,
+    devices: &mut Devices,
+    p: Pid,
+    opened: &OpenFile,
+) -> CallEnd
+    requires lives { IsLiving s.old.table p.0 }
+    requires first { kept_at files.old.io p.0 ≡ None }
+    requires there { HasFileAt files.old.disks
+        (drive_views ⟦<dyn BlockDriver as BlockDriver>⟧ devices.old.drives.items) opened.now.place }
+    ensures call { (m : Inner) (was : Files) (now : TimePacket) (it : RulesFile)
+        → Represents s.old m → StandsFor files.old
+        (drive_views ⟦<dyn BlockDriver as BlockDriver>⟧ devices.old.drives.items) was
+        → IsOpen was opened.now it
+        → Ends (gets_end_lem (asker_of m p.0 now) was it) 1 m was now p.0 result s.new
+        files.new (drive_views ⟦<dyn BlockDriver as BlockDriver>⟧ devices.old.drives.items)
+        (drive_views ⟦<dyn BlockDriver as BlockDriver>⟧ devices.new.drives.items) }
+    ensures lives { IsLiving s.new.table p.0 }
+    ensures terms_kept { devices.new.terms ≡ devices.old.terms }
+{
+    let regs = s.regs(p);
+    match files.disks.fd(devices, opened.place) {
+        Ok(fd) => {
+            if fd.size <= opened.desc.at {
+                return refuse(files, p, E_EOF);
+            }
+            answer(s, files, p, Regs { b: 0, ..regs })
+        }
+        Err(fault) => refuse(files, p, fault.number()),
+    }
+}
+
+/// SS.FD: stores the first bytes of the descriptor, as many as Y asks for and at most 16.
+fn get_descriptor(
+    s: &mut ProcState,
+    files: &mut FileState,
+    devices: &mut Devices,
+    p: Pid,
+    opened: &OpenFile,
+) -> CallEnd
+    requires lives { IsLiving s.old.table p.0 }
+    requires first { kept_at files.old.io p.0 ≡ None }
+    requires there { HasFileAt files.old.disks
+        (drive_views ⟦<dyn BlockDriver as BlockDriver>⟧ devices.old.drives.items) opened.now.place }
+    ensures call { (m : Inner) (was : Files) (now : TimePacket) (it : RulesFile)
+        → Represents s.old m → StandsFor files.old
+        (drive_views ⟦<dyn BlockDriver as BlockDriver>⟧ devices.old.drives.items) was
+        → IsOpen was opened.now it
+        → Ends (gets_descriptor_lem (asker_of m p.0 now) was it) 1 m was now p.0 result s.new
+        files.new (drive_views ⟦<dyn BlockDriver as BlockDriver>⟧ devices.old.drives.items)
+        (drive_views ⟦<dyn BlockDriver as BlockDriver>⟧ devices.new.drives.items) }
+    ensures lives { IsLiving s.new.table p.0 }
+    ensures terms_kept { devices.new.terms ≡ devices.old.terms }
+{
+    let regs = s.regs(p);
+    let count = asked_count(regs.y);
+    if !s.is_named(p, regs.x, count) {
+        return refuse(files, p, E_BPADDR);
+    }
+    match files.disks.fd(devices, opened.place) {
+        Ok(fd) => {
+            s.store(p, regs.x, &descriptor_front(&fd)[..count as usize]);
+            answer(s, files, p, regs)
+        }
+        Err(fault) => refuse(files, p, fault.number()),
+    }
+}
+
+/// How many bytes of a descriptor are asked for by this Y.
+fn asked_count(y: u16) -> u16
+    ensures { result ≡ min y DESCRIPTOR_BYTES }
+{
+    y.min(u16::from(DESCRIPTOR_BYTES))
+}
