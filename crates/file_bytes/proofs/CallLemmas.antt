@@ -1,5 +1,5 @@
 -- What the calls do on the file of a path that is found.
-use Rattle.std.proofs.Common.{◌≡◌, ◌∙◌, ℕ, not, Option, Some, is_none, List, sym, ap, subst}
+use Rattle.std.proofs.Common.{◌≡◌, ◌∙◌, ℕ, not, Option, Some, is_none, List, ap, subst}
 use Rattle.os9_base.specs.declared.errors.TheConstants.{E_BMODE, E_BPADDR}
 use Rattle.call_rules.specs.Inner.{Inner, regs_at}
 use Rattle.call_rules.specs.UserBytes.{user_bytes}
@@ -25,12 +25,13 @@ use Rattle.file_rules.specs.Read.{i_read, i_readln, reads_file}
 use Rattle.file_rules.specs.Seek.{i_seek, long_of, seeks_nothing}
 use Rattle.file_rules.specs.Step.{done, needs, refuses}
 use Rattle.file_rules.specs.Write.{i_write, i_writln, f_perr, sends_bytes, writes_bytes}
+use Rattle.file_state.proofs.ReachedLemmas.{on-volume}
 use Rattle.file_state.specs.Tie.{StandsFor}
 use Rattle.file_state.specs.declared.state.FileState.{FileState}
 use Rattle.file_state.specs.declared.state.OpenFile as kernel
-use Rattle.file_bytes.proofs.OpenedLemmas.{IsFound, found-file, named-of, open-file}
+use Rattle.file_bytes.proofs.OpenedLemmas.{named-of, open-file}
 use Rattle.file_bytes.proofs.TryingLemmas.{regs-tied}
-use Rattle.file_bytes.specs.Opened.{IsOpened, IsPathOf, found_on}
+use Rattle.file_bytes.specs.Opened.{IsOpened, found_on}
 use Rattle.file_bytes.specs.Reading.{read_file, read_named, read_opened}
 use Rattle.file_bytes.specs.Writing.{write_file}
 
@@ -47,14 +48,15 @@ pub record IsKnown (files : Files) (p n : ℕ) (opened : kernel.OpenFile) : Type
 module _ (state : FileState) (views : List DriveView) (files : Files) (p : ℕ) (opened : kernel.OpenFile) (stands : StandsFor state views files) (kinds : AreKinds files) where
   pub known : (n : ℕ) → IsOpened state p n opened → IsKnown files p n opened
   known n is =
-      let named = named-of state views files p n opened stands (is.file views files stands kinds) in
-      let it : IsFound files opened = found-file files opened kinds (subst (λ (io : Io). IsPathOf io opened) (sym stands.io) is.path) named.place in
+      let it = is.file views files stands kinds in
+      let named = named-of state views files p n opened stands it in
+      let on = on-volume files opened.place it.found.file it.there in
       record {
-        volume = it.volume;
-        file = it.file;
-        is = it.is;
-        there = it.there;
-        found = open-file files p n opened it.volume it.file (ap (λ (io : Io). open_path io p n) stands.io ∙ named.names) named.place it.is it.there;
+        volume = on.volume;
+        file = it.found.file;
+        is = on.is;
+        there = on.there;
+        found = open-file files p n opened on.volume it.found.file (ap (λ (io : Io). open_path io p n) stands.io ∙ named.names) named.place on.is on.there;
       }
 
   -- where the number is in A

@@ -1,10 +1,9 @@
 pub mod AgainLemmas
 pub mod CallLemmas
+pub mod CountLemmas
 pub mod EndingLemmas
-pub mod LineLemmas
 pub mod OpenedLemmas
 pub mod ReadingLemmas
 pub mod SizeLemmas
-pub mod StepLemmas
 pub mod TryingLemmas
 pub mod WritingLemmas

@@ -5,25 +5,21 @@ use Rattle.std.proofs.lemmas.List.{get_or_default}
 use Rattle.std.proofs.lemmas.Option.{none-some, same_Some, slice_get_read}
 use Rattle.rbf_access.specs.Mounted.{Represents}
 use Rattle.rbf_access.specs.declared.volume.Volume.{Volume}
-use Rattle.rbf_model.specs.File.{DiskFile, is_directory}
+use Rattle.rbf_model.specs.File.{DiskFile}
 use Rattle.rbf_model.specs.Volume.{DiskVolume}
-use Rattle.io_model.specs.declared.path.Target.{Target}
-use Rattle.io_model.specs.declared.path.Target.TheVariants.{File, Folder, Term, Pipe}
 use Rattle.io_rules.specs.Io.{Io, OpenPath, open_path}
-use Rattle.io_rules.specs.Modes.{can_write}
 use Rattle.file_drives.proofs.MountedLemmas.{mounted-below}
 use Rattle.file_drives.specs.Drives.{DriveView}
-use Rattle.file_drives.specs.Mounted.{AgreesOnDrive, AreMounted, HasFileAt, kept_at, mounted_at}
+use Rattle.file_drives.specs.Mounted.{AgreesOnDrive, AreMounted, HasDataFileAt, HasFileAt, kept_at, mounted_at}
 use Rattle.file_rules.specs.Files as rules
-use Rattle.file_rules.specs.Files.{Files, file_in, open_file, open_file_at, place_of_target, volume_at}
+use Rattle.file_rules.specs.Files.{Files, open_file, open_file_at, place_of_target, volume_at}
 use Rattle.file_rules.specs.declared.places.FilePlace.{FilePlace}
-use Rattle.file_laws.specs.Kinds.{AreKinds, IsOfKind, IsOnTarget}
 use Rattle.file_state.specs.Opened.{IsFileOf, path_of}
 use Rattle.file_state.specs.Tie.{IsSound, StandsFor}
 use Rattle.file_state.specs.declared.state.FileState.{FileState}
 use Rattle.file_state.specs.declared.state.OpenFile.{OpenFile}
 use Rattle.file_bytes.proofs.SizeLemmas.{size-low}
-use Rattle.file_bytes.specs.Opened.{IsOpened, IsPathOf, MayBeWritten, found_on}
+use Rattle.file_bytes.specs.Opened.{IsOpened, MayBeWritten, found_on}
 
 -- ---- a path that a number names
 
@@ -73,38 +69,6 @@ named-of state views files p n opened stands it =
 
 -- ---- the file that it is on
 
--- it is there
-pub record IsFound (files : Files) (opened : OpenFile) : Type 0 where
-  pub volume : DiskVolume
-  pub is : volume_at files opened.place.drive ≡ Some volume
-  pub file : DiskFile
-  pub there : volume.files opened.place.number ≡ Some file
-  pub unwritten : is_directory file ≡ true → can_write opened.desc.mode ≡ false
-
-in_volume : (files : Files) (opened : OpenFile) (file : DiskFile) → file_in files opened.place ≡ Some file → (is_directory file ≡ true → can_write opened.desc.mode ≡ false) → IsFound files opened
-in_volume files opened file is unwritten = by (volume_at files opened.place.drive) refl is
-  where
-    by : (o : Option DiskVolume) → volume_at files opened.place.drive ≡ o → option_and_then (λ (v : DiskVolume). v.files opened.place.number) o ≡ Some file → IsFound files opened
-    by None at e = absurd (none-some file e)
-    by (Some v) at e = record { volume = v; is = at; file = file; there = e; unwritten = unwritten }
-
-pub found-file : (files : Files) (opened : OpenFile) → AreKinds files → IsPathOf files.io opened → place_of_target opened.desc.target ≡ Some opened.place → IsFound files opened
-found-file files opened kinds path is = by opened.desc.target (kinds.paths opened.path.0 opened.desc path) is
-  where
-    at_place : (place : FilePlace) (directory : Bool) → place ≡ opened.place → IsOfKind files place directory → (directory ≡ true → can_write opened.desc.mode ≡ false) → IsFound files opened
-    at_place place directory same it unwritten =
-        in_volume files opened it.file (subst (λ (place : FilePlace). file_in files place ≡ Some it.file) same it.there) (λ folder. unwritten (sym it.kind ∙ folder))
-
-    by : (target : Target) → IsOnTarget files opened.desc.mode target → place_of_target target ≡ Some opened.place → IsFound files opened
-    by (File drive number) kind e =
-        at_place (record { drive = drive; number = number }) false (same_Some (record { drive = drive; number = number }) opened.place e) kind
-        (λ folder. absurd (false≢true folder))
-    by (Folder drive number) kind e =
-        at_place (record { drive = drive; number = number }) true (same_Some (record { drive = drive; number = number }) opened.place e) kind.0
-        (λ folder. kind.1)
-    by (Term terminal) kind e = absurd (none-some opened.place e)
-    by (Pipe pipe) kind e = absurd (none-some opened.place e)
-
 -- the rules of the calls find it by the number
 pub open-file : (files : Files) (p n : ℕ) (opened : OpenFile) (v : DiskVolume) (file : DiskFile) → open_path files.io p n ≡ Some (path_of opened) → place_of_target opened.desc.target ≡ Some opened.place → volume_at files opened.place.drive ≡ Some v → v.files opened.place.number ≡ Some file → open_file files p n ≡ Some (found_on opened v file)
 open-file files p n opened v file path place is there =
@@ -116,29 +80,21 @@ open-file files p n opened v file path place is there =
 -- ---- in a sound state
 
 module _ (state : FileState) (views : List DriveView) (sound : IsSound state views) (p n : ℕ) (opened : OpenFile) (is : IsOpened state p n opened) where
-  pub is-named : IsNamed state.io p n opened
-  is-named = named-of state views sound.files p n opened sound.stands (is.file views sound.files sound.stands sound.kinds)
+  file : IsFileOf state views sound.files p n opened
+  file = is.file views sound.files sound.stands sound.kinds
 
-  found : IsFound sound.files opened
-  found = found-file sound.files opened sound.kinds (subst (λ (io : Io). IsPathOf io opened) (sym sound.stands.io) is.path) is-named.place
+  pub is-named : IsNamed state.io p n opened
+  is-named = named-of state views sound.files p n opened sound.stands file
 
   pub has-file : HasFileAt state.disks views opened.place
-  has-file = record {
-    volumes = sound.files.volumes;
-    mounted = sound.stands.mounted;
-    volume = found.volume;
-    is = found.is;
-    file = found.file;
-    there = found.there;
-  }
+  has-file = file.has
 
   pub may-be-written : MayBeWritten opened state.disks views
-  unfolding has-file found
-  may-be-written writes = record { has = has-file; not_directory = by (is_directory found.file) refl }
+  may-be-written writes = by opened.is_directory refl
     where
-      by : (t : Bool) → is_directory found.file ≡ t → is_directory found.file ≡ false
-      by true folder = absurd (false≢true (sym (found.unwritten folder) ∙ writes))
-      by false none = none
+      by : (t : Bool) → opened.is_directory ≡ t → HasDataFileAt state.disks views opened.place
+      by true directory = absurd (false≢true (sym (file.unwritten directory) ∙ writes))
+      by false directory = file.data_file directory
 
 -- ---- on a drive
 

@@ -17,17 +17,21 @@ use Rattle.rbf_access.specs.Reading.{IsRead, filled_buffer}
 use Rattle.rbf_change.specs.Contents.{bytes_from}
 use Rattle.rbf_model.specs.File.{DiskFile}
 use Rattle.rbf_model.specs.Volume.{DiskVolume}
-use Rattle.file_drives.specs.Drives.{DriveView, ReadsDrive, drive_states}
-use Rattle.file_drives.specs.Mounted.{AreMounted, StayMounted}
+use Rattle.file_drives.specs.Drives.{DriveView, drive_states}
 use Rattle.file_rules.specs.Attempts.{asker_of}
-use Rattle.file_rules.specs.Files.{Asker, Files, volume_at, with_drives, with_volume}
+use Rattle.file_rules.specs.Files.{Asker, DriveState, Files, volume_at, with_drives, with_io, with_volume}
 use Rattle.file_rules.specs.Files as rules
 use Rattle.file_rules.specs.Read.{answers_bytes, bytes_here}
-use Rattle.file_rules.specs.Step.{FileEffect, FileStep, MayBeLeft, comes, deed_of, leaves_so, refuses, refuses_so, with_drives_after}
+use Rattle.file_rules.specs.Step.{FileEffect, FileStep, MayBeLeft, comes, deed_of, leaves_so, reaches, refuses, refuses_so, with_drives_after}
+use Rattle.file_state.proofs.EndLemmas.{breaks, goes-well}
+use Rattle.file_state.proofs.ReachedLemmas.{same-volume}
+use Rattle.file_state.proofs.StateLemmas.{stands-with_io}
+use Rattle.file_state.specs.Counted.{CalledAtMost}
+use Rattle.file_state.specs.Reached.{HasRead}
 use Rattle.file_state.specs.Tie.{StandsFor}
 use Rattle.file_state.specs.declared.state.FileState.{FileState}
 use Rattle.file_state.specs.declared.state.OpenFile.{OpenFile}
-use Rattle.file_bytes.proofs.StepLemmas.{deed-goes, deed-refused, does-break, does-well, none-failed-of, one-failed-of, reads-moves, same-volume}
+use Rattle.file_bytes.proofs.TryingLemmas.{deed-goes, deed-refused}
 use Rattle.file_bytes.specs.Ending.{EndsFound, GivesBytes, IsRefused}
 use Rattle.file_bytes.specs.Opened.{found_on, moved_to}
 use Rattle.file_bytes.specs.Reading.{EndsRead, IsLoaded, part_of, read_file}
@@ -80,7 +84,7 @@ given-bytes kind buffer count n within is =
       ap (λ (b : List ℕ). length b) (sym is) ∙ length-take-le n (take count buffer) within,
     )
 
-module _ (kind : ReadKind) (m : Inner) (files : Files) (v : DiskVolume) (file : DiskFile) (now : TimePacket) (p : ℕ) (opened : OpenFile) (end : CallEnd) (processes : ProcState) (old new : FileState) (before after : List DriveView) (terms : List TerminalState) (most : ℕ) (stands : StandsFor old before files) (is : volume_at files opened.place.drive ≡ Some v) (stay : StayMounted old.disks before new.disks after) (directories : new.directories ≡ old.directories) (some : (regs_at m p).y ≢ 0) where
+module _ (kind : ReadKind) (m : Inner) (files : Files) (v : DiskVolume) (file : DiskFile) (now : TimePacket) (p : ℕ) (opened : OpenFile) (end : CallEnd) (processes : ProcState) (mid : FileState) (new : Io) (before after : List DriveView) (terms : List TerminalState) (most : ℕ) (called : CalledAtMost most before after) (is : volume_at files opened.place.drive ≡ Some v) (some : (regs_at m p).y ≢ 0) where
   abbrev asker : Asker
   asker = asker_of m p now
 
@@ -93,6 +97,9 @@ module _ (kind : ReadKind) (m : Inner) (files : Files) (v : DiskVolume) (file : 
   abbrev at : ℕ
   at = opened.desc.at
 
+  abbrev drives : List DriveState
+  drives = drive_states after
+
   -- the position is at or past the end
   abbrev ended : Bool
   ended = nat_le (length file.contents) at
@@ -102,26 +109,23 @@ module _ (kind : ReadKind) (m : Inner) (files : Files) (v : DiskVolume) (file : 
 
   -- what is read behind the test for the end
   abbrev behind : Bool → FileStep
-  behind test = refuses test E_EOF (comes (leaves_so (answers_bytes asker files found (part_of kind (bytes_here asker found)))))
+  behind test = refuses test E_EOF (comes (leaves_so given))
 
-  mounted : AreMounted new.disks after files.volumes
-  mounted = stay files.volumes stands.mounted
+  -- what is done
+  abbrev Done : Type 0
+  Done = Takes (read_file kind asker files found) most m files now p end processes (record mid { io = new }) before after terms
 
   -- a fault
-  broken : (number : ℕ) → ReadsDrive (Some number) most drive before after → IsRefused number m p old.io end processes new.io → Takes (read_file kind asker files found) m files now p end processes new after terms
+  broken : (number : ℕ) → HasRead (Some number) drive files mid after → IsRefused number m p mid.io end processes new → Done
   unfolding read_file
-  broken number reads it = record {
-    effect = refuses_so number (with_drives (with_volume files drive v) (drive_states after));
-    does =
-        does-break asker files drive (behind ended) (drive_states after) terms number v v
-        (one-failed-of files.drives number most drive before after stands.drives (reads-moves (Some number) most drive before after reads)) is (stays ended);
+  broken number read it = record {
+    effect = refuses_so number (with_drives (with_volume files drive v) drives);
+    does = breaks (reaches drive (behind ended)) asker files drive number v v drives terms refl is (stays ended) read.moved;
     comes = (it.end_is, it.tied);
-    stands = record {
-      io = ap (λ (io : Io). with_call io p None) stands.io ∙ sym it.io_is;
-      directories = stands.directories ∙ sym directories;
-      drives = refl;
-      mounted = subst (λ volumes. AreMounted new.disks after volumes) (sym (same-volume files drive v is)) mounted;
-    };
+    stands =
+        subst (λ (f : Files). StandsFor (record mid { io = new }) after (with_io (with_drives f drives) (with_call f.io p None))) (sym (same-volume files drive v is))
+        (stands-with_io mid after (with_drives files drives) (with_call files.io p None) new (ap (λ (io : Io). with_call io p None) read.stands.io ∙ sym it.io_is) read.stands);
+    calls = called;
   }
     where
       stays : (test : Bool) → MayBeLeft (deed_of (behind test) files) asker v v
@@ -129,51 +133,43 @@ module _ (kind : ReadKind) (m : Inner) (files : Files) (v : DiskVolume) (file : 
       stays false = refl
 
   -- the end
-  at_end : length file.contents ≤ at → ReadsDrive None most drive before after → IsRefused E_EOF m p old.io end processes new.io → Takes (read_file kind asker files found) m files now p end processes new after terms
+  at_end : length file.contents ≤ at → HasRead None drive files mid after → IsRefused E_EOF m p mid.io end processes new → Done
   unfolding read_file
-  at_end past reads it = record {
-    effect = with_drives_after (refuses_so E_EOF files) (drive_states after);
+  at_end past read it = record {
+    effect = with_drives_after (refuses_so E_EOF files) drives;
     does =
-        does-well asker files drive (behind ended) (drive_states after) terms (refuses_so E_EOF files)
-        (deed-refused files ended E_EOF (comes (leaves_so given)) (le-leb (length file.contents) at past))
-        (none-failed-of files.drives most drive before after stands.drives (reads-moves None most drive before after reads));
+        goes-well (reaches drive (behind ended)) asker files (refuses_so E_EOF files) drives terms
+        (deed-refused files ended E_EOF (comes (leaves_so given)) (le-leb (length file.contents) at past)) read.moved;
     comes = (it.end_is, it.tied);
-    stands = record {
-      io = ap (λ (io : Io). with_call io p None) stands.io ∙ sym it.io_is;
-      directories = stands.directories ∙ sym directories;
-      drives = refl;
-      mounted = mounted;
-    };
+    stands = stands-with_io mid after (with_drives files drives) (with_call files.io p None) new (ap (λ (io : Io). with_call io p None) read.stands.io ∙ sym it.io_is) read.stands;
+    calls = called;
   }
 
   -- bytes
-  gives : at < length file.contents → ReadsDrive None most drive before after → GivesBytes (part_of kind (bytes_from file.contents at (regs_at m p).y)) (regs_at m p) opened m p old.io end processes new.io → Takes (read_file kind asker files found) m files now p end processes new after terms
+  gives : at < length file.contents → HasRead None drive files mid after → GivesBytes (part_of kind (bytes_from file.contents at (regs_at m p).y)) (regs_at m p) opened m p mid.io end processes new → Done
   unfolding read_file
-  gives inside reads it = record {
-    effect = with_drives_after given (drive_states after);
+  gives inside read it = record {
+    effect = with_drives_after given drives;
     does =
-        does-well asker files drive (behind ended) (drive_states after) terms given
-        (deed-goes files ended E_EOF (leaves_so given) (not-le (length file.contents) at inside))
-        (none-failed-of files.drives most drive before after stands.drives (reads-moves None most drive before after reads));
+        goes-well (reaches drive (behind ended)) asker files given drives terms
+        (deed-goes files ended E_EOF (leaves_so given) (not-le (length file.contents) at inside)) read.moved;
     comes = (it.end_is, it.tied);
-    stands = record {
-      io = ap (λ (io : Io). with_call (moved_to io opened (at + length (part_of kind (bytes_from file.contents at (regs_at m p).y)))) p None) stands.io ∙ sym it.io_is;
-      directories = stands.directories ∙ sym directories;
-      drives = refl;
-      mounted = mounted;
-    };
+    stands =
+        let moved : Io → Io = λ io. with_call (moved_to io opened (at + length (part_of kind (bytes_from file.contents at (regs_at m p).y)))) p None in
+        stands-with_io mid after (with_drives files drives) (moved files.io) new (ap moved read.stands.io ∙ sym it.io_is) read.stands;
+    calls = called;
   }
 
-  pub read-takes : (loaded : Result ℕ FileFault) (buffer : List ℕ) → ReadsDrive (file_fault loaded) most drive before after → OnErr loaded (IsSome (file_fault loaded)) → IfOk loaded (IsLoaded file at (regs_at m p).y buffer) → EndsRead loaded kind buffer (regs_at m p) opened m p old.io end processes new.io → Takes (read_file kind asker files found) m files now p end processes new after terms
-  read-takes (Ok count) buffer reads device it ends =
+  pub read-takes : (loaded : Result ℕ FileFault) (buffer : List ℕ) → HasRead (file_fault loaded) drive files mid after → OnErr loaded (IsSome (file_fault loaded)) → IfOk loaded (IsLoaded file at (regs_at m p).y buffer) → EndsRead loaded kind buffer (regs_at m p) opened m p mid.io end processes new → Done
+  read-takes (Ok count) buffer read device it ends =
       let y = (regs_at m p).y in
       let long = count-from file.contents at y in
-      let same : EndsFound (bytes_from file.contents at y) (part_of kind (bytes_from file.contents at y)) (regs_at m p) opened m p old.io end processes new.io =
-      subst (λ (bytes : List ℕ). EndsFound bytes (part_of kind bytes) (regs_at m p) opened m p old.io end processes new.io) it.bytes_are ends in
+      let same : EndsFound (bytes_from file.contents at y) (part_of kind (bytes_from file.contents at y)) (regs_at m p) opened m p mid.io end processes new =
+      subst (λ (bytes : List ℕ). EndsFound bytes (part_of kind bytes) (regs_at m p) opened m p mid.io end processes new) it.bytes_are ends in
       ⊎_elim
-      (λ inside. gives inside reads (same.some (λ none. omega (arith, long, none, some, inside))))
-      (λ past. at_end past reads (same.none (omega (arith, long, past))))
+      (λ inside. gives inside read (same.some (λ none. omega (arith, long, none, some, inside))))
+      (λ past. at_end past read (same.none (omega (arith, long, past))))
       (cases_lt at (length file.contents))
-  read-takes (Err (Device number)) buffer reads device it ends = broken number reads ends
-  read-takes (Err NoCluster) buffer reads device it ends = absurd (false≢true device)
-  read-takes (Err TooManyRuns) buffer reads device it ends = absurd (false≢true device)
+  read-takes (Err (Device number)) buffer read device it ends = broken number read ends
+  read-takes (Err NoCluster) buffer read device it ends = absurd (false≢true device)
+  read-takes (Err TooManyRuns) buffer read device it ends = absurd (false≢true device)

@@ -1,5 +1,5 @@
 -- What an attempt comes to that reaches no drive, and the tests that it passes.
-use Rattle.std.proofs.Common.{◌≡◌, ◌∙◌, ℕ, Bool, true, false, Option, Some, None, is_some, is_none, List, length, sym, ap, refl, subst, inl}
+use Rattle.std.proofs.Common.{◌≡◌, ◌∙◌, ℕ, Bool, true, false, Option, Some, None, is_some, is_none, List, length, sym, ap, refl, subst}
 use Rattle.std.specs.Prelude.{if◌then◌else◌}
 use Rattle.std.proofs.lemmas.Bool.{false≢true}
 use Rattle.os9_base.specs.declared.call.CallEnd.{CallEnd}
@@ -13,14 +13,16 @@ use Rattle.io_rules.specs.Step.{answers}
 use Rattle.proc_rules.specs.Records.{record_at}
 use Rattle.proc_state.specs.Tie.{Represents}
 use Rattle.proc_state.specs.declared.state.ProcState.{ProcState}
-use Rattle.rbf_access.specs.declared.volume.Volume.{Volume}
 use Rattle.file_drives.specs.Drives.{DriveView}
-use Rattle.file_drives.specs.Mounted.{AreMounted}
 use Rattle.file_rules.specs.Attempts.{asker_of, file_step, files_after, io_effect}
 use Rattle.file_rules.specs.Files.{Files, with_io}
-use Rattle.file_rules.specs.Step.{FileStep, refused, needs, refuses, done, leaves, refuses_so}
+use Rattle.file_rules.specs.Step.{Deed, FileStep, refused, comes, needs, refuses, done, deed_of, leaves, leaves_so, refuses_so}
 use Rattle.file_rules.specs.declared.path_call.PathCall.{PathCall}
-use Rattle.file_state.specs.Attempt.{Attempts}
+use Rattle.file_state.proofs.CountLemmas.{called-none}
+use Rattle.file_state.proofs.EndLemmas.{attempts, goes-well}
+use Rattle.file_state.proofs.StateLemmas.{stands-with_io}
+use Rattle.file_state.specs.Attempt.{Attempts, Standing}
+use Rattle.file_state.specs.Counted.{AttemptsIn}
 use Rattle.file_state.specs.Tie.{StandsFor}
 use Rattle.file_state.specs.declared.state.FileState.{FileState}
 use Rattle.file_bytes.specs.Ending.{IsDone, IsRefused}
@@ -39,71 +41,80 @@ pub some-of : {A : Type 0} (o : Option A) (there : Bool) → there ≡ is_some o
 some-of None there is inside = absurd (false≢true (sym is ∙ inside))
 some-of (Some a) there is inside = refl
 
-module _ (m : Inner) (files : Files) (now : TimePacket) (p : ℕ) (end : CallEnd) (processes : ProcState) (old new : FileState) (views : List DriveView) (terms : List TerminalState) (stands : StandsFor old views files) (disks : new.disks ≡ old.disks) (directories : new.directories ≡ old.directories) where
-  still_mounted : AreMounted new.disks views files.volumes
-  still_mounted = subst (λ (d : List (Option Volume)). AreMounted d views files.volumes) (sym disks) stands.mounted
+-- ---- what is done behind a test
 
+pub deed-refused : (files : Files) (test : Bool) (number : ℕ) (next : FileStep) → test ≡ true → deed_of (refuses test number next) files ≡ leaves_so (refuses_so number files)
+deed-refused files test number next is = ap (λ (t : Bool). deed_of (refuses t number next) files) is
+
+pub deed-goes : (files : Files) (test : Bool) (number : ℕ) (deed : Deed) → test ≡ false → deed_of (refuses test number (comes deed)) files ≡ deed
+deed-goes files test number deed is = ap (λ (t : Bool). deed_of (refuses t number (comes deed)) files) is
+
+-- ---- what reaches no drive
+
+module _ (m : Inner) (files : Files) (now : TimePacket) (p : ℕ) (end : CallEnd) (processes : ProcState) (old : FileState) (new : Io) (views : List DriveView) (terms : List TerminalState) {most : ℕ} (stands : StandsFor old views files) where
   -- it is refused
-  pub takes-refused : (number : ℕ) → IsRefused number m p old.io end processes new.io → Takes (refused number) m files now p end processes new views terms
+  pub takes-refused : (number : ℕ) → IsRefused number m p old.io end processes new → Takes (refused number) most m files now p end processes (record old { io = new }) views views terms
   takes-refused number it = record {
     effect = refuses_so number files;
-    does = inl (record { it = refuses_so number files; does = (refl, refl); drives = files.drives; none_failed = refl; effect_is = refl });
+    does = goes-well (refused number) (asker_of m p now) files (refuses_so number files) files.drives terms refl refl;
     comes = (it.end_is, it.tied);
-    stands = record {
-      io = ap (λ (io : Io). with_call io p None) stands.io ∙ sym it.io_is;
-      directories = stands.directories ∙ sym directories;
-      drives = stands.drives;
-      mounted = still_mounted;
-    };
+    stands = stands-with_io old views files (with_call files.io p None) new (ap (λ (io : Io). with_call io p None) stands.io ∙ sym it.io_is) stands;
+    calls = called-none views;
   }
 
   -- it is done
-  pub takes-done : (change : Io → Io) (regs : Regs) → IsDone m p regs (change old.io) end processes new.io → Takes (done regs (with_io files (change files.io))) m files now p end processes new views terms
+  pub takes-done : (change : Io → Io) (regs : Regs) → IsDone m p regs (change old.io) end processes new → Takes (done regs (with_io files (change files.io))) most m files now p end processes (record old { io = new }) views views terms
   takes-done change regs it = record {
     effect = leaves (answers regs) (with_io files (change files.io));
-    does = inl (record { it = leaves (answers regs) (with_io files (change files.io)); does = (refl, refl); drives = files.drives; none_failed = refl; effect_is = refl });
+    does = goes-well (done regs (with_io files (change files.io))) (asker_of m p now) files (leaves (answers regs) (with_io files (change files.io))) files.drives terms refl refl;
     comes = (it.end_is, it.tied);
-    stands = record {
-      io = ap (λ (io : Io). with_call (change io) p None) stands.io ∙ sym it.io_is;
-      directories = stands.directories ∙ sym directories;
-      drives = stands.drives;
-      mounted = still_mounted;
-    };
+    stands = stands-with_io old views files (with_call (change files.io) p None) new (ap (λ (io : Io). with_call (change io) p None) stands.io ∙ sym it.io_is) stands;
+    calls = called-none views;
   }
 
-module _ (m : Inner) (files : Files) (now : TimePacket) (p : ℕ) (end : CallEnd) (processes : ProcState) (new : FileState) (views : List DriveView) (terms : List TerminalState) where
+module _ (m : Inner) (files : Files) (now : TimePacket) (p : ℕ) (end : CallEnd) (processes : ProcState) (new : FileState) (views : List DriveView) (terms : List TerminalState) {most : ℕ} {before : List DriveView} where
   -- ---- the tests of a step
 
-  pub takes-needs-none : {A : Type 0} (o : Option A) (number : ℕ) (next : A → FileStep) → o ≡ None → Takes (refused number) m files now p end processes new views terms → Takes (needs o number next) m files now p end processes new views terms
-  takes-needs-none {A} o number next is takes = subst (λ (o : Option A). Takes (needs o number next) m files now p end processes new views terms) (sym is) takes
+  pub takes-needs-none : {A : Type 0} (o : Option A) (number : ℕ) (next : A → FileStep) → o ≡ None → Takes (refused number) most m files now p end processes new before views terms → Takes (needs o number next) most m files now p end processes new before views terms
+  takes-needs-none {A} o number next is takes = subst (λ (o : Option A). Takes (needs o number next) most m files now p end processes new before views terms) (sym is) takes
 
-  pub takes-needs-some : {A : Type 0} (o : Option A) (a : A) (number : ℕ) (next : A → FileStep) → o ≡ Some a → Takes (next a) m files now p end processes new views terms → Takes (needs o number next) m files now p end processes new views terms
-  takes-needs-some {A} o a number next is takes = subst (λ (o : Option A). Takes (needs o number next) m files now p end processes new views terms) (sym is) takes
+  pub takes-needs-some : {A : Type 0} (o : Option A) (a : A) (number : ℕ) (next : A → FileStep) → o ≡ Some a → Takes (next a) most m files now p end processes new before views terms → Takes (needs o number next) most m files now p end processes new before views terms
+  takes-needs-some {A} o a number next is takes = subst (λ (o : Option A). Takes (needs o number next) most m files now p end processes new before views terms) (sym is) takes
 
-  pub takes-refuses-true : (test : Bool) (number : ℕ) (next : FileStep) → test ≡ true → Takes (refused number) m files now p end processes new views terms → Takes (refuses test number next) m files now p end processes new views terms
-  takes-refuses-true test number next is takes = subst (λ (t : Bool). Takes (refuses t number next) m files now p end processes new views terms) (sym is) takes
+  pub takes-refuses-true : (test : Bool) (number : ℕ) (next : FileStep) → test ≡ true → Takes (refused number) most m files now p end processes new before views terms → Takes (refuses test number next) most m files now p end processes new before views terms
+  takes-refuses-true test number next is takes = subst (λ (t : Bool). Takes (refuses t number next) most m files now p end processes new before views terms) (sym is) takes
 
-  pub takes-refuses-false : (test : Bool) (number : ℕ) (next : FileStep) → test ≡ false → Takes next m files now p end processes new views terms → Takes (refuses test number next) m files now p end processes new views terms
-  takes-refuses-false test number next is takes = subst (λ (t : Bool). Takes (refuses t number next) m files now p end processes new views terms) (sym is) takes
+  pub takes-refuses-false : (test : Bool) (number : ℕ) (next : FileStep) → test ≡ false → Takes next most m files now p end processes new before views terms → Takes (refuses test number next) most m files now p end processes new before views terms
+  takes-refuses-false test number next is takes = subst (λ (t : Bool). Takes (refuses t number next) most m files now p end processes new before views terms) (sym is) takes
 
-  pub takes-if-true : (test : Bool) (one other : FileStep) → test ≡ true → Takes one m files now p end processes new views terms → Takes (if test then one else other) m files now p end processes new views terms
-  takes-if-true test one other is takes = subst (λ (t : Bool). Takes (if t then one else other) m files now p end processes new views terms) (sym is) takes
+  pub takes-if-true : (test : Bool) (one other : FileStep) → test ≡ true → Takes one most m files now p end processes new before views terms → Takes (if test then one else other) most m files now p end processes new before views terms
+  takes-if-true test one other is takes = subst (λ (t : Bool). Takes (if t then one else other) most m files now p end processes new before views terms) (sym is) takes
 
-  pub takes-if-false : (test : Bool) (one other : FileStep) → test ≡ false → Takes other m files now p end processes new views terms → Takes (if test then one else other) m files now p end processes new views terms
-  takes-if-false test one other is takes = subst (λ (t : Bool). Takes (if t then one else other) m files now p end processes new views terms) (sym is) takes
+  pub takes-if-false : (test : Bool) (one other : FileStep) → test ≡ false → Takes other most m files now p end processes new before views terms → Takes (if test then one else other) most m files now p end processes new before views terms
+  takes-if-false test one other is takes = subst (λ (t : Bool). Takes (if t then one else other) most m files now p end processes new before views terms) (sym is) takes
 
   -- a step that is another one
-  pub takes-same : (one other : FileStep) → one ≡ other → Takes one m files now p end processes new views terms → Takes other m files now p end processes new views terms
-  takes-same one other same takes = subst (λ (step : FileStep). Takes step m files now p end processes new views terms) same takes
+  pub takes-same : (one other : FileStep) → one ≡ other → Takes one most m files now p end processes new before views terms → Takes other most m files now p end processes new before views terms
+  takes-same one other same takes = subst (λ (step : FileStep). Takes step most m files now p end processes new before views terms) same takes
 
-  -- what an attempt did is what its call does
-  pub attempts-of : (call : PathCall) (step : FileStep) → file_step call (asker_of m p now) files (length terms) ≡ step → Takes step m files now p end processes new views terms → Attempts call m files now p end processes new views terms terms
-  attempts-of call step is takes =
-      let it = takes-same step (file_step call (asker_of m p now) files (length terms)) (sym is) takes in
+-- ---- what an attempt did is what its call does
+
+module _ (m : Inner) (files : Files) (now : TimePacket) (p : ℕ) (end : CallEnd) (before after : Standing) (terms : List TerminalState) (call : PathCall) (step : FileStep) (is : file_step call (asker_of m p now) files (length terms) ≡ step) (most : ℕ) where
+  took : Takes step most m files now p end after.processes after.files before.views after.views terms → Takes (file_step call (asker_of m p now) files (length terms)) most m files now p end after.processes after.files before.views after.views terms
+  took takes = takes-same m files now p end after.processes after.files after.views terms step (file_step call (asker_of m p now) files (length terms)) (sym is) takes
+
+  pub attempts-of : Takes step most m files now p end after.processes after.files before.views after.views terms → Attempts call m files now p end after.processes after.files after.views terms terms
+  attempts-of takes =
+      let it = took takes in
       record {
         result = result_of m p (io_effect it.effect);
         left = files_after p it.effect;
-        attempt = record { effect = it.effect; does = it.does; result_is = refl; state = refl };
+        attempt = attempts call m files now p it.effect terms terms it.does;
         comes = it.comes;
         stands = it.stands;
       }
+
+  -- with at most so many calls of the drives
+  pub attempts-in : (limit : ℕ) → limit ≡ most → Takes step most m files now p end after.processes after.files before.views after.views terms → AttemptsIn limit call m files now p end terms terms before after
+  attempts-in limit same takes =
+      subst (λ (n : ℕ). AttemptsIn n call m files now p end terms terms before after) (sym same) (record { attempts = attempts-of takes; calls = (took takes).calls })

@@ -1,5 +1,5 @@
 -- What a write to the file of a path comes to, by what was answered to it.
-use Rattle.std.proofs.Common.{◌≡◌, ◌∙◌, ℕ, ◌+◌, ◌<◌, ◌^◌, nat_lt, not, ◌||◌, Bool, true, false, Option, Some, None, IsOk, Result, Ok, Err, List, [], ◌∷◌, length, slice_set, ⊎_elim, inl, inr, sym, ap, refl, subst, arith, eq-eqb}
+use Rattle.std.proofs.Common.{◌≡◌, ◌∙◌, ℕ, ◌+◌, ◌<◌, ◌^◌, nat_lt, not, ◌||◌, Bool, true, false, Option, Some, None, IsOk, Result, Ok, Err, List, [], ◌∷◌, length, slice_set, sym, ap, refl, subst, arith, eq-eqb}
 use Rattle.std.specs.Prelude.{if◌then◌else◌}
 use Rattle.std.proofs.lemmas.Bool.{false≢true}
 use Rattle.std.proofs.lemmas.List.{get_or-set_same}
@@ -23,22 +23,29 @@ use Rattle.rbf_model.specs.Volume.{DiskVolume}
 use Rattle.rbf_model.specs.Writes.{put_file}
 use Rattle.file_drives.proofs.MountedLemmas.{mounted-below}
 use Rattle.file_drives.specs.Calls.{writing_calls}
-use Rattle.file_drives.specs.Changed.{Asked, LeavesVolume, file_answer}
+use Rattle.file_drives.specs.Changed.{LeavesVolume, file_answer}
 use Rattle.file_drives.specs.Drives.{DriveView, drive_states}
-use Rattle.file_drives.specs.Mounted.{AreMounted, mounted_at}
+use Rattle.file_drives.specs.Mounted.{mounted_at}
 use Rattle.file_rules.specs.Attempts.{asker_of}
-use Rattle.file_rules.specs.Change.{writes, MayBeTooLong}
-use Rattle.file_rules.specs.Files.{Asker, Files, volume_at, with_drives, with_position, with_volume}
+use Rattle.file_rules.specs.Change.{writes}
+use Rattle.file_rules.specs.Files.{Asker, DriveState, Files, volume_at, with_drives, with_io, with_position, with_volume}
 use Rattle.file_rules.specs.Files as rules
-use Rattle.file_rules.specs.Step.{Deed, DoesDeed, FileEffect, FileStep, MayBeLeft, VolumeChange, changes, comes, deed_of, leaves, refuses, refuses_so, with_drives_after, with_volume_after}
+use Rattle.file_rules.specs.Step.{FileEffect, FileStep, MayBeLeft, VolumeChange, changes, comes, deed_of, leaves, reaches, refuses, refuses_so, with_drives_after, with_volume_after}
 use Rattle.file_rules.specs.Write.{writes_bytes}
+use Rattle.file_state.proofs.CountLemmas.{called-more}
+use Rattle.file_state.proofs.EndLemmas.{asked_of, breaks, goes-well, is-made, is-too-long}
+use Rattle.file_state.proofs.ReachedLemmas.{same-volume}
+use Rattle.file_state.proofs.StateLemmas.{stands-with_io}
+use Rattle.file_state.specs.Counted.{CalledAtMost, HasChangedIn}
 use Rattle.file_state.specs.Tie.{StandsFor}
 use Rattle.file_state.specs.declared.state.FileState.{FileState}
 use Rattle.file_state.specs.declared.state.OpenFile.{OpenFile}
 use Rattle.file_bytes.proofs.OpenedLemmas.{mounted-low}
 use Rattle.file_bytes.proofs.SizeLemmas.{end-within}
-use Rattle.file_bytes.proofs.StepLemmas.{deed-goes, deed-refused, does-break, does-well, none-failed-of, one-failed-of, same-volume}
-use Rattle.file_bytes.specs.Ending.{EndsWrite}
+use Rattle.file_bytes.proofs.CountLemmas.{writing-few}
+use Rattle.file_bytes.proofs.TryingLemmas.{deed-goes, deed-refused}
+use Rattle.file_bytes.specs.Calls.{writing_attempt_calls}
+use Rattle.file_bytes.specs.Ending.{EndsWrite, IsRefused}
 use Rattle.file_state.specs.Opened.{path_of}
 use Rattle.file_bytes.specs.Opened.{found_on, moved_to}
 use Rattle.file_bytes.specs.Trying.{Takes}
@@ -68,14 +75,14 @@ write-fits number at bytes user now (Ok done) most v file drive volumes before n
     (mounted-low new after (slice_set volumes drive (Some it.left)) drive it.left number makes.new it.mounted there (changed-there _ v it.left number makes))
 write-fits number at bytes user now (Err fault) most v file drive volumes before new after is it low ok = absurd (false≢true ok)
 
--- what is left of the volume, where the bytes are these
-pub left-same : (number at : ℕ) (one other : List ℕ) (user : ℕ) (now : TimePacket) (result : Result (Unit {0}) FileFault) (v : DiskVolume) (file : DiskFile) (drive : ℕ) (volumes : List (Option DiskVolume)) (before : List DriveView) (new : List (Option Volume)) (after : List DriveView) → one ≡ other → LeavesVolume (record { change = writes number at one; user = user; now = now }) (file_answer result) (writing_calls number at (length one) result v file) v file drive volumes before new after → LeavesVolume (record { change = writes number at other; user = user; now = now }) (file_answer result) (writing_calls number at (length other) result v file) v file drive volumes before new after
-left-same number at one other user now result v file drive volumes before new after same left =
-    subst (λ (bytes : List ℕ). LeavesVolume (record { change = writes number at bytes; user = user; now = now }) (file_answer result) (writing_calls number at (length bytes) result v file) v file drive volumes before new after) same left
+-- a change of the volume, where the bytes are these
+pub changed-same : (number at : ℕ) (one other : List ℕ) (user : ℕ) (now : TimePacket) (result : Result (Unit {0}) FileFault) (v : DiskVolume) (file : DiskFile) (drive : ℕ) (files : Files) (mid : FileState) (before after : List DriveView) → one ≡ other → HasChangedIn (writing_calls number at (length one) result v file) (record { change = writes number at one; user = user; now = now }) (file_answer result) drive v file files mid before after → HasChangedIn (writing_calls number at (length other) result v file) (record { change = writes number at other; user = user; now = now }) (file_answer result) drive v file files mid before after
+changed-same number at one other user now result v file drive files mid before after same changed =
+    subst (λ (bytes : List ℕ). HasChangedIn (writing_calls number at (length bytes) result v file) (record { change = writes number at bytes; user = user; now = now }) (file_answer result) drive v file files mid before after) same changed
 
 -- ---- what it comes to
 
-module _ (m : Inner) (files : Files) (v : DiskVolume) (file : DiskFile) (now : TimePacket) (p : ℕ) (opened : OpenFile) (bytes : List ℕ) (regs : Regs) (end : CallEnd) (processes : ProcState) (old new : FileState) (before after : List DriveView) (terms : List TerminalState) (most : DiskVolume → ℕ) (stands : StandsFor old before files) (is : volume_at files opened.place.drive ≡ Some v) (directories : new.directories ≡ old.directories) where
+module _ (m : Inner) (files : Files) (v : DiskVolume) (file : DiskFile) (now : TimePacket) (p : ℕ) (opened : OpenFile) (bytes : List ℕ) (regs : Regs) (end : CallEnd) (processes : ProcState) (mid : FileState) (new : Io) (before after : List DriveView) (terms : List TerminalState) (is : volume_at files opened.place.drive ≡ Some v) (count : ℕ) (long : length bytes ≡ count) where
   abbrev asker : Asker
   asker = asker_of m p now
 
@@ -88,8 +95,8 @@ module _ (m : Inner) (files : Files) (v : DiskVolume) (file : DiskFile) (now : T
   abbrev at : ℕ
   at = opened.desc.at
 
-  abbrev asked : Asked
-  asked = record { change = writes opened.place.number at bytes; user = asker.user; now = now }
+  abbrev drives : List DriveState
+  drives = drive_states after
 
   -- what is left beside the volume
   abbrev beside : FileEffect
@@ -105,94 +112,75 @@ module _ (m : Inner) (files : Files) (v : DiskVolume) (file : DiskFile) (now : T
   abbrev behind : Bool → FileStep
   behind test = refuses test E_FULL (comes (changes change))
 
-  abbrev Left : Result (Unit {0}) FileFault → Type 0
-  Left result = LeavesVolume asked (file_answer result) most v file drive files.volumes before new.disks after
+  abbrev step : FileStep
+  step = reaches drive (behind full)
+
+  abbrev Changed : Result (Unit {0}) FileFault → Type 0
+  Changed result =
+      HasChangedIn (writing_calls opened.place.number at (length bytes) result v file) (asked_of change asker) (file_answer result) drive v file files mid before after
+
+  few : (result : Result (Unit {0}) FileFault) → Changed result → CalledAtMost (writing_attempt_calls count found) before after
+  few result it =
+      subst (λ (n : ℕ). CalledAtMost (writing_attempt_calls n found) before after) long
+      (called-more (writing_calls opened.place.number at (length bytes) result v file it.changed.left) (writing_attempt_calls (length bytes) found) before after (writing-few opened v file (length bytes) opened.place.number result it.changed.left) it.calls)
+
+  -- it is refused, and the volume is this
+  refused-on : (number : ℕ) (left : DiskVolume) → StandsFor mid after (with_drives (with_volume files drive left) drives) → IsRefused number m p mid.io end processes new → StandsFor (record mid { io = new }) after (with_io (with_drives (with_volume files drive left) drives) (with_call files.io p None))
+  refused-on number left stands it =
+      stands-with_io mid after (with_drives (with_volume files drive left) drives) (with_call files.io p None) new (ap (λ (io : Io). with_call io p None) stands.io ∙ sym it.io_is) stands
 
   -- the volume is left as it was
-  as_before : (left : DiskVolume) → left ≡ v → AreMounted new.disks after (slice_set files.volumes drive (Some left)) → AreMounted new.disks after files.volumes
-  as_before left same mounted =
-      subst (λ volumes. AreMounted new.disks after volumes) (ap (λ (w : DiskVolume). slice_set files.volumes drive (Some w)) same ∙ same-volume files drive v is) mounted
+  refused-as-before : (number : ℕ) (left : DiskVolume) → left ≡ v → StandsFor mid after (with_drives (with_volume files drive left) drives) → IsRefused number m p mid.io end processes new → StandsFor (record mid { io = new }) after (with_io (with_drives files drives) (with_call files.io p None))
+  refused-as-before number left same stands it =
+      subst (λ (f : Files). StandsFor (record mid { io = new }) after (with_io (with_drives f drives) (with_call f.io p None))) (ap (λ (w : DiskVolume). with_volume files drive w) same ∙ same-volume files drive v is) (refused-on number left stands it)
 
-  pub write-takes : (result : Result (Unit {0}) FileFault) → Left result → EndsWrite result (length bytes) regs opened m p old.io end processes new.io → Takes (write_file bytes regs asker files found) m files now p end processes new after terms
+  pub write-takes : (result : Result (Unit {0}) FileFault) → Changed result → EndsWrite result (length bytes) regs opened m p mid.io end processes new → Takes (write_file bytes regs asker files found) (writing_attempt_calls count found) m files now p end processes (record mid { io = new }) before after terms
   unfolding write_file
   write-takes (Ok done) it ends = record {
-    effect = with_drives_after (with_volume_after beside drive it.left) (drive_states after);
-    does = inl (record {
-      it = with_volume_after beside drive it.left;
-      does =
-          subst (λ (deed : Deed). DoesDeed deed asker files (with_volume_after beside drive it.left) terms terms) (sym (deed-goes files full E_FULL (changes change) it.answers.enough))
-          (inl (record { old = v; is = is; new = it.left; number = 0; makes = it.answers.makes; effect_is = refl }), refl);
-      drives = drive_states after;
-      none_failed = none-failed-of files.drives (most it.left) drive before after stands.drives it.moves;
-      effect_is = refl;
-    });
+    effect = with_drives_after (with_volume_after beside drive it.changed.left) drives;
+    does =
+        is-made step asker files change v it.changed.left file 0 drives terms (deed-goes files full E_FULL (changes change) it.changed.answers.enough) is it.changed.answers it.changed.moved;
     comes = (ends.end_is, ends.tied);
-    stands = record {
-      io = ap (λ (io : Io). with_call (moved_to io opened (at + length bytes)) p None) stands.io ∙ sym ends.io_is;
-      directories = stands.directories ∙ sym directories;
-      drives = refl;
-      mounted = it.mounted;
-    };
+    stands =
+        let moved : Io → Io = λ io. with_call (moved_to io opened (at + length bytes)) p None in
+        stands-with_io mid after (with_drives (with_volume files drive it.changed.left) drives) (moved files.io) new (ap moved it.changed.stands.io ∙ sym ends.io_is) it.changed.stands;
+    calls = few (Ok done) it;
   }
   write-takes (Err (Device number)) it ends = record {
-    effect = refuses_so number (with_drives (with_volume files drive it.left) (drive_states after));
-    does =
-        does-break asker files drive (behind full) (drive_states after) terms number v it.left
-        (one-failed-of files.drives number (most it.left) drive before after stands.drives it.moves) is (may full refl);
+    effect = refuses_so number (with_drives (with_volume files drive it.changed.left) drives);
+    does = breaks step asker files drive number v it.changed.left drives terms refl is (may full refl) it.changed.moved;
     comes = (ends.end_is, ends.tied);
-    stands = record {
-      io = ap (λ (io : Io). with_call io p None) stands.io ∙ sym ends.io_is;
-      directories = stands.directories ∙ sym directories;
-      drives = refl;
-      mounted = it.mounted;
-    };
+    stands = refused-on number it.changed.left it.changed.stands ends;
+    calls = few (Err (Device number)) it;
   }
     where
-      may : (test : Bool) → full ≡ test → MayBeLeft (deed_of (behind test) files) asker v it.left
-      may true e = it.answers.refused (ap (λ (t : Bool). not true || (t || false)) e)
-      may false e = it.answers.may_be
+      may : (test : Bool) → full ≡ test → MayBeLeft (deed_of (behind test) files) asker v it.changed.left
+      may true e = it.changed.answers.refused (ap (λ (t : Bool). not true || (t || false)) e)
+      may false e = it.changed.answers.may_be
   write-takes (Err NoCluster) it ends = record {
-    effect = with_drives_after (refuses_so E_FULL files) (drive_states after);
-    does =
-        does-well asker files drive (behind full) (drive_states after) terms (refuses_so E_FULL files)
-        (deed-refused files full E_FULL (comes (changes change)) it.answers.few)
-        (none-failed-of files.drives (most it.left) drive before after stands.drives it.moves);
+    effect = with_drives_after (refuses_so E_FULL files) drives;
+    does = goes-well step asker files (refuses_so E_FULL files) drives terms (deed-refused files full E_FULL (comes (changes change)) it.changed.answers.few) it.changed.moved;
     comes = (ends.end_is, ends.tied);
-    stands = record {
-      io = ap (λ (io : Io). with_call io p None) stands.io ∙ sym ends.io_is;
-      directories = stands.directories ∙ sym directories;
-      drives = refl;
-      mounted = as_before it.left it.answers.same it.mounted;
-    };
+    stands = refused-as-before E_FULL it.changed.left it.changed.answers.same it.changed.stands ends;
+    calls = few (Err NoCluster) it;
   }
   write-takes (Err TooManyRuns) it ends = record {
-    effect = with_drives_after (refuses_so E_SLF files) (drive_states after);
-    does = inl (record {
-      it = refuses_so E_SLF files;
-      does =
-          subst (λ (deed : Deed). DoesDeed deed asker files (refuses_so E_SLF files) terms terms) (sym (deed-goes files full E_FULL (changes change) it.answers.enough))
-          (inr (record { old = v; is = is; too_long = ⊎_elim (λ h. absurd (false≢true h)) (λ (h : MayBeTooLong (writes opened.place.number at bytes) v). h) it.answers.full; effect_is = refl }), refl);
-      drives = drive_states after;
-      none_failed = none-failed-of files.drives (most it.left) drive before after stands.drives it.moves;
-      effect_is = refl;
-    });
+    effect = with_drives_after (refuses_so E_SLF files) drives;
+    does =
+        is-too-long step asker files change v it.changed.left file drives terms (deed-goes files full E_FULL (changes change) it.changed.answers.enough) is refl it.changed.answers it.changed.moved;
     comes = (ends.end_is, ends.tied);
-    stands = record {
-      io = ap (λ (io : Io). with_call io p None) stands.io ∙ sym ends.io_is;
-      directories = stands.directories ∙ sym directories;
-      drives = refl;
-      mounted = as_before it.left it.answers.same it.mounted;
-    };
+    stands = refused-as-before E_SLF it.changed.left it.changed.answers.same it.changed.stands ends;
+    calls = few (Err TooManyRuns) it;
   }
 
 -- the same, where other registers are answered that are these
-pub takes-writes : (m : Inner) (files : Files) (now : TimePacket) (p : ℕ) (end : CallEnd) (processes : ProcState) (new : FileState) (views : List DriveView) (terms : List TerminalState) (bytes : List ℕ) (regs other : Regs) (found : rules.OpenFile) → regs ≡ other → Takes (write_file bytes regs (asker_of m p now) files found) m files now p end processes new views terms → Takes (writes_bytes files found bytes other) m files now p end processes new views terms
+pub takes-writes : (m : Inner) (files : Files) (now : TimePacket) (p : ℕ) (end : CallEnd) (processes : ProcState) {most : ℕ} (new : FileState) {before : List DriveView} (views : List DriveView) (terms : List TerminalState) (bytes : List ℕ) (regs other : Regs) (found : rules.OpenFile) → regs ≡ other → Takes (write_file bytes regs (asker_of m p now) files found) most m files now p end processes new before views terms → Takes (writes_bytes files found bytes other) most m files now p end processes new before views terms
 unfolding write_file
-takes-writes m files now p end processes new views terms bytes regs other found same takes =
-    subst (λ (r : Regs). Takes (writes_bytes files found bytes r) m files now p end processes new views terms) same takes
+takes-writes m files now p end processes {most} new {before} views terms bytes regs other found same takes =
+    subst (λ (r : Regs). Takes (writes_bytes files found bytes r) most m files now p end processes new before views terms) same takes
 
 -- the same, where the bytes are these too
-pub takes-write_file : (m : Inner) (files : Files) (now : TimePacket) (p : ℕ) (end : CallEnd) (processes : ProcState) (new : FileState) (views : List DriveView) (terms : List TerminalState) (bytes line : List ℕ) (regs other : Regs) (found : rules.OpenFile) → bytes ≡ line → regs ≡ other → Takes (write_file bytes regs (asker_of m p now) files found) m files now p end processes new views terms → Takes (write_file line other (asker_of m p now) files found) m files now p end processes new views terms
-takes-write_file m files now p end processes new views terms bytes line regs other found is same takes =
-    subst (λ (r : Regs). Takes (write_file line r (asker_of m p now) files found) m files now p end processes new views terms) same
-    (subst (λ (b : List ℕ). Takes (write_file b regs (asker_of m p now) files found) m files now p end processes new views terms) is takes)
+pub takes-write_file : (m : Inner) (files : Files) (now : TimePacket) (p : ℕ) (end : CallEnd) (processes : ProcState) {most : ℕ} (new : FileState) {before : List DriveView} (views : List DriveView) (terms : List TerminalState) (bytes line : List ℕ) (regs other : Regs) (found : rules.OpenFile) → bytes ≡ line → regs ≡ other → Takes (write_file bytes regs (asker_of m p now) files found) most m files now p end processes new before views terms → Takes (write_file line other (asker_of m p now) files found) most m files now p end processes new before views terms
+takes-write_file m files now p end processes {most} new {before} views terms bytes line regs other found is same takes =
+    subst (λ (r : Regs). Takes (write_file line r (asker_of m p now) files found) most m files now p end processes new before views terms) same
+    (subst (λ (b : List ℕ). Takes (write_file b regs (asker_of m p now) files found) most m files now p end processes new before views terms) is takes)

@@ -1,16 +1,17 @@
 -- A path on a file or a directory, as the kernel has found it.
-use Rattle.std.specs.Prelude.{◌≡◌, ℕ, true, Option, Some, IfSome, List}
+use Rattle.std.specs.Prelude.{◌≡◌, ℕ, true, Option, Some, List}
 use Rattle.rbf_model.specs.File.{DiskFile}
 use Rattle.rbf_model.specs.Volume.{DiskVolume}
 use Rattle.io_model.specs.Path.{desc_of, with_desc}
-use Rattle.io_rules.specs.Io.{Io, kept_at, with_paths}
+use Rattle.io_rules.specs.Io.{Io, with_paths}
 use Rattle.io_rules.specs.Modes.{can_write}
-use Rattle.io_state.specs.Sound.{IsNoRead}
+pub use Rattle.pipe_calls.specs.Leaving.{ReadsNoTerminal}
 use Rattle.rbf_access.specs.declared.volume.Volume.{Volume}
 use Rattle.file_drives.specs.Drives.{DriveView}
-use Rattle.file_drives.specs.Mounted.{HasDataFileAt}
+use Rattle.file_drives.specs.Mounted.{HasDataFileAt, HasFileAt}
 use Rattle.file_rules.specs.Files as rules
 use Rattle.file_laws.specs.Kinds.{AreKinds}
+use Rattle.file_state.specs.Attempt.{Standing}
 use Rattle.file_state.specs.Opened.{IsFileOf, path_of}
 use Rattle.file_state.specs.Tie.{StandsFor}
 use Rattle.file_state.specs.declared.state.FileState.{FileState}
@@ -19,6 +20,11 @@ use Rattle.file_state.specs.declared.state.OpenFile.{OpenFile}
 -- the descriptor is that of the system path
 abbrev pub IsPathOf : Io → OpenFile → Type 0
 IsPathOf io opened = desc_of io.paths opened.path.0 ≡ Some opened.desc
+
+-- and its file is there
+pub record IsOnFile (opened : OpenFile) (before : Standing) : Type 0 where
+  pub path : IsPathOf before.files.io opened
+  pub file : HasFileAt before.files.disks before.views opened.place
 
 -- a number of a process names the path, which is on the file at its place, whichever files the kernel's stand for
 pub record IsOpened (state : FileState) (p n : ℕ) (opened : OpenFile) : Type 0 where
@@ -35,10 +41,6 @@ found_on opened v file =
 abbrev pub moved_to : Io → OpenFile → ℕ → Io
 moved_to io opened at =
     with_paths io (with_desc io.paths opened.path.0 (Some (record opened.desc { at = at })))
-
--- no call of a process waits, or the one that does is no read of a terminal
-abbrev pub ReadsNoTerminal : Io → ℕ → Type 0
-ReadsNoTerminal io p = IfSome (kept_at io p) (IsNoRead io)
 
 -- where its mode may be written it is on a file that is no directory
 abbrev pub MayBeWritten : OpenFile → List (Option Volume) → List DriveView → Type 0

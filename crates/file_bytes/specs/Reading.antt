@@ -1,5 +1,6 @@
 -- Reads of a file, by what they take of the bytes that they may have.
-use Rattle.std.specs.Prelude.{◌≡◌, ℕ, is_none, List, length, take, Result, Ok, Err}
+use Rattle.std.specs.Prelude.{◌≡◌, ◌≢◌, ℕ, is_none, List, length, take, Result, Ok, Err}
+use Rattle.os9_base.specs.Cells.{Cells, FitsIn}
 use Rattle.os9_base.specs.declared.call.CallEnd.{CallEnd}
 use Rattle.os9_base.specs.declared.errors.TheConstants.{E_BPADDR}
 use Rattle.os9_base.specs.declared.registers.Regs.{Regs}
@@ -32,6 +33,11 @@ part_of WholeLine bytes = first_line bytes
 pub record IsLoaded (file : DiskFile) (at most : ℕ) (buffer : List ℕ) (count : ℕ) : Type 0 where
   pub count_is : count ≡ length (bytes_from file.contents at most)
   pub bytes_are : take count buffer ≡ bytes_from file.contents at most
+
+-- a buffer for some bytes, at X and of Y bytes, is there
+pub record IsBuffer (cells : Cells) (regs : Regs) : Type 0 where
+  pub named : FitsIn cells regs.x regs.y
+  pub some : regs.y ≢ 0
 
 -- an attempt that has a byte to move, on a path that may be read
 unfoldable pub read_file : ReadKind → Asker → Files → rules.OpenFile → FileStep

@@ -14,24 +14,30 @@ use Rattle.file_rules.specs.Attempts.{asker_of, files_after, io_effect}
 use Rattle.file_rules.specs.Files as rules
 use Rattle.file_rules.specs.Files.{Asker, Files, volume_at}
 use Rattle.file_rules.specs.Step.{FileDoes, FileEffect, FileStep}
+use Rattle.file_state.specs.Attempt.{Standing}
+use Rattle.file_state.specs.Counted.{CalledAtMost, calls_of}
 use Rattle.file_state.specs.Tie.{StandsFor}
 use Rattle.file_state.specs.declared.state.FileState.{FileState}
 use Rattle.file_state.specs.declared.state.OpenFile.{OpenFile}
 use Rattle.file_bytes.specs.Opened.{found_on}
 
--- an attempt of a process does this: how it ends, and the processes and the files then
-pub record Takes (step : FileStep) (m : Inner) (files : Files) (now : TimePacket) (p : ℕ) (end : CallEnd)
-    (processes : ProcState) (new : FileState) (views : List DriveView) (terms : List TerminalState) : Type 0 where
-  pub effect : FileEffect
-  pub does : FileDoes step (asker_of m p now) files effect terms terms
-  pub comes : Comes m p (result_of m p (io_effect effect)) end processes
-  pub stands : StandsFor new views (files_after p effect)
+-- an attempt of a process does this, with at most so many calls of the drives: how it ends, and the processes and the
+-- files then
+pub record Takes (step : FileStep) (most : ℕ) (m : Inner) (files : Files) (now : TimePacket) (p : ℕ) (end : CallEnd)
+    (processes : ProcState) (new : FileState) (before after : List DriveView) (terms : List TerminalState) : Type 0
+  where
+    pub effect : FileEffect
+    pub does : FileDoes step (asker_of m p now) files effect terms terms
+    pub comes : Comes m p (result_of m p (io_effect effect)) end processes
+    pub stands : StandsFor new after (files_after p effect)
+    pub calls : CalledAtMost (calls_of step most) before after
 
--- an attempt on the file of a path does this, whatever state these processes and files stand for
-abbrev pub Tries : (Asker → Files → rules.OpenFile → FileStep) → OpenFile → TimePacket → ℕ → ProcState → FileState
-    → List DriveView → CallEnd → ProcState → FileState → List DriveView → Type 0
-Tries step opened now p processes old before end after new views =
+-- an attempt on the file of a path does this, whatever state the kernel's stands for
+abbrev pub Tries : (Asker → Files → rules.OpenFile → FileStep) → (Asker → rules.OpenFile → ℕ) → OpenFile → TimePacket
+    → ℕ → CallEnd → Standing → Standing → Type 0
+Tries step most opened now p end before after =
     (m : Inner) (files : Files) (v : DiskVolume) (file : DiskFile) (terms : List TerminalState)
-    → Represents processes m → StandsFor old before files → volume_at files opened.place.drive ≡ Some v
-    → v.files opened.place.number ≡ Some file
-    → Takes (step (asker_of m p now) files (found_on opened v file)) m files now p end after new views terms
+    → Represents before.processes m → StandsFor before.files before.views files
+    → volume_at files opened.place.drive ≡ Some v → v.files opened.place.number ≡ Some file
+    → Takes (step (asker_of m p now) files (found_on opened v file)) (most (asker_of m p now) (found_on opened v file))
+    m files now p end after.processes after.files before.views after.views terms

@@ -23,8 +23,8 @@ use os9_outer::drive::BlockDriver;
 use proc_state::state::ProcState;
 use rbf_access::FileFault;
 
-/// Reads bytes of a file, from `at` on and at most so many, into the front of the buffer, and answers
-/// how many they are: 0 at or past the end of the file.
+/// Reads bytes of a file, from `at` on and at most so many, into the front of the buffer, and
+/// answers how many they are: 0 at or past the end of the file.
 ///
 /// # Errors
 ///
@@ -110,8 +110,8 @@ fn place_of_return(bytes: &[u8]) -> Option<usize>
     bytes.iter().position(|byte| *byte == RETURN)
 }
 
-/// Stores so many bytes from the front of the buffer in the memory of a process, from an address on,
-/// where they fit.
+/// Stores so many bytes from the front of the buffer in the memory of a process, from an address
+/// on, where they fit.
 pub(crate) fn store_front(s: &mut ProcState, p: Pid, at: u16, count: u16)
     requires process { p.0 < 33 }
     requires fits { FitsIn (cells_of s.old.memory p.0) at count }

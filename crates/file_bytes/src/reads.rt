@@ -1,18 +1,17 @@
 //! I$Read and I$ReadLn (System Programmer's Manual, I$Read and I$ReadLn).
 
-ghost use Rattle.std.specs.Prelude.{◌≡◌, ◌≢◌, ℕ, ◌+◌, ◌<◌, ◌≤◌, ◌^◌, IfOk, List, take};
+ghost use Rattle.std.specs.Prelude.{◌≡◌, ℕ, ◌+◌, ◌<◌, ◌≤◌, ◌^◌, IfOk, List, take};
 ghost use Rattle.call_rules.specs.Inner.{Inner};
+ghost use Rattle.file_bytes.specs.Calls.{i_read_calls, reading_attempt_calls};
 ghost use Rattle.file_bytes.specs.Ending.{EndsFound};
-ghost use Rattle.file_bytes.specs.Opened.{IsOpened, IsPathOf, ReadsNoTerminal};
-ghost use Rattle.file_bytes.specs.Reading.{EndsRead, part_of, read_file as read_file_lem, read_named as read_named_lem, read_opened as read_opened_lem};
+ghost use Rattle.file_bytes.specs.Opened.{IsOnFile, IsOpened, IsPathOf, ReadsNoTerminal};
+ghost use Rattle.file_bytes.specs.Reading.{EndsRead, IsBuffer, part_of, read_file as read_file_lem, read_named as read_named_lem, read_opened as read_opened_lem};
 ghost use Rattle.file_bytes.specs.Trying.{Tries};
 ghost use Rattle.file_drives.specs.Drives.{drive_views};
-ghost use Rattle.file_drives.specs.Mounted.{HasFileAt};
-ghost use Rattle.file_rules.specs.Files.{Files};
 ghost use Rattle.file_rules.specs.declared.path_call.PathCall.TheVariants as Call;
-ghost use Rattle.file_state.specs.Attempt.{Attempts};
-ghost use Rattle.file_laws.specs.Kinds.{AreKinds};
-ghost use Rattle.file_state.specs.Tie.{IsSound, StandsFor};
+ghost use Rattle.file_state.specs.Attempt.{standing};
+ghost use Rattle.file_state.specs.Counted.{AttemptsWithin};
+ghost use Rattle.file_state.specs.Tie.{IsSound};
 ghost use Rattle.guest_memory.specs.Tie.{cells_of};
 ghost use Rattle.os9_base.specs.Cells.{FitsIn};
 ghost use Rattle.os9_base.specs.declared.registers.TimePacket.{TimePacket};
@@ -34,15 +33,16 @@ use os9_outer::drive::BlockDriver;
 use proc_state::state::ProcState;
 use rbf_access::FileFault;
 
-/// I$Read of a file or a directory on a path that the number in A names (System Programmer's Manual,
-/// I$Read). Takes the address of the buffer in X and its most bytes in Y; answers the count in Y.
-/// The position moves past what was read.
+/// I$Read of a file or a directory on a path that the number in A names (System Programmer's
+/// Manual, I$Read). Takes the address of the buffer in X and its most bytes in Y; answers the count
+/// in Y. The position moves past what was read.
 ///
 /// # Errors
 ///
-/// E$BPAddr exactly if a byte of the buffer is in no named slot or past `FFFF`, else E$BMode exactly
-/// if the path may not be read. A read of no byte is done then. Else the number of the fault, if the
-/// drive fails, or E$EOF exactly if the position is at or past the end. Nothing is stored then.
+/// E$BPAddr exactly if a byte of the buffer is in no named slot or past `FFFF`, else E$BMode
+/// exactly if the path may not be read. A read of no byte is done then. Else the number of the
+/// fault, if the drive fails, or E$EOF exactly if the position is at or past the end. Nothing is
+/// stored then.
 pub fn read(
     s: &mut ProcState,
     files: &mut FileState,
@@ -55,12 +55,10 @@ pub fn read(
     requires sound { IsSound files.old
         (drive_views ⟦<dyn BlockDriver as BlockDriver>⟧ devices.old.drives.items) }
     requires opened { IsOpened files.old p.0 (record_at s.old.table p.0).regs.a opened.now }
-    ensures call { (m : Inner) (was : Files) (now : TimePacket) (terms : List TerminalState)
-        → Represents s.old m
-        → StandsFor files.old
-        (drive_views ⟦<dyn BlockDriver as BlockDriver>⟧ devices.old.drives.items) was
-        → AreKinds was → Attempts Call.Read m was now p.0 result s.new files.new
-        (drive_views ⟦<dyn BlockDriver as BlockDriver>⟧ devices.new.drives.items) terms terms }
+    ensures call { (now : TimePacket) (terms : List TerminalState)
+        → AttemptsWithin i_read_calls Call.Read now p.0 result terms terms
+        (standing ⟦<dyn BlockDriver as BlockDriver>⟧ s.old files.old devices.old.drives.items)
+        (standing ⟦<dyn BlockDriver as BlockDriver>⟧ s.new files.new devices.new.drives.items) }
     ensures lives { IsLiving s.new.table p.0 }
     ensures terms_kept { devices.new.terms ≡ devices.old.terms }
 {
@@ -86,12 +84,10 @@ pub fn read_line(
     requires sound { IsSound files.old
         (drive_views ⟦<dyn BlockDriver as BlockDriver>⟧ devices.old.drives.items) }
     requires opened { IsOpened files.old p.0 (record_at s.old.table p.0).regs.a opened.now }
-    ensures call { (m : Inner) (was : Files) (now : TimePacket) (terms : List TerminalState)
-        → Represents s.old m
-        → StandsFor files.old
-        (drive_views ⟦<dyn BlockDriver as BlockDriver>⟧ devices.old.drives.items) was
-        → AreKinds was → Attempts Call.ReadLn m was now p.0 result s.new files.new
-        (drive_views ⟦<dyn BlockDriver as BlockDriver>⟧ devices.new.drives.items) terms terms }
+    ensures call { (now : TimePacket) (terms : List TerminalState)
+        → AttemptsWithin i_read_calls Call.ReadLn now p.0 result terms terms
+        (standing ⟦<dyn BlockDriver as BlockDriver>⟧ s.old files.old devices.old.drives.items)
+        (standing ⟦<dyn BlockDriver as BlockDriver>⟧ s.new files.new devices.new.drives.items) }
     ensures lives { IsLiving s.new.table p.0 }
     ensures terms_kept { devices.new.terms ≡ devices.old.terms }
 {
@@ -112,13 +108,12 @@ fn read_opened(
     requires lives { IsLiving s.old.table p.0 }
     requires no_read { ReadsNoTerminal files.old.io p.0 }
     requires regs { regs ≡ (record_at s.old.table p.0).regs }
-    requires path { IsPathOf files.old.io opened.now }
-    requires file { HasFileAt files.old.disks
-        (drive_views ⟦<dyn BlockDriver as BlockDriver>⟧ devices.old.drives.items)
-        opened.now.place }
-    ensures call { (now : TimePacket) → Tries (read_opened_lem kind) opened.now now p.0 s.old files.old
-        (drive_views ⟦<dyn BlockDriver as BlockDriver>⟧ devices.old.drives.items) result s.new
-        files.new (drive_views ⟦<dyn BlockDriver as BlockDriver>⟧ devices.new.drives.items) }
+    requires opened { IsOnFile opened.now
+        (standing ⟦<dyn BlockDriver as BlockDriver>⟧ s.old files.old devices.old.drives.items) }
+    ensures call { (now : TimePacket) → Tries (read_opened_lem kind) reading_attempt_calls
+        opened.now now p.0 result
+        (standing ⟦<dyn BlockDriver as BlockDriver>⟧ s.old files.old devices.old.drives.items)
+        (standing ⟦<dyn BlockDriver as BlockDriver>⟧ s.new files.new devices.new.drives.items) }
     ensures lives { IsLiving s.new.table p.0 }
     ensures terms_kept { devices.new.terms ≡ devices.old.terms }
 {
@@ -141,14 +136,13 @@ fn read_named(
     requires lives { IsLiving s.old.table p.0 }
     requires no_read { ReadsNoTerminal files.old.io p.0 }
     requires regs { regs ≡ (record_at s.old.table p.0).regs }
-    requires path { IsPathOf files.old.io opened.now }
-    requires file { HasFileAt files.old.disks
-        (drive_views ⟦<dyn BlockDriver as BlockDriver>⟧ devices.old.drives.items)
-        opened.now.place }
+    requires opened { IsOnFile opened.now
+        (standing ⟦<dyn BlockDriver as BlockDriver>⟧ s.old files.old devices.old.drives.items) }
     requires named { FitsIn (cells_of s.old.memory p.0) regs.x regs.y }
-    ensures call { (now : TimePacket) → Tries (read_named_lem kind) opened.now now p.0 s.old files.old
-        (drive_views ⟦<dyn BlockDriver as BlockDriver>⟧ devices.old.drives.items) result s.new
-        files.new (drive_views ⟦<dyn BlockDriver as BlockDriver>⟧ devices.new.drives.items) }
+    ensures call { (now : TimePacket) → Tries (read_named_lem kind) reading_attempt_calls opened.now
+        now p.0 result
+        (standing ⟦<dyn BlockDriver as BlockDriver>⟧ s.old files.old devices.old.drives.items)
+        (standing ⟦<dyn BlockDriver as BlockDriver>⟧ s.new files.new devices.new.drives.items) }
     ensures lives { IsLiving s.new.table p.0 }
     ensures terms_kept { devices.new.terms ≡ devices.old.terms }
 {
@@ -174,15 +168,13 @@ fn read_file(
     requires lives { IsLiving s.old.table p.0 }
     requires no_read { ReadsNoTerminal files.old.io p.0 }
     requires regs { regs ≡ (record_at s.old.table p.0).regs }
-    requires path { IsPathOf files.old.io opened.now }
-    requires file { HasFileAt files.old.disks
-        (drive_views ⟦<dyn BlockDriver as BlockDriver>⟧ devices.old.drives.items)
-        opened.now.place }
-    requires named { FitsIn (cells_of s.old.memory p.0) regs.x regs.y }
-    requires some { regs.y ≢ 0 }
-    ensures call { (now : TimePacket) → Tries (read_file_lem kind) opened.now now p.0 s.old files.old
-        (drive_views ⟦<dyn BlockDriver as BlockDriver>⟧ devices.old.drives.items) result s.new
-        files.new (drive_views ⟦<dyn BlockDriver as BlockDriver>⟧ devices.new.drives.items) }
+    requires opened { IsOnFile opened.now
+        (standing ⟦<dyn BlockDriver as BlockDriver>⟧ s.old files.old devices.old.drives.items) }
+    requires buffer { IsBuffer (cells_of s.old.memory p.0) regs }
+    ensures call { (now : TimePacket) → Tries (read_file_lem kind) reading_attempt_calls opened.now
+        now p.0 result
+        (standing ⟦<dyn BlockDriver as BlockDriver>⟧ s.old files.old devices.old.drives.items)
+        (standing ⟦<dyn BlockDriver as BlockDriver>⟧ s.new files.new devices.new.drives.items) }
     ensures lives { IsLiving s.new.table p.0 }
     ensures terms_kept { devices.new.terms ≡ devices.old.terms }
 {

@@ -3,17 +3,14 @@
 ghost use Rattle.std.specs.Prelude.{◌≡◌, ℕ, List};
 ghost use Rattle.call_rules.specs.Inner.{Inner};
 ghost use Rattle.file_bytes.specs.Opened.{IsOpened, ReadsNoTerminal};
-ghost use Rattle.file_bytes.specs.Quiet.{Ends};
 ghost use Rattle.file_drives.specs.Drives.{DriveView};
-ghost use Rattle.file_rules.specs.Files.{Files};
 ghost use Rattle.file_rules.specs.Seek.{long_of as long_of_lem, seeks_nothing};
 ghost use Rattle.file_rules.specs.declared.path_call.PathCall.TheVariants as Call;
-ghost use Rattle.file_state.specs.Attempt.{Attempts};
-ghost use Rattle.file_laws.specs.Kinds.{AreKinds};
-ghost use Rattle.file_state.specs.Tie.{StandsFor};
+ghost use Rattle.file_state.specs.Attempt.{AttemptsFrom};
 ghost use Rattle.io_rules.specs.Attempts.{caller_of};
 ghost use Rattle.os9_base.specs.declared.registers.TimePacket.{TimePacket};
 ghost use Rattle.os9_outer.specs.TerminalState.{TerminalState};
+ghost use Rattle.path_calls.specs.Quiet.{Ends};
 ghost use Rattle.proc_rules.specs.Records.{IsLiving, record_at};
 ghost use Rattle.proc_state.specs.Tie.{Represents};
 
@@ -32,9 +29,10 @@ pub fn seek(s: &mut ProcState, files: &mut FileState, p: Pid, opened: &OpenFile)
     requires lives { IsLiving s.old.table p.0 }
     requires no_read { ReadsNoTerminal files.old.io p.0 }
     requires opened { IsOpened files.old p.0 (record_at s.old.table p.0).regs.a opened.now }
-    ensures call { (m : Inner) (was : Files) (now : TimePacket) (views : List DriveView)
-        (terms : List TerminalState) → Represents s.old m → StandsFor files.old views was
-        → AreKinds was → Attempts Call.Seek m was now p.0 result s.new files.new views terms terms }
+    ensures call { (now : TimePacket) (views : List DriveView) (terms : List TerminalState)
+        → AttemptsFrom Call.Seek now p.0 result terms terms
+        (record { processes = s.old; files = files.old; views = views })
+        (record { processes = s.new; files = files.new; views = views }) }
     ensures lives { IsLiving s.new.table p.0 }
 {
     let regs = s.table.regs(p);

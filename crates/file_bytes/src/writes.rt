@@ -2,17 +2,17 @@
 
 ghost use Rattle.std.specs.Prelude.{◌≡◌, ℕ, ◌+◌, ◌<◌, ◌≤◌, ◌^◌, IsOk, List, length, take};
 ghost use Rattle.call_rules.specs.Inner.{Inner};
+ghost use Rattle.file_bytes.specs.Calls.{f_perr_calls, i_writln_calls, i_write_calls, writing_attempt_calls};
 ghost use Rattle.file_bytes.specs.Ending.{EndsWrite};
 ghost use Rattle.file_bytes.specs.Opened.{IsOpened, IsPathOf, MayBeWritten, ReadsNoTerminal};
 ghost use Rattle.file_bytes.specs.Trying.{Tries};
 ghost use Rattle.file_bytes.specs.Writing.{write_file as write_file_lem, write_opened as write_opened_lem};
 ghost use Rattle.file_drives.specs.Drives.{drive_views};
 ghost use Rattle.file_drives.specs.Mounted.{HasDataFileAt};
-ghost use Rattle.file_rules.specs.Files.{Files};
 ghost use Rattle.file_rules.specs.declared.path_call.PathCall.TheVariants as Call;
-ghost use Rattle.file_state.specs.Attempt.{Attempts};
-ghost use Rattle.file_laws.specs.Kinds.{AreKinds};
-ghost use Rattle.file_state.specs.Tie.{IsSound, StandsFor};
+ghost use Rattle.file_state.specs.Attempt.{standing};
+ghost use Rattle.file_state.specs.Counted.{AttemptsWithin};
+ghost use Rattle.file_state.specs.Tie.{IsSound};
 ghost use Rattle.io_rules.specs.Modes.{can_write as can_write_lem};
 ghost use Rattle.io_rules.specs.Write.{error_line as error_line_lem};
 ghost use Rattle.io_rules.specs.declared.modes.TheConstants.{STANDARD_ERROR};
@@ -35,9 +35,10 @@ use rbf_access::FileFault;
 /// How many bytes the line of an error has.
 const ERROR_LINE_BYTES: u16 = 11;
 
-/// I$Write to a file on a path that the number in A names, at this time (System Programmer's Manual,
-/// I$Write). Takes the address of the bytes in X and their count in Y; answers the count in Y. The
-/// position moves past what was written; between the old end and a write behind it are zeros.
+/// I$Write to a file on a path that the number in A names, at this time (System Programmer's
+/// Manual, I$Write). Takes the address of the bytes in X and their count in Y; answers the count in
+/// Y. The position moves past what was written; between the old end and a write behind it are
+/// zeros.
 ///
 /// # Errors
 ///
@@ -58,11 +59,10 @@ pub fn write(
     requires sound { IsSound files.old
         (drive_views ⟦<dyn BlockDriver as BlockDriver>⟧ devices.old.drives.items) }
     requires opened { IsOpened files.old p.0 (record_at s.old.table p.0).regs.a opened.now }
-    ensures call { (m : Inner) (was : Files) (terms : List TerminalState) → Represents s.old m
-        → StandsFor files.old
-        (drive_views ⟦<dyn BlockDriver as BlockDriver>⟧ devices.old.drives.items) was
-        → AreKinds was → Attempts Call.Write m was now p.0 result s.new files.new
-        (drive_views ⟦<dyn BlockDriver as BlockDriver>⟧ devices.new.drives.items) terms terms }
+    ensures call { (terms : List TerminalState)
+        → AttemptsWithin i_write_calls Call.Write now p.0 result terms terms
+        (standing ⟦<dyn BlockDriver as BlockDriver>⟧ s.old files.old devices.old.drives.items)
+        (standing ⟦<dyn BlockDriver as BlockDriver>⟧ s.new files.new devices.new.drives.items) }
     ensures lives { IsLiving s.new.table p.0 }
     ensures terms_kept { devices.new.terms ≡ devices.old.terms }
 {
@@ -73,8 +73,8 @@ pub fn write(
     send(s, files, devices, p, regs, opened, regs.y, now)
 }
 
-/// I$WritLn to a file on a path that the number in A names, at this time (System Programmer's Manual,
-/// I$WritLn): as [`write`], up to and with the first carriage return, but at most Y bytes.
+/// I$WritLn to a file on a path that the number in A names, at this time (System Programmer's
+/// Manual, I$WritLn): as [`write`], up to and with the first carriage return, but at most Y bytes.
 ///
 /// # Errors
 ///
@@ -92,11 +92,10 @@ pub fn write_line(
     requires sound { IsSound files.old
         (drive_views ⟦<dyn BlockDriver as BlockDriver>⟧ devices.old.drives.items) }
     requires opened { IsOpened files.old p.0 (record_at s.old.table p.0).regs.a opened.now }
-    ensures call { (m : Inner) (was : Files) (terms : List TerminalState) → Represents s.old m
-        → StandsFor files.old
-        (drive_views ⟦<dyn BlockDriver as BlockDriver>⟧ devices.old.drives.items) was
-        → AreKinds was → Attempts Call.WritLn m was now p.0 result s.new files.new
-        (drive_views ⟦<dyn BlockDriver as BlockDriver>⟧ devices.new.drives.items) terms terms }
+    ensures call { (terms : List TerminalState)
+        → AttemptsWithin i_writln_calls Call.WritLn now p.0 result terms terms
+        (standing ⟦<dyn BlockDriver as BlockDriver>⟧ s.old files.old devices.old.drives.items)
+        (standing ⟦<dyn BlockDriver as BlockDriver>⟧ s.new files.new devices.new.drives.items) }
     ensures lives { IsLiving s.new.table p.0 }
     ensures terms_kept { devices.new.terms ≡ devices.old.terms }
 {
@@ -126,11 +125,10 @@ pub fn write_error(
     requires sound { IsSound files.old
         (drive_views ⟦<dyn BlockDriver as BlockDriver>⟧ devices.old.drives.items) }
     requires opened { IsOpened files.old p.0 STANDARD_ERROR opened.now }
-    ensures call { (m : Inner) (was : Files) (terms : List TerminalState) → Represents s.old m
-        → StandsFor files.old
-        (drive_views ⟦<dyn BlockDriver as BlockDriver>⟧ devices.old.drives.items) was
-        → AreKinds was → Attempts Call.PErr m was now p.0 result s.new files.new
-        (drive_views ⟦<dyn BlockDriver as BlockDriver>⟧ devices.new.drives.items) terms terms }
+    ensures call { (terms : List TerminalState)
+        → AttemptsWithin f_perr_calls Call.PErr now p.0 result terms terms
+        (standing ⟦<dyn BlockDriver as BlockDriver>⟧ s.old files.old devices.old.drives.items)
+        (standing ⟦<dyn BlockDriver as BlockDriver>⟧ s.new files.new devices.new.drives.items) }
     ensures lives { IsLiving s.new.table p.0 }
     ensures terms_kept { devices.new.terms ≡ devices.old.terms }
 {
@@ -159,9 +157,10 @@ fn send(
     requires path { IsPathOf files.old.io opened.now }
     requires file { MayBeWritten opened.now files.old.disks
         (drive_views ⟦<dyn BlockDriver as BlockDriver>⟧ devices.old.drives.items) }
-    ensures call { Tries (write_opened_lem (take count s.old.buffer.items)) opened.now now p.0 s.old
-        files.old (drive_views ⟦<dyn BlockDriver as BlockDriver>⟧ devices.old.drives.items) result
-        s.new files.new (drive_views ⟦<dyn BlockDriver as BlockDriver>⟧ devices.new.drives.items) }
+    ensures call { Tries (write_opened_lem (take count s.old.buffer.items))
+        (λ asker. writing_attempt_calls count) opened.now now p.0 result
+        (standing ⟦<dyn BlockDriver as BlockDriver>⟧ s.old files.old devices.old.drives.items)
+        (standing ⟦<dyn BlockDriver as BlockDriver>⟧ s.new files.new devices.new.drives.items) }
     ensures lives { IsLiving s.new.table p.0 }
     ensures terms_kept { devices.new.terms ≡ devices.old.terms }
 {
@@ -193,10 +192,10 @@ fn write_file(
     requires file { HasDataFileAt files.old.disks
         (drive_views ⟦<dyn BlockDriver as BlockDriver>⟧ devices.old.drives.items)
         opened.now.place }
-    ensures call { Tries (write_file_lem (take count s.old.buffer.items) regs) opened.now now p.0
-        s.old files.old (drive_views ⟦<dyn BlockDriver as BlockDriver>⟧ devices.old.drives.items)
-        result s.new files.new
-        (drive_views ⟦<dyn BlockDriver as BlockDriver>⟧ devices.new.drives.items) }
+    ensures call { Tries (write_file_lem (take count s.old.buffer.items) regs)
+        (λ asker. writing_attempt_calls count) opened.now now p.0 result
+        (standing ⟦<dyn BlockDriver as BlockDriver>⟧ s.old files.old devices.old.drives.items)
+        (standing ⟦<dyn BlockDriver as BlockDriver>⟧ s.new files.new devices.new.drives.items) }
     ensures lives { IsLiving s.new.table p.0 }
     ensures terms_kept { devices.new.terms ≡ devices.old.terms }
 {

@@ -1,16 +1,20 @@
 -- What an attempt of a call on paths, files and directories comes to, of the kernel's processes and its files.
 use Rattle.std.specs.Prelude.{ℕ, List}
+use Rattle.std.specs.declared.alloc.Global.{Global}
+use Rattle.std.specs.declared.dyn_box.DynBox.{DynBox}
 use Rattle.os9_base.specs.declared.call.CallEnd.{CallEnd}
 use Rattle.os9_base.specs.declared.registers.TimePacket.{TimePacket}
 use Rattle.os9_outer.specs.TerminalState.{TerminalState}
+use Rattle.os9_outer.specs.declared.drive.BlockDriver.{Ghosts}
 use Rattle.call_rules.specs.CallResult.{CallResult}
 use Rattle.call_rules.specs.Inner.{Inner}
-use Rattle.proc_state.specs.Tie.{Comes}
+use Rattle.proc_state.specs.Tie.{Comes, Represents}
 use Rattle.proc_state.specs.declared.state.ProcState.{ProcState}
 use Rattle.file_rules.specs.Attempts.{FileAttempts}
 use Rattle.file_rules.specs.Files.{Files}
 use Rattle.file_rules.specs.declared.path_call.PathCall.{PathCall}
-use Rattle.file_drives.specs.Drives.{DriveView}
+use Rattle.file_drives.specs.Drives.{DriveView, drive_views}
+use Rattle.file_laws.specs.Kinds.{AreKinds}
 use Rattle.file_state.specs.Tie.{StandsFor}
 use Rattle.file_state.specs.declared.state.FileState.{FileState}
 
@@ -24,3 +28,30 @@ pub record Attempts (call : PathCall) (m : Inner) (files : Files) (now : TimePac
   pub attempt : FileAttempts call m files now p result left before after
   pub comes : Comes m p result end processes
   pub stands : StandsFor new views left
+
+-- ---- from any state that the kernel's stands for
+
+-- the kernel's processes, its files, and the drives
+pub record Standing : Type 0 where
+  pub processes : ProcState
+  pub files : FileState
+  pub views : List DriveView
+
+-- with these drives, as `standing ⟦<dyn BlockDriver as BlockDriver>⟧ s.old files.old devices.old.drives.items`
+abbrev pub standing : {Table : Type 0} {Driver : Table → Type 0} → ((table : Table) → Ghosts (Driver table)) → ProcState
+    → FileState → List (DynBox Table Global Driver) → Standing
+standing members processes files drives =
+    record { processes = processes; files = files; views = drive_views members drives }
+
+-- what holds of each state of the machine that it stands for, with paths and directories on what is there
+abbrev pub OnEach : Standing → (Inner → Files → Type 0) → Type 0
+OnEach before fact =
+    (m : Inner) (was : Files) → Represents before.processes m → StandsFor before.files before.views was → AreKinds was
+    → fact m was
+
+-- an attempt of a call by a process, at a time, from each of them
+abbrev pub AttemptsFrom : PathCall → TimePacket → ℕ → CallEnd → List TerminalState → List TerminalState → Standing
+    → Standing → Type 0
+AttemptsFrom call now p end terms terms_after before after =
+    OnEach before
+    (λ m was. Attempts call m was now p end after.processes after.files after.views terms terms_after)

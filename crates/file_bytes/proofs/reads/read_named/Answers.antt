@@ -1,4 +1,4 @@
-use Rattle.std.proofs.Common.{◌≡◌, ◌==◌, ◌∙◌, Bool, not, sym, ap, refl, subst, eq-eqb}
+use Rattle.std.proofs.Common.{◌≡◌, ◌==◌, ◌∙◌, Bool, not, sym, ap, subst, eq-eqb}
 use Rattle.std.proofs.lemmas.Bool.{ne_eqb}
 use Rattle.os9_base.specs.declared.errors.TheConstants.{E_BMODE}
 use Rattle.os9_base.specs.declared.registers.Regs.{Regs}
@@ -20,7 +20,7 @@ returns-then-not-can_read-clause-call g c now m was v file terms tied stands is 
     let p = c.args.p.0 in
     let new : FileState = record c.args.files.now { io = c.refuse.new.io } in
     takes-refuses-true m was now p c.refuse.result c.args.s.now new _ terms (not (can_read c.args.opened.now.desc.mode)) E_BMODE _ (ap (λ (b : Bool). not b) (sym c.can_read.ensures ∙ c.if-not-can_read.true))
-    (takes-refused m was now p c.refuse.result c.args.s.now c.args.files.now new _ terms stands refl refl E_BMODE (record { end_is = c.refuse.ensures.end; tied = tied; io_is = c.refuse.ensures.io }))
+    (takes-refused m was now p c.refuse.result c.args.s.now c.args.files.now new.io _ terms stands E_BMODE (record { end_is = c.refuse.ensures.end; tied = tied; io_is = c.refuse.ensures.io }))
 
 pub returns-then-regs-eq0-clause-call : goal.returns-then-regs-eq0-clause-call
 unfolding read_named
@@ -33,7 +33,7 @@ returns-then-regs-eq0-clause-call g c now m was v file terms tied stands is ther
     let new : FileState = record c.args.files.now { io = c.answer.new.io } in
     takes-refuses-false m was now p c.answer.result c.answer.new.s new _ terms (not (can_read c.args.opened.now.desc.mode)) E_BMODE _ (ap (λ (b : Bool). not b) (sym c.can_read.ensures ∙ c.if-not-can_read.false))
     (takes-if-true m was now p c.answer.result c.answer.new.s new _ terms ((regs_at m p).y == 0) (done (regs_at m p) was) (read_file c.args.kind asker was found) (eq-eqb (regs_at m p).y 0 none)
-    (takes-done m was now p c.answer.result c.answer.new.s c.args.files.now new _ terms stands refl refl (λ (io : Io). io) (regs_at m p) (record { end_is = c.answer.ensures.end; tied = subst (λ (r : Regs). Represents c.answer.new.s (with_regs_of m p r)) same (c.answer.ensures.tied m tied); io_is = c.answer.ensures.io })))
+    (takes-done m was now p c.answer.result c.answer.new.s c.args.files.now new.io _ terms stands (λ (io : Io). io) (regs_at m p) (record { end_is = c.answer.ensures.end; tied = subst (λ (r : Regs). Represents c.answer.new.s (with_regs_of m p r)) same (c.answer.ensures.tied m tied); io_is = c.answer.ensures.io })))
 
 pub returns-clause-call : goal.returns-clause-call
 unfolding read_named
@@ -46,3 +46,6 @@ returns-clause-call g c now m was v file terms tied stands is there =
     takes-refuses-false m was now p c.read_file.result c.read_file.new.s c.read_file.new.files _ terms (not (can_read c.args.opened.now.desc.mode)) E_BMODE _ (ap (λ (b : Bool). not b) (sym c.can_read.ensures ∙ c.if-not-can_read.false))
     (takes-if-false m was now p c.read_file.result c.read_file.new.s c.read_file.new.files _ terms ((regs_at m p).y == 0) (done (regs_at m p) was) (read_file c.args.kind asker was found) (ne_eqb (regs_at m p).y 0 some)
     (c.read_file.ensures.call now m was v file terms tied stands is there))
+
+pub read_file-requires-clause-buffer : goal.read_file-requires-clause-buffer
+read_file-requires-clause-buffer g c = record { named = c.requires.named; some = c.if-regs-eq0.false }

@@ -1,4 +1,4 @@
-use Rattle.std.proofs.Common.{◌≡◌, ◌∙◌, is_none, is_some, refl, subst}
+use Rattle.std.proofs.Common.{◌≡◌, ◌∙◌, is_none, is_some, subst}
 use Rattle.os9_base.specs.declared.errors.TheConstants.{E_BPADDR}
 use Rattle.os9_base.specs.declared.registers.Regs.{Regs}
 use Rattle.call_rules.specs.Inner.{cells_at, regs_at}
@@ -18,7 +18,7 @@ returns-then-not-is_named-clause-call g c now m was v file terms tied stands is 
     let named : c.is_named.result ≡ is_some (user_bytes (cells_at m p) (regs_at m p).x (regs_at m p).y) = subst (λ (r : Regs). c.is_named.result ≡ is_some (user_bytes (cells_at m p) r.x r.y)) same (c.is_named.ensures.there m tied) in
     let new : FileState = record c.args.files.now { io = c.refuse.new.io } in
     takes-refuses-true m was now p c.refuse.result c.args.s.now new _ terms (is_none (user_bytes (cells_at m p) (regs_at m p).x (regs_at m p).y)) E_BPADDR (read_named c.args.kind (asker_of m p now) was (found_on c.args.opened.now v file)) (none-of (user_bytes (cells_at m p) (regs_at m p).x (regs_at m p).y) c.is_named.result named c.if-not-is_named.true)
-    (takes-refused m was now p c.refuse.result c.args.s.now c.args.files.now new _ terms stands refl refl E_BPADDR (record { end_is = c.refuse.ensures.end; tied = tied; io_is = c.refuse.ensures.io }))
+    (takes-refused m was now p c.refuse.result c.args.s.now c.args.files.now new.io _ terms stands E_BPADDR (record { end_is = c.refuse.ensures.end; tied = tied; io_is = c.refuse.ensures.io }))
 
 pub returns-clause-call : goal.returns-clause-call
 unfolding read_opened

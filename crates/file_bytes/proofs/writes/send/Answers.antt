@@ -1,4 +1,4 @@
-use Rattle.std.proofs.Common.{◌≡◌, ◌==◌, ◌∙◌, ℕ, Bool, List, not, length, take, sym, ap, ap₂, refl, subst, arith, eq-eqb}
+use Rattle.std.proofs.Common.{◌≡◌, ◌==◌, ◌∙◌, ℕ, Bool, List, not, length, take, sym, ap, ap₂, subst, arith, eq-eqb}
 use Rattle.std.proofs.lemmas.Bool.{ne_eqb}
 use Rattle.std.proofs.lemmas.List.{length-take-le}
 use Rattle.os9_base.specs.declared.errors.TheConstants.{E_BMODE}
@@ -22,7 +22,7 @@ returns-then-not-can_write-clause-call g c m was v file terms tied stands is the
     let p = c.args.p.0 in
     let new : FileState = record c.args.files.now { io = c.refuse.new.io } in
     takes-refuses-true m was c.args.now p c.refuse.result c.args.s.now new _ terms (not (can_write c.args.opened.now.desc.mode)) E_BMODE _ (ap (λ (b : Bool). not b) (sym c.can_write.ensures ∙ c.if-not-can_write.true))
-    (takes-refused m was c.args.now p c.refuse.result c.args.s.now c.args.files.now new _ terms stands refl refl E_BMODE (record { end_is = c.refuse.ensures.end; tied = tied; io_is = c.refuse.ensures.io }))
+    (takes-refused m was c.args.now p c.refuse.result c.args.s.now c.args.files.now new.io _ terms stands E_BMODE (record { end_is = c.refuse.ensures.end; tied = tied; io_is = c.refuse.ensures.io }))
 
 pub returns-then-regs-eq0-clause-call : goal.returns-then-regs-eq0-clause-call
 unfolding write_opened write_file
@@ -36,7 +36,7 @@ returns-then-regs-eq0-clause-call g c m was v file terms tied stands is there =
     let new : FileState = record c.args.files.now { io = c.answer.new.io } in
     takes-refuses-false m was c.args.now p c.answer.result c.answer.new.s new _ terms (not (can_write c.args.opened.now.desc.mode)) E_BMODE _ (ap (λ (b : Bool). not b) (sym c.can_write.ensures ∙ c.if-not-can_write.false))
     (takes-if-true m was c.args.now p c.answer.result c.answer.new.s new _ terms ((regs_at m p).y == 0) (done (regs_at m p) was) (write_file bytes (record (regs_at m p) { y = length bytes }) asker was found) (eq-eqb (regs_at m p).y 0 none)
-    (takes-done m was c.args.now p c.answer.result c.answer.new.s c.args.files.now new _ terms stands refl refl (λ (io : Io). io) (regs_at m p) (record { end_is = c.answer.ensures.end; tied = subst (λ (r : Regs). Represents c.answer.new.s (with_regs_of m p r)) same (c.answer.ensures.tied m tied); io_is = c.answer.ensures.io })))
+    (takes-done m was c.args.now p c.answer.result c.answer.new.s c.args.files.now new.io _ terms stands (λ (io : Io). io) (regs_at m p) (record { end_is = c.answer.ensures.end; tied = subst (λ (r : Regs). Represents c.answer.new.s (with_regs_of m p r)) same (c.answer.ensures.tied m tied); io_is = c.answer.ensures.io })))
 
 pub write_file-requires-clause-file : goal.write_file-requires-clause-file
 write_file-requires-clause-file g c = c.requires.file (sym c.can_write.ensures ∙ c.if-not-can_write.false)
