@@ -1,0 +1,52 @@
+-- A drive that was read before, and is reached again at the file that was found.
+use Rattle.std.proofs.Common.{◌≡◌, ◌∙◌, ℕ, Option, Some, None, option_and_then, List, Result, ap, subst}
+use Rattle.rbf_model.specs.File.{DiskFile}
+use Rattle.rbf_model.specs.Volume.{DiskVolume}
+use Rattle.rbf_access.specs.declared.volume.Volume.{Volume}
+use Rattle.rbf_walk.specs.Walk.{directory_fault}
+use Rattle.rbf_walk.specs.declared.error.DirError.{DirError}
+use Rattle.file_rules.specs.Files.{Files, file_in, volume_at, with_drives, with_volume}
+use Rattle.file_rules.specs.declared.places.FilePlace.{FilePlace}
+use Rattle.file_drives.specs.Changed.{Asked, ChangesVolume}
+use Rattle.file_drives.specs.Drives.{DriveView, drive_states}
+use Rattle.file_drives.specs.Mounted.{HasFileAt, OnDisks, ReadsFile}
+use Rattle.file_state.proofs.ReachedLemmas as reached
+use Rattle.file_state.specs.Reached.{HasChanged, HasRead}
+use Rattle.file_state.specs.Tie.{StandsFor}
+use Rattle.file_state.specs.declared.state.FileState.{FileState}
+
+module _ (files : Files) (place : FilePlace) (v : DiskVolume) (file : DiskFile) (volume_is : volume_at files place.drive ≡ Some v) (file_is : v.files place.number ≡ Some file) (first : ℕ) (mid new : FileState) (views now : List DriveView) (was : HasRead None first files mid views) where
+  file-there : file_in (with_drives files (drive_states views)) place ≡ Some file
+  file-there = ap (option_and_then (λ (v : DiskVolume). v.files place.number)) volume_is ∙ file_is
+
+  -- what was read is of that file
+  pub of-found : (fact : DiskVolume → DiskFile → Type 0) → OnDisks mid.disks views place fact → fact v file
+  of-found fact holds = holds files.volumes v file was.stands.mounted volume_is file_is
+
+  pub read-again : (fault : Option ℕ) (most : DiskVolume → DiskFile → ℕ) → new.io ≡ mid.io → new.directories ≡ mid.directories → ReadsFile place fault most mid.disks views new.disks now → HasRead fault place.drive files new now
+  read-again fault most io directories reads =
+      reached.has-read-then fault first place.drive files mid new views now was
+      (reached.has-read mid new views now (with_drives files (drive_states views)) place file fault most was.stands file-there io directories reads)
+
+  pub changed-again : (asked : Asked) (answer : Result ℕ DirError) (most : DiskVolume → DiskFile → DiskVolume → ℕ) → new.io ≡ mid.io → new.directories ≡ mid.directories → ChangesVolume place asked answer most mid.disks views new.disks now → HasChanged asked answer place.drive v file files new now
+  changed-again asked answer most io directories changes =
+      reached.has-changed-then asked answer first place.drive v file files mid new views now was
+      (reached.has-changed mid new views now (with_drives files (drive_states views)) place v file asked answer most was.stands volume_is file_is io directories changes)
+
+-- a file that is there is there still where what was mounted is mounted still
+pub still-there : (place : FilePlace) (fault : Option ℕ) (most : DiskVolume → DiskFile → ℕ) (disks new : List (Option Volume)) (views now : List DriveView) → HasFileAt disks views place → ReadsFile place fault most disks views new now → HasFileAt new now place
+still-there place fault most disks new views now has reads = record {
+  volumes = has.volumes;
+  mounted = reads.mounted has.volumes has.mounted;
+  volume = has.volume;
+  is = has.is;
+  file = has.file;
+  there = has.there;
+}
+
+-- where the volume is as it was, the drive was only read
+pub unchanged : (asked : Asked) (answer : Result ℕ DirError) (drive : ℕ) (v : DiskVolume) (file : DiskFile) (files : Files) (new : FileState) (now : List DriveView) → volume_at files drive ≡ Some v → (it : HasChanged asked answer drive v file files new now) → it.left ≡ v → HasRead (directory_fault answer) drive files new now
+unchanged asked answer drive v file files new now is it same = record {
+  moved = it.moved;
+  stands = subst (λ (f : Files). StandsFor new now (with_drives f (drive_states now))) (ap (λ (left : DiskVolume). with_volume files drive left) same ∙ reached.same-volume files drive v is) it.stands;
+}

@@ -1,0 +1,94 @@
+-- I$ChgDir in two parts.
+use Rattle.std.proofs.Common.{◌≡◌, ◌∙◌, ℕ, ◌%◌, not, Bool, true, false, Option, Some, None, List, Result, Ok, Err, refl, ap, sym, subst}
+use Rattle.os9_base.specs.declared.errors.TheConstants.{E_FNA, E_MNF, E_PNNF}
+use Rattle.os9_base.specs.declared.registers.Regs.{Regs}
+use Rattle.user_names.specs.declared.name_fault.NameFault.{NameFault}
+use Rattle.user_names.specs.declared.name_fault.NameFault.TheVariants.{Unreadable, NoName}
+use Rattle.io_rules.specs.Modes.{is_mode}
+use Rattle.io_rules.specs.PathList.{PathList}
+use Rattle.rbf_model.specs.File.{DiskFile}
+use Rattle.rbf_model.specs.Volume.{DiskVolume}
+use Rattle.rbf_model.specs.Walk.{WalkEnd, arrives, not_allowed, not_found, walk}
+use Rattle.file_rules.specs.ChgDir.{goes_on_way, goes_to, i_chgdir, may_go_to}
+use Rattle.call_rules.specs.Inner.{Inner, regs_at, with_regs_of}
+use Rattle.io_rules.specs.Io.{Io, with_call}
+use Rattle.io_rules.specs.Step.{answers}
+use Rattle.proc_state.specs.Tie.{Represents}
+use Rattle.proc_state.specs.declared.state.ProcState.{ProcState}
+use Rattle.file_rules.specs.Attempts.{files_after}
+use Rattle.file_rules.specs.Files.{Asker, Files, directories_at, volume_at, with_directories_of, with_directory, with_drives, with_io}
+use Rattle.file_drives.specs.Drives.{DriveView, drive_states}
+use Rattle.file_state.proofs.StateLemmas.{stands-with_io}
+use Rattle.file_state.specs.Tie.{StandsFor}
+use Rattle.file_state.specs.declared.state.FileState.{FileState}
+use Rattle.file_rules.specs.Open.{is_for_execution, tests_mode}
+use Rattle.file_rules.specs.Step.{FileStep, Step, comes, leaves, reaches, needs, refuses, with_drives_after}
+use Rattle.file_rules.specs.Way.{Way, along, to_device, nowhere, Found, list_of, reads_list, walk_ends, way_of}
+use Rattle.file_rules.specs.declared.places.FilePlace.{FilePlace}
+use Rattle.file_ways.specs.Ways.{mode_refusal, next_step, refuses_by}
+use Rattle.file_tree.specs.ChgDir.{allows_to_go, goes_there, looks_for_directory}
+use Rattle.file_tree.specs.Locating.{FoundBy, locates, locates_on}
+
+module _ (asker : Asker) (files : Files) where
+  abbrev both : Step FoundBy → FileStep
+  both step = next_step (next_step step (allows_to_go asker)) (goes_there asker files)
+
+  tested : (list : PathList) (found : Found) (forbidden : Bool) → refuses forbidden E_FNA (goes_there asker files (record { list = list; found = found })) ≡ next_step (refuses forbidden E_FNA (comes (record { list = list; found = found }))) (goes_there asker files)
+  tested list found true = refl
+  tested list found false = refl
+
+  module _ (list : PathList) where
+    abbrev found-by : Found → Step FoundBy
+    found-by found = comes (record { list = list; found = found })
+
+    with-found : (found : Found) → goes_to asker files list found ≡ both (found-by found)
+    with-found found = tested list found (not (may_go_to found.file asker.user asker.caller.regs.a))
+
+    with-file : (drive n : ℕ) (v : DiskVolume) (file : Option DiskFile) → needs file E_PNNF (λ file. goes_to asker files list (record { place = record { drive = drive; number = n }; volume = v; file = file })) ≡ both (needs file E_PNNF (λ file. found-by (record { place = record { drive = drive; number = n }; volume = v; file = file })))
+    with-file drive n v None = refl
+    with-file drive n v (Some file) = with-found (record { place = record { drive = drive; number = n }; volume = v; file = file })
+
+    with-end : (drive : ℕ) (v : DiskVolume) (end : WalkEnd) → walk_ends drive v end (goes_to asker files list) ≡ both (walk_ends drive v end found-by)
+    with-end drive v (arrives n) = with-file drive n v (v.files n)
+    with-end drive v not_allowed = refl
+    with-end drive v not_found = refl
+
+    with-volume : (from : FilePlace) (names : List (List ℕ)) (volume : Option DiskVolume) → needs volume E_MNF (λ v. reaches from.drive (walk_ends from.drive v (walk v.files asker.user (is_for_execution asker.caller.regs.a) from.number names) (goes_to asker files list))) ≡ both (needs volume E_MNF (λ v. reaches from.drive (walk_ends from.drive v (walk v.files asker.user (is_for_execution asker.caller.regs.a) from.number names) found-by)))
+    with-volume from names None = refl
+    with-volume from names (Some v) = ap (reaches from.drive) (with-end from.drive v (walk v.files asker.user (is_for_execution asker.caller.regs.a) from.number names))
+
+    with-way : (way : Way) → goes_on_way asker files list way ≡ both (locates_on asker files (is_for_execution asker.caller.regs.a) list way)
+    with-way (along from names) = with-volume from names (volume_at files from.drive)
+    with-way to_device = refl
+    with-way (nowhere number) = refl
+
+  pub chgdir-parts : (terms : ℕ) → i_chgdir asker files terms ≡ next_step (looks_for_directory asker files terms) (goes_there asker files)
+  chgdir-parts terms = by (list_of asker) (is_mode asker.caller.regs.a)
+    where
+      by : (read : Result PathList NameFault) (allowed : Bool) → reads_list read (tests_mode allowed) (λ list. goes_on_way asker files list (way_of asker files terms (is_for_execution asker.caller.regs.a) list)) ≡ next_step (next_step (reads_list read (refuses_by (mode_refusal allowed)) (λ list. locates_on asker files (is_for_execution asker.caller.regs.a) list (way_of asker files terms (is_for_execution asker.caller.regs.a) list))) (allows_to_go asker)) (goes_there asker files)
+      by (Ok list) true = with-way list (way_of asker files terms (is_for_execution asker.caller.regs.a) list)
+      by (Ok list) false = refl
+      by (Err Unreadable) true = refl
+      by (Err Unreadable) false = refl
+      by (Err NoName) true = refl
+      by (Err NoName) false = refl
+
+-- the mode of a call chooses its directory, and is its refusal or none
+pub looks-same : (asker : Asker) (files : Files) (terms : ℕ) (regs : Regs) (execute allowed : Bool) (refusal : Option ℕ) → regs ≡ asker.caller.regs → execute ≡ is_for_execution regs.a → allowed ≡ is_mode regs.a → refusal ≡ mode_refusal allowed → next_step (locates asker files terms execute refusal) (allows_to_go asker) ≡ looks_for_directory asker files terms
+looks-same asker files terms regs execute allowed refusal same execute_is allowed_is refusal_is =
+    ap (λ (execute : Bool). next_step (locates asker files terms execute refusal) (allows_to_go asker)) (execute_is ∙ ap (λ (regs : Regs). is_for_execution regs.a) same)
+    ∙ ap (λ (refusal : Option ℕ). next_step (locates asker files terms (is_for_execution asker.caller.regs.a) refusal) (allows_to_go asker)) (refusal_is ∙ ap mode_refusal (allowed_is ∙ ap (λ (regs : Regs). is_mode regs.a) same))
+
+-- the call of a process is done, and its directory is another one
+pub gone-there : (mid final : FileState) (views : List DriveView) (was : Files) (p : ℕ) (regs : Regs) (io : Io) (execute searched : Bool) (place found : FilePlace) → io ≡ with_call mid.io p None → execute ≡ searched → found ≡ place → StandsFor mid views (with_drives was (drive_states views)) → ((views : List DriveView) (files : Files) → StandsFor (record { io = io; disks = mid.disks; directories = mid.directories }) views files → StandsFor final views (with_directories_of files p (with_directory (directories_at files p) execute place))) → StandsFor final views (files_after p (with_drives_after (leaves (answers regs) (with_directories_of was p (with_directory (directories_at was p) searched found))) (drive_states views)))
+gone-there mid final views was p regs io execute searched place found io_is searches place_is stands goes =
+    subst (λ (place : FilePlace). StandsFor final views (files_after p (with_drives_after (leaves (answers regs) (with_directories_of was p (with_directory (directories_at was p) searched place))) (drive_states views)))) (sym place_is)
+    (subst (λ (execute : Bool). StandsFor final views (files_after p (with_drives_after (leaves (answers regs) (with_directories_of was p (with_directory (directories_at was p) execute place))) (drive_states views)))) searches
+    (goes views (with_io (with_drives was (drive_states views)) (with_call was.io p None))
+    (stands-with_io mid views (with_drives was (drive_states views)) (with_call was.io p None) io (ap (λ (old : Io). with_call old p None) stands.io ∙ sym io_is) stands)))
+
+-- and its process has X past the list
+pub told-past : (processes : ProcState) (m : Inner) (p next end : ℕ) (regs : Regs) → regs ≡ regs_at m p → next ≡ end → Represents processes (with_regs_of m p (record regs { x = next % 65536 })) → Represents processes (with_regs_of m p (record (regs_at m p) { x = end % 65536 }))
+told-past processes m p next end regs same next_is tied =
+    subst (λ (n : ℕ). Represents processes (with_regs_of m p (record (regs_at m p) { x = n % 65536 }))) next_is
+    (subst (λ (regs : Regs). Represents processes (with_regs_of m p (record regs { x = next % 65536 }))) same tied)

@@ -1,0 +1,15 @@
+pub mod AgainLemmas
+pub mod AttemptLemmas
+pub mod ChgDirLemmas
+pub mod DeleteLemmas
+pub mod DeletingLemmas
+pub mod EndLemmas
+pub mod FoundLemmas
+pub mod LocatingLemmas
+pub mod LookLemmas
+pub mod MakDirLemmas
+pub mod MakingLemmas
+pub mod NamingLemmas
+pub mod SameLemmas
+pub mod TryLemmas
+pub mod WalkedLemmas

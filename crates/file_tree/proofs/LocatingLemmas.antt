@@ -1,0 +1,107 @@
+-- The file to which the path list of a call leads.
+use Rattle.std.proofs.Common.{◌≡◌, ◌∙◌, ℕ, Bool, IfOk, Option, List, length, Result, Ok, Err, refl, ap, sym, subst}
+use Rattle.std.proofs.lemmas.List.{length-map}
+use Rattle.os9_base.specs.Cells.{Cells}
+use Rattle.os9_base.specs.declared.errors.TheConstants.{E_FNA}
+use Rattle.io_rules.specs.PathList.{PathList}
+use Rattle.rbf_walk.specs.declared.error.DirError.{DirError}
+use Rattle.file_rules.specs.Files.{Asker, DriveState, Files}
+use Rattle.file_rules.specs.Step.{Step, refused, comes}
+use Rattle.file_rules.specs.Way.{Way, walks, way_of}
+use Rattle.file_rules.specs.declared.places.FilePlace.{FilePlace}
+use Rattle.file_drives.specs.Drives.{DriveView, drive_state}
+use Rattle.file_drives.specs.Mounted.{ArrivesOn, HasFileAt}
+use Rattle.path_lists.specs.Standing.{NamesFrom}
+use Rattle.rbf_access.specs.declared.volume.Volume.{Volume}
+use Rattle.file_state.specs.Tie.{StandsFor}
+use Rattle.file_state.specs.declared.state.FileState.{FileState}
+use Rattle.file_ways.proofs.WayLemmas.{leads-on}
+use Rattle.file_ways.specs.Walks.{SomeFrom, Walks}
+use Rattle.file_ways.specs.Ways.{HasNames, IsRoute, Led, NamesOn, StartsOn, leads, next_step, way_to}
+use Rattle.file_ways.specs.declared.way.Route.{Route}
+use Rattle.file_ways.specs.declared.way.Way.{Way as Taken}
+use Rattle.file_ways.specs.declared.way.Way.TheVariants.{Along, Device}
+use Rattle.file_ways.specs.declared.walk.Walker.{Walker}
+use Rattle.file_tree.proofs.WalkedLemmas.{found-in, reached-there, walk-found, walk-lost}
+use Rattle.file_tree.specs.Locating.{FoundBy, IsLocated, Locates, found_by, located_by, locates, locates_on}
+use Rattle.file_tree.specs.declared.locating.Located.{Located}
+
+-- ---- the list
+
+module _ (asker : Asker) (files : Files) (terms : ℕ) (execute : Bool) (refusal : Option ℕ) where
+  by-leads : locates asker files terms execute refusal ≡ next_step (leads asker refusal (way_of asker files terms execute)) (λ led. locates_on asker files execute led.list led.way)
+  by-leads = leads-on asker refusal (way_of asker files terms execute) (locates_on asker files execute) (λ list number. refl)
+
+  -- along the way that was found
+  pub locates-way : (list : PathList) (way : Way) → leads asker refusal (way_of asker files terms execute) ≡ comes (record { list = list; way = way }) → locates asker files terms execute refusal ≡ locates_on asker files execute list way
+  locates-way list way is = by-leads ∙ ap (λ (step : Step Led). next_step step (λ led. locates_on asker files execute led.list led.way)) is
+
+  -- or it is refused
+  pub locates-refused : (number : ℕ) → leads asker refusal (way_of asker files terms execute) ≡ refused number → locates asker files terms execute refusal ≡ refused number
+  locates-refused number is = by-leads ∙ ap (λ (step : Step Led). next_step step (λ led. locates_on asker files execute led.list led.way)) is
+
+-- ---- the walk
+
+module _ (asker : Asker) (walker : Walker) (files : Files) (list : PathList) (from : FilePlace) (state new : FileState) (views now : List DriveView) (user : asker.user ≡ walker.user) (stands : StandsFor state views files) (has : HasFileAt state.disks views from) (io : new.io ≡ state.io) (directories : new.directories ≡ state.directories) where
+  abbrev step : Step FoundBy
+  step = walks asker files walker.execute from list.names (λ found. comes (found_by list found))
+
+  pub walk-located : (arrived : Result FilePlace DirError) (next : ℕ) → next ≡ list.next → Walks walker from list.names arrived state.disks views new.disks now → Locates step (located_by arrived next) files new now
+  walk-located (Ok place) next next_is it =
+      walk-found (IsLocated step files) (found_by list) asker walker files from list.names state new views now user stands has io directories place (record { place = place; next = next }) it
+      (λ found. record {
+        place_is = found.place_is;
+        next_is = next_is;
+        there = found-in walker files from list.names place found;
+        reached = reached-there asker walker files from list.names user (λ found. comes (found_by list found)) place found;
+      })
+  walk-located (Err error) next next_is it =
+      walk-lost (IsLocated step files) (found_by list) asker walker files from list.names state new views now user stands has io directories error it
+
+-- ---- the query
+
+-- the kernel has as many drives as the machine
+pub as-many : (state : FileState) (views : List DriveView) (files : Files) → StandsFor state views files → length files.drives ≡ length views
+as-many state views files stands = ap (λ (drives : List DriveState). length drives) stands.drives ∙ length-map views drive_state
+
+-- ---- by the route
+
+-- a file is there where a way along names starts, and it has some names or none
+pub starts-along : (disks : List (Option Volume)) (views : List DriveView) (way : Taken) (from : FilePlace) (first : Option ℕ) → way ≡ Along from first → StartsOn disks views way → HasFileAt disks views from
+starts-along disks views way from first is starts = subst (λ (way : Taken). StartsOn disks views way) is starts
+
+pub has-along : (cells : Cells) (way : Taken) (from : FilePlace) (first : Option ℕ) → way ≡ Along from first → HasNames cells way → SomeFrom cells first
+has-along cells way from first is has = subst (λ (way : Taken). HasNames cells way) is has
+
+module _ (asker : Asker) (files : Files) (terms : ℕ) (execute : Bool) (refusal : Option ℕ) (cells : Cells) (route : Route) (it : IsRoute cells asker (leads asker refusal (way_of asker files terms execute)) route) where
+  -- it leads to a terminal or a pipe
+  pub locates-device : route.way ≡ Device → locates asker files terms execute refusal ≡ refused E_FNA
+  locates-device is =
+      locates-way asker files terms execute refusal it.list it.way it.comes_to
+      ∙ ap (locates_on asker files execute it.list) (it.route_is.way_is ∙ ap (λ (way : Taken). way_to (Ok way) it.list.names) is)
+
+  module _ (from : FilePlace) (first : Option ℕ) (is : route.way ≡ Along from first) where
+    -- it leads along names
+    locates-along : locates asker files terms execute refusal ≡ walks asker files execute from it.list.names (λ found. comes (found_by it.list found))
+    locates-along =
+        locates-way asker files terms execute refusal it.list it.way it.comes_to
+        ∙ ap (locates_on asker files execute it.list) (it.route_is.way_is ∙ ap (λ (way : Taken). way_to (Ok way) it.list.names) is)
+
+    pub names-along : NamesFrom cells first it.list.names
+    names-along = subst (λ (way : Taken). NamesOn cells way it.list.names) is it.route_is.names
+
+    pub along-located : (walker : Walker) (state new : FileState) (views now : List DriveView) → walker.execute ≡ execute → asker.user ≡ walker.user → StandsFor state views files → HasFileAt state.disks views from → new.io ≡ state.io → new.directories ≡ state.directories → (arrived : Result FilePlace DirError) (result : Result Located ℕ) → result ≡ located_by arrived route.next → Walks walker from it.list.names arrived state.disks views new.disks now → Locates (locates asker files terms execute refusal) result files new now
+    along-located walker state new views now searches user stands has io directories arrived result result_is walk =
+        subst (λ (step : Step FoundBy). Locates step result files new now)
+        (ap (λ (e : Bool). walks asker files e from it.list.names (λ found. comes (found_by it.list found))) searches ∙ sym locates-along)
+        (subst (λ (r : Result Located ℕ). Locates (walks asker files walker.execute from it.list.names (λ found. comes (found_by it.list found))) r files new now) (sym result_is)
+        (walk-located asker walker files it.list from state new views now user stands has io directories arrived route.next it.route_is.next_is walk))
+
+-- the file that was reached is there
+pub reached-file : (drive next : ℕ) (disks : List (Option Volume)) (views : List DriveView) (arrived : Result FilePlace DirError) (result : Result Located ℕ) → result ≡ located_by arrived next → IfOk arrived (ArrivesOn drive disks views) → IfOk result (λ located. HasFileAt disks views located.place)
+reached-file drive next disks views arrived result is holds =
+    subst (λ (r : Result Located ℕ). IfOk r (λ located. HasFileAt disks views located.place)) (sym is) (by arrived holds)
+  where
+    by : (arrived : Result FilePlace DirError) → IfOk arrived (ArrivesOn drive disks views) → IfOk (located_by arrived next) (λ located. HasFileAt disks views located.place)
+    by (Ok place) it = it.file
+    by (Err error) it = tt

@@ -1,0 +1,35 @@
+use Rattle.std.proofs.Common.{false, None, ap, refl, sym, vec_len}
+use Rattle.os9_base.specs.declared.registers.Regs.{Regs}
+use Rattle.file_rules.specs.Attempts.{asker_of}
+use Rattle.file_rules.specs.MakDir.{i_makdir}
+use Rattle.file_ways.specs.Ways.{next_step}
+use Rattle.file_ways.specs.declared.way.Purpose.TheVariants.{New}
+use Rattle.file_tree.specs.MakDir.{makes_it}
+use Rattle.file_tree.specs.Naming.{IsNamed, names_last}
+use Rattle.file_tree.proofs.LookLemmas.{found}
+use Rattle.file_tree.proofs.MakDirLemmas.{makdir-parts}
+use Rattle.file_tree.proofs.MakingLemmas.{makes-quiet}
+use Rattle.file_tree.proofs.SameLemmas.{user-is}
+use Rattle.file_tree.proofs.TryLemmas.{tries-same, tries-unfound}
+use Rattle.file_tree.proofs.makdir.make_directory.Goals as goal
+
+pub returns-in-Err-clause-tries : goal.returns-in-Err-clause-tries
+returns-in-Err-clause-tries g c m was tied stands =
+    let asker = asker_of m c.args.p.0 c.args.now in
+    let terms = vec_len c.args.devices.now.terms in
+    let look = names_last New asker was terms false None in
+    tries-same (next_step look (makes_it asker was)) (i_makdir asker was terms) asker was _ _ _ (sym (makdir-parts asker was terms))
+    (tries-unfound (IsNamed New look was) look (makes_it asker was) asker was c.in-Err.number c.locate_last.new.files _ (makes-quiet asker was) (c.in-Err.ensures.locates m was c.args.now tied stands))
+
+pub returns-in-Ok-clause-tries : goal.returns-in-Ok-clause-tries
+returns-in-Ok-clause-tries g c m was tied stands =
+    let asker = asker_of m c.args.p.0 c.args.now in
+    let terms = vec_len c.args.devices.now.terms in
+    let look = names_last New asker was terms false None in
+    tries-same (next_step look (makes_it asker was)) (i_makdir asker was terms) asker was _ _ _ (sym (makdir-parts asker was terms))
+    (c.make_in.ensures.makes look asker was (record {
+      user_is = user-is c.args.s.now m c.args.p.0 c.user.result tied c.user.ensures.user;
+      attributes_are = ap (λ (regs : Regs). regs.b) (sym (c.regs.ensures.tied m tied));
+      now_is = refl;
+    })
+    (found (IsNamed New look was) look was c.in-Ok.last c.locate_last.new.files _ (c.in-Ok.ensures.locates m was c.args.now tied stands)))

@@ -1,0 +1,61 @@
+-- A part of a call that may reach a drive and changes no volume: what it answers, and what it leaves of the kernel's
+-- files.
+use Rattle.std.specs.Prelude.{◌≡◌, ◌⊎◌, ℕ, Some, None, List, Result, Ok, Err}
+use Rattle.rbf_model.specs.Volume.{DiskVolume}
+use Rattle.file_rules.specs.Files.{Files, volume_at}
+use Rattle.file_rules.specs.Step.{Step, refused, comes, reaches, drive_of}
+use Rattle.file_drives.specs.Drives.{DriveView}
+use Rattle.file_state.specs.Reached.{HasRead}
+use Rattle.file_state.specs.declared.state.FileState.{FileState}
+
+-- what it comes to where no drive fails
+abbrev pub answer_of : {A : Type 0} → Step A → Result A ℕ
+answer_of (refused number) = Err number
+answer_of (comes it) = Ok it
+answer_of (reaches drive step) = answer_of step
+
+-- no drive failed
+pub record LooksWell {A : Type 0} (step : Step A) (answer : Result A ℕ) (files : Files) (new : FileState)
+    (now : List DriveView) : Type 0 where
+  pub is : answer ≡ answer_of step
+  pub drive : ℕ
+  pub read : HasRead None drive files new now
+
+-- the drive that it reached has failed, and its answer is the number of that fault
+pub record LooksBroken {A : Type 0} (step : Step A) (answer : Result A ℕ) (files : Files) (new : FileState)
+    (now : List DriveView) : Type 0 where
+  pub drive : ℕ
+  pub reached : drive_of step ≡ Some drive
+  pub volume : DiskVolume
+  pub is : volume_at files drive ≡ Some volume
+  pub number : ℕ
+  pub read : HasRead (Some number) drive files new now
+  pub answer_is : answer ≡ Err number
+
+abbrev pub Looks : {A : Type 0} → Step A → Result A ℕ → Files → FileState → List DriveView → Type 0
+Looks step answer files new now = LooksWell step answer files new now ⊎ LooksBroken step answer files new now
+
+-- ---- as the code has its answer
+
+-- this fact holds of what was looked for and of what was found, or both are refused with one number
+abbrev pub AnswersBy : {A R : Type 0} → (A → R → Type 0) → Result A ℕ → Result R ℕ → Type 0
+AnswersBy fact (Ok it) (Ok found) = fact it found
+AnswersBy fact (Err number) (Err other) = number ≡ other
+AnswersBy fact (Ok it) (Err number) = ⊥
+AnswersBy fact (Err number) (Ok found) = ⊥
+
+-- it came to this
+pub record LooksFor {A R : Type 0} (fact : A → R → Type 0) (step : Step A) (result : Result R ℕ) (files : Files)
+    (new : FileState) (now : List DriveView) : Type 0 where
+  pub answer : Result A ℕ
+  pub is : AnswersBy fact answer result
+  pub looks : Looks step answer files new now
+
+-- it came to what was found, and so the drives are then
+pub record HasFound {A R : Type 0} (fact : A → R → Type 0) (step : Step A) (found : R) (files : Files)
+    (mid : FileState) (views : List DriveView) : Type 0 where
+  pub it : A
+  pub is : fact it found
+  pub answer : answer_of step ≡ Ok it
+  pub drive : ℕ
+  pub read : HasRead None drive files mid views

@@ -1,0 +1,172 @@
+//! I$Delete and I$DeletX.
+
+ghost use Rattle.std.specs.Prelude.{◌≡◌, ℕ, List, None, length, vec_len};
+ghost use Rattle.call_rules.specs.Inner.{Inner};
+ghost use Rattle.file_drives.specs.Drives.{drive_views};
+ghost use Rattle.file_drives.specs.Mounted.{HasFileAt};
+ghost use Rattle.file_rules.specs.Attempts.{asker_of};
+ghost use Rattle.file_rules.specs.Delete.{deletes_by};
+ghost use Rattle.file_rules.specs.Files.{Files};
+ghost use Rattle.file_rules.specs.declared.path_call.PathCall.TheVariants as Call;
+ghost use Rattle.file_state.specs.Attempt.{Attempts};
+ghost use Rattle.file_state.specs.Tie.{IsSound, StandsFor};
+ghost use Rattle.file_tree.specs.Delete.{DeletesIn};
+ghost use Rattle.file_tree.specs.Tries.{Tries};
+ghost use Rattle.file_ways.specs.Ways.{refuses_by};
+ghost use Rattle.io_rules.specs.Io.{kept_at};
+ghost use Rattle.os9_base.specs.declared.registers.TimePacket.{TimePacket};
+ghost use Rattle.os9_outer.specs.TerminalState.{TerminalState};
+ghost use Rattle.proc_rules.specs.Records.{IsLiving};
+ghost use Rattle.proc_state.specs.Tie.{IsSame, Represents};
+
+use crate::ends::end_call;
+use crate::modes::{is_for_execution, is_mode};
+use crate::naming::{LastLocated, locate_last};
+use device_table::devices::Devices;
+use file_rules::places::FilePlace;
+use file_state::state::FileState;
+use file_ways::way::{Purpose, mode_refusal};
+use os9_base::call::CallEnd;
+use os9_base::errors::E_SHARE;
+use os9_base::registers::Pid;
+use os9_outer::drive::BlockDriver;
+use proc_state::state::ProcState;
+
+/// I$Delete: deletes a file (System Programmer's Manual, I$Delete). Takes the address of the path
+/// list in X; answers X past the list. The list starts at the data directory of the process, if it
+/// names no device.
+///
+/// # Errors
+///
+/// E$BPAddr exactly if a byte of the path list that has to be read is in no named slot or past
+/// `FFFF`; else those of the list and of the walk to the directory; else E$FNA exactly if the user
+/// may not change that one, E$PNNF exactly if the name is not there, E$FNA exactly if it is that of
+/// a directory or of a file that the user may not write, E$Share exactly if a path is on the file.
+/// The number of the fault, if the drive fails.
+pub fn i_delete(s: &mut ProcState, files: &mut FileState, devices: &mut Devices, p: Pid) -> CallEnd
+    requires lives { IsLiving s.old.table p.0 }
+    requires first { kept_at files.old.io p.0 ≡ None }
+    requires sound { IsSound files.old
+        (drive_views ⟦<dyn BlockDriver as BlockDriver>⟧ devices.old.drives.items) }
+    ensures call { (m : Inner) (was : Files) (now : TimePacket) (terms : List TerminalState)
+        → Represents s.old m → StandsFor files.old
+        (drive_views ⟦<dyn BlockDriver as BlockDriver>⟧ devices.old.drives.items) was
+        → length terms ≡ vec_len devices.old.terms
+        → Attempts Call.Delete m was now p.0 result s.new files.new
+        (drive_views ⟦<dyn BlockDriver as BlockDriver>⟧ devices.new.drives.items) terms terms }
+    ensures lives { IsLiving s.new.table p.0 }
+    ensures terms_kept { devices.new.terms ≡ devices.old.terms }
+{
+    let came = delete_named(s, files, devices, p, false, None);
+    end_call(s, files, p, came)
+}
+
+/// I$DeletX: deletes a file (System Programmer's Manual, I$DeletX). Takes a mode in A and the
+/// address of the path list in X; answers X past the list. The list starts at the execution
+/// directory of the process where the mode is for execution, else at its data directory, if it
+/// names no device. The mode is not tested on the file.
+///
+/// # Errors
+///
+/// As `i_delete`, with E$BMode exactly if the mode has none of read, write and execute, after
+/// E$BPAddr and before all others.
+pub fn i_deletx(s: &mut ProcState, files: &mut FileState, devices: &mut Devices, p: Pid) -> CallEnd
+    requires lives { IsLiving s.old.table p.0 }
+    requires first { kept_at files.old.io p.0 ≡ None }
+    requires sound { IsSound files.old
+        (drive_views ⟦<dyn BlockDriver as BlockDriver>⟧ devices.old.drives.items) }
+    ensures call { (m : Inner) (was : Files) (now : TimePacket) (terms : List TerminalState)
+        → Represents s.old m → StandsFor files.old
+        (drive_views ⟦<dyn BlockDriver as BlockDriver>⟧ devices.old.drives.items) was
+        → length terms ≡ vec_len devices.old.terms
+        → Attempts Call.DeletX m was now p.0 result s.new files.new
+        (drive_views ⟦<dyn BlockDriver as BlockDriver>⟧ devices.new.drives.items) terms terms }
+    ensures lives { IsLiving s.new.table p.0 }
+    ensures terms_kept { devices.new.terms ≡ devices.old.terms }
+{
+    let mode = s.regs(p).a;
+    let refusal = mode_refusal(is_mode(mode));
+    let came = delete_named(s, files, devices, p, is_for_execution(mode), refusal);
+    end_call(s, files, p, came)
+}
+
+/// Deletes the file that the path list at X names, for execution or not, in a call with this
+/// refusal, if it has one; answers the address just past the list.
+///
+/// # Errors
+///
+/// As `i_deletx`, with the call's refusal in the place of E$BMode.
+fn delete_named(
+    s: &mut ProcState,
+    files: &mut FileState,
+    devices: &mut Devices,
+    p: Pid,
+    execute: bool,
+    refusal: Option<u8>,
+) -> Result<u32, u8>
+    requires lives { IsLiving s.old.table p.0 }
+    requires sound { IsSound files.old
+        (drive_views ⟦<dyn BlockDriver as BlockDriver>⟧ devices.old.drives.items) }
+    ensures tries { (m : Inner) (was : Files) (now : TimePacket) → Represents s.old m
+        → StandsFor files.old
+        (drive_views ⟦<dyn BlockDriver as BlockDriver>⟧ devices.old.drives.items) was
+        → Tries (deletes_by (asker_of m p.0 now) was (vec_len devices.old.terms) execute
+        (refuses_by refusal)) (asker_of m p.0 now) was result files.new
+        (drive_views ⟦<dyn BlockDriver as BlockDriver>⟧ devices.new.drives.items) }
+    ensures io_kept { files.new.io ≡ files.old.io }
+    ensures same { IsSame s.old s.new }
+    ensures terms_kept { devices.new.terms ≡ devices.old.terms }
+{
+    let user = s.table.user(p);
+    match locate_last(s, files, devices, p, Purpose::Existing, execute, refusal) {
+        Err(number) => Err(number),
+        Ok(last) => delete_in(files, devices, last, user, execute),
+    }
+}
+
+/// Deletes the file that the directory that was found has by the last name of a path list, and
+/// answers the address just past the list.
+///
+/// # Errors
+///
+/// In this order: E$FNA exactly if the user may not change the directory, E$PNNF exactly if the
+/// name is not there, E$FNA exactly if it is that of a directory or of a file that the user may
+/// not write, E$Share exactly if a path is on the file. The number of the fault, if the drive
+/// fails.
+fn delete_in(
+    files: &mut FileState,
+    devices: &mut Devices,
+    last: LastLocated,
+    user: u16,
+    execute: bool,
+) -> Result<u32, u8>
+    requires { HasFileAt files.old.disks
+        (drive_views ⟦<dyn BlockDriver as BlockDriver>⟧ devices.old.drives.items) last.directory }
+    ensures deletes { DeletesIn user execute last
+        files.old (drive_views ⟦<dyn BlockDriver as BlockDriver>⟧ devices.old.drives.items) result
+        files.new (drive_views ⟦<dyn BlockDriver as BlockDriver>⟧ devices.new.drives.items) }
+    ensures io_kept { files.new.io ≡ files.old.io }
+    ensures directories_kept { files.new.directories ≡ files.old.directories }
+    ensures terms_kept { devices.new.terms ≡ devices.old.terms }
+{
+    match files
+        .disks
+        .find_deletable(devices, last.directory, &last.name, user, execute)
+    {
+        Err(error) => Err(error.number()),
+        Ok(found) => {
+            let place = FilePlace {
+                drive: last.directory.drive,
+                number: found.descriptor,
+            };
+            if files.is_open(place) {
+                Err(E_SHARE)
+            } else {
+                match files.disks.delete_at(devices, last.directory, &found) {
+                    Err(fault) => Err(fault.number()),
+                    Ok(()) => Ok(last.next),
+                }
+            }
+        }
+    }
+}

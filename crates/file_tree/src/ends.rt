@@ -1,0 +1,48 @@
+//! How calls end that answer where their path list ends.
+
+ghost use Rattle.std.specs.Prelude.{◌≡◌, ℕ, List, None, length};
+ghost use Rattle.call_rules.specs.Inner.{Inner};
+ghost use Rattle.file_drives.specs.Drives.{DriveView};
+ghost use Rattle.file_rules.specs.Attempts.{asker_of, file_step};
+ghost use Rattle.file_rules.specs.Files.{Files};
+ghost use Rattle.file_rules.specs.declared.path_call.PathCall.{PathCall};
+ghost use Rattle.file_state.specs.Attempt.{Attempts};
+ghost use Rattle.file_tree.specs.Tries.{Tries};
+ghost use Rattle.io_rules.specs.Io.{kept_at};
+ghost use Rattle.os9_base.specs.declared.registers.TimePacket.{TimePacket};
+ghost use Rattle.os9_outer.specs.TerminalState.{TerminalState};
+ghost use Rattle.proc_rules.specs.Records.{IsLiving};
+ghost use Rattle.proc_state.specs.Tie.{Represents};
+
+use file_state::state::FileState;
+use os9_base::call::CallEnd;
+use os9_base::registers::{Pid, Regs};
+use path_calls::ends::{answer, refuse};
+use proc_state::state::ProcState;
+
+/// The call of a process ends: its path list ends before this address, which X is then, or this is
+/// the number of its error. Nothing is kept of it.
+pub(crate) fn end_call(
+    s: &mut ProcState,
+    files: &mut FileState,
+    p: Pid,
+    came: Result<u32, u8>,
+) -> CallEnd
+    requires lives { IsLiving s.old.table p.0 }
+    requires first { kept_at files.old.io p.0 ≡ None }
+    ensures attempt { (call : PathCall) (m : Inner) (was : Files) (now : TimePacket)
+        (terms : List TerminalState) (views : List DriveView) → Represents s.old m
+        → Tries (file_step call (asker_of m p.0 now) was (length terms)) (asker_of m p.0 now) was
+        came files.old views
+        → Attempts call m was now p.0 result s.new files.new views terms terms }
+    ensures lives { IsLiving s.new.table p.0 }
+{
+    let regs = s.regs(p);
+    match came {
+        Err(number) => refuse(&mut files.io, p, number),
+        Ok(next) => {
+            let x = (next % 65_536) as u16;
+            answer(s, &mut files.io, p, Regs { x, ..regs })
+        }
+    }
+}

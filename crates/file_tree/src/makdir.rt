@@ -1,0 +1,145 @@
+//! I$MakDir.
+
+ghost use Rattle.std.specs.Prelude.{◌≡◌, ℕ, List, None, length, vec_len};
+ghost use Rattle.call_rules.specs.Inner.{Inner};
+ghost use Rattle.file_drives.specs.Drives.{drive_views};
+ghost use Rattle.file_drives.specs.Mounted.{HasFileAt};
+ghost use Rattle.file_rules.specs.Attempts.{asker_of};
+ghost use Rattle.file_rules.specs.Files.{Files};
+ghost use Rattle.file_rules.specs.MakDir.{i_makdir as i_makdir_lem};
+ghost use Rattle.file_rules.specs.declared.path_call.PathCall.TheVariants as Call;
+ghost use Rattle.file_state.specs.Attempt.{Attempts};
+ghost use Rattle.file_state.specs.Tie.{IsSound, StandsFor};
+ghost use Rattle.file_tree.specs.MakDir.{MakesIn};
+ghost use Rattle.file_tree.specs.Tries.{Tries};
+ghost use Rattle.io_rules.specs.Io.{kept_at};
+ghost use Rattle.os9_outer.specs.TerminalState.{TerminalState};
+ghost use Rattle.proc_rules.specs.Records.{IsLiving};
+ghost use Rattle.proc_state.specs.Tie.{IsSame, Represents};
+
+use crate::ends::end_call;
+use crate::naming::{LastLocated, locate_last};
+use device_table::devices::Devices;
+use file_state::state::FileState;
+use file_ways::way::Purpose;
+use os9_base::call::CallEnd;
+use os9_base::registers::{Pid, TimePacket};
+use os9_outer::drive::BlockDriver;
+use proc_state::state::ProcState;
+
+/// Who makes a directory, with which attributes and at which time.
+#[derive(Clone, Copy, Debug)]
+pub struct Making {
+    pub user: u16,
+    pub attributes: u8,
+    pub now: TimePacket,
+}
+
+/// I$MakDir: makes a directory (System Programmer's Manual, I$MakDir). Takes its attributes in B
+/// and the address of the path list in X; answers X past the list.
+///
+/// # Errors
+///
+/// E$BPAddr exactly if a byte of the path list that has to be read is in no named slot or past
+/// `FFFF`; else those of the list and of the walk to the directory above; else E$FNA exactly if the
+/// user may not change that one, E$CEF exactly if the name is there, E$Full exactly if too few
+/// clusters are free, E$SLF exactly if the directory above needs a segment more and has no room for
+/// it. The number of the fault, if the drive fails.
+pub fn i_makdir(
+    s: &mut ProcState,
+    files: &mut FileState,
+    devices: &mut Devices,
+    p: Pid,
+    now: TimePacket,
+) -> CallEnd
+    requires lives { IsLiving s.old.table p.0 }
+    requires first { kept_at files.old.io p.0 ≡ None }
+    requires sound { IsSound files.old
+        (drive_views ⟦<dyn BlockDriver as BlockDriver>⟧ devices.old.drives.items) }
+    ensures call { (m : Inner) (was : Files) (terms : List TerminalState)
+        → Represents s.old m → StandsFor files.old
+        (drive_views ⟦<dyn BlockDriver as BlockDriver>⟧ devices.old.drives.items) was
+        → length terms ≡ vec_len devices.old.terms
+        → Attempts Call.MakDir m was now p.0 result s.new files.new
+        (drive_views ⟦<dyn BlockDriver as BlockDriver>⟧ devices.new.drives.items) terms terms }
+    ensures lives { IsLiving s.new.table p.0 }
+    ensures terms_kept { devices.new.terms ≡ devices.old.terms }
+{
+    let came = make_directory(s, files, devices, p, now);
+    end_call(s, files, p, came)
+}
+
+/// Makes the directory that the path list at X names, and answers the address just past the list.
+///
+/// # Errors
+///
+/// As `i_makdir`.
+fn make_directory(
+    s: &mut ProcState,
+    files: &mut FileState,
+    devices: &mut Devices,
+    p: Pid,
+    now: TimePacket,
+) -> Result<u32, u8>
+    requires lives { IsLiving s.old.table p.0 }
+    requires sound { IsSound files.old
+        (drive_views ⟦<dyn BlockDriver as BlockDriver>⟧ devices.old.drives.items) }
+    ensures tries { (m : Inner) (was : Files) → Represents s.old m → StandsFor files.old
+        (drive_views ⟦<dyn BlockDriver as BlockDriver>⟧ devices.old.drives.items) was
+        → Tries (i_makdir_lem (asker_of m p.0 now) was (vec_len devices.old.terms))
+        (asker_of m p.0 now) was result files.new
+        (drive_views ⟦<dyn BlockDriver as BlockDriver>⟧ devices.new.drives.items) }
+    ensures io_kept { files.new.io ≡ files.old.io }
+    ensures same { IsSame s.old s.new }
+    ensures terms_kept { devices.new.terms ≡ devices.old.terms }
+{
+    let making = Making {
+        user: s.table.user(p),
+        attributes: s.regs(p).b,
+        now,
+    };
+    match locate_last(s, files, devices, p, Purpose::New, false, None) {
+        Err(number) => Err(number),
+        Ok(last) => make_in(files, devices, last, making),
+    }
+}
+
+/// Makes a directory by the last name of a path list in the directory that was found, and answers
+/// the address just past the list.
+///
+/// # Errors
+///
+/// In this order: E$FNA exactly if the user may not change the directory above, E$CEF exactly if
+/// the name is there, E$Full exactly if too few clusters are free, E$SLF exactly if the directory
+/// above needs a segment more and has no room for it. The number of the fault, if the drive fails.
+fn make_in(
+    files: &mut FileState,
+    devices: &mut Devices,
+    last: LastLocated,
+    making: Making,
+) -> Result<u32, u8>
+    requires { HasFileAt files.old.disks
+        (drive_views ⟦<dyn BlockDriver as BlockDriver>⟧ devices.old.drives.items) last.directory }
+    ensures makes { MakesIn making last
+        files.old (drive_views ⟦<dyn BlockDriver as BlockDriver>⟧ devices.old.drives.items) result
+        files.new (drive_views ⟦<dyn BlockDriver as BlockDriver>⟧ devices.new.drives.items) }
+    ensures io_kept { files.new.io ≡ files.old.io }
+    ensures directories_kept { files.new.directories ≡ files.old.directories }
+    ensures terms_kept { devices.new.terms ≡ devices.old.terms }
+{
+    let disks = &mut files.disks;
+    match disks.find_place(devices, last.directory, &last.name, making.user, false) {
+        Err(error) => Err(error.number()),
+        Ok(place) => match disks.make_dir_at(
+            devices,
+            last.directory,
+            &place,
+            &last.name,
+            making.attributes,
+            making.now,
+        ) {
+            Err(fault) => Err(fault.number()),
+            Ok(_) => Ok(last.next),
+        },
+    }
+}

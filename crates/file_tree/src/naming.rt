@@ -1,0 +1,119 @@
+//! The last name of a call's path list, and the directory in which it is to be looked up.
+
+ghost use Rattle.std.specs.Prelude.{◌≡◌, ℕ, IfOk, List, vec_len};
+ghost use Rattle.call_rules.specs.Inner.{Inner};
+ghost use Rattle.file_drives.specs.Drives.{drive_views};
+ghost use Rattle.file_drives.specs.Mounted.{HasFileAt};
+ghost use Rattle.file_rules.specs.Attempts.{asker_of};
+ghost use Rattle.file_rules.specs.Files.{Files};
+ghost use Rattle.file_state.specs.Tie.{IsSound, StandsFor};
+ghost use Rattle.file_tree.specs.Naming.{LocatesLast, last_by, names_last};
+ghost use Rattle.file_tree.specs.Naming.{unnamed_number as unnamed_number_lem};
+ghost use Rattle.os9_base.specs.declared.registers.TimePacket.{TimePacket};
+ghost use Rattle.proc_rules.specs.Records.{IsLiving};
+ghost use Rattle.proc_state.specs.Tie.{IsSame, Represents};
+
+use crate::locating::lead;
+use device_table::devices::Devices;
+use file_rules::places::FilePlace;
+use file_state::state::FileState;
+use file_ways::calls::call_walk_to_last;
+use file_ways::walk::{LastName, Walker};
+use file_ways::way::{Purpose, Way};
+use os9_base::errors::{E_BPNAM, E_FNA};
+use os9_base::name::Name;
+use os9_base::registers::Pid;
+use os9_outer::drive::BlockDriver;
+use proc_state::state::ProcState;
+use rbf_walk::DirError;
+
+/// The last name of a path list, and the directory to which those before it lead.
+#[derive(Clone, Copy, Debug)]
+pub struct LastLocated {
+    pub directory: FilePlace,
+    pub name: Name,
+    /// The address just past the path list.
+    pub next: u32,
+}
+
+/// Finds the last name of the path list at X, and the directory to which those before it lead, from
+/// the execution directory of the process or from its data directory, if the list names no device
+/// (System Programmer's Manual, I$Create and I$Delete).
+///
+/// # Errors
+///
+/// The number of the refusal: that of `lead`, else E$FNA exactly if the list leads to a terminal or
+/// a pipe; else, if it has no names, E$FNA where its file has to exist and E$BPNam where it is
+/// made; else that of the walk: E$FNA, E$PNNF, or the number of the drive's fault.
+pub(crate) fn locate_last(
+    s: &mut ProcState,
+    files: &mut FileState,
+    devices: &mut Devices,
+    p: Pid,
+    purpose: Purpose,
+    execute: bool,
+    refusal: Option<u8>,
+) -> Result<LastLocated, u8>
+    requires lives { IsLiving s.old.table p.0 }
+    requires sound { IsSound files.old
+        (drive_views ⟦<dyn BlockDriver as BlockDriver>⟧ devices.old.drives.items) }
+    ensures locates { (m : Inner) (was : Files) (now : TimePacket) → Represents s.old m
+        → StandsFor files.old
+        (drive_views ⟦<dyn BlockDriver as BlockDriver>⟧ devices.old.drives.items) was
+        → LocatesLast purpose (names_last purpose (asker_of m p.0 now) was
+        (vec_len devices.old.terms) execute refusal) result was files.new
+        (drive_views ⟦<dyn BlockDriver as BlockDriver>⟧ devices.new.drives.items) }
+    ensures there { IfOk result (λ last. HasFileAt files.new.disks
+        (drive_views ⟦<dyn BlockDriver as BlockDriver>⟧ devices.new.drives.items) last.directory) }
+    ensures io_kept { files.new.io ≡ files.old.io }
+    ensures directories_kept { files.new.directories ≡ files.old.directories }
+    ensures same { IsSame s.old s.new }
+    ensures terms_kept { devices.new.terms ≡ devices.old.terms }
+{
+    let walker = Walker {
+        process: p,
+        user: s.table.user(p),
+        execute,
+    };
+    match lead(s, files, devices, p, purpose, execute, refusal) {
+        Err(number) => Err(number),
+        Ok(route) => match route.way {
+            Way::Device => Err(E_FNA),
+            Way::Along { from, first } => match first {
+                None => Err(unnamed_number(purpose)),
+                Some(at) => behind_list(
+                    call_walk_to_last(s, &mut files.disks, devices, walker, from, at),
+                    route.next,
+                ),
+            },
+        },
+    }
+}
+
+/// The number with which a list without names is refused.
+fn unnamed_number(purpose: Purpose) -> u8
+    ensures { result ≡ unnamed_number_lem purpose }
+{
+    match purpose {
+        Purpose::New => E_BPNAM,
+        Purpose::Existing => E_FNA,
+    }
+}
+
+/// The last name and its directory, of a list that ends before an address.
+///
+/// # Errors
+///
+/// The number of the walk's error.
+fn behind_list(reached: Result<LastName, DirError>, next: u32) -> Result<LastLocated, u8>
+    ensures { result ≡ last_by reached next }
+{
+    match reached {
+        Err(error) => Err(error.number()),
+        Ok(last) => Ok(LastLocated {
+            directory: last.directory,
+            name: last.name,
+            next,
+        }),
+    }
+}
