@@ -1,6 +1,6 @@
 -- What a step comes to is what an attempt of the call comes to.
-use Rattle.std.proofs.Common.{◌≡◌, ℕ, ◌∙◌, Some, List, refl, ap, sym, subst}
-use Rattle.std.proofs.lemmas.Option.{same_Some}
+use Rattle.std.proofs.Common.{◌≡◌, ℕ, ◌∙◌, Some, List, length, refl, ap, sym, subst}
+use Rattle.std.specs.Option.{option_map_or}
 use Rattle.os9_base.specs.declared.call.CallEnd.{CallEnd}
 use Rattle.os9_base.specs.declared.registers.Regs.{Regs}
 use Rattle.os9_base.specs.declared.registers.TimePacket.{TimePacket}
@@ -19,13 +19,13 @@ use Rattle.file_rules.specs.Step.{FileDoes}
 use Rattle.file_rules.specs.declared.path_call.PathCall.TheVariants as Call
 use Rattle.file_drives.specs.Drives.{DriveView}
 use Rattle.file_laws.specs.Kinds.{AreKinds}
-use Rattle.file_state.specs.Counted.{CalledAtMost}
+use Rattle.file_state.specs.Counted.{CalledAtMost, calls_of}
 use Rattle.file_state.specs.Attempt.{Attempts}
 use Rattle.file_state.specs.Tie.{StandsFor}
 use Rattle.file_state.specs.declared.state.FileState.{FileState}
 use Rattle.file_state.specs.declared.state.OpenFile.{OpenFile as KernelFile}
 use Rattle.file_status.proofs.OpenLemmas.{open-of}
-use Rattle.file_status.specs.Ends.{Ends, IsNamedInA, IsOpen, calls_of, setting_calls}
+use Rattle.file_status.specs.Ends.{Ends, IsNamedInA, IsOpen, i_setstt_calls, setting_calls}
 
 -- the registers and the user that the kernel has of a process
 pub regs-tied : (processes : ProcState) (m : Inner) (p : ℕ) → Represents processes m → (record_at processes.table p).regs ≡ regs_at m p
@@ -34,7 +34,7 @@ regs-tied processes m p tied = sym (ap (λ (i : Inner). regs_at i p) tied.is)
 pub user-tied : (processes : ProcState) (m : Inner) (p user : ℕ) → Represents processes m → user ≡ (record_at processes.table p).user → user ≡ user_at m p
 user-tied processes m p user tied is = is ∙ sym (ap (λ (i : Inner). user_at i p) tied.is)
 
-module _ (m : Inner) (was : Files) (now : TimePacket) (p : ℕ) (end : CallEnd) (old processes : ProcState) (state new : FileState) (before after : List DriveView) (opened : KernelFile) (terms : List TerminalState) (tied : Represents old m) (stands : StandsFor state before was) (kinds : AreKinds was) (named : IsNamedInA state before old p opened) where
+module _ (m : Inner) (was : Files) (now : TimePacket) (p : ℕ) (end : CallEnd) (old processes : ProcState) (state new : FileState) (before after : List DriveView) (opened : KernelFile) (terms : List TerminalState) (tied : Represents old m) (stands : StandsFor state before was) (kinds : AreKinds was) (named : IsNamedInA p opened (record { processes = old; files = state; views = before })) where
   abbrev found : OpenFile
   found = (named was stands kinds).found
 
@@ -82,9 +82,7 @@ module _ (m : Inner) (was : Files) (now : TimePacket) (p : ℕ) (end : CallEnd) 
       let ends = by found (open-of state before was p (record_at old.table p).regs.a opened (named was stands kinds)) in
       subst (λ o. CalledAtMost (calls_of (by_kind o (gets_of_device (asker_of m p now).caller was.io) (λ it. gets_status (asker_of m p now) was it (regs_at m p).b)) 1) before after) (sym found_is) ends.calls
 
-  pub set-calls : ((it : OpenFile) → IsOpen was opened it → Ends (sets_status (asker_of m p now) was it (regs_at m p).b) (setting_calls (asker_of m p now) it (regs_at m p).b) m was now p end processes new before after) → (it : OpenFile) → open_file was p (regs_at m p).a ≡ Some it → CalledAtMost (calls_of (i_setstt (asker_of m p now) was) (setting_calls (asker_of m p now) it (regs_at m p).b)) before after
-  set-calls by it it_is =
+  pub set-calls : ((it : OpenFile) → IsOpen was opened it → Ends (sets_status (asker_of m p now) was it (regs_at m p).b) (setting_calls (asker_of m p now) it (regs_at m p).b) m was now p end processes new before after) → CalledAtMost (calls_of (i_setstt (asker_of m p now) was) (i_setstt_calls (asker_of m p now) was (length terms))) before after
+  set-calls by =
       let ends = by found (open-of state before was p (record_at old.table p).regs.a opened (named was stands kinds)) in
-      let same : found ≡ it = same_Some found it (sym found_is ∙ it_is) in
-      subst (λ o. CalledAtMost (calls_of (by_kind o (sets_of_device (asker_of m p now).caller was.io) (λ it. sets_status (asker_of m p now) was it (regs_at m p).b)) (setting_calls (asker_of m p now) it (regs_at m p).b)) before after) (sym found_is)
-      (subst (λ (f : OpenFile). CalledAtMost (calls_of (sets_status (asker_of m p now) was found (regs_at m p).b) (setting_calls (asker_of m p now) f (regs_at m p).b)) before after) same ends.calls)
+      subst (λ o. CalledAtMost (calls_of (by_kind o (sets_of_device (asker_of m p now).caller was.io) (λ it. sets_status (asker_of m p now) was it (regs_at m p).b)) (option_map_or (λ it. setting_calls (asker_of m p now) it (regs_at m p).b) o 0)) before after) (sym found_is) ends.calls

@@ -25,10 +25,10 @@ use Rattle.file_drives.specs.Drives.{DriveView, OneDriveMoves, Reads, ReadsDrive
 use Rattle.file_drives.specs.Mounted.{AreMounted}
 use Rattle.file_state.proofs.CountLemmas.{called-more, called-none, called-one}
 use Rattle.file_state.proofs.EndLemmas.{breaks, goes-well}
-use Rattle.file_state.specs.Counted.{CalledAtMost}
+use Rattle.file_state.specs.Counted.{CalledAtMost, calls_of}
 use Rattle.file_state.specs.Tie.{StandsFor}
 use Rattle.file_state.specs.declared.state.FileState.{FileState}
-use Rattle.file_status.specs.Ends.{Ends, calls_of, uncalled}
+use Rattle.file_status.specs.Ends.{Ends, uncalled}
 
 -- ---- what the state stands for
 

@@ -1,5 +1,6 @@
 -- How an attempt of a call on a file ends.
 use Rattle.std.specs.Prelude.{◌≡◌, ℕ, ◌==◌, Some, None, List, if◌then◌else◌}
+use Rattle.std.specs.Option.{option_map_or}
 use Rattle.os9_base.specs.declared.call.CallEnd.{CallEnd}
 use Rattle.os9_base.specs.declared.registers.TimePacket.{TimePacket}
 use Rattle.os9_outer.specs.TerminalState.{TerminalState}
@@ -16,14 +17,15 @@ use Rattle.proc_rules.specs.Records.{record_at}
 use Rattle.proc_state.specs.Tie.{Comes}
 use Rattle.proc_state.specs.declared.state.ProcState.{ProcState}
 use Rattle.file_rules.specs.Attempts.{asker_of, files_after, io_effect}
-use Rattle.file_rules.specs.Files.{Asker, Files, OpenFile, place_of_target, volume_at}
+use Rattle.file_rules.specs.Files.{Asker, Files, OpenFile, open_file, place_of_target, volume_at}
 use Rattle.file_rules.specs.Status.{gets_bytes}
 use Rattle.file_rules.specs.Seek.{long_of}
-use Rattle.file_rules.specs.Step.{FileEffect, FileStep, FileDoes, comes, reaches, refused}
+use Rattle.file_rules.specs.Step.{FileEffect, FileStep, FileDoes}
 use Rattle.file_rules.specs.declared.status.TheConstants.{SS_SIZE}
 use Rattle.file_drives.specs.Drives.{DriveView}
 use Rattle.file_laws.specs.Kinds.{AreKinds}
-use Rattle.file_state.specs.Counted.{CalledAtMost}
+use Rattle.file_state.specs.Attempt.{Standing}
+use Rattle.file_state.specs.Counted.{CalledAtMost, calls_of}
 use Rattle.file_state.specs.Opened.{IsFileOf}
 use Rattle.file_state.specs.Tie.{StandsFor}
 use Rattle.file_state.specs.declared.state.FileState.{FileState}
@@ -43,21 +45,15 @@ pub record IsOpen (files : Files) (opened : KernelFile) (it : OpenFile) : Type 0
   pub file_is : it.volume.files opened.place.number ≡ Some it.file
 
 -- A of a process names this file or directory
-abbrev pub IsNamedInA : FileState → List DriveView → ProcState → ℕ → KernelFile → Type 0
-IsNamedInA state views processes p opened =
-    (files : Files) → StandsFor state views files → AreKinds files
-    → IsFileOf state views files p (record_at processes.table p).regs.a opened
+abbrev pub IsNamedInA : ℕ → KernelFile → Standing → Type 0
+IsNamedInA p opened before =
+    (files : Files) → StandsFor before.files before.views files → AreKinds files
+    → IsFileOf before.files before.views files p (record_at before.processes.table p).regs.a opened
 
 -- SS.Opt of a path on a file
 abbrev pub gets_options : Asker → Files → OpenFile → FileStep
 gets_options asker files opened =
     gets_bytes asker files OPTION_BYTES (λ step. step) (options opened.opened.desc.target)
-
--- how often the drives are called in an attempt, by what the step comes to: where it reaches none not at all
-abbrev pub calls_of : FileStep → ℕ → ℕ
-calls_of (refused number) most = 0
-calls_of (comes deed) most = 0
-calls_of (reaches drive step) most = most
 
 -- for a size that a file is given: a sector of the map has a mark for each cluster that it gains at most
 abbrev pub sizing_calls : Asker → OpenFile → ℕ → ℕ
@@ -71,6 +67,16 @@ abbrev pub setting_calls : Asker → OpenFile → ℕ → ℕ
 setting_calls asker opened code =
     if code == SS_SIZE then sizing_calls asker opened (long_of asker.caller.regs)
     else attribute_calls opened.file asker.user
+
+-- how often the drive is called at most
+abbrev pub i_getstt_calls : Asker → Files → ℕ → ℕ
+i_getstt_calls asker files terms = 1
+
+-- by the file that A names
+abbrev pub i_setstt_calls : Asker → Files → ℕ → ℕ
+i_setstt_calls asker files terms =
+    option_map_or (λ opened. setting_calls asker opened asker.caller.regs.b)
+    (open_file files asker.caller.process.0 asker.caller.regs.a) 0
 
 -- an attempt of a process, at a time, comes to what a step has, and calls the drives at most so often where it reaches
 -- one: so the call ends, and these are the processes, the state and the drives then

@@ -10,15 +10,14 @@ ghost use Rattle.proc_state.specs.Tie.{Represents};
 ghost use Rattle.file_rules.specs.Attempts.{asker_of};
 ghost use Rattle.file_rules.specs.Files.{Files, OpenFile as RulesFile};
 ghost use Rattle.file_rules.specs.declared.path_call.PathCall.TheVariants as Call;
-ghost use Rattle.file_rules.specs.Status.{i_getstt as i_getstt_lem, gets_status as gets_status_lem, gets_size as gets_size_lem, gets_end as gets_end_lem, gets_descriptor as gets_descriptor_lem};
+ghost use Rattle.file_rules.specs.Status.{gets_status as gets_status_lem, gets_size as gets_size_lem, gets_end as gets_end_lem, gets_descriptor as gets_descriptor_lem};
 ghost use Rattle.file_drives.specs.Drives.{DriveView, drive_views};
 ghost use Rattle.file_drives.specs.Mounted.{HasFileAt};
-ghost use Rattle.file_laws.specs.Kinds.{AreKinds};
-ghost use Rattle.file_state.specs.Attempt.{Attempts};
-ghost use Rattle.file_state.specs.Counted.{CalledAtMost};
+ghost use Rattle.file_state.specs.Attempt.{standing};
+ghost use Rattle.file_state.specs.Counted.{AttemptsWithin};
 ghost use Rattle.file_state.specs.Tie.{IsSound, StandsFor};
 ghost use Rattle.file_state.specs.declared.state.OpenFile.{OpenFile as KernelFile};
-ghost use Rattle.file_status.specs.Ends.{Ends, IsNamedInA, IsOpen, calls_of, gets_options as gets_options_lem};
+ghost use Rattle.file_status.specs.Ends.{Ends, IsNamedInA, IsOpen, gets_options as gets_options_lem, i_getstt_calls};
 
 use crate::ends::{answer, refuse};
 use crate::front::{descriptor_front, file_options, long_regs};
@@ -55,20 +54,12 @@ pub fn get_status(
     requires first { kept_at files.old.io p.0 ≡ None }
     requires sound { IsSound files.old
         (drive_views ⟦<dyn BlockDriver as BlockDriver>⟧ devices.old.drives.items) }
-    requires named { IsNamedInA files.old
-        (drive_views ⟦<dyn BlockDriver as BlockDriver>⟧ devices.old.drives.items) s.old p.0
-        opened.now }
-    ensures call { (m : Inner) (was : Files) (now : TimePacket) (terms : List TerminalState)
-        → Represents s.old m → StandsFor files.old
-        (drive_views ⟦<dyn BlockDriver as BlockDriver>⟧ devices.old.drives.items) was
-        → AreKinds was → Attempts Call.GetStt m was now p.0 result s.new files.new
-        (drive_views ⟦<dyn BlockDriver as BlockDriver>⟧ devices.new.drives.items) terms terms }
-    ensures calls { (m : Inner) (was : Files) (now : TimePacket) → Represents s.old m → StandsFor
-        files.old (drive_views ⟦<dyn BlockDriver as BlockDriver>⟧ devices.old.drives.items) was
-        → AreKinds was
-        → CalledAtMost (calls_of (i_getstt_lem (asker_of m p.0 now) was) 1)
-        (drive_views ⟦<dyn BlockDriver as BlockDriver>⟧ devices.old.drives.items)
-        (drive_views ⟦<dyn BlockDriver as BlockDriver>⟧ devices.new.drives.items) }
+    requires named { IsNamedInA p.0 opened.now
+        (standing ⟦<dyn BlockDriver as BlockDriver>⟧ s.old files.old devices.old.drives.items) }
+    ensures call { (now : TimePacket) (terms : List TerminalState)
+        → AttemptsWithin i_getstt_calls Call.GetStt now p.0 result terms terms
+        (standing ⟦<dyn BlockDriver as BlockDriver>⟧ s.old files.old devices.old.drives.items)
+        (standing ⟦<dyn BlockDriver as BlockDriver>⟧ s.new files.new devices.new.drives.items) }
     ensures lives { IsLiving s.new.table p.0 }
     ensures terms_kept { devices.new.terms ≡ devices.old.terms }
 {

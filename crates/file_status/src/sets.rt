@@ -8,16 +8,15 @@ ghost use Rattle.io_rules.specs.Io.{kept_at};
 ghost use Rattle.io_rules.specs.Modes.{can_write as can_write_lem};
 ghost use Rattle.proc_state.specs.Tie.{Represents};
 ghost use Rattle.file_rules.specs.Attempts.{asker_of};
-ghost use Rattle.file_rules.specs.Files.{Files, OpenFile as RulesFile, open_file};
+ghost use Rattle.file_rules.specs.Files.{Files, OpenFile as RulesFile};
 ghost use Rattle.file_rules.specs.declared.path_call.PathCall.TheVariants as Call;
-ghost use Rattle.file_rules.specs.Status.{i_setstt as i_setstt_lem, sets_status as sets_status_lem, sets_size as sets_size_lem, sets_attributes_of as sets_attributes_lem};
+ghost use Rattle.file_rules.specs.Status.{sets_status as sets_status_lem, sets_size as sets_size_lem, sets_attributes_of as sets_attributes_lem};
 ghost use Rattle.file_drives.specs.Drives.{drive_views};
 ghost use Rattle.file_drives.specs.Mounted.{HasDataFileAt, HasFileAt};
-ghost use Rattle.file_laws.specs.Kinds.{AreKinds};
-ghost use Rattle.file_state.specs.Attempt.{Attempts};
-ghost use Rattle.file_state.specs.Counted.{CalledAtMost};
+ghost use Rattle.file_state.specs.Attempt.{standing};
+ghost use Rattle.file_state.specs.Counted.{AttemptsWithin};
 ghost use Rattle.file_state.specs.Tie.{IsSound, StandsFor};
-ghost use Rattle.file_status.specs.Ends.{Ends, IsNamedInA, IsOpen, calls_of, setting_calls};
+ghost use Rattle.file_status.specs.Ends.{Ends, IsNamedInA, IsOpen, i_setstt_calls, setting_calls};
 
 use crate::ends::{answer, refuse};
 use crate::front::long_of;
@@ -56,21 +55,12 @@ pub fn set_status(
     requires first { kept_at files.old.io p.0 ≡ None }
     requires sound { IsSound files.old
         (drive_views ⟦<dyn BlockDriver as BlockDriver>⟧ devices.old.drives.items) }
-    requires named { IsNamedInA files.old
-        (drive_views ⟦<dyn BlockDriver as BlockDriver>⟧ devices.old.drives.items) s.old p.0
-        opened.now }
-    ensures call { (m : Inner) (was : Files) (terms : List TerminalState) → Represents s.old m
-        → StandsFor files.old
-        (drive_views ⟦<dyn BlockDriver as BlockDriver>⟧ devices.old.drives.items) was
-        → AreKinds was → Attempts Call.SetStt m was now p.0 result s.new files.new
-        (drive_views ⟦<dyn BlockDriver as BlockDriver>⟧ devices.new.drives.items) terms terms }
-    ensures calls { (m : Inner) (was : Files) (it : RulesFile) → Represents s.old m → StandsFor
-        files.old (drive_views ⟦<dyn BlockDriver as BlockDriver>⟧ devices.old.drives.items) was
-        → AreKinds was → open_file was p.0 (regs_at m p.0).a ≡ Some it
-        → CalledAtMost (calls_of (i_setstt_lem (asker_of m p.0 now) was)
-        (setting_calls (asker_of m p.0 now) it (regs_at m p.0).b))
-        (drive_views ⟦<dyn BlockDriver as BlockDriver>⟧ devices.old.drives.items)
-        (drive_views ⟦<dyn BlockDriver as BlockDriver>⟧ devices.new.drives.items) }
+    requires named { IsNamedInA p.0 opened.now
+        (standing ⟦<dyn BlockDriver as BlockDriver>⟧ s.old files.old devices.old.drives.items) }
+    ensures call { (terms : List TerminalState)
+        → AttemptsWithin i_setstt_calls Call.SetStt now p.0 result terms terms
+        (standing ⟦<dyn BlockDriver as BlockDriver>⟧ s.old files.old devices.old.drives.items)
+        (standing ⟦<dyn BlockDriver as BlockDriver>⟧ s.new files.new devices.new.drives.items) }
     ensures lives { IsLiving s.new.table p.0 }
     ensures terms_kept { devices.new.terms ≡ devices.old.terms }
 {

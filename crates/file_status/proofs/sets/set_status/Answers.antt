@@ -1,4 +1,4 @@
-use Rattle.std.proofs.Common.{[], refl}
+use Rattle.std.proofs.Common.{refl}
 use Rattle.call_rules.specs.Inner.{regs_at}
 use Rattle.proc_rules.specs.Records.{record_at}
 use Rattle.file_status.proofs.AttemptLemmas.{set-attempts, set-calls}
@@ -14,11 +14,11 @@ set_status_of-requires-clause-written g c may =
     data-file-there c.args.files.now _ c.args.p.0 (record_at c.args.s.now.table c.args.p.0).regs.a c.args.opened.now c.requires.sound c.requires.named may
 
 pub returns-clause-call : goal.returns-clause-call
-returns-clause-call g c m was terms tied stands kinds =
-    set-attempts m was c.args.now c.args.p.0 c.set_status_of.result c.args.s.now c.set_status_of.new.s c.args.files.now c.set_status_of.new.files _ _ c.args.opened.now terms tied stands kinds c.requires.named
-    (λ it open_is. c.set_status_of.ensures.call m was it tied stands open_is (regs_at m c.args.p.0).b refl)
-
-pub returns-clause-calls : goal.returns-clause-calls
-returns-clause-calls g c m was it tied stands kinds it_is =
-    set-calls m was c.args.now c.args.p.0 c.set_status_of.result c.args.s.now c.set_status_of.new.s c.args.files.now c.set_status_of.new.files _ _ c.args.opened.now [] tied stands kinds c.requires.named
-    (λ it open_is. c.set_status_of.ensures.call m was it tied stands open_is (regs_at m c.args.p.0).b refl) it it_is
+returns-clause-call g c terms m was tied stands kinds = record {
+  attempts =
+      set-attempts m was c.args.now c.args.p.0 c.set_status_of.result c.args.s.now c.set_status_of.new.s c.args.files.now c.set_status_of.new.files _ _ c.args.opened.now terms tied stands kinds c.requires.named
+      (λ it open_is. c.set_status_of.ensures.call m was it tied stands open_is (regs_at m c.args.p.0).b refl);
+  calls =
+      set-calls m was c.args.now c.args.p.0 c.set_status_of.result c.args.s.now c.set_status_of.new.s c.args.files.now c.set_status_of.new.files _ _ c.args.opened.now terms tied stands kinds c.requires.named
+      (λ it open_is. c.set_status_of.ensures.call m was it tied stands open_is (regs_at m c.args.p.0).b refl);
+}
