@@ -1,14 +1,11 @@
 -- I$ChgDir in two parts.
-use Rattle.std.proofs.Common.{◌≡◌, ◌∙◌, ℕ, ◌%◌, not, Bool, true, false, Option, Some, None, List, Result, Ok, Err, refl, ap, sym, subst}
-use Rattle.os9_base.specs.declared.errors.TheConstants.{E_FNA, E_MNF, E_PNNF}
+use Rattle.std.proofs.Common.{◌≡◌, ◌∙◌, ℕ, ◌%◌, not, Bool, true, false, Option, None, List, Result, Ok, Err, refl, ap, sym, subst}
+use Rattle.os9_base.specs.declared.errors.TheConstants.{E_FNA}
 use Rattle.os9_base.specs.declared.registers.Regs.{Regs}
 use Rattle.user_names.specs.declared.name_fault.NameFault.{NameFault}
 use Rattle.user_names.specs.declared.name_fault.NameFault.TheVariants.{Unreadable, NoName}
 use Rattle.io_rules.specs.Modes.{is_mode}
 use Rattle.io_rules.specs.PathList.{PathList}
-use Rattle.rbf_model.specs.File.{DiskFile}
-use Rattle.rbf_model.specs.Volume.{DiskVolume}
-use Rattle.rbf_model.specs.Walk.{WalkEnd, arrives, not_allowed, not_found, walk}
 use Rattle.file_rules.specs.ChgDir.{goes_on_way, goes_to, i_chgdir, may_go_to}
 use Rattle.call_rules.specs.Inner.{Inner, regs_at, with_regs_of}
 use Rattle.io_rules.specs.Io.{Io, with_call}
@@ -16,18 +13,25 @@ use Rattle.io_rules.specs.Step.{answers}
 use Rattle.proc_state.specs.Tie.{Represents}
 use Rattle.proc_state.specs.declared.state.ProcState.{ProcState}
 use Rattle.file_rules.specs.Attempts.{files_after}
-use Rattle.file_rules.specs.Files.{Asker, Files, directories_at, volume_at, with_directories_of, with_directory, with_drives, with_io}
+use Rattle.file_rules.specs.Files.{Asker, Files, directories_at, with_directories_of, with_directory, with_drives, with_io}
 use Rattle.file_drives.specs.Drives.{DriveView, drive_states}
 use Rattle.file_state.proofs.StateLemmas.{stands-with_io}
 use Rattle.file_state.specs.Tie.{StandsFor}
 use Rattle.file_state.specs.declared.state.FileState.{FileState}
 use Rattle.file_rules.specs.Open.{is_for_execution, tests_mode}
-use Rattle.file_rules.specs.Step.{FileStep, Step, comes, leaves, reaches, needs, refuses, with_drives_after}
-use Rattle.file_rules.specs.Way.{Way, along, to_device, nowhere, Found, list_of, reads_list, walk_ends, way_of}
+use Rattle.file_rules.specs.Step.{FileStep, Step, refused, comes, leaves, reaches, refuses, with_drives_after}
+use Rattle.file_rules.specs.Way.{Way, along, to_device, nowhere, Found, list_of, reads_list, walks, way_of}
 use Rattle.file_rules.specs.declared.places.FilePlace.{FilePlace}
 use Rattle.file_ways.specs.Ways.{mode_refusal, next_step, refuses_by}
+use Rattle.file_tree.proofs.LookLemmas.{walks-on}
 use Rattle.file_tree.specs.ChgDir.{allows_to_go, goes_there, looks_for_directory}
-use Rattle.file_tree.specs.Locating.{FoundBy, locates, locates_on}
+use Rattle.file_tree.specs.Locating.{FoundBy, found_by, locates, locates_on}
+
+-- on from a step, and on again
+on-twice : {A B E : Type 0} (step : Step A) (first : A → Step B) (last : B → Step E) → next_step (next_step step first) last ≡ next_step step (λ it. next_step (first it) last)
+on-twice (refused number) first last = refl
+on-twice (comes it) first last = refl
+on-twice (reaches drive step) first last = ap (reaches drive) (on-twice step first last)
 
 module _ (asker : Asker) (files : Files) where
   abbrev both : Step FoundBy → FileStep
@@ -38,27 +42,13 @@ module _ (asker : Asker) (files : Files) where
   tested list found false = refl
 
   module _ (list : PathList) where
-    abbrev found-by : Found → Step FoundBy
-    found-by found = comes (record { list = list; found = found })
-
-    with-found : (found : Found) → goes_to asker files list found ≡ both (found-by found)
+    with-found : (found : Found) → goes_to asker files list found ≡ next_step (allows_to_go asker (found_by list found)) (goes_there asker files)
     with-found found = tested list found (not (may_go_to found.file asker.user asker.caller.regs.a))
 
-    with-file : (drive n : ℕ) (v : DiskVolume) (file : Option DiskFile) → needs file E_PNNF (λ file. goes_to asker files list (record { place = record { drive = drive; number = n }; volume = v; file = file })) ≡ both (needs file E_PNNF (λ file. found-by (record { place = record { drive = drive; number = n }; volume = v; file = file })))
-    with-file drive n v None = refl
-    with-file drive n v (Some file) = with-found (record { place = record { drive = drive; number = n }; volume = v; file = file })
-
-    with-end : (drive : ℕ) (v : DiskVolume) (end : WalkEnd) → walk_ends drive v end (goes_to asker files list) ≡ both (walk_ends drive v end found-by)
-    with-end drive v (arrives n) = with-file drive n v (v.files n)
-    with-end drive v not_allowed = refl
-    with-end drive v not_found = refl
-
-    with-volume : (from : FilePlace) (names : List (List ℕ)) (volume : Option DiskVolume) → needs volume E_MNF (λ v. reaches from.drive (walk_ends from.drive v (walk v.files asker.user (is_for_execution asker.caller.regs.a) from.number names) (goes_to asker files list))) ≡ both (needs volume E_MNF (λ v. reaches from.drive (walk_ends from.drive v (walk v.files asker.user (is_for_execution asker.caller.regs.a) from.number names) found-by)))
-    with-volume from names None = refl
-    with-volume from names (Some v) = ap (reaches from.drive) (with-end from.drive v (walk v.files asker.user (is_for_execution asker.caller.regs.a) from.number names))
-
     with-way : (way : Way) → goes_on_way asker files list way ≡ both (locates_on asker files (is_for_execution asker.caller.regs.a) list way)
-    with-way (along from names) = with-volume from names (volume_at files from.drive)
+    with-way (along from names) =
+        walks-on asker files (is_for_execution asker.caller.regs.a) (goes_to asker files list) (λ found. comes (found_by list found)) (λ it. next_step (allows_to_go asker it) (goes_there asker files)) with-found from names
+        ∙ sym (on-twice (walks asker files (is_for_execution asker.caller.regs.a) from names (λ found. comes (found_by list found))) (allows_to_go asker) (goes_there asker files))
     with-way to_device = refl
     with-way (nowhere number) = refl
 
