@@ -1,0 +1,236 @@
+//! I$Create (System Programmer's Manual, I$Create).
+
+ghost use Rattle.std.specs.Prelude.{◌≡◌, ◌<◌, false, List, None, length, vec_len};
+ghost use Rattle.call_rules.specs.Inner.{Inner, cells_at};
+ghost use Rattle.file_drives.specs.Drives.{drive_views};
+ghost use Rattle.file_drives.specs.Entries.{IsPlaceAt};
+ghost use Rattle.file_drives.specs.Mounted.{HasFileAt};
+ghost use Rattle.file_opens.specs.Ends.{Ends};
+ghost use Rattle.file_opens.specs.Steps.{IsFoundAt, creates_along, creates_there, makes_there};
+ghost use Rattle.file_rules.specs.Attempts.{asker_of};
+ghost use Rattle.file_rules.specs.Files.{Files};
+ghost use Rattle.file_rules.specs.Way.{Found};
+ghost use Rattle.file_rules.specs.declared.path_call.PathCall.TheVariants as Call;
+ghost use Rattle.file_state.specs.Attempt.{AttemptsFrom, standing};
+ghost use Rattle.file_state.specs.Reached.{HasRead};
+ghost use Rattle.file_state.specs.Tie.{IsSound, StandsFor};
+ghost use Rattle.file_ways.specs.Walks.{SomeFrom, SomeStand};
+ghost use Rattle.guest_memory.specs.Tie.{cells_of};
+ghost use Rattle.io_rules.specs.Io.{kept_at};
+ghost use Rattle.io_rules.specs.PathList.{PathList, ends_in_dots};
+ghost use Rattle.os9_outer.specs.TerminalState.{TerminalState};
+ghost use Rattle.path_lists.specs.Standing.{NamesFrom, NamesStand};
+ghost use Rattle.proc_rules.specs.Records.{IsLiving, record_at};
+ghost use Rattle.proc_state.specs.Tie.{Represents};
+ghost use Rattle.rbf_change.specs.Names.{is_dots};
+
+use crate::begin::begin_on;
+use crate::finding::{find_way, walk_to_last_from, walker_of};
+use crate::modes::{can_write, says_directory};
+use device_table::devices::Devices;
+use file_rules::places::FilePlace;
+use file_state::state::FileState;
+use file_ways::walk::LastName;
+use file_ways::way::{Purpose, Way, mode_refusal};
+use io_model::path::Target;
+use open_calls::open::i_create as create_on_device;
+use os9_base::call::CallEnd;
+use os9_base::errors::{E_BPNAM, E_FNA, E_PTHFUL};
+use os9_base::registers::{Pid, TimePacket};
+use os9_outer::drive::BlockDriver;
+use path_calls::ends::refuse;
+use proc_state::state::ProcState;
+use rbf_make::NewPlace;
+
+/// I$Create: makes a file and opens a path on it (System Programmer's Manual, I$Create); a terminal
+/// or a pipe it opens. Takes the mode in A, the attributes in B and the address of the path list in
+/// X; answers the number of the new path, the least free one, in A, and X past the list. The file
+/// is empty, and the user of the process owns it; it is made at the time `now`.
+///
+/// # Errors
+///
+/// E$BPAddr exactly if a byte of the path list that has to be read is in no named slot or past
+/// `FFFF`; else E$BMode exactly if the mode lacks write; else those of the list, E$BPNam, E$MNF and
+/// E$PNNF, and on a drive those of the walk, E$FNA and E$PNNF; then E$FNA exactly if the directory
+/// may not be changed so or B says a directory, E$CEF exactly if the name is there, E$PthFul
+/// exactly if no number or no path is free, E$Full and E$SLF exactly if the file and its entry find
+/// no room. The number of the fault, if the drive fails: then the tree is as it was. Else nothing
+/// has changed.
+pub fn i_create(
+    s: &mut ProcState,
+    files: &mut FileState,
+    devices: &mut Devices,
+    p: Pid,
+    now: TimePacket,
+) -> CallEnd
+    requires lives { IsLiving s.old.table p.0 }
+    requires first { kept_at files.old.io p.0 ≡ None }
+    requires sound { IsSound files.old
+        (drive_views ⟦<dyn BlockDriver as BlockDriver>⟧ devices.old.drives.items) }
+    ensures call { (terms : List TerminalState) → length terms ≡ vec_len devices.old.terms
+        → AttemptsFrom Call.Create now p.0 result terms terms
+        (standing ⟦<dyn BlockDriver as BlockDriver>⟧ s.old files.old devices.old.drives.items)
+        (standing ⟦<dyn BlockDriver as BlockDriver>⟧ s.new files.new devices.new.drives.items) }
+    ensures lives { IsLiving s.new.table p.0 }
+    ensures terms_kept { devices.new.terms ≡ devices.old.terms }
+{
+    let refusal = mode_refusal(can_write(s.table.regs(p).a));
+    match find_way(s, files, devices, p, Purpose::New, refusal) {
+        Err(number) => refuse(&mut files.io, p, number),
+        Ok(route) => match route.way {
+            Way::Device => create_on_device(s, &mut files.io, p, devices),
+            Way::Along { from, first } => {
+                create_along(s, files, devices, p, from, first, route.next, now)
+            }
+        },
+    }
+}
+
+/// Creates a file by the last of the names of a path list that ends before `next`, along the others
+/// from a directory.
+fn create_along(
+    s: &mut ProcState,
+    files: &mut FileState,
+    devices: &mut Devices,
+    p: Pid,
+    from: FilePlace,
+    first: Option<u16>,
+    next: u32,
+    now: TimePacket,
+) -> CallEnd
+    requires lives { IsLiving s.old.table p.0 }
+    requires quiet { kept_at files.old.io p.0 ≡ None }
+    requires names { SomeFrom (cells_of s.old.memory p.0) first }
+    requires file { HasFileAt files.old.disks
+        (drive_views ⟦<dyn BlockDriver as BlockDriver>⟧ devices.old.drives.items) from }
+    ensures creates { (m : Inner) (was : Files) (list : PathList) (terms : List TerminalState)
+        → Represents s.old m → StandsFor files.old
+        (drive_views ⟦<dyn BlockDriver as BlockDriver>⟧ devices.old.drives.items) was
+        → NamesFrom (cells_at m p.0) first list.names → list.next ≡ next
+        → ends_in_dots list ≡ false
+        → Ends (creates_along (asker_of m p.0 now) was list from) m was now p.0 result s.new
+        files.new (drive_views ⟦<dyn BlockDriver as BlockDriver>⟧ devices.new.drives.items) terms }
+    ensures lives { IsLiving s.new.table p.0 }
+    ensures terms_kept { devices.new.terms ≡ devices.old.terms }
+{
+    match first {
+        None => refuse(&mut files.io, p, E_BPNAM),
+        Some(at) => create_from(s, files, devices, p, from, at, next, now),
+    }
+}
+
+/// Creates a file by the last of the names of a path list, of which the first stands at an address.
+fn create_from(
+    s: &mut ProcState,
+    files: &mut FileState,
+    devices: &mut Devices,
+    p: Pid,
+    from: FilePlace,
+    first: u16,
+    next: u32,
+    now: TimePacket,
+) -> CallEnd
+    requires lives { IsLiving s.old.table p.0 }
+    requires quiet { kept_at files.old.io p.0 ≡ None }
+    requires names { SomeStand (cells_of s.old.memory p.0) first }
+    requires file { HasFileAt files.old.disks
+        (drive_views ⟦<dyn BlockDriver as BlockDriver>⟧ devices.old.drives.items) from }
+    ensures creates { (m : Inner) (was : Files) (list : PathList) (terms : List TerminalState)
+        → Represents s.old m → StandsFor files.old
+        (drive_views ⟦<dyn BlockDriver as BlockDriver>⟧ devices.old.drives.items) was
+        → NamesStand (cells_at m p.0) first list.names → list.next ≡ next
+        → ends_in_dots list ≡ false
+        → Ends (creates_along (asker_of m p.0 now) was list from) m was now p.0 result s.new
+        files.new (drive_views ⟦<dyn BlockDriver as BlockDriver>⟧ devices.new.drives.items) terms }
+    ensures lives { IsLiving s.new.table p.0 }
+    ensures terms_kept { devices.new.terms ≡ devices.old.terms }
+{
+    let walker = walker_of(s, p);
+    match walk_to_last_from(s, &mut files.disks, devices, walker, from, first) {
+        Err(error) => refuse(&mut files.io, p, error.number()),
+        Ok(last) => create_in(s, files, devices, p, last, next, now),
+    }
+}
+
+/// Creates a file in a directory, by the last name of a path list.
+fn create_in(
+    s: &mut ProcState,
+    files: &mut FileState,
+    devices: &mut Devices,
+    p: Pid,
+    last: LastName,
+    next: u32,
+    now: TimePacket,
+) -> CallEnd
+    requires lives { IsLiving s.old.table p.0 }
+    requires quiet { kept_at files.old.io p.0 ≡ None }
+    requires file { HasFileAt files.old.disks
+        (drive_views ⟦<dyn BlockDriver as BlockDriver>⟧ devices.old.drives.items) last.directory }
+    ensures creates { (m : Inner) (was : Files) (list : PathList) (dir : Found)
+        (terms : List TerminalState) → Represents s.old m
+        → HasRead None last.directory.drive was files.old
+        (drive_views ⟦<dyn BlockDriver as BlockDriver>⟧ devices.old.drives.items)
+        → IsFoundAt was last.directory dir → list.next ≡ next → is_dots last.name ≡ false
+        → Ends (creates_there (asker_of m p.0 now) was list last.name dir) m was now p.0 result
+        s.new files.new
+        (drive_views ⟦<dyn BlockDriver as BlockDriver>⟧ devices.new.drives.items) terms }
+    ensures lives { IsLiving s.new.table p.0 }
+    ensures terms_kept { devices.new.terms ≡ devices.old.terms }
+{
+    let attr = s.table.regs(p).b;
+    if says_directory(attr) {
+        return refuse(&mut files.io, p, E_FNA);
+    }
+    let walker = walker_of(s, p);
+    let (user, execute) = (walker.user, walker.execute);
+    match files
+        .disks
+        .find_place(devices, last.directory, &last.name, user, execute)
+    {
+        Err(error) => refuse(&mut files.io, p, error.number()),
+        Ok(found) => create_at(s, files, devices, p, last, &found, next, now),
+    }
+}
+
+/// Creates a file at the place of a directory that was found for its name.
+fn create_at(
+    s: &mut ProcState,
+    files: &mut FileState,
+    devices: &mut Devices,
+    p: Pid,
+    last: LastName,
+    found: &NewPlace,
+    next: u32,
+    now: TimePacket,
+) -> CallEnd
+    requires lives { IsLiving s.old.table p.0 }
+    requires quiet { kept_at files.old.io p.0 ≡ None }
+    requires file { HasFileAt files.old.disks
+        (drive_views ⟦<dyn BlockDriver as BlockDriver>⟧ devices.old.drives.items) last.directory }
+    requires place { IsPlaceAt
+        (drive_views ⟦<dyn BlockDriver as BlockDriver>⟧ devices.old.drives.items)
+        last.directory last.name found.now }
+    requires user { found.now.user ≡ (record_at s.old.table p.0).user }
+    requires attributes { (record_at s.old.table p.0).regs.b < 128 }
+    ensures makes { (m : Inner) (was : Files) (list : PathList) (dir : Found)
+        (terms : List TerminalState) → Represents s.old m
+        → HasRead None last.directory.drive was files.old
+        (drive_views ⟦<dyn BlockDriver as BlockDriver>⟧ devices.old.drives.items)
+        → IsFoundAt was last.directory dir → list.next ≡ next
+        → Ends (makes_there (asker_of m p.0 now) was list last.name dir) m was now p.0 result s.new
+        files.new (drive_views ⟦<dyn BlockDriver as BlockDriver>⟧ devices.new.drives.items) terms }
+    ensures lives { IsLiving s.new.table p.0 }
+    ensures terms_kept { devices.new.terms ≡ devices.old.terms }
+{
+    let attr = s.table.regs(p).b;
+    match files.next_number(p) {
+        None => refuse(&mut files.io, p, E_PTHFUL),
+        Some(_) => match files
+            .disks
+            .create_at(devices, last.directory, found, &last.name, attr, now)
+        {
+            Err(fault) => refuse(&mut files.io, p, fault.number()),
+            Ok(n) => begin_on(s, files, p, Target::File(last.directory.drive, n), next),
+        },
+    }
+}
