@@ -1,0 +1,4 @@
+pub mod CommandLemmas
+pub mod FirstLemmas
+pub mod ReadLemmas
+pub mod StartLemmas

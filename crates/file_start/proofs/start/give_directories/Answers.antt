@@ -1,0 +1,23 @@
+use Rattle.file_drives.specs.Mounted.{mounted_at}
+use Rattle.file_start.specs.Start.{mounted_files}
+use Rattle.file_start.proofs.StartLemmas.{read-first, root-at, root-first, root-none, stands-first, without-drives}
+use Rattle.file_start.proofs.start.give_directories.Goals as goal
+
+pub give_root-requires-clause-root : goal.give_root-requires-clause-root
+give_root-requires-clause-root g c = root-at c.args.state.now _ c.in-Some.root c.requires.first c.in-Some.ensures.root
+
+pub give_root-requires-clause-first : goal.give_root-requires-clause-first
+give_root-requires-clause-first g c = root-first c.args.state.now _ c.in-Some.root c.requires.first c.in-Some.ensures.root
+
+pub returns-in-Some-clause-stands : goal.returns-in-Some-clause-stands
+returns-in-Some-clause-stands g c volumes has =
+    stands-first c.args.state.now c.give_root.new.state _ _ volumes c.in-Some.root has c.in-Some.ensures.root c.give_root.ensures.read c.give_root.result c.give_root.ensures.stands
+
+pub returns-in-Some-clause-read : goal.returns-in-Some-clause-read
+returns-in-Some-clause-read g c volumes has =
+    read-first c.args.state.now c.give_root.new.state _ _ volumes c.in-Some.root has c.in-Some.ensures.root c.give_root.ensures.read
+
+pub returns-in-None-clause-stands : goal.returns-in-None-clause-stands
+returns-in-None-clause-stands g c volumes has =
+    let files = mounted_files volumes _ in
+    without-drives volumes c.args.state.now _ (root-none (mounted_at files.volumes 0) (c.in-None.ensures.root _ files.volumes has.mounted)) has

@@ -1,0 +1,10 @@
+//! Why a machine does not start.
+
+/// Why the volumes were not mounted or the directories were not found.
+#[derive(Clone, Copy, Debug, PartialEq, Eq)]
+pub enum StartFault {
+    OutOfMemory,
+    /// A call of the drive of this number failed, with the error of this number (System
+    /// Programmer's Manual, error codes).
+    Drive(u8, u8),
+}

@@ -1,0 +1,139 @@
+//! The start.
+
+ghost use Rattle.std.specs.Prelude.{◌≡◌, ℕ, ◌≤◌, IfOk, List, [], None, Some, OnOk, length, slice_get, vec_len};
+ghost use Rattle.rbf_model.specs.Volume.{DiskVolume};
+ghost use Rattle.file_drives.specs.Drives.{DriveView, drive_views};
+ghost use Rattle.file_state.specs.Tie.{StandsFor};
+ghost use Rattle.file_start.specs.Start.{AreFirst, HasMounted, HasStarted, HaveImages, HaveVolumes, HoldVolumes, IsRootAt, OnFirst, ReadUpTo, StartMoves, StartedOn, StartsDrives, given, only_drive, root_calls, start_calls, start_fault};
+
+use crate::commands::find_commands;
+use crate::fault::StartFault;
+use crate::mounting::mount_first;
+use device_table::devices::Devices;
+use file_rules::places::{Directories, FilePlace};
+use file_state::state::FileState;
+use os9_outer::drive::BlockDriver;
+use std::alloc::Global;
+
+/// The number of the first process.
+const FIRST_PROCESS: usize = 2;
+
+/// The state of input and output at the start of a machine, whose first process is process 2: the
+/// volumes of so many first drives are mounted, and the process has the root of D0 as its directory
+/// for data, and for execution the directory CMDS in it, or the root where there is none. Without
+/// drives it has no directory (Level Two manual, "Booting"; the directories are this project's
+/// own).
+///
+/// # Errors
+///
+/// `Drive` exactly if a read of a drive fails, or out of memory.
+pub fn start_files(
+    alloc: Global,
+    drives: u8,
+    devices: &mut Devices,
+) -> Result<FileState, StartFault>
+    requires there { drives ≤ vec_len devices.old.drives }
+    requires few { vec_len devices.old.drives ≤ 4 }
+    requires volumes { HaveVolumes drives
+        (drive_views ⟦<dyn BlockDriver as BlockDriver>⟧ devices.old.drives.items) }
+    ensures started { (images : List (List ℕ)) → HaveImages drives images
+        (drive_views ⟦<dyn BlockDriver as BlockDriver>⟧ devices.old.drives.items)
+        → IfOk result (λ state. StartedOn images state
+        (drive_views ⟦<dyn BlockDriver as BlockDriver>⟧ devices.new.drives.items)) }
+    ensures drives { StartsDrives drives result
+        (drive_views ⟦<dyn BlockDriver as BlockDriver>⟧ devices.old.drives.items)
+        (drive_views ⟦<dyn BlockDriver as BlockDriver>⟧ devices.new.drives.items) }
+    ensures terms_kept { devices.new.terms ≡ devices.old.terms }
+{
+    let mut state = new_state(alloc)?;
+    mount_first(alloc, drives, &mut state, devices)?;
+    match give_directories(alloc, &mut state, devices) {
+        Ok(()) => Ok(state),
+        Err(fault) => Err(fault),
+    }
+}
+
+/// The state without a volume and without a directory.
+fn new_state(alloc: Global) -> Result<FileState, StartFault>
+    ensures state { IfOk result (λ state. (views : List DriveView) → length views ≤ 4
+        → HasMounted [] state views) }
+    ensures fault { start_fault result ≡ None }
+{
+    match FileState::new(alloc) {
+        Ok(state) => Ok(state),
+        Err(_) => Err(StartFault::OutOfMemory),
+    }
+}
+
+/// Gives the first process its directories on the volume of D0, if one is mounted there.
+///
+/// # Errors
+///
+/// `Drive` if a read of D0 fails, or out of memory.
+fn give_directories(
+    alloc: Global,
+    state: &mut FileState,
+    devices: &mut Devices,
+) -> Result<(), StartFault>
+    requires first { AreFirst state.old
+        (drive_views ⟦<dyn BlockDriver as BlockDriver>⟧ devices.old.drives.items) }
+    ensures stands { (volumes : List DiskVolume) → HasMounted volumes state.old
+        (drive_views ⟦<dyn BlockDriver as BlockDriver>⟧ devices.old.drives.items)
+        → OnOk result (HasStarted volumes state.new
+        (drive_views ⟦<dyn BlockDriver as BlockDriver>⟧ devices.new.drives.items)) }
+    ensures read { (volumes : List DiskVolume) → HasMounted volumes state.old
+        (drive_views ⟦<dyn BlockDriver as BlockDriver>⟧ devices.old.drives.items)
+        → ReadUpTo (only_drive 0 (root_calls (slice_get volumes 0)))
+        (drive_views ⟦<dyn BlockDriver as BlockDriver>⟧ devices.old.drives.items)
+        (drive_views ⟦<dyn BlockDriver as BlockDriver>⟧ devices.new.drives.items) }
+    ensures moves { StartMoves result
+        (drive_views ⟦<dyn BlockDriver as BlockDriver>⟧ devices.old.drives.items)
+        (drive_views ⟦<dyn BlockDriver as BlockDriver>⟧ devices.new.drives.items) }
+    ensures terms_kept { devices.new.terms ≡ devices.old.terms }
+{
+    match state.disks.root(0) {
+        Some(root) => give_root(alloc, state, devices, root),
+        None => Ok(()),
+    }
+}
+
+/// Gives the first process this root of D0 and the directory of commands in it.
+///
+/// # Errors
+///
+/// As [`give_directories`].
+fn give_root(
+    alloc: Global,
+    state: &mut FileState,
+    devices: &mut Devices,
+    root: FilePlace,
+) -> Result<(), StartFault>
+    requires root { IsRootAt state.old.disks
+        (drive_views ⟦<dyn BlockDriver as BlockDriver>⟧ devices.old.drives.items) root }
+    requires first { root.drive ≡ 0 }
+    ensures stands { OnFirst state.old
+        (drive_views ⟦<dyn BlockDriver as BlockDriver>⟧ devices.old.drives.items)
+        (λ files v. OnOk result (StandsFor state.new
+        (drive_views ⟦<dyn BlockDriver as BlockDriver>⟧ devices.new.drives.items) (given files v
+        (drive_views ⟦<dyn BlockDriver as BlockDriver>⟧ devices.new.drives.items)))) }
+    ensures read { OnFirst state.old
+        (drive_views ⟦<dyn BlockDriver as BlockDriver>⟧ devices.old.drives.items)
+        (λ files v. ReadUpTo (only_drive 0 (root_calls (Some v)))
+        (drive_views ⟦<dyn BlockDriver as BlockDriver>⟧ devices.old.drives.items)
+        (drive_views ⟦<dyn BlockDriver as BlockDriver>⟧ devices.new.drives.items)) }
+    ensures moves { StartMoves result
+        (drive_views ⟦<dyn BlockDriver as BlockDriver>⟧ devices.old.drives.items)
+        (drive_views ⟦<dyn BlockDriver as BlockDriver>⟧ devices.new.drives.items) }
+    ensures terms_kept { devices.new.terms ≡ devices.old.terms }
+{
+    match find_commands(alloc, &mut state.disks, devices, root) {
+        Ok(commands) => {
+            state.directories[FIRST_PROCESS] = Directories {
+                data_directory: Some(root),
+                execution_directory: Some(commands.unwrap_or(root)),
+            };
+            Ok(())
+        }
+        Err(fault) => Err(fault),
+    }
+}
