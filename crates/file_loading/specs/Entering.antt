@@ -1,0 +1,43 @@
+-- A file of modules, while they are entered as one group.
+use Rattle.std.specs.Prelude.{◌≡◌, ℕ, ◌*◌, ◌≤◌, false, Option, Some, Result, Ok, Err, List, length}
+use Rattle.guest_memory.specs.Tie.{Represents}
+use Rattle.guest_memory.specs.declared.memory.Memory.{Memory}
+use Rattle.proc_model.specs.Loading.{EntersModules}
+use Rattle.proc_model.specs.Memory.{MemoryState}
+use Rattle.proc_model.specs.ModuleList.{ModuleEntry, module_entry_at}
+use Rattle.proc_model.specs.declared.module.ModId.{ModId}
+use Rattle.file_rules.specs.Load.{Loaded, Loads}
+
+-- the module of this number is one of a group that is not the boot file's
+pub record IsOfGroup (group : List ℕ) (number : ℕ) (m : MemoryState) : Type 0 where
+  pub entry : ModuleEntry
+  pub is : module_entry_at m.modules number ≡ Some entry
+  pub group_is : entry.group ≡ group
+  pub no_boot : entry.is_boot ≡ false
+
+abbrev pub with_modules : MemoryState → List (Option ModuleEntry) → MemoryState
+with_modules m entries = record m { modules = entries }
+
+-- the modules of a file from a place on can be entered beside that of this number, whose group has room for the file
+pub record CanEnter (file : List ℕ) (number from : ℕ) (memory : Memory) : Type 0 where
+  pub m : MemoryState
+  pub represents : Represents memory m
+  pub group : List ℕ
+  pub of_group : IsOfGroup group number m
+  pub room : length file ≤ 8192 * length group
+  pub after : List (Option ModuleEntry)
+  pub enters : EntersModules file group false from m.modules (Ok after)
+
+-- ---- what comes of it
+
+-- memory has the file, and the answer is the number of its first module; or it is as it was, and the answer the refusal
+abbrev pub ComesLoaded : MemoryState → Result Loaded ℕ → Result ModId ℕ → Memory → Type 0
+ComesLoaded m (Err number) result new = (result ≡ Err number) × Represents new m
+ComesLoaded m (Ok loaded) result new =
+    (result ≡ Ok (record { 0 = loaded.first.number })) × Represents new loaded.memory
+
+-- a file is loaded, or is refused
+pub record EntersFile (file : List ℕ) (m : MemoryState) (result : Result ModId ℕ) (new : Memory) : Type 0 where
+  pub outcome : Result Loaded ℕ
+  pub loads : Loads m file outcome
+  pub comes : ComesLoaded m outcome result new

@@ -1,0 +1,7 @@
+//! The modules of a file, tried by all rules before one of them is entered.
+#![tactic(auto)]
+
+mod namesakes;
+#[cfg(test)]
+mod tests;
+pub mod trying;

@@ -1,0 +1,227 @@
+//! The file of modules to which a call's path list leads.
+
+ghost use Rattle.std.specs.Prelude.{◌≡◌, ◌≤◌, IfOk, None, length, vec_len};
+ghost use Rattle.call_rules.specs.Inner.{Inner, cells_at};
+ghost use Rattle.file_drives.specs.Drives.{drive_views};
+ghost use Rattle.file_drives.specs.Mounted.{HasFileAt};
+ghost use Rattle.file_rules.specs.Attempts.{asker_of};
+ghost use Rattle.file_rules.specs.Files.{Files};
+ghost use Rattle.file_rules.specs.ProgramFile.{program_file, program_on_way};
+ghost use Rattle.file_rules.specs.Way.{Found, along};
+ghost use Rattle.file_state.specs.Reached.{HasRead};
+ghost use Rattle.file_state.specs.Tie.{IsSound, StandsFor};
+ghost use Rattle.file_ways.specs.Walks.{SomeFrom};
+ghost use Rattle.file_ways.specs.Ways.{refuses_by};
+ghost use Rattle.guest_memory.specs.Tie.{cells_of};
+ghost use Rattle.io_rules.specs.PathList.{PathList};
+ghost use Rattle.os9_base.specs.declared.limits.TheConstants.{MOST_GROUP_BYTES as MOST};
+ghost use Rattle.os9_base.specs.declared.registers.TimePacket.{TimePacket};
+ghost use Rattle.path_lists.specs.Standing.{NamesFrom};
+ghost use Rattle.proc_rules.specs.Records.{IsLiving};
+ghost use Rattle.proc_state.specs.Tie.{IsSame, Represents};
+ghost use Rattle.program_files.specs.Calls.{found_calls, program_calls, way_calls};
+ghost use Rattle.program_files.specs.Found.{IsFoundAt, program_there};
+ghost use Rattle.program_files.specs.Reading.{ReadsTo, read_by};
+ghost use Rattle.rbf_access.specs.Reading.{IsFdOf, read_calls};
+
+use crate::found::{load_whole, program_size};
+use device_table::devices::Devices;
+use file_rules::places::FilePlace;
+use file_state::state::FileState;
+use file_ways::calls::{call_route, call_walk};
+use file_ways::walk::Walker;
+use file_ways::way::{Purpose, Query, Way};
+use os9_base::errors::E_FNA;
+use os9_base::registers::Pid;
+use os9_outer::drive::BlockDriver;
+use proc_state::state::ProcState;
+use rbf_access::FileFault;
+use rbf_sector::Fd;
+
+/// A file of modules that was read: it stands at the front of the buffer of the processes.
+#[derive(Clone, Copy, Debug, PartialEq, Eq)]
+pub struct ProgramRead {
+    /// How many bytes it has.
+    pub size: u16,
+    /// The address just past its path list.
+    pub next: u32,
+}
+
+/// Reads the file of the path list at X whole into the front of the buffer (System Programmer's
+/// Manual, F$Load). A list that names no device starts at the execution directory of the process.
+/// The file is tested as I$Open with the mode for execution tests it, and no path is begun.
+/// `refusal` is the number with which the call is refused where no byte of its list is missing.
+///
+/// # Errors
+///
+/// E$BPAddr exactly if a byte of the list that has to be read is in no named slot or past `FFFF`;
+/// else that of `refusal`, if it is one; else those of the list, E$BPNam, E$PNNF and E$MNF; E$FNA
+/// exactly if it leads to a terminal or a pipe; then those of the walk, E$FNA and E$PNNF; E$FNA,
+/// E$Share and E$MemFul as `program_size` has them. The number of the fault, if the drive fails.
+pub fn read_program(
+    s: &mut ProcState,
+    files: &mut FileState,
+    devices: &mut Devices,
+    p: Pid,
+    refusal: Option<u8>,
+) -> Result<ProgramRead, u8>
+    requires lives { IsLiving s.old.table p.0 }
+    requires sound { IsSound files.old
+        (drive_views ⟦<dyn BlockDriver as BlockDriver>⟧ devices.old.drives.items) }
+    ensures call { (m : Inner) (was : Files) (now : TimePacket) → Represents s.old m
+        → StandsFor files.old
+        (drive_views ⟦<dyn BlockDriver as BlockDriver>⟧ devices.old.drives.items) was
+        → ReadsTo (program_file (asker_of m p.0 now) was (vec_len devices.old.terms)
+        (refuses_by refusal)) (program_calls (asker_of m p.0 now) was (vec_len devices.old.terms)
+        refusal) was result s.new.buffer.items files.new
+        (drive_views ⟦<dyn BlockDriver as BlockDriver>⟧ devices.old.drives.items)
+        (drive_views ⟦<dyn BlockDriver as BlockDriver>⟧ devices.new.drives.items) }
+    ensures short { IfOk result (λ read. read.size ≤ MOST) }
+    ensures same { IsSame s.old s.new }
+    ensures terms_kept { devices.new.terms ≡ devices.old.terms }
+{
+    let query = Query {
+        process: p,
+        at: s.regs(p).x,
+        directory: files.directory(p, true),
+        purpose: Purpose::Existing,
+        refusal,
+    };
+    match call_route(s, &files.disks, devices, query) {
+        Err(number) => Err(number),
+        Ok(route) => match route.way {
+            Way::Device => Err(E_FNA),
+            Way::Along { from, first } => {
+                read_along(s, files, devices, p, from, first, route.next)
+            }
+        },
+    }
+}
+
+/// Reads the file that is reached from a directory along the names of a path list that ends before
+/// `next`.
+///
+/// # Errors
+///
+/// As `read_program` from the walk on.
+fn read_along(
+    s: &mut ProcState,
+    files: &mut FileState,
+    devices: &mut Devices,
+    p: Pid,
+    from: FilePlace,
+    first: Option<u16>,
+    next: u32,
+) -> Result<ProgramRead, u8>
+    requires lives { IsLiving s.old.table p.0 }
+    requires names { SomeFrom (cells_of s.old.memory p.0) first }
+    requires file { HasFileAt files.old.disks
+        (drive_views ⟦<dyn BlockDriver as BlockDriver>⟧ devices.old.drives.items) from }
+    ensures along { (m : Inner) (was : Files) (now : TimePacket) (list : PathList)
+        → Represents s.old m → StandsFor files.old
+        (drive_views ⟦<dyn BlockDriver as BlockDriver>⟧ devices.old.drives.items) was
+        → NamesFrom (cells_at m p.0) first list.names → next ≡ list.next
+        → ReadsTo (program_on_way (asker_of m p.0 now) was list (along from list.names))
+        (way_calls (asker_of m p.0 now) was (along from list.names)) was result
+        s.new.buffer.items files.new
+        (drive_views ⟦<dyn BlockDriver as BlockDriver>⟧ devices.old.drives.items)
+        (drive_views ⟦<dyn BlockDriver as BlockDriver>⟧ devices.new.drives.items) }
+    ensures short { IfOk result (λ read. read.size ≤ MOST) }
+    ensures same { IsSame s.old s.new }
+    ensures terms_kept { devices.new.terms ≡ devices.old.terms }
+{
+    let user = s.table.user(p);
+    let walker = Walker {
+        process: p,
+        user,
+        execute: true,
+    };
+    match call_walk(s, &mut files.disks, devices, walker, from, first) {
+        Err(error) => Err(error.number()),
+        Ok(place) => read_there(s, files, devices, user, place, next),
+    }
+}
+
+/// Reads the file at a place, by a path list that ends before `next`.
+///
+/// # Errors
+///
+/// As `read_program` behind the walk.
+fn read_there(
+    s: &mut ProcState,
+    files: &mut FileState,
+    devices: &mut Devices,
+    user: u16,
+    place: FilePlace,
+    next: u32,
+) -> Result<ProgramRead, u8>
+    requires file { HasFileAt files.old.disks
+        (drive_views ⟦<dyn BlockDriver as BlockDriver>⟧ devices.old.drives.items) place }
+    ensures there { (was : Files) (found : Found) → HasRead None place.drive was files.old
+        (drive_views ⟦<dyn BlockDriver as BlockDriver>⟧ devices.old.drives.items)
+        → IsFoundAt was place found → ReadsTo (program_there user was next found)
+        (found_calls found.file) was result s.new.buffer.items files.new
+        (drive_views ⟦<dyn BlockDriver as BlockDriver>⟧ devices.old.drives.items)
+        (drive_views ⟦<dyn BlockDriver as BlockDriver>⟧ devices.new.drives.items) }
+    ensures short { IfOk result (λ read. read.size ≤ MOST) }
+    ensures same { IsSame s.old s.new }
+    ensures terms_kept { devices.new.terms ≡ devices.old.terms }
+{
+    match files.disks.fd(devices, place) {
+        Err(fault) => Err(fault.number()),
+        Ok(fd) => read_found(s, files, devices, user, place, &fd, next),
+    }
+}
+
+/// Reads the file at a place that has this descriptor, by a path list that ends before `next`.
+///
+/// # Errors
+///
+/// Those of `program_size`, or the number of the drive's fault.
+fn read_found(
+    s: &mut ProcState,
+    files: &mut FileState,
+    devices: &mut Devices,
+    user: u16,
+    place: FilePlace,
+    fd: &Fd,
+    next: u32,
+) -> Result<ProgramRead, u8>
+    requires file { HasFileAt files.old.disks
+        (drive_views ⟦<dyn BlockDriver as BlockDriver>⟧ devices.old.drives.items) place }
+    ensures found { (was : Files) (found : Found) → HasRead None place.drive was files.old
+        (drive_views ⟦<dyn BlockDriver as BlockDriver>⟧ devices.old.drives.items)
+        → IsFoundAt was place found → IsFdOf found.file fd.now
+        → ReadsTo (program_there user was next found)
+        (read_calls found.file 0 (length found.file.contents)) was result s.new.buffer.items
+        files.new (drive_views ⟦<dyn BlockDriver as BlockDriver>⟧ devices.old.drives.items)
+        (drive_views ⟦<dyn BlockDriver as BlockDriver>⟧ devices.new.drives.items) }
+    ensures short { IfOk result (λ read. read.size ≤ MOST) }
+    ensures same { IsSame s.old s.new }
+    ensures terms_kept { devices.new.terms ≡ devices.old.terms }
+{
+    match program_size(files, place, fd, user) {
+        Err(number) => Err(number),
+        Ok(size) => read_whole(
+            load_whole(s, &mut files.disks, devices, place, size),
+            size,
+            next,
+        ),
+    }
+}
+
+/// What was read, where the file of so many bytes was loaded.
+///
+/// # Errors
+///
+/// The number of the drive's fault.
+fn read_whole(loaded: Result<(), FileFault>, size: u16, next: u32) -> Result<ProgramRead, u8>
+    requires { size ≤ MOST }
+    ensures read { result ≡ read_by loaded size next }
+    ensures short { IfOk result (λ read. read.size ≤ MOST) }
+{
+    match loaded {
+        Err(fault) => Err(fault.number()),
+        Ok(()) => Ok(ProgramRead { size, next }),
+    }
+}
