@@ -6,5 +6,3 @@ mod commands;
 pub mod fault;
 mod mounting;
 pub mod start;
-#[cfg(test)]
-mod tests;
