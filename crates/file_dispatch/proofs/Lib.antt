@@ -1,0 +1,4 @@
+pub mod Lifting
+pub mod OnCalls
+pub mod OnNumbers
+pub mod OnPaths

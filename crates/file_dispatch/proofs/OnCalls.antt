@@ -1,0 +1,52 @@
+-- All calls on paths, files and directories, by what they take.
+use Rattle.std.proofs.Common.{◌≡◌, ◌∙◌, ℕ, None, List, ap, refl, sym, subst}
+use Rattle.os9_base.specs.declared.call.CallEnd.{CallEnd}
+use Rattle.os9_base.specs.declared.registers.TimePacket.{TimePacket}
+use Rattle.os9_outer.specs.TerminalState.{TerminalState}
+use Rattle.call_rules.specs.Inner.{Inner}
+use Rattle.io_dispatch.proofs.Quiet.{is-first}
+use Rattle.io_rules.specs.Io.{kept_at}
+use Rattle.io_rules.specs.declared.io_call.IoCall.TheVariants as Device
+use Rattle.io_state.specs.Sound.{IsIo}
+use Rattle.proc_rules.specs.Records.{record_at}
+use Rattle.proc_state.specs.declared.state.ProcState.{ProcState}
+use Rattle.file_rules.specs.Files.{Files}
+use Rattle.file_rules.specs.declared.path_call.PathCall.{PathCall}
+use Rattle.file_drives.specs.Drives.{DriveView}
+use Rattle.file_state.specs.Attempt.{Attempts}
+use Rattle.file_state.specs.declared.state.FileState.{FileState}
+use Rattle.file_dispatch.specs.Attempts.{LacksMemory, MayAttempt}
+use Rattle.file_dispatch.specs.Calls.{kind_call, list_call}
+use Rattle.file_dispatch.specs.declared.calls.CallKind.{CallKind}
+use Rattle.file_dispatch.specs.declared.lists.ListCall.{ListCall}
+use Rattle.file_dispatch.specs.declared.lists.ListCall.TheVariants as Listed
+
+-- a call that takes a path list is at its first attempt
+pub list-first : (list : ListCall) (processes : ProcState) (state : FileState) (p terms : ℕ) → IsIo state.io → MayAttempt (list_call list) processes state p terms → kept_at state.io p ≡ None
+list-first Listed.Create processes state p terms sound may = is-first Device.Create (record_at processes.table p).regs state.io p refl sound may.again
+list-first Listed.Open processes state p terms sound may = is-first Device.Open (record_at processes.table p).regs state.io p refl sound may.again
+list-first Listed.MakDir processes state p terms sound may = may
+list-first Listed.ChgDir processes state p terms sound may = may
+list-first Listed.Delete processes state p terms sound may = may
+list-first Listed.DeletX processes state p terms sound may = may
+
+module _ (call other : ListCall) (m : Inner) (files : Files) (now : TimePacket) (p : ℕ) (is : call ≡ other) where
+  pub list-as : (end : CallEnd) (processes : ProcState) (new : FileState) (views : List DriveView) (before after : List TerminalState) → Attempts (list_call other) m files now p end processes new views before after → Attempts (list_call call) m files now p end processes new views before after
+  list-as end processes new views before after attempts =
+      subst (λ (call : ListCall). Attempts (list_call call) m files now p end processes new views before after) (sym is) attempts
+
+-- the call that a kind of call is
+pub call-is : (kind other : CallKind) (call : PathCall) → kind ≡ other → kind_call kind ≡ call → kind_call other ≡ call
+call-is kind other call is known = sym (ap kind_call is) ∙ known
+
+pub may-as : (call other : PathCall) (processes : ProcState) (state : FileState) (p terms : ℕ) → other ≡ call → MayAttempt call processes state p terms → MayAttempt other processes state p terms
+may-as call other processes state p terms is may = subst (λ (c : PathCall). MayAttempt c processes state p terms) (sym is) may
+
+-- what comes of a call is what comes of the one that it is
+module _ (call other : PathCall) (m : Inner) (files : Files) (now : TimePacket) (p : ℕ) (is : other ≡ call) where
+  pub call-attempts : (end : CallEnd) (processes : ProcState) (new : FileState) (views : List DriveView) (before after : List TerminalState) → Attempts other m files now p end processes new views before after → Attempts call m files now p end processes new views before after
+  call-attempts end processes new views before after attempts =
+      subst (λ (c : PathCall). Attempts c m files now p end processes new views before after) is attempts
+
+  pub call-lacks : (before after : List TerminalState) → LacksMemory other m files now p before after → LacksMemory call m files now p before after
+  call-lacks before after lacks = subst (λ (c : PathCall). LacksMemory c m files now p before after) is lacks

@@ -1,0 +1,40 @@
+-- Calls on the number of a path, by their names.
+use Rattle.std.proofs.Common.{◌≡◌, ◌≢◌, ℕ, List, sym, subst}
+use Rattle.os9_base.specs.declared.call.CallEnd.{CallEnd}
+use Rattle.os9_base.specs.declared.call.CallEnd.TheVariants.{NoMemory}
+use Rattle.os9_base.specs.declared.registers.TimePacket.{TimePacket}
+use Rattle.os9_outer.specs.TerminalState.{TerminalState}
+use Rattle.call_rules.specs.Inner.{Inner}
+use Rattle.io_dispatch.specs.Staying.{MayAttempt as MayAttemptOnDevice}
+use Rattle.proc_state.specs.declared.state.ProcState.{ProcState}
+use Rattle.file_rules.specs.Files.{Files}
+use Rattle.file_drives.specs.Drives.{DriveView}
+use Rattle.file_state.specs.Attempt.{Attempts}
+use Rattle.file_state.specs.declared.state.FileState.{FileState}
+use Rattle.file_dispatch.specs.Attempts.{LacksMemory, MayAttempt, Tries}
+use Rattle.file_dispatch.specs.Numbers.{number_call}
+use Rattle.file_dispatch.specs.Uses.{call_of, device_of}
+use Rattle.file_dispatch.specs.declared.numbers.NumberCall.{NumberCall}
+use Rattle.file_dispatch.specs.declared.path_use.PathUse.{PathUse}
+use Rattle.file_dispatch.specs.declared.path_use.PathUse.TheVariants as Use
+
+-- what a use of a path asks for
+pub may-use : (used : PathUse) (processes : ProcState) (state : FileState) (p terms : ℕ) → MayAttempt (call_of used) processes state p terms → MayAttemptOnDevice (device_of used) processes state.io p terms
+may-use Use.Read processes state p terms may = may
+may-use Use.ReadLn processes state p terms may = may
+may-use Use.Write processes state p terms may = may
+may-use Use.WritLn processes state p terms may = may
+may-use Use.GetStt processes state p terms may = may
+may-use Use.SetStt processes state p terms may = may
+may-use Use.PErr processes state p terms may = may
+
+-- what comes of a call is what comes of the one that it is
+module _ (call other : NumberCall) (m : Inner) (files : Files) (now : TimePacket) (p : ℕ) (is : call ≡ other) (end : CallEnd) (processes : ProcState) (new : FileState) (views : List DriveView) (before after : List TerminalState) (tries : Tries (number_call other) m files now p end processes new views before after) where
+  here : Tries (number_call call) m files now p end processes new views before after
+  here = subst (λ (call : NumberCall). Tries (number_call call) m files now p end processes new views before after) (sym is) tries
+
+  pub number-attempts : end ≢ NoMemory → Attempts (number_call call) m files now p end processes new views before after
+  number-attempts differ = here.attempted differ
+
+  pub number-lacks : end ≡ NoMemory → LacksMemory (number_call call) m files now p before after
+  number-lacks is = here.memory is

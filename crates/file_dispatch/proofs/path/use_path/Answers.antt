@@ -1,0 +1,16 @@
+use Rattle.std.proofs.Common.{◌∙◌}
+use Rattle.file_bytes.proofs.TryingLemmas.{regs-tied}
+use Rattle.file_dispatch.proofs.Lifting.{tries-of}
+use Rattle.file_dispatch.proofs.OnPaths.{none-named, on-device-as}
+use Rattle.file_dispatch.specs.Uses.{call_of, device_of}
+use Rattle.file_dispatch.proofs.path.use_path.Goals as goal
+
+pub returns-in-Some-clause-call : goal.returns-in-Some-clause-call
+returns-in-Some-clause-call g c m was tied stands kinds =
+    rw c.use_file.ensures.terms_kept (tries-of (call_of c.args.call) m was c.args.now c.args.p.0 c.use_file.result c.use_file.new.s c.use_file.new.files _ _ _ (c.use_file.ensures.call m was _ tied stands kinds))
+
+pub returns-in-None-clause-call : goal.returns-in-None-clause-call
+returns-in-None-clause-call g c m was tied stands kinds =
+    let p = c.args.p.0 in
+    let none = none-named was p (device_of c.args.call) m c.regs.result c.path_number-number.result c.path_number-number.ensures (c.regs.ensures.regs ∙ regs-tied c.args.s.now m p tied) (c.in-None.ensures.file _ was stands kinds) in
+    c.attempt_on_device.ensures.call (call_of c.args.call) m was c.args.now tied stands (on-device-as m was c.args.now p _ _ c.args.call c.on_device.result c.on_device.ensures none)

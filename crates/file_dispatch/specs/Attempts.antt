@@ -1,0 +1,56 @@
+-- What attempts of the calls on paths, files and directories ask for, and what comes of them (System Programmer's
+-- Manual, "I/O service requests"; Level Two manual, "I/O system").
+use Rattle.std.specs.Prelude.{◌≡◌, ◌≢◌, ℕ, Option, Some, None, List, length}
+use Rattle.os9_base.specs.declared.call.CallEnd.{CallEnd}
+use Rattle.os9_base.specs.declared.call.CallEnd.TheVariants.{NoMemory}
+use Rattle.os9_base.specs.declared.registers.TimePacket.{TimePacket}
+use Rattle.os9_outer.specs.TerminalState.{TerminalState}
+use Rattle.call_rules.specs.Inner.{Inner}
+use Rattle.io_rules.specs.Attempts.{caller_of, step_of}
+use Rattle.io_rules.specs.Io.{Io, kept_at}
+use Rattle.io_rules.specs.Step.{IoStep}
+use Rattle.io_rules.specs.declared.io_call.IoCall.{IoCall}
+use Rattle.io_dispatch.specs.Staying.{MayAttempt as MayAttemptOnDevice}
+use Rattle.proc_state.specs.declared.state.ProcState.{ProcState}
+use Rattle.stream_calls.specs.Trying.{WantsMemory}
+use Rattle.file_rules.specs.Attempts.{asker_of, file_step}
+use Rattle.file_rules.specs.Files.{Files}
+use Rattle.file_rules.specs.Step.{as_io, deed_of}
+use Rattle.file_rules.specs.declared.path_call.PathCall.{PathCall}
+use Rattle.file_drives.specs.Drives.{DriveView}
+use Rattle.file_state.specs.Attempt.{Attempts}
+use Rattle.file_state.specs.declared.state.FileState.{FileState}
+use Rattle.touch_laws.specs.Devices.{device_call}
+
+-- ---- terminals and pipes
+
+-- what a call of a process does is what this one does on a machine with so many drives, with these terminals
+abbrev pub IsOnDevice : PathCall → IoCall → Inner → Files → TimePacket → ℕ → ℕ → List TerminalState → Type 0
+IsOnDevice call device m files now p drives terms =
+    deed_of (file_step call (asker_of m p now) files (length terms)) files
+    ≡ as_io (step_of device m p files.io drives terms)
+
+-- ---- attempts
+
+-- a process may attempt the call, on a machine with so many terminals: a call of it that waits is this one
+abbrev pub MayAttemptAs : Option IoCall → ProcState → Io → ℕ → ℕ → Type 0
+MayAttemptAs None processes io p terms = kept_at io p ≡ None
+MayAttemptAs (Some device) processes io p terms = MayAttemptOnDevice device processes io p terms
+
+abbrev pub MayAttempt : PathCall → ProcState → FileState → ℕ → ℕ → Type 0
+MayAttempt call processes state p terms = MayAttemptAs (device_call call) processes state.io p terms
+
+-- an attempt is on a terminal, and memory was wanting for a byte that was to be put there
+pub record LacksMemory (call : PathCall) (m : Inner) (files : Files) (now : TimePacket) (p : ℕ)
+    (before after : List TerminalState) : Type 0 where
+  pub step : IoStep
+  pub on_device : deed_of (file_step call (asker_of m p now) files (length before)) files ≡ as_io step
+  pub wants : WantsMemory step (caller_of m p) files.io before after
+
+-- a process tries a call, at a time: the attempt of it ends so, and these are the processes, the files and the
+-- terminals then, or memory was wanting
+pub record Tries (call : PathCall) (m : Inner) (files : Files) (now : TimePacket) (p : ℕ) (end : CallEnd)
+    (processes : ProcState) (new : FileState) (views : List DriveView) (before after : List TerminalState)
+    : Type 0 where
+  pub attempted : end ≢ NoMemory → Attempts call m files now p end processes new views before after
+  pub memory : end ≡ NoMemory → LacksMemory call m files now p before after

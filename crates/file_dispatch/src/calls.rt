@@ -1,0 +1,103 @@
+//! The calls on paths, files and directories by their names.
+
+ghost use Rattle.std.specs.Prelude.{◌≡◌, ◌≢◌, vec_len};
+ghost use Rattle.call_rules.specs.Inner.{Inner};
+ghost use Rattle.file_dispatch.specs.Attempts.{LacksMemory, MayAttempt};
+ghost use Rattle.file_dispatch.specs.Calls.{kind_call};
+ghost use Rattle.file_drives.specs.Drives.{drive_views};
+ghost use Rattle.file_laws.specs.Kinds.{AreKinds};
+ghost use Rattle.file_rules.specs.Files.{Files};
+ghost use Rattle.file_state.specs.Attempt.{Attempts};
+ghost use Rattle.file_state.specs.Tie.{IsSound, StandsFor};
+ghost use Rattle.os9_outer.specs.TerminalState.{terminal_states};
+ghost use Rattle.proc_rules.specs.Records.{IsLiving};
+ghost use Rattle.proc_state.specs.Tie.{Represents};
+
+use crate::lists::{ListCall, attempt_on_list};
+use crate::numbers::{NumberCall, attempt_on_number};
+use crate::path_use::PathUse;
+use device_table::devices::Devices;
+use file_rules::path_call::PathCall;
+use file_state::state::FileState;
+use os9_base::call::CallEnd;
+use os9_base::registers::{Pid, TimePacket};
+use os9_outer::drive::BlockDriver;
+use os9_outer::terminal::CharDriver;
+use proc_state::state::ProcState;
+
+/// What a call takes: the number of a path, or a path list.
+#[derive(Clone, Copy, Debug, PartialEq, Eq)]
+pub enum CallKind {
+    /// The number of a path.
+    Number(NumberCall),
+    /// A path list.
+    List(ListCall),
+}
+
+/// What a call takes.
+fn kind_of(call: PathCall) -> CallKind
+    ensures { kind_call result ≡ call }
+{
+    match call {
+        PathCall::Dup => CallKind::Number(NumberCall::Dup),
+        PathCall::Create => CallKind::List(ListCall::Create),
+        PathCall::Open => CallKind::List(ListCall::Open),
+        PathCall::MakDir => CallKind::List(ListCall::MakDir),
+        PathCall::ChgDir => CallKind::List(ListCall::ChgDir),
+        PathCall::Delete => CallKind::List(ListCall::Delete),
+        PathCall::DeletX => CallKind::List(ListCall::DeletX),
+        PathCall::Seek => CallKind::Number(NumberCall::Seek),
+        PathCall::Read => CallKind::Number(NumberCall::Use(PathUse::Read)),
+        PathCall::Write => CallKind::Number(NumberCall::Use(PathUse::Write)),
+        PathCall::ReadLn => CallKind::Number(NumberCall::Use(PathUse::ReadLn)),
+        PathCall::WritLn => CallKind::Number(NumberCall::Use(PathUse::WritLn)),
+        PathCall::GetStt => CallKind::Number(NumberCall::Use(PathUse::GetStt)),
+        PathCall::SetStt => CallKind::Number(NumberCall::Use(PathUse::SetStt)),
+        PathCall::Close => CallKind::Number(NumberCall::Close),
+        PathCall::PErr => CallKind::Number(NumberCall::Use(PathUse::PErr)),
+    }
+}
+
+/// An attempt, at a time, of a call on paths, files and directories by a process that lives (System
+/// Programmer's Manual, "I/O service requests"). Its process is not told yet what it comes to.
+/// Where a call of the process waits, this is a further attempt of it, with the registers that it
+/// was made with. `NoMemory` comes only where a byte was to be put on a terminal.
+///
+/// # Errors
+///
+/// Those of the calls, in the order of their definitions.
+pub fn attempt(
+    s: &mut ProcState,
+    files: &mut FileState,
+    p: Pid,
+    call: PathCall,
+    now: TimePacket,
+    devices: &mut Devices,
+) -> CallEnd
+    requires lives { IsLiving s.old.table p.0 }
+    requires may { MayAttempt call s.old files.old p.0 (vec_len devices.old.terms) }
+    requires sound { IsSound files.old
+        (drive_views ⟦<dyn BlockDriver as BlockDriver>⟧ devices.old.drives.items) }
+    ensures call { (m : Inner) (was : Files) → Represents s.old m → StandsFor files.old
+        (drive_views ⟦<dyn BlockDriver as BlockDriver>⟧ devices.old.drives.items) was → AreKinds was
+        → result ≢ CallEnd.NoMemory → Attempts call m was now p.0 result s.new files.new
+        (drive_views ⟦<dyn BlockDriver as BlockDriver>⟧ devices.new.drives.items)
+        (terminal_states ⟦<dyn CharDriver as CharDriver>⟧ devices.old.terms.items)
+        (terminal_states ⟦<dyn CharDriver as CharDriver>⟧ devices.new.terms.items) }
+    ensures memory { (m : Inner) (was : Files) → Represents s.old m → StandsFor files.old
+        (drive_views ⟦<dyn BlockDriver as BlockDriver>⟧ devices.old.drives.items) was → AreKinds was
+        → result ≡ CallEnd.NoMemory → LacksMemory call m was now p.0
+        (terminal_states ⟦<dyn CharDriver as CharDriver>⟧ devices.old.terms.items)
+        (terminal_states ⟦<dyn CharDriver as CharDriver>⟧ devices.new.terms.items) }
+    ensures lives { IsLiving s.new.table p.0 }
+    ensures count { vec_len devices.new.terms ≡ vec_len devices.old.terms }
+{
+    match kind_of(call) {
+        CallKind::Number(number) => attempt_on_number(s, files, p, number, now, devices),
+        CallKind::List(list) => {
+            // A call that takes a path list is at its first attempt.
+            prove!(files.io.kept(p).is_none());
+            attempt_on_list(s, files, p, list, now, devices)
+        }
+    }
+}

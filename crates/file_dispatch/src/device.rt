@@ -1,0 +1,57 @@
+//! Calls on terminals and pipes, as calls on paths, files and directories.
+
+ghost use Rattle.std.specs.Prelude.{◌≡◌, vec_len};
+ghost use Rattle.call_rules.specs.Inner.{Inner};
+ghost use Rattle.file_dispatch.specs.Attempts.{IsOnDevice, Tries};
+ghost use Rattle.file_drives.specs.Drives.{drive_views};
+ghost use Rattle.file_rules.specs.Files.{Files};
+ghost use Rattle.file_rules.specs.declared.path_call.PathCall.{PathCall};
+ghost use Rattle.file_state.specs.Tie.{StandsFor};
+ghost use Rattle.io_dispatch.specs.Staying.{MayAttempt};
+ghost use Rattle.os9_base.specs.declared.registers.TimePacket.{TimePacket};
+ghost use Rattle.os9_outer.specs.TerminalState.{terminal_states};
+ghost use Rattle.proc_rules.specs.Records.{IsLiving};
+ghost use Rattle.proc_state.specs.Tie.{Represents};
+
+use device_table::devices::Devices;
+use file_state::state::FileState;
+use io_dispatch::attempt;
+use io_rules::io_call::IoCall;
+use os9_base::call::CallEnd;
+use os9_base::registers::Pid;
+use os9_outer::drive::BlockDriver;
+use os9_outer::terminal::CharDriver;
+use proc_state::state::ProcState;
+
+/// An attempt of a call on terminals and pipes, in the state of files: it is that of each call on
+/// paths, files and directories that comes to this one (System Programmer's Manual, "I/O service
+/// requests"). No drive is called, and volumes and directories stay. `NoMemory` comes only where a
+/// byte was to be put on a terminal.
+///
+/// # Errors
+///
+/// Those of the calls, in the order of their definitions.
+pub fn attempt_on_device(
+    s: &mut ProcState,
+    files: &mut FileState,
+    p: Pid,
+    device: IoCall,
+    devices: &mut Devices,
+) -> CallEnd
+    requires lives { IsLiving s.old.table p.0 }
+    requires may { MayAttempt device s.old files.old.io p.0 (vec_len devices.old.terms) }
+    ensures call { (call : PathCall) (m : Inner) (was : Files) (now : TimePacket)
+        → Represents s.old m → StandsFor files.old
+        (drive_views ⟦<dyn BlockDriver as BlockDriver>⟧ devices.old.drives.items) was
+        → IsOnDevice call device m was now p.0 (vec_len devices.old.drives)
+        (terminal_states ⟦<dyn CharDriver as CharDriver>⟧ devices.old.terms.items)
+        → Tries call m was now p.0 result s.new files.new
+        (drive_views ⟦<dyn BlockDriver as BlockDriver>⟧ devices.new.drives.items)
+        (terminal_states ⟦<dyn CharDriver as CharDriver>⟧ devices.old.terms.items)
+        (terminal_states ⟦<dyn CharDriver as CharDriver>⟧ devices.new.terms.items) }
+    ensures lives { IsLiving s.new.table p.0 }
+    ensures drives { devices.new.drives ≡ devices.old.drives }
+    ensures count { vec_len devices.new.terms ≡ vec_len devices.old.terms }
+{
+    attempt(s, &mut files.io, p, device, devices)
+}

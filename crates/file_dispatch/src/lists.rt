@@ -1,0 +1,81 @@
+//! Calls that take a path list.
+
+ghost use Rattle.std.specs.Prelude.{◌≡◌, None, List, length, vec_len};
+ghost use Rattle.call_rules.specs.Inner.{Inner};
+ghost use Rattle.file_dispatch.specs.Calls.{list_call};
+ghost use Rattle.file_drives.specs.Drives.{drive_views};
+ghost use Rattle.file_laws.specs.Kinds.{AreKinds};
+ghost use Rattle.file_rules.specs.Files.{Files};
+ghost use Rattle.file_state.specs.Attempt.{Attempts};
+ghost use Rattle.file_state.specs.Tie.{IsSound, StandsFor};
+ghost use Rattle.io_rules.specs.Io.{kept_at};
+ghost use Rattle.os9_outer.specs.TerminalState.{TerminalState};
+ghost use Rattle.proc_rules.specs.Records.{IsLiving};
+ghost use Rattle.proc_state.specs.Tie.{Represents};
+
+use device_table::devices::Devices;
+use file_opens::create::i_create;
+use file_opens::open::i_open;
+use file_state::state::FileState;
+use file_tree::chgdir::i_chgdir;
+use file_tree::delete::{i_delete, i_deletx};
+use file_tree::makdir::i_makdir;
+use os9_base::call::CallEnd;
+use os9_base::registers::{Pid, TimePacket};
+use os9_outer::drive::BlockDriver;
+use proc_state::state::ProcState;
+
+/// A call that takes a path list (System Programmer's Manual, "I/O service requests").
+#[derive(Clone, Copy, Debug, PartialEq, Eq)]
+pub enum ListCall {
+    /// I$Create: makes a file; opens a terminal or a pipe.
+    Create,
+    /// I$Open: opens a path.
+    Open,
+    /// I$MakDir: makes a directory.
+    MakDir,
+    /// I$ChgDir: changes a directory of the process.
+    ChgDir,
+    /// I$Delete: deletes a file.
+    Delete,
+    /// I$DeletX: deletes a file, from the directory that the mode chooses.
+    DeletX,
+}
+
+/// An attempt, at a time, of a call that takes a path list by a process that lives (System
+/// Programmer's Manual, "I/O service requests"). Its process is not told yet what it comes to. It
+/// never waits, and no byte is put on a terminal.
+///
+/// # Errors
+///
+/// Those of the calls, in the order of their definitions.
+pub fn attempt_on_list(
+    s: &mut ProcState,
+    files: &mut FileState,
+    p: Pid,
+    call: ListCall,
+    now: TimePacket,
+    devices: &mut Devices,
+) -> CallEnd
+    requires lives { IsLiving s.old.table p.0 }
+    requires first { kept_at files.old.io p.0 ≡ None }
+    requires sound { IsSound files.old
+        (drive_views ⟦<dyn BlockDriver as BlockDriver>⟧ devices.old.drives.items) }
+    ensures call { (m : Inner) (was : Files) (terms : List TerminalState) → Represents s.old m
+        → StandsFor files.old
+        (drive_views ⟦<dyn BlockDriver as BlockDriver>⟧ devices.old.drives.items) was → AreKinds was
+        → length terms ≡ vec_len devices.old.terms
+        → Attempts (list_call call) m was now p.0 result s.new files.new
+        (drive_views ⟦<dyn BlockDriver as BlockDriver>⟧ devices.new.drives.items) terms terms }
+    ensures lives { IsLiving s.new.table p.0 }
+    ensures terms_kept { devices.new.terms ≡ devices.old.terms }
+{
+    match call {
+        ListCall::Create => i_create(s, files, devices, p, now),
+        ListCall::Open => i_open(s, files, devices, p),
+        ListCall::MakDir => i_makdir(s, files, devices, p, now),
+        ListCall::ChgDir => i_chgdir(s, files, devices, p),
+        ListCall::Delete => i_delete(s, files, devices, p),
+        ListCall::DeletX => i_deletx(s, files, devices, p),
+    }
+}

@@ -1,0 +1,83 @@
+//! Calls on the number of a path.
+
+ghost use Rattle.std.specs.Prelude.{◌≡◌, ◌≢◌, vec_len};
+ghost use Rattle.call_rules.specs.Inner.{Inner};
+ghost use Rattle.file_dispatch.specs.Attempts.{LacksMemory, MayAttempt};
+ghost use Rattle.file_dispatch.specs.Numbers.{number_call};
+ghost use Rattle.file_drives.specs.Drives.{drive_views};
+ghost use Rattle.file_laws.specs.Kinds.{AreKinds};
+ghost use Rattle.file_rules.specs.Files.{Files};
+ghost use Rattle.file_state.specs.Attempt.{Attempts};
+ghost use Rattle.file_state.specs.Tie.{IsSound, StandsFor};
+ghost use Rattle.os9_outer.specs.TerminalState.{terminal_states};
+ghost use Rattle.proc_rules.specs.Records.{IsLiving};
+ghost use Rattle.proc_state.specs.Tie.{Represents};
+
+use crate::device::attempt_on_device;
+use crate::path::{seek_path, use_path};
+use crate::path_use::PathUse;
+use device_table::devices::Devices;
+use file_state::state::FileState;
+use io_rules::io_call::IoCall;
+use os9_base::call::CallEnd;
+use os9_base::registers::{Pid, TimePacket};
+use os9_outer::drive::BlockDriver;
+use os9_outer::terminal::CharDriver;
+use proc_state::state::ProcState;
+
+/// A call on the number of a path: one that takes no path list (System Programmer's Manual, "I/O
+/// service requests").
+#[derive(Clone, Copy, Debug, PartialEq, Eq)]
+pub enum NumberCall {
+    /// I$Dup: gives a path another number.
+    Dup,
+    /// I$Seek: sets the position of a path.
+    Seek,
+    /// I$Close: closes a path number.
+    Close,
+    /// A use of the path.
+    Use(PathUse),
+}
+
+/// An attempt, at a time, of a call on the number of a path by a process that lives (System
+/// Programmer's Manual, "I/O service requests"). Its process is not told yet what it comes to.
+/// Where a call of the process waits, this is a further attempt of it. `NoMemory` comes only where
+/// a byte was to be put on a terminal.
+///
+/// # Errors
+///
+/// Those of the calls, in the order of their definitions.
+pub fn attempt_on_number(
+    s: &mut ProcState,
+    files: &mut FileState,
+    p: Pid,
+    call: NumberCall,
+    now: TimePacket,
+    devices: &mut Devices,
+) -> CallEnd
+    requires lives { IsLiving s.old.table p.0 }
+    requires may { MayAttempt (number_call call) s.old files.old p.0 (vec_len devices.old.terms) }
+    requires sound { IsSound files.old
+        (drive_views ⟦<dyn BlockDriver as BlockDriver>⟧ devices.old.drives.items) }
+    ensures call { (m : Inner) (was : Files) → Represents s.old m → StandsFor files.old
+        (drive_views ⟦<dyn BlockDriver as BlockDriver>⟧ devices.old.drives.items) was → AreKinds was
+        → result ≢ CallEnd.NoMemory
+        → Attempts (number_call call) m was now p.0 result s.new files.new
+        (drive_views ⟦<dyn BlockDriver as BlockDriver>⟧ devices.new.drives.items)
+        (terminal_states ⟦<dyn CharDriver as CharDriver>⟧ devices.old.terms.items)
+        (terminal_states ⟦<dyn CharDriver as CharDriver>⟧ devices.new.terms.items) }
+    ensures memory { (m : Inner) (was : Files) → Represents s.old m → StandsFor files.old
+        (drive_views ⟦<dyn BlockDriver as BlockDriver>⟧ devices.old.drives.items) was → AreKinds was
+        → result ≡ CallEnd.NoMemory → LacksMemory (number_call call) m was now p.0
+        (terminal_states ⟦<dyn CharDriver as CharDriver>⟧ devices.old.terms.items)
+        (terminal_states ⟦<dyn CharDriver as CharDriver>⟧ devices.new.terms.items) }
+    ensures lives { IsLiving s.new.table p.0 }
+    ensures count { vec_len devices.new.terms ≡ vec_len devices.old.terms }
+{
+    match call {
+        NumberCall::Dup => attempt_on_device(s, files, p, IoCall::Dup, devices),
+        NumberCall::Seek => seek_path(s, files, p),
+        NumberCall::Close => attempt_on_device(s, files, p, IoCall::Close, devices),
+        NumberCall::Use(used) => use_path(s, files, p, used, now, devices),
+    }
+}

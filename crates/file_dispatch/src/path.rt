@@ -1,0 +1,130 @@
+//! Calls that use an open path, by what it was opened on.
+
+ghost use Rattle.std.specs.Prelude.{◌≡◌, List, None, vec_len};
+ghost use Rattle.call_rules.specs.Inner.{Inner};
+ghost use Rattle.file_bytes.specs.Opened.{IsOpened};
+ghost use Rattle.file_dispatch.specs.Attempts.{Tries};
+ghost use Rattle.file_dispatch.specs.Uses.{call_of, device_of};
+ghost use Rattle.file_drives.specs.Drives.{DriveView, drive_views};
+ghost use Rattle.file_laws.specs.Kinds.{AreKinds};
+ghost use Rattle.file_rules.specs.Files.{Files};
+ghost use Rattle.file_rules.specs.declared.path_call.PathCall.TheVariants as Call;
+ghost use Rattle.file_state.specs.Attempt.{Attempts};
+ghost use Rattle.file_state.specs.Tie.{IsSound, StandsFor};
+ghost use Rattle.io_dispatch.specs.Staying.{MayAttempt};
+ghost use Rattle.io_rules.specs.Again.{IsAgain, path_number};
+ghost use Rattle.io_rules.specs.Io.{kept_at};
+ghost use Rattle.os9_base.specs.declared.registers.TimePacket.{TimePacket};
+ghost use Rattle.os9_outer.specs.TerminalState.{TerminalState, terminal_states};
+ghost use Rattle.proc_rules.specs.Records.{IsLiving, record_at};
+ghost use Rattle.proc_state.specs.Tie.{Represents};
+
+use crate::device::attempt_on_device;
+use crate::path_use::PathUse;
+use device_table::devices::Devices;
+use file_bytes::reads::{read, read_line};
+use file_bytes::seeks::{seek, seek_nothing};
+use file_bytes::writes::{write, write_error, write_line};
+use file_state::state::{FileState, OpenFile};
+use file_status::gets::get_status;
+use file_status::sets::set_status;
+use os9_base::call::CallEnd;
+use os9_base::registers::{Pid, TimePacket};
+use os9_outer::drive::BlockDriver;
+use os9_outer::terminal::CharDriver;
+use proc_state::state::ProcState;
+
+/// An attempt, at a time, of a call that uses an open path, by a process that lives (System
+/// Programmer's Manual, "I/O service requests"): on a file or a directory it is that of files, and
+/// else that of terminals and pipes. Where a call of the process waits, this is a further attempt
+/// of it. `NoMemory` comes only where a byte was to be put on a terminal.
+///
+/// # Errors
+///
+/// Those of the calls, in the order of their definitions.
+pub fn use_path(
+    s: &mut ProcState,
+    files: &mut FileState,
+    p: Pid,
+    call: PathUse,
+    now: TimePacket,
+    devices: &mut Devices,
+) -> CallEnd
+    requires lives { IsLiving s.old.table p.0 }
+    requires may { MayAttempt (device_of call) s.old files.old.io p.0 (vec_len devices.old.terms) }
+    requires sound { IsSound files.old
+        (drive_views ⟦<dyn BlockDriver as BlockDriver>⟧ devices.old.drives.items) }
+    ensures call { (m : Inner) (was : Files) → Represents s.old m → StandsFor files.old
+        (drive_views ⟦<dyn BlockDriver as BlockDriver>⟧ devices.old.drives.items) was → AreKinds was
+        → Tries (call_of call) m was now p.0 result s.new files.new
+        (drive_views ⟦<dyn BlockDriver as BlockDriver>⟧ devices.new.drives.items)
+        (terminal_states ⟦<dyn CharDriver as CharDriver>⟧ devices.old.terms.items)
+        (terminal_states ⟦<dyn CharDriver as CharDriver>⟧ devices.new.terms.items) }
+    ensures lives { IsLiving s.new.table p.0 }
+    ensures count { vec_len devices.new.terms ≡ vec_len devices.old.terms }
+{
+    let number = call.path_number(s.table.regs(p));
+    match files.open_file(p, number) {
+        Some(opened) => use_file(s, files, p, call, &opened, now, devices),
+        None => attempt_on_device(s, files, p, call.on_device(), devices),
+    }
+}
+
+/// On the file or directory that the number of its path names.
+fn use_file(
+    s: &mut ProcState,
+    files: &mut FileState,
+    p: Pid,
+    call: PathUse,
+    opened: &OpenFile,
+    now: TimePacket,
+    devices: &mut Devices,
+) -> CallEnd
+    requires lives { IsLiving s.old.table p.0 }
+    requires again { IsAgain (device_of call) (record_at s.old.table p.0).regs files.old.io p.0 }
+    requires sound { IsSound files.old
+        (drive_views ⟦<dyn BlockDriver as BlockDriver>⟧ devices.old.drives.items) }
+    requires opened { IsOpened files.old p.0
+        (path_number (device_of call) (record_at s.old.table p.0).regs) opened.now }
+    ensures call { (m : Inner) (was : Files) (terms : List TerminalState) → Represents s.old m
+        → StandsFor files.old
+        (drive_views ⟦<dyn BlockDriver as BlockDriver>⟧ devices.old.drives.items) was → AreKinds was
+        → Attempts (call_of call) m was now p.0 result s.new files.new
+        (drive_views ⟦<dyn BlockDriver as BlockDriver>⟧ devices.new.drives.items) terms terms }
+    ensures lives { IsLiving s.new.table p.0 }
+    ensures terms_kept { devices.new.terms ≡ devices.old.terms }
+{
+    // A call that moves no byte is at its first attempt.
+    prove!(files.io.kept(p).is_none() || call.on_device().direction().is_some());
+    match call {
+        PathUse::Read => read(s, files, devices, p, opened),
+        PathUse::ReadLn => read_line(s, files, devices, p, opened),
+        PathUse::Write => write(s, files, devices, p, opened, now),
+        PathUse::WritLn => write_line(s, files, devices, p, opened, now),
+        PathUse::GetStt => get_status(s, files, devices, p, opened),
+        PathUse::SetStt => set_status(s, files, devices, p, opened, now),
+        PathUse::PErr => write_error(s, files, devices, p, opened, now),
+    }
+}
+
+/// An attempt of I$Seek by a process that lives (System Programmer's Manual, I$Seek): on a file or
+/// a directory it sets the position of the path in A, and else it does nothing. It reaches no
+/// drive.
+///
+/// # Errors
+///
+/// E$BPNum exactly if A names no path.
+pub fn seek_path(s: &mut ProcState, files: &mut FileState, p: Pid) -> CallEnd
+    requires lives { IsLiving s.old.table p.0 }
+    requires first { kept_at files.old.io p.0 ≡ None }
+    ensures call { (m : Inner) (was : Files) (now : TimePacket) (views : List DriveView)
+        (terms : List TerminalState) → Represents s.old m → StandsFor files.old views was
+        → AreKinds was → Attempts Call.Seek m was now p.0 result s.new files.new views terms terms }
+    ensures lives { IsLiving s.new.table p.0 }
+{
+    let number = s.table.regs(p).a;
+    match files.open_file(p, number) {
+        Some(opened) => seek(s, files, p, &opened),
+        None => seek_nothing(s, &mut files.io, p),
+    }
+}
