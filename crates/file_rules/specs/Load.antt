@@ -2,18 +2,19 @@
 -- Takes the path list at X; answers as F$Link does of the file's first module, with X past the list. All modules of the
 -- file are entered as one group, each tried by all rules before the next, and none where one is refused.
 -- Errors: those of its file; E$BMID of a file without a module; E$BMID, E$BMHP, E$BMCRC, E$KwnMod and E$DirFul of the
--- first module that is refused; E$NoRAM; E$MemFul (no slots are left in the map).
-use Rattle.std.specs.Prelude.{◌≡◌, ℕ, ◌-◌, false, Option, option_and_then, Result, Ok, Err, List, ◌++◌, if◌then◌else◌}
+-- first module that is refused; E$NoRAM; E$MemFul (no slots are left in the map, or no links).
+use Rattle.std.specs.Prelude.{◌≡◌, ℕ, ◌-◌, false, nat_le, Option, option_and_then, Result, Ok, Err, List, ◌++◌, if◌then◌else◌}
 use Rattle.std.specs.Option.{option_map_or}
 use Rattle.os9_base.specs.declared.errors.TheConstants.{E_BMID, E_MEMFUL, E_NORAM}
 use Rattle.proc_model.specs.Loading.{EntersModules}
 use Rattle.proc_model.specs.Memory.{MemoryState, wants_blocks}
 use Rattle.proc_model.specs.MemoryChanges.{new_numbers}
 use Rattle.proc_model.specs.ModuleList.{ModuleEntry, free_number}
+use Rattle.proc_model.specs.declared.memory.TheConstants.{MOST_LINKS}
 use Rattle.proc_model.specs.Objects.{file_blocks, file_objects}
-use Rattle.call_rules.specs.CallResult.{CallResult, done, refused, needs}
-use Rattle.call_rules.specs.Inner.{Inner, regs_at}
-use Rattle.call_rules.specs.Link.{mapped_group, after_link}
+use Rattle.call_rules.specs.CallResult.{CallResult, done, refused, needs, refuses}
+use Rattle.call_rules.specs.Inner.{Inner, own_at, regs_at}
+use Rattle.call_rules.specs.Link.{mapped_group, after_link, links_at}
 use Rattle.call_rules.specs.ModuleLinks.{Entered, entered_at}
 use Rattle.file_rules.specs.Files.{Files, Asker}
 use Rattle.file_rules.specs.ProgramFile.{ProgramFile, program_file, ReadsProgram}
@@ -60,7 +61,8 @@ GoesOnLoaded s (Ok file) next result =
 abbrev pub links_first : Inner → ℕ → ProgramFile → Loaded → CallResult
 links_first s p file loaded =
     needs (mapped_group loaded.memory p loaded.first.entry.group) E_MEMFUL
-    (λ mapped. done (after_link s p loaded.first mapped (file.next - (regs_at s p).x)))
+    (λ mapped. refuses (nat_le MOST_LINKS (links_at (own_at s p) mapped.slot)) E_MEMFUL
+    (done (after_link s p loaded.first mapped (file.next - (regs_at s p).x))))
 
 -- an attempt of F$Load, which tests nothing of its own
 pub record LoadAttempts (s : Inner) (asker : Asker) (old : Files) (terms p : ℕ) (result : CallResult) (new : Files)
