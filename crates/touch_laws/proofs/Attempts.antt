@@ -1,7 +1,9 @@
 -- An attempt of a call on files is one on a terminal or a pipe, or it touches none: by its step, where no drive fails and
 -- where one does.
-use Rattle.std.proofs.Common.{◌≡◌, ◌≢◌, ◌⊎◌, ℕ, Option, Some, None, List, length, refl, sym, ap, ◌∙◌, subst, inl, inr}
+use Rattle.std.proofs.Common.{◌≡◌, ◌≢◌, ◌⊎◌, ℕ, true, false, Option, Some, None, List, length, refl, sym, ap, ◌∙◌, subst, inl, inr}
 use Rattle.std.specs.Prelude.{slice_set}
+use Rattle.std.proofs.lemmas.Bool.{false≢true}
+use Rattle.std.proofs.lemmas.List.{set-get_or}
 use Rattle.std.proofs.lemmas.Option.{none-some}
 use Rattle.os9_base.specs.declared.registers.Regs.{Regs}
 use Rattle.os9_base.specs.declared.registers.TimePacket.{TimePacket}
@@ -14,12 +16,12 @@ use Rattle.io_rules.specs.Io.{Io, with_call, with_paths}
 use Rattle.io_rules.specs.Step.{IoEffect, IoEnd, IoStep, answers, fails, keeps}
 use Rattle.file_rules.specs.Attempts.{FileAttempts, asker_of, file_step, files_after, io_effect}
 use Rattle.file_rules.specs.Files.{Files, Asker, DriveState, NoneFailed, OneFailed, directories_at, volume_at, with_drives, with_volume}
-use Rattle.file_rules.specs.Step.{FileEffect, FileStep, Deed, leaves_so, as_io, changes, deed_of, refuses_so, on_files, with_drives_after, with_volume_after, DoesDeed, IsBroken, FileDoes}
+use Rattle.file_rules.specs.Step.{FileEffect, FileStep, Deed, leaves_so, as_io, changes, deed_of, drive_of, refuses_so, on_files, with_drives_after, with_volume_after, DoesDeed, IsBroken, FileDoes, MayBeLeft}
 use Rattle.file_rules.specs.declared.path_call.PathCall.{PathCall}
 use Rattle.file_rules.specs.declared.path_call.PathCall.TheVariants as Call
 use Rattle.io_rules.specs.declared.io_call.IoCall.TheVariants as Device
-use Rattle.touch_laws.specs.Devices.{IsOnDevice}
-use Rattle.touch_laws.specs.Touch.{IsOver, LeavesDevices, NoVolumeChanges, OneDriveFails, OneVolumeChanges, PathsMove, RefusalLeaves}
+use Rattle.touch_laws.specs.Devices.{IsOnDevice, IsOnNoFile}
+use Rattle.touch_laws.specs.Touch.{IsOver, LeavesDevices, NoVolumeChanges, OneDriveFails, OneVolumeChanges, PathsMove, RefusalLeaves, may_change_volume}
 use Rattle.touch_laws.proofs.Splits.{IsDeviceStep, Leaves, Splits, StepSplits, device-splits, none-splits, not-refused}
 use Rattle.touch_laws.proofs.OnNumbers.{getstt-split, perr-split, read-split, readln-split, seek-split, setstt-split, write-split, writln-split}
 use Rattle.touch_laws.proofs.OnNames.{chgdir-split, create-split, delete-split, deletx-split, makdir-split, open-split}
@@ -27,7 +29,7 @@ use Rattle.touch_laws.proofs.OnNames.{chgdir-split, create-split, delete-split, 
 -- ---- what the step of each call comes to
 
 pub step-splits : (call : PathCall) (asker : Asker) (files : Files) (terms : ℕ) → StepSplits call asker files terms (file_step call asker files terms)
-step-splits Call.Dup asker files terms = device-splits Call.Dup asker files terms Device.Dup refl
+step-splits Call.Dup asker files terms = device-splits Call.Dup asker files terms Device.Dup refl tt
 step-splits Call.Create asker files terms = create-split asker files terms
 step-splits Call.Open asker files terms = open-split asker files terms
 step-splits Call.MakDir asker files terms = makdir-split asker files terms
@@ -41,7 +43,7 @@ step-splits Call.ReadLn asker files terms = readln-split asker files terms
 step-splits Call.WritLn asker files terms = writln-split asker files terms
 step-splits Call.GetStt asker files terms = getstt-split asker files terms
 step-splits Call.SetStt asker files terms = setstt-split asker files terms
-step-splits Call.Close asker files terms = device-splits Call.Close asker files terms Device.Close refl
+step-splits Call.Close asker files terms = device-splits Call.Close asker files terms Device.Close refl tt
 step-splits Call.PErr asker files terms = perr-split asker files terms
 
 -- ---- how it ends
@@ -59,10 +61,11 @@ ends-over (keeps kept) inner p effect over = absurd (none-some kept (sym over))
 
 -- ---- what an effect leaves
 
-module _ (p : ℕ) (files : Files) where
-  -- a drive has failed, and this is the number that is answered
+module _ (call : PathCall) (asker : Asker) (files : Files) (reached : Option ℕ) where
+  -- the drive that was reached has failed, and this is the number that is answered
   record FailsSo (effect : FileEffect) : Type 0 where
     pub drive : ℕ
+    pub reaches : reached ≡ Some drive
     pub number : ℕ
     pub failed : OneFailed drive number files.drives effect.files.drives
     pub answer : effect.end ≡ fails number
@@ -78,19 +81,23 @@ module _ (p : ℕ) (files : Files) where
 
   record Left (effect : FileEffect) : Type 0 where
     pub over : kept_in effect.end ≡ None
-    pub paths : PathsMove files p effect.files.io.paths
+    pub paths : PathsMove call asker files effect.files.io.paths
     pub rest : effect.files.io ≡ with_paths files.io effect.files.io.paths
-    pub directories : (q : ℕ) → q ≢ p → directories_at effect.files q ≡ directories_at files q
-    pub volumes : NoVolumeChanges files effect.files ⊎ OneVolumeChanges files effect.files ⊎ FailsSo effect
+    pub directories : (q : ℕ) → q ≢ asker.caller.process.0 → directories_at effect.files q ≡ directories_at files q
+    pub own : call ≢ Call.ChgDir → effect.files.directories ≡ files.directories
+    pub still : may_change_volume call ≡ false → effect.files.volumes ≡ files.volumes
+    pub volumes : NoVolumeChanges files effect.files ⊎ OneVolumeChanges reached files effect.files ⊎ FailsSo effect
     pub refusal : (number : ℕ) → effect.end ≡ fails number → RefusedLeft effect
 
   module _ (drives : List DriveState) (none : NoneFailed files.drives drives) where
-    left-so : (it : FileEffect) → Leaves p files it → Left (with_drives_after it drives)
+    left-so : (it : FileEffect) → Leaves call asker files it → Left (with_drives_after it drives)
     left-so it left = record {
       over = left.over;
       paths = left.paths;
       rest = left.rest;
       directories = left.directories;
+      own = left.own;
+      still = λ no. left.volumes;
       volumes = inl (record { volumes = left.volumes; none_failed = none });
       refusal = λ number is. record {
         io = ap (λ (f : Files). f.io) (left.refusal number is);
@@ -99,14 +106,23 @@ module _ (p : ℕ) (files : Files) where
       };
     }
 
-    left-changed : (it : FileEffect) → Leaves p files it → (regs : Regs) → it.end ≡ answers regs → (drive : ℕ) (old v : DiskVolume) → volume_at files drive ≡ Some old → Left (with_drives_after (with_volume_after it drive v) drives)
-    left-changed it left regs answered drive old v was = record {
+    left-changed : (it : FileEffect) → Leaves call asker files it → (regs : Regs) → it.end ≡ answers regs → may_change_volume call ≡ true → (drive : ℕ) → reached ≡ Some drive → (old v : DiskVolume) → volume_at files drive ≡ Some old → Left (with_drives_after (with_volume_after it drive v) drives)
+    left-changed it left regs answered may drive reaches old v was = record {
       over = left.over;
       paths = left.paths;
       rest = left.rest;
       directories = left.directories;
-      volumes =
-          inr (inl (record { drive = drive; old = old; was = was; changed = v; is = ap (λ (volumes : List (Option DiskVolume)). slice_set volumes drive (Some v)) left.volumes; none_failed = none }));
+      own = left.own;
+      still = λ no. absurd (false≢true (sym no ∙ may));
+      volumes = inr (inl (record {
+        drive = drive;
+        reaches = reaches;
+        old = old;
+        was = was;
+        changed = v;
+        is = ap (λ (volumes : List (Option DiskVolume)). slice_set volumes drive (Some v)) left.volumes;
+        none_failed = none;
+      }));
       refusal = λ number is. absurd (not-refused regs number (sym answered ∙ is));
     }
 
@@ -116,17 +132,32 @@ module _ (p : ℕ) (files : Files) where
       paths = inl (ap (λ (io : Io). io.paths) same);
       rest = subst (λ (io : Io). io ≡ with_paths files.io io.paths) (sym same) refl;
       directories = λ q differ. refl;
+      own = λ differ. refl;
+      still = λ no. refl;
       volumes = inl (record { volumes = refl; none_failed = none });
       refusal =
           λ number is. record { io = same; directories = refl; volumes = inl (record { volumes = refl; none_failed = none }) };
     }
 
-  left-broken : (step : FileStep) (asker : Asker) (effect : FileEffect) → IsBroken step asker files effect → Left effect
-  left-broken step asker effect broken = subst Left (sym broken.effect_is) (record {
+  -- a fault leaves the volume, where the call changes none
+  fault-still : (terms : ℕ) (deed : Deed) → Splits call asker files terms reached deed → (old left : DiskVolume) → MayBeLeft deed asker old left → may_change_volume call ≡ false → left ≡ old
+  fault-still terms (leaves_so it) splits old left may_be changes_none = may_be
+  fault-still terms (as_io step) splits old left may_be changes_none = may_be
+  fault-still terms (changes it) splits old left may_be changes_none = absurd (false≢true (sym changes_none ∙ splits.may))
+
+  put-back : (drive : ℕ) (old left : DiskVolume) → volume_at files drive ≡ Some old → left ≡ old → slice_set files.volumes drive (Some left) ≡ files.volumes
+  put-back drive old left was same =
+      ap (λ (v : DiskVolume). slice_set files.volumes drive (Some v)) same
+      ∙ ap (slice_set files.volumes drive) (sym was) ∙ set-get_or files.volumes drive None
+
+  left-broken : (step : FileStep) → reached ≡ drive_of step → (effect : FileEffect) (broken : IsBroken step asker files effect) → (may_change_volume call ≡ false → broken.left ≡ broken.old) → Left effect
+  left-broken step reached_is effect broken same = subst Left (sym broken.effect_is) (record {
     over = refl;
     paths = inl refl;
     rest = refl;
     directories = λ q differ. refl;
+    own = λ differ. refl;
+    still = λ no. put-back broken.drive broken.old broken.left broken.is (same no);
     volumes = inr (inr fails_so);
     refusal = λ number is. record { io = refl; directories = refl; volumes = inr fails_so };
   })
@@ -134,6 +165,7 @@ module _ (p : ℕ) (files : Files) where
       fails_so : FailsSo (refuses_so broken.number (with_drives (with_volume files broken.drive broken.left) broken.drives))
       fails_so = record {
         drive = broken.drive;
+        reaches = reached_is ∙ broken.reached;
         number = broken.number;
         failed = broken.failed;
         answer = refl;
@@ -143,14 +175,34 @@ module _ (p : ℕ) (files : Files) where
         is = refl;
       }
 
+-- ---- an attempt
+
+module _ (call : PathCall) (inner : Inner) (files : Files) (now : TimePacket) (p : ℕ) (old new : List TerminalState) where
+  abbrev asker : Asker
+  asker = asker_of inner p now
+
+  abbrev step : FileStep
+  step = file_step call asker files (length old)
+
+  abbrev reached : Option ℕ
+  reached = drive_of step
+
+  abbrev Leaving : FileEffect → Type 0
+  Leaving effect = Left call asker files reached effect
+
+  abbrev Touching : FileEffect → Type 0
+  Touching effect = LeavesDevices call inner files now p (result_of inner p (io_effect effect)) (files_after p effect) old new
+
   -- what is left by an attempt that ends with the effect
-  left-devices : (inner : Inner) (effect : FileEffect) (old new : List TerminalState) → Left effect → new ≡ old → LeavesDevices inner files p (result_of inner p (io_effect effect)) (files_after p effect) old new
-  left-devices inner effect old new left same = record {
+  left-devices : (effect : FileEffect) → Leaving effect → new ≡ old → Touching effect
+  left-devices effect left same = record {
     over = ends-over effect.end inner p (io_effect effect) left.over;
     paths = left.paths;
     rest = call_gone left.rest;
     terminals = same;
     directories = left.directories;
+    own = left.own;
+    still = left.still;
     volumes = by_volumes left.volumes;
     refusal = λ number is. refused (left.refusal number (ends-refused effect.end inner p (io_effect effect) number is));
   }
@@ -162,9 +214,10 @@ module _ (p : ℕ) (files : Files) where
       same_volumes : NoVolumeChanges files effect.files → NoVolumeChanges files (files_after p effect)
       same_volumes it = record { volumes = it.volumes; none_failed = it.none_failed }
 
-      one_fails : FailsSo effect → OneDriveFails files (result_of inner p (io_effect effect)) (files_after p effect)
+      one_fails : FailsSo call asker files reached effect → OneDriveFails reached files (result_of inner p (io_effect effect)) (files_after p effect)
       one_fails it = record {
         drive = it.drive;
+        reaches = it.reaches;
         number = it.number;
         failed = it.failed;
         answer = ap (λ (end : IoEnd). result_by end inner p (io_effect effect)) it.answer;
@@ -174,33 +227,34 @@ module _ (p : ℕ) (files : Files) where
         is = it.is;
       }
 
-      by_volumes : NoVolumeChanges files effect.files ⊎ OneVolumeChanges files effect.files ⊎ FailsSo effect → NoVolumeChanges files (files_after p effect) ⊎ OneVolumeChanges files (files_after p effect) ⊎ OneDriveFails files (result_of inner p (io_effect effect)) (files_after p effect)
+      by_volumes : NoVolumeChanges files effect.files ⊎ OneVolumeChanges reached files effect.files ⊎ FailsSo call asker files reached effect → NoVolumeChanges files (files_after p effect) ⊎ OneVolumeChanges reached files (files_after p effect) ⊎ OneDriveFails reached files (result_of inner p (io_effect effect)) (files_after p effect)
       by_volumes (inl stay) = inl (same_volumes stay)
       by_volumes (inr (inl one)) =
-          inr (inl (record { drive = one.drive; old = one.old; was = one.was; changed = one.changed; is = one.is; none_failed = one.none_failed }))
+          inr (inl (record { drive = one.drive; reaches = one.reaches; old = one.old; was = one.was; changed = one.changed; is = one.is; none_failed = one.none_failed }))
       by_volumes (inr (inr broken)) = inr (inr (one_fails broken))
 
-      by_refusal : NoVolumeChanges files effect.files ⊎ FailsSo effect → NoVolumeChanges files (files_after p effect) ⊎ OneDriveFails files (result_of inner p (io_effect effect)) (files_after p effect)
+      by_refusal : NoVolumeChanges files effect.files ⊎ FailsSo call asker files reached effect → NoVolumeChanges files (files_after p effect) ⊎ OneDriveFails reached files (result_of inner p (io_effect effect)) (files_after p effect)
       by_refusal (inl stay) = inl (same_volumes stay)
       by_refusal (inr broken) = inr (one_fails broken)
 
-      refused : RefusedLeft effect → RefusalLeaves files p (result_of inner p (io_effect effect)) (files_after p effect)
+      refused : RefusedLeft call asker files reached effect → RefusalLeaves reached files p (result_of inner p (io_effect effect)) (files_after p effect)
       refused it = record { io = call_gone it.io; directories = it.directories; volumes = by_refusal it.volumes }
 
--- ---- an attempt
+  -- it is on a terminal or a pipe, and on no file
+  abbrev OnIt : FileEffect → Type 0
+  OnIt effect = IsOnDevice call inner files p (result_of inner p (io_effect effect)) (files_after p effect) old new × IsOnNoFile call asker files (length old)
 
-module _ (call : PathCall) (inner : Inner) (files : Files) (now : TimePacket) (p : ℕ) (old new : List TerminalState) where
   abbrev Comes : FileEffect → Type 0
-  Comes effect = IsOnDevice call inner files p (result_of inner p (io_effect effect)) (files_after p effect) old new ⊎ LeavesDevices inner files p (result_of inner p (io_effect effect)) (files_after p effect) old new
+  Comes effect = OnIt effect ⊎ Touching effect
 
   -- a call on a terminal or a pipe
-  pub on-device : (step : IoStep) (it : IoEffect) (drives : List DriveState) → NoneFailed files.drives drives → IsDeviceStep call (asker_of inner p now) files (length old) step → Does step (asker_of inner p now).caller files.io it old new → IsOnDevice call inner files p (result_of inner p it) (files_after p (with_drives_after (on_files files it) drives)) old new
-  on-device step it drives none on does = record {
+  pub on-device : (io : IoStep) (it : IoEffect) (drives : List DriveState) → NoneFailed files.drives drives → IsDeviceStep call asker files (length old) io → Does io asker.caller files.io it old new → IsOnDevice call inner files p (result_of inner p it) (files_after p (with_drives_after (on_files files it) drives)) old new
+  on-device io it drives none on does = record {
     device = on.device;
     device_is = on.device_is;
     attempted = record {
       effect = it;
-      does = subst (λ (step : IoStep). Does step (asker_of inner p now).caller files.io it old new) on.is does;
+      does = subst (λ (io : IoStep). Does io asker.caller files.io it old new) on.is does;
       result_is = refl;
       state = refl;
     };
@@ -209,28 +263,37 @@ module _ (call : PathCall) (inner : Inner) (files : Files) (now : TimePacket) (p
     none_failed = none;
   }
 
-  by-deed : (deed : Deed) (it : FileEffect) (drives : List DriveState) → NoneFailed files.drives drives → Splits call (asker_of inner p now) files (length old) deed → DoesDeed deed (asker_of inner p now) files it old new → Comes (with_drives_after it drives)
+  by-deed : (deed : Deed) (it : FileEffect) (drives : List DriveState) → NoneFailed files.drives drives → Splits call asker files (length old) reached deed → DoesDeed deed asker files it old new → Comes (with_drives_after it drives)
   by-deed (leaves_so effect) it drives none left (is, same) =
-      inr (subst (λ (it : FileEffect). LeavesDevices inner files p (result_of inner p (io_effect (with_drives_after it drives))) (files_after p (with_drives_after it drives)) old new) (sym is) (left-devices p files inner (with_drives_after effect drives) old new (left-so p files drives none effect left) same))
-  by-deed (as_io step) it drives none (inl on) (effect, does, is) =
-      inl (subst (λ (it : FileEffect). IsOnDevice call inner files p (result_of inner p (io_effect (with_drives_after it drives))) (files_after p (with_drives_after it drives)) old new) (sym is) (on-device step effect drives none on does))
-  by-deed (as_io step) it drives none (inr still) (effect, does, is) =
+      inr (subst (λ (it : FileEffect). Touching (with_drives_after it drives)) (sym is) (left-devices (with_drives_after effect drives) (left-so call asker files reached drives none effect left) same))
+  by-deed (as_io io) it drives none (inl on) (effect, does, is) =
+      inl (subst (λ (it : FileEffect). OnIt (with_drives_after it drives)) (sym is) (on-device io effect drives none on.0 does, on.1))
+  by-deed (as_io io) it drives none (inr still) (effect, does, is) =
       let nothing = still effect old new does in
-      inr (subst (λ (it : FileEffect). LeavesDevices inner files p (result_of inner p (io_effect (with_drives_after it drives))) (files_after p (with_drives_after it drives)) old new) (sym is) (left-devices p files inner (with_drives_after (on_files files effect) drives) old new (left-still p files drives none effect nothing.over nothing.io) nothing.terminals))
+      inr (subst (λ (it : FileEffect). Touching (with_drives_after it drives)) (sym is) (left-devices (with_drives_after (on_files files effect) drives) (left-still call asker files reached drives none effect nothing.over nothing.io) nothing.terminals))
   by-deed (changes change) it drives none answer (inl changed, same) =
-      let at = answer changed.number in
-      inr (subst (λ (it : FileEffect). LeavesDevices inner files p (result_of inner p (io_effect (with_drives_after it drives))) (files_after p (with_drives_after it drives)) old new) (sym changed.effect_is) (left-devices p files inner (with_drives_after (with_volume_after (change.effect changed.number) change.drive changed.new) drives) old new (left-changed p files drives none (change.effect changed.number) at.0 at.1 at.2 change.drive changed.old changed.new changed.is) same))
+      let (regs, answered) = answer.answer changed.number in
+      inr (subst (λ (it : FileEffect). Touching (with_drives_after it drives)) (sym changed.effect_is) (left-devices (with_drives_after (with_volume_after (change.effect changed.number) change.drive changed.new) drives) (left-changed call asker files reached drives none (change.effect changed.number) (answer.left changed.number) regs answered answer.may change.drive answer.reaches changed.old changed.new changed.is) same))
   by-deed (changes change) it drives none answer (inr long, same) =
-      inr (subst (λ (it : FileEffect). LeavesDevices inner files p (result_of inner p (io_effect (with_drives_after it drives))) (files_after p (with_drives_after it drives)) old new) (sym long.effect_is) (left-devices p files inner (with_drives_after (refuses_so _ files) drives) old new (left-so p files drives none (refuses_so _ files) (none-splits call (asker_of inner p now) files (length old) _)) same))
+      inr (subst (λ (it : FileEffect). Touching (with_drives_after it drives)) (sym long.effect_is) (left-devices (with_drives_after (refuses_so _ files) drives) (left-so call asker files reached drives none (refuses_so _ files) (none-splits call asker files (length old) _)) same))
 
-  does-comes : (step : FileStep) (effect : FileEffect) → StepSplits call (asker_of inner p now) files (length old) step → FileDoes step (asker_of inner p now) files effect old new → Comes effect
-  does-comes step effect splits (inl well) =
-      subst Comes (sym well.effect_is) (by-deed (deed_of step files) well.it well.drives well.none_failed splits well.does)
-  does-comes step effect splits (inr (broken, same)) =
-      inr (left-devices p files inner effect old new (left-broken p files step (asker_of inner p now) effect broken) same)
+  does-comes : (effect : FileEffect) → FileDoes step asker files effect old new → Comes effect
+  does-comes effect (inl well) =
+      subst Comes (sym well.effect_is) (by-deed (deed_of step files) well.it well.drives well.none_failed (step-splits call asker files (length old)) well.does)
+  does-comes effect (inr (broken, same)) =
+      inr (left-devices effect (left-broken call asker files reached step refl effect broken (fault-still call asker files reached (length old) (deed_of step files) (step-splits call asker files (length old)) broken.old broken.left broken.may_be)) same)
 
-pub attempt-comes : (call : PathCall) (inner : Inner) (files : Files) (now : TimePacket) (p : ℕ) (result : CallResult) (new : Files) (before after : List TerminalState) → FileAttempts call inner files now p result new before after → IsOnDevice call inner files p result new before after ⊎ LeavesDevices inner files p result new before after
-attempt-comes call inner files now p result new before after it =
-    subst (λ (result : CallResult). IsOnDevice call inner files p result new before after ⊎ LeavesDevices inner files p result new before after) (sym it.result_is)
-    (subst (λ (new : Files). IsOnDevice call inner files p (result_of inner p (io_effect it.effect)) new before after ⊎ LeavesDevices inner files p (result_of inner p (io_effect it.effect)) new before after) (sym it.state)
-    (does-comes call inner files now p before after (file_step call (asker_of inner p now) files (length before)) it.effect (step-splits call (asker_of inner p now) files (length before)) it.does))
+module _ (call : PathCall) (inner : Inner) (files : Files) (now : TimePacket) (p : ℕ) (result : CallResult) (new : Files) (before after : List TerminalState) (it : FileAttempts call inner files now p result new before after) where
+  -- it is on a terminal or a pipe, on no file, or it touches none
+  pub attempt-splits : IsOnDevice call inner files p result new before after × IsOnNoFile call (asker_of inner p now) files (length before) ⊎ LeavesDevices call inner files now p result new before after
+  attempt-splits =
+      subst (λ (result : CallResult). IsOnDevice call inner files p result new before after × IsOnNoFile call (asker_of inner p now) files (length before) ⊎ LeavesDevices call inner files now p result new before after) (sym it.result_is)
+      (subst (λ (new : Files). IsOnDevice call inner files p (result_of inner p (io_effect it.effect)) new before after × IsOnNoFile call (asker_of inner p now) files (length before) ⊎ LeavesDevices call inner files now p (result_of inner p (io_effect it.effect)) new before after) (sym it.state)
+      (does-comes call inner files now p before after it.effect it.does))
+
+  pub attempt-comes : IsOnDevice call inner files p result new before after ⊎ LeavesDevices call inner files now p result new before after
+  attempt-comes = by_case attempt-splits
+    where
+      by_case : IsOnDevice call inner files p result new before after × IsOnNoFile call (asker_of inner p now) files (length before) ⊎ LeavesDevices call inner files now p result new before after → IsOnDevice call inner files p result new before after ⊎ LeavesDevices call inner files now p result new before after
+      by_case (inl on) = inl on.0
+      by_case (inr left) = inr left

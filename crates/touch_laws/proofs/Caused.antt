@@ -16,6 +16,7 @@ use Rattle.file_rules.specs.Step.{refused, reaches, needs, refuses, FileStep, De
 use Rattle.file_rules.specs.Way.{Found, along, list_of, reads_list as reads_list_of, walk_ends, walks}
 use Rattle.file_rules.specs.declared.places.FilePlace.{FilePlace}
 use Rattle.touch_laws.specs.Causes.{FileCause, Finds, IsUnreadable, Leads, Made, Walks, bad_address, finds_nothing, may_not_pass, no_name, no_volume, not_there, reads_list}
+use Rattle.touch_laws.specs.Devices.{IsOnNoFile}
 use Rattle.touch_laws.proofs.Splits.{IsDeviceStep, not-refused}
 
 pub is_nothing : {X : Type 0} (o : Option X) → is_none o ≡ true → o ≡ None
@@ -34,7 +35,7 @@ module _ (m : Made) where
   abbrev pub Caused : Deed → Type 0
   Caused (leaves_so it) = (number : ℕ) → it.end ≡ fails number → FileCause m number
   Caused (as_io step) =
-      IsDeviceStep m.call m.asker m.files m.terms step ⊎ ((it : IoEffect) (old new : List TerminalState) (number : ℕ) → Does step m.asker.caller m.files.io it old new → it.end ≡ fails number → FileCause m number)
+      IsDeviceStep m.call m.asker m.files m.terms step × IsOnNoFile m.call m.asker m.files m.terms ⊎ ((it : IoEffect) (old new : List TerminalState) (number : ℕ) → Does step m.asker.caller m.files.io it old new → it.end ≡ fails number → FileCause m number)
   Caused (changes it) = (n : ℕ) → (regs : Regs) × ((it.effect n).end ≡ answers regs)
 
   abbrev pub StepCaused : FileStep → Type 0

@@ -1,5 +1,5 @@
 -- Why an attempt of a call on files is refused.
-use Rattle.std.proofs.Common.{◌≡◌, ◌⊎◌, ℕ, List, length, refl, sym, ap, ◌∙◌, subst, inl, inr}
+use Rattle.std.proofs.Common.{◌≡◌, ◌⊎◌, ℕ, Option, List, length, refl, sym, ap, ◌∙◌, subst, inl, inr}
 use Rattle.os9_base.specs.declared.errors.TheConstants.{E_SLF}
 use Rattle.os9_base.specs.declared.registers.TimePacket.{TimePacket}
 use Rattle.os9_outer.specs.TerminalState.{TerminalState}
@@ -14,8 +14,8 @@ use Rattle.file_rules.specs.Step.{Deed, DoesDeed, FileDoes, FileEffect, FileStep
 use Rattle.file_rules.specs.declared.path_call.PathCall.{PathCall}
 use Rattle.file_rules.specs.declared.path_call.PathCall.TheVariants as Call
 use Rattle.touch_laws.specs.Causes.{FileCause, finds_no_segment}
-use Rattle.touch_laws.specs.Devices.{IsOnDevice}
-use Rattle.touch_laws.specs.Touch.{OneDriveFails}
+use Rattle.touch_laws.specs.Devices.{IsOnDevice, IsOnNoFile}
+use Rattle.touch_laws.specs.Touch.{OneDriveFails, drive_reached}
 use Rattle.touch_laws.proofs.Attempts.{ends-refused, on-device}
 use Rattle.touch_laws.proofs.Caused.{Caused, StepCaused}
 use Rattle.touch_laws.proofs.CausedDeletes.{delete-caused, deletx-caused}
@@ -24,7 +24,7 @@ use Rattle.touch_laws.proofs.CausedNumbers.{getstt-caused, made, perr-caused, re
 use Rattle.touch_laws.proofs.Splits.{not-refused}
 
 step-caused : (call : PathCall) (asker : Asker) (files : Files) (terms : ℕ) → StepCaused (made call asker files terms) (file_step call asker files terms)
-step-caused Call.Dup asker files terms = inl (record { device = Device.Dup; device_is = refl; is = refl })
+step-caused Call.Dup asker files terms = inl (record { device = Device.Dup; device_is = refl; is = refl }, tt)
 step-caused Call.Create asker files terms = create-caused asker files terms
 step-caused Call.Open asker files terms = open-caused asker files terms
 step-caused Call.MakDir asker files terms = makdir-caused asker files terms
@@ -38,7 +38,7 @@ step-caused Call.ReadLn asker files terms = readln-caused asker files terms
 step-caused Call.WritLn asker files terms = writln-caused asker files terms
 step-caused Call.GetStt asker files terms = getstt-caused asker files terms
 step-caused Call.SetStt asker files terms = setstt-caused asker files terms
-step-caused Call.Close asker files terms = inl (record { device = Device.Close; device_is = refl; is = refl })
+step-caused Call.Close asker files terms = inl (record { device = Device.Close; device_is = refl; is = refl }, tt)
 step-caused Call.PErr asker files terms = perr-caused asker files terms
 
 same-fails : (n m : ℕ) → fails n ≡ fails m → n ≡ m
@@ -49,7 +49,7 @@ module _ (call : PathCall) (inner : Inner) (files : Files) (now : TimePacket) (p
   step = file_step call (asker_of inner p now) files (length old)
 
   abbrev On : FileEffect → Type 0
-  On effect = IsOnDevice call inner files p (result_of inner p (io_effect effect)) (files_after p effect) old new
+  On effect = IsOnDevice call inner files p (result_of inner p (io_effect effect)) (files_after p effect) old new × IsOnNoFile call (asker_of inner p now) files (length old)
 
   abbrev Why : Type 0
   Why = FileCause (made call (asker_of inner p now) files (length old)) number
@@ -58,7 +58,7 @@ module _ (call : PathCall) (inner : Inner) (files : Files) (now : TimePacket) (p
   by-deed (leaves_so effect) deed_is it drives none caused (is, same) ended =
       inr (caused number (sym (ap (λ (it : FileEffect). it.end) is) ∙ ended))
   by-deed (as_io io) deed_is it drives none (inl on) (effect, does, is) ended =
-      inl (subst (λ (it : FileEffect). On (with_drives_after it drives)) (sym is) (on-device call inner files now p old new io effect drives none on does))
+      inl (subst (λ (it : FileEffect). On (with_drives_after it drives)) (sym is) (on-device call inner files now p old new io effect drives none on.0 does, on.1))
   by-deed (as_io io) deed_is it drives none (inr why) (effect, does, is) ended =
       inr (why effect old new number does (sym (ap (λ (it : FileEffect). it.end) is) ∙ ended))
   by-deed (changes change) deed_is it drives none answer (inl changed, same) ended =
@@ -67,8 +67,11 @@ module _ (call : PathCall) (inner : Inner) (files : Files) (now : TimePacket) (p
   by-deed (changes change) deed_is it drives none answer (inr long, same) ended =
       inr (finds_no_segment (sym (same-fails E_SLF number (sym (ap (λ (it : FileEffect). it.end) long.effect_is) ∙ ended))) (record { it = change; is = deed_is; v = long.old; mounted = long.is; full = long.too_long }))
 
+  abbrev reached : Option ℕ
+  reached = drive_reached call (asker_of inner p now) files (length old)
+
   abbrev Comes : FileEffect → Type 0
-  Comes effect = On effect ⊎ OneDriveFails files (result_of inner p (io_effect effect)) (files_after p effect) ⊎ Why
+  Comes effect = On effect ⊎ OneDriveFails reached files (result_of inner p (io_effect effect)) (files_after p effect) ⊎ Why
 
   comes-of : (effect : FileEffect) → FileDoes step (asker_of inner p now) files effect old new → effect.end ≡ fails number → Comes effect
   comes-of effect (inl well) ended =
@@ -77,8 +80,9 @@ module _ (call : PathCall) (inner : Inner) (files : Files) (now : TimePacket) (p
       by_case : On (with_drives_after well.it well.drives) ⊎ Why → Comes (with_drives_after well.it well.drives)
       by_case (inl on) = inl on
       by_case (inr why) = inr (inr why)
-  comes-of effect (inr (broken, same)) ended = inr (inl (subst (λ (effect : FileEffect). OneDriveFails files (result_of inner p (io_effect effect)) (files_after p effect)) (sym broken.effect_is) (record {
+  comes-of effect (inr (broken, same)) ended = inr (inl (subst (λ (effect : FileEffect). OneDriveFails reached files (result_of inner p (io_effect effect)) (files_after p effect)) (sym broken.effect_is) (record {
     drive = broken.drive;
+    reaches = broken.reached;
     number = broken.number;
     failed = broken.failed;
     answer = refl;
@@ -88,8 +92,16 @@ module _ (call : PathCall) (inner : Inner) (files : Files) (now : TimePacket) (p
     is = refl;
   })))
 
-pub refusal-caused : (call : PathCall) (inner : Inner) (files : Files) (now : TimePacket) (p : ℕ) (result : CallResult) (new : Files) (before after : List TerminalState) → FileAttempts call inner files now p result new before after → (number : ℕ) → result ≡ CallResult.refused number → IsOnDevice call inner files p result new before after ⊎ OneDriveFails files result new ⊎ FileCause (made call (asker_of inner p now) files (length before)) number
-refusal-caused call inner files now p result new before after it number refused =
-    subst (λ (result : CallResult). IsOnDevice call inner files p result new before after ⊎ OneDriveFails files result new ⊎ FileCause (made call (asker_of inner p now) files (length before)) number) (sym it.result_is)
-    (subst (λ (new : Files). IsOnDevice call inner files p (result_of inner p (io_effect it.effect)) new before after ⊎ OneDriveFails files (result_of inner p (io_effect it.effect)) new ⊎ FileCause (made call (asker_of inner p now) files (length before)) number) (sym it.state)
-    (comes-of call inner files now p before after number it.effect it.does (ends-refused it.effect.end inner p (io_effect it.effect) number (sym it.result_is ∙ refused))))
+module _ (call : PathCall) (inner : Inner) (files : Files) (now : TimePacket) (p : ℕ) (before after : List TerminalState) (number : ℕ) where
+  -- it is on a terminal or a pipe, on no file; or the drive that it reached failed; or it has its cause
+  abbrev Has : CallResult → Files → Type 0
+  Has result new =
+      IsOnDevice call inner files p result new before after × IsOnNoFile call (asker_of inner p now) files (length before)
+      ⊎ OneDriveFails (drive_reached call (asker_of inner p now) files (length before)) files result new
+      ⊎ FileCause (made call (asker_of inner p now) files (length before)) number
+
+  pub refusal-caused : (result : CallResult) (new : Files) → FileAttempts call inner files now p result new before after → result ≡ CallResult.refused number → Has result new
+  refusal-caused result new it refused =
+      subst (λ (result : CallResult). Has result new) (sym it.result_is)
+      (subst (Has (result_of inner p (io_effect it.effect))) (sym it.state)
+      (comes-of call inner files now p before after number it.effect it.does (ends-refused it.effect.end inner p (io_effect it.effect) number (sym it.result_is ∙ refused))))

@@ -1,6 +1,7 @@
 -- Why I$Delete and I$DeletX are refused.
 use Rattle.std.proofs.Common.{◌≡◌, ◌≢◌, ℕ, not, Bool, true, false, Option, Some, None, List, [], ◌∷◌, length, refl, sym, ap, ◌∙◌, inl, inr, arith}
 use Rattle.std.specs.Prelude.{slice_get, if◌then◌else◌}
+use Rattle.std.proofs.lemmas.Bool.{or_right}
 use Rattle.std.proofs.lemmas.Option.{none-some}
 use Rattle.os9_base.specs.declared.errors.TheConstants.{E_BPNAM, E_FNA, E_PNNF, E_SHARE}
 use Rattle.device_table.specs.Names.{device_of}
@@ -22,7 +23,7 @@ use Rattle.file_rules.specs.Step.{FileStep, refused, comes, changes, leaves, nee
 use Rattle.file_rules.specs.Way.{Found, Way, along, before_last, last_of, list_of, nowhere, to_device, way_by, way_from, way_of, way_of_device, way_on_drive}
 use Rattle.file_rules.specs.declared.path_call.PathCall.TheVariants as Call
 use Rattle.file_rules.specs.declared.places.FilePlace.{FilePlace}
-use Rattle.touch_laws.specs.Causes.{FindsIn, Leads, Made, Walks, a_device, a_root, executes, forbidden_in, is_used, makes_new, not_in, reads_list}
+use Rattle.touch_laws.specs.Causes.{FindsIn, Leads, Made, Walks, a_device, a_root, deletes_name, executes, forbidden_in, is_used, makes_new, not_in, reads_list}
 use Rattle.touch_laws.proofs.Nowhere.{nowhere-caused}
 use Rattle.touch_laws.proofs.Caused.{StepCaused, caused-list, caused-needs, caused-refused, caused-refuses, caused-walks, not-is}
 use Rattle.touch_laws.proofs.CausedNames.{tests}
@@ -37,16 +38,16 @@ no-names : (names : List (List ℕ)) → last_of names ≡ None → before_last 
 no-names [] none = refl
 no-names (name ∷ names) none = absurd (got name names (ap (slice_get (name ∷ names)) (omega arith) ∙ none))
 
-module _ (m : Made) (reads : reads_list m.call ≡ true) (finds_it : makes_new m.call ≡ false) (execute : Bool) (execute_is : execute ≡ executes m.call m.asker.caller.regs.a) (other_open : m.call ≢ Call.Open) (other_create : m.call ≢ Call.Create) (walks_so : (names : List (List ℕ)) (place : FilePlace) (v : DiskVolume) (end : WalkEnd) → Leads m (along place names) → volume_at m.files place.drive ≡ Some v → walk v.files m.asker.user execute place.number (before_last names) ≡ end → Walks m names place v end) where
+module _ (m : Made) (reads : reads_list m.call ≡ true) (deletes_it : deletes_name m.call ≡ true) (execute : Bool) (execute_is : execute ≡ executes m.call m.asker.caller.regs.a) (other_open : m.call ≢ Call.Open) (other_create : m.call ≢ Call.Create) (walks_so : (names : List (List ℕ)) (place : FilePlace) (v : DiskVolume) (end : WalkEnd) → Leads m (along place names) → volume_at m.files place.drive ≡ Some v → walk v.files m.asker.user execute place.number (before_last names) ≡ end → Walks m names place v end) where
   abbrev D : FileStep → Type 0
   D step = StepCaused m step
 
   goes : (list : PathList) (name : List ℕ) (found : Found) (n : ℕ) → FindsIn m found name → look_up found.file.contents name ≡ Some n → D (deletes_file m.asker m.files list name found n)
   goes list name found n finds there =
       caused-refuses m (not (may_delete (found.volume.files n) m.asker.user)) E_FNA (refuses (is_open m.files (record { drive = found.place.drive; number = n })) E_SHARE (comes (changes (record { drive = found.place.drive; change = deletes found.place.number n name; effect = λ new. leaves (answers (past_list m.asker.caller.regs list)) m.files }))))
-      (λ test. forbidden_in found name refl finds (inr (inr (n, finds_it, there, not-is (may_delete (found.volume.files n) m.asker.user) test))))
+      (λ test. forbidden_in found name refl finds (inr (inr (n, deletes_it, there, not-is (may_delete (found.volume.files n) m.asker.user) test))))
       (caused-refuses m (is_open m.files (record { drive = found.place.drive; number = n })) E_SHARE (comes (changes (record { drive = found.place.drive; change = deletes found.place.number n name; effect = λ new. leaves (answers (past_list m.asker.caller.regs list)) m.files })))
-      (λ test. is_used found name n refl finds_it finds there test)
+      (λ test. is_used found name n refl deletes_it finds there test)
       (λ new. (past_list m.asker.caller.regs list, refl)))
 
   in-it : (list : PathList) (name : List ℕ) (found : Found) → FindsIn m found name → D (deletes_in m.asker m.files execute list name found)
@@ -54,17 +55,17 @@ module _ (m : Made) (reads : reads_list m.call ≡ true) (finds_it : makes_new m
       caused-refuses m (not (may_change found.file m.asker.user execute)) E_FNA (needs (look_up found.file.contents name) E_PNNF (deletes_file m.asker m.files list name found))
       (λ test. forbidden_in found name refl finds (inl (ap (may_change found.file m.asker.user) (sym execute_is) ∙ not-is (may_change found.file m.asker.user execute) test)))
       (caused-needs m (look_up found.file.contents name) E_PNNF (deletes_file m.asker m.files list name found)
-      (λ none. not_in found name refl finds_it finds none)
+      (λ none. not_in found name refl deletes_it finds none)
       (λ n there. goes list name found n finds there))
 
   delete-way : (list : PathList) (way : Way) → Leads m way → (last : Option (List ℕ)) → ((place : FilePlace) (names : List (List ℕ)) → way ≡ along place names → last_of names ≡ last) → D (deletes_named m.asker m.files execute list way last)
   delete-way list (along place names) leads None last_is =
       let last = last_is place names refl in
       caused-walks m execute names names (λ place v end leads mounted is. walks_so names place v end leads mounted (ap (walk v.files m.asker.user execute place.number) (no-names names last) ∙ is)) place (λ root. refused E_FNA) leads
-      (λ found finds. caused-refused m E_FNA (a_root names place refl finds_it leads last))
+      (λ found finds. caused-refused m E_FNA (a_root names place refl deletes_it leads last))
   delete-way list (along place names) leads (Some name) last_is =
       caused-walks m execute names (before_last names) (λ place v end leads mounted is. walks_so names place v end leads mounted is) place (deletes_in m.asker m.files execute list name) leads
-      (λ found finds. in-it list name found (record { names = names; finds = finds; last = last_is place names refl }))
+      (λ found finds. in-it list name found (record { enters = or_right (makes_new m.call) (deletes_name m.call) deletes_it; names = names; finds = finds; last = last_is place names refl }))
   delete-way list to_device leads last last_is = caused-refused m E_FNA (a_device refl other_open other_create leads)
   delete-way list (nowhere number) leads last last_is = caused-refused m number (nowhere-caused m number leads)
 

@@ -1,5 +1,5 @@
 -- Why calls on path lists are refused that lead to no terminal and no pipe.
-use Rattle.std.proofs.Common.{◌≡◌, ℕ, ◌==◌, ◌&&◌, not, Bool, true, false, List, length, refl, inl, inr}
+use Rattle.std.proofs.Common.{◌≡◌, ◌⊎◌, ℕ, ◌==◌, ◌&&◌, not, Bool, true, false, List, length, refl, inl, inr}
 use Rattle.std.specs.Prelude.{is_some, nat_lt}
 use Rattle.std.proofs.lemmas.Bool.{and_parts, eqb-true, ltb-true}
 use Rattle.os9_base.specs.declared.errors.TheConstants.{E_BPNAM, E_BMODE, E_CEF, E_FNA, E_FULL, E_PTHFUL, E_SHARE, E_SLF}
@@ -61,9 +61,9 @@ module _ (m : Made) where
         caused-refuses m (not (may_change found.file m.asker.user (executes m.call m.asker.caller.regs.a))) E_FNA next
         (λ test. forbidden_in found name refl finds (inl (not-is (may_change found.file m.asker.user (executes m.call m.asker.caller.regs.a)) test))) holds
 
-  number-free : reads_list m.call ≡ true → (next : ℕ → FileStep) → ((n : ℕ) → C (next n)) → C (needs (new_number m.files.io.paths m.asker.caller.process.0) E_PTHFUL next)
-  number-free reads next holds =
-      caused-needs m (new_number m.files.io.paths m.asker.caller.process.0) E_PTHFUL next (λ none. no_number refl reads none) (λ n is. holds n)
+  number-free : (m.call ≡ Call.Open) ⊎ (m.call ≡ Call.Create) → (next : ℕ → FileStep) → ((n : ℕ) → C (next n)) → C (needs (new_number m.files.io.paths m.asker.caller.process.0) E_PTHFUL next)
+  number-free begins next holds =
+      caused-needs m (new_number m.files.io.paths m.asker.caller.process.0) E_PTHFUL next (λ none. no_number refl begins none) (λ n is. holds n)
 
 module _ (asker : Asker) (files : Files) (terms : ℕ) where
   -- ---- I$Open
@@ -78,9 +78,10 @@ module _ (asker : Asker) (files : Files) (terms : ℕ) where
       (λ test. forbidden names found refl finds (not-is (may_open found.file asker.user asker.caller.regs.a) test))
       (caused-refuses opening (is_not_shared files found asker.caller.regs.a) E_SHARE (begins_on asker files list found)
       (λ test. not_shared names found refl refl finds test)
-      (number-free opening refl (λ number. done (opened_regs asker.caller.regs list number) (with_path_table files (paths_after_begin files.io.paths asker.caller.process.0 (new_desc (target_on found.file found.place) asker.caller.regs.a))))
+      (number-free opening (inl refl) (λ number. done (opened_regs asker.caller.regs list number) (with_path_table files (paths_after_begin files.io.paths asker.caller.process.0 (new_desc (target_on found.file found.place) asker.caller.regs.a))))
       (λ number. caused-done opening (opened_regs asker.caller.regs list number) (with_path_table files (paths_after_begin files.io.paths asker.caller.process.0 (new_desc (target_on found.file found.place) asker.caller.regs.a)))))))
-  open-way list to_device leads = inl (record { device = Device.Open; device_is = refl; is = refl })
+  open-way list to_device leads =
+      inl (record { device = Device.Open; device_is = refl; is = refl }, (leads.list, leads.read, leads.is))
   open-way list (nowhere number) leads = caused-refused opening number (nowhere-caused opening number leads)
 
   pub open-caused : StepCaused (made Call.Open asker files terms) (i_open asker files terms)
@@ -98,7 +99,7 @@ module _ (asker : Asker) (files : Files) (terms : ℕ) where
   create-way list (along place names) leads =
       caused-needs creating (last_of names) E_BPNAM (λ name. walks asker files (is_for_execution asker.caller.regs.a) place (before_last names) (creates_in asker files list name))
       (λ none. no_last names place refl refl leads none)
-      (λ name last. caused-walks creating (is_for_execution asker.caller.regs.a) names (before_last names) (λ place v end leads mounted is. record { leads = leads; mounted = mounted; is = is }) place (creates_in asker files list name) leads (λ found finds. in_it found name (record { names = names; finds = finds; last = last })))
+      (λ name last. caused-walks creating (is_for_execution asker.caller.regs.a) names (before_last names) (λ place v end leads mounted is. record { leads = leads; mounted = mounted; is = is }) place (creates_in asker files list name) leads (λ found finds. in_it found name (record { enters = refl; names = names; finds = finds; last = last })))
     where
       in_it : (found : Found) (name : List ℕ) → FindsIn creating found name → StepCaused creating (creates_in asker files list name found)
       in_it found name finds =
@@ -106,10 +107,11 @@ module _ (asker : Asker) (files : Files) (terms : ℕ) where
           (caused-refuses creating (says_directory asker.caller.regs.b) E_FNA (refuses (is_some (look_up found.file.contents name)) E_CEF (creates_with_path asker files list name found))
           (λ test. forbidden_in found name refl finds (inr (inl (refl, test))))
           (is-new creating refl refl found name finds (creates_with_path asker files list name found)
-          (number-free creating refl (λ number. has_room_for found 0 (comes (changes (record { drive = found.place.drive; change = creates found.place.number name asker.caller.regs.b; effect = opens_new asker files list found.place.drive number }))))
+          (number-free creating (inr refl) (λ number. has_room_for found 0 (comes (changes (record { drive = found.place.drive; change = creates found.place.number name asker.caller.regs.b; effect = opens_new asker files list found.place.drive number }))))
           (λ number. room creating refl refl found name finds (comes (changes (record { drive = found.place.drive; change = creates found.place.number name asker.caller.regs.b; effect = opens_new asker files list found.place.drive number })))
           (λ n. (opened_regs asker.caller.regs list number, refl))))))
-  create-way list to_device leads = inl (record { device = Device.Create; device_is = refl; is = refl })
+  create-way list to_device leads =
+      inl (record { device = Device.Create; device_is = refl; is = refl }, (leads.list, leads.read, leads.is))
   create-way list (nowhere number) leads = caused-refused creating number (nowhere-caused creating number leads)
 
   pub create-caused : StepCaused (made Call.Create asker files terms) (i_create asker files terms)
@@ -127,7 +129,7 @@ module _ (asker : Asker) (files : Files) (terms : ℕ) where
   make-way list (along place names) leads =
       caused-needs making (last_of names) E_BPNAM (λ name. walks asker files false place (before_last names) (makes_in asker files list name))
       (λ none. no_last names place refl refl leads none)
-      (λ name last. caused-walks making false names (before_last names) (λ place v end leads mounted is. record { leads = leads; mounted = mounted; is = is }) place (makes_in asker files list name) leads (λ found finds. in_it found name (record { names = names; finds = finds; last = last })))
+      (λ name last. caused-walks making false names (before_last names) (λ place v end leads mounted is. record { leads = leads; mounted = mounted; is = is }) place (makes_in asker files list name) leads (λ found finds. in_it found name (record { enters = refl; names = names; finds = finds; last = last })))
     where
       in_it : (found : Found) (name : List ℕ) → FindsIn making found name → StepCaused making (makes_in asker files list name found)
       in_it found name finds =

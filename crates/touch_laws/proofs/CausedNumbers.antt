@@ -1,5 +1,5 @@
 -- Why calls on the number of a path are refused on a file or a directory.
-use Rattle.std.proofs.Common.{◌≡◌, ℕ, ◌+◌, ◌==◌, ◌%◌, not, Bool, true, false, Option, Some, None, List, length, refl, sym, ap, ◌∙◌, inl, inr}
+use Rattle.std.proofs.Common.{◌≡◌, ℕ, ◌+◌, ◌==◌, ◌%◌, ◌<◌, not, Bool, true, false, Option, Some, None, List, length, refl, sym, ap, ◌∙◌, inl, inr, arith}
 use Rattle.std.specs.Prelude.{is_none, nat_le, nat_lt, take, if◌then◌else◌}
 use Rattle.std.proofs.lemmas.Bool.{eqb-false, eqb-true, leb-true, ltb-true}
 use Rattle.os9_base.specs.declared.errors.TheConstants.{E_BPADDR, E_BPNUM, E_BMODE, E_EOF, E_FNA, E_FULL, E_UNKSVC}
@@ -36,7 +36,7 @@ use Rattle.file_rules.specs.declared.path_call.PathCall.{PathCall}
 use Rattle.file_rules.specs.declared.path_call.PathCall.TheVariants as Call
 use Rattle.file_rules.specs.declared.status.TheConstants.{SS_SIZE, SS_POS, SS_FD, SS_ATTR}
 use Rattle.touch_laws.specs.Causes.{FileCause, LacksMode, Made, Names, NeedsByte, Sizes, bad_address, bad_number, cannot_grow, end_of_file, no_status, not_owned, path_mode}
-use Rattle.touch_laws.specs.Devices.{device_call}
+use Rattle.touch_laws.specs.Devices.{IsOnNoFile, device_call}
 use Rattle.touch_laws.proofs.Caused.{StepCaused, caused-done, caused-needs, caused-refused, caused-refuses, is_nothing, not-is}
 use Rattle.touch_laws.proofs.Splits.{not-refused}
 
@@ -44,36 +44,40 @@ use Rattle.touch_laws.proofs.Splits.{not-refused}
 abbrev pub made : PathCall → Asker → Files → ℕ → Made
 made call asker files terms = record { call = call; asker = asker; files = files; terms = terms }
 
+above-none : (n : ℕ) → (n == 0) ≡ false → 0 < n
+above-none n is = omega (arith, eqb-false n 0 is)
+
 module _ (m : Made) where
   abbrev C : FileStep → Type 0
   C step = StepCaused m step
 
   -- a call on a number: on a file, or the other call
-  on-number : (number : ℕ) (otherwise : IoStep) (next : OpenFile → FileStep) → C (comes (as_io otherwise)) → ((found : OpenFile) → open_file m.files m.asker.caller.process.0 number ≡ Some found → C (next found)) → C (on_file m.asker m.files number otherwise next)
-  on-number number otherwise next other holds = by_file (open_file m.files m.asker.caller.process.0 number) holds
+  on-number : (number : ℕ) (otherwise : IoStep) (next : OpenFile → FileStep) → (open_file m.files m.asker.caller.process.0 number ≡ None → C (comes (as_io otherwise))) → ((found : OpenFile) → open_file m.files m.asker.caller.process.0 number ≡ Some found → C (next found)) → C (on_file m.asker m.files number otherwise next)
+  on-number number otherwise next other holds =
+      by_file (open_file m.files m.asker.caller.process.0 number) other holds
     where
-      by_file : (o : Option OpenFile) → ((found : OpenFile) → o ≡ Some found → C (next found)) → C (by_kind o otherwise next)
-      by_file None holds = other
-      by_file (Some found) holds = holds found refl
+      by_file : (o : Option OpenFile) → (o ≡ None → C (comes (as_io otherwise))) → ((found : OpenFile) → o ≡ Some found → C (next found)) → C (by_kind o otherwise next)
+      by_file None other holds = other refl
+      by_file (Some found) other holds = holds found refl
 
   module _ (found : OpenFile) (names : Names m found) where
     -- the mode is tested, and then bytes are moved
-    moves : (is_allowed : ℕ → Bool) (next : FileStep) → (is_allowed found.opened.desc.mode ≡ false → LacksMode m.call m.asker found) → C next → C (moves_bytes m.asker m.files found is_allowed next)
+    moves : (is_allowed : ℕ → Bool) (next : FileStep) → (is_allowed found.opened.desc.mode ≡ false → LacksMode m.call m.asker found) → (0 < m.asker.caller.regs.y → C next) → C (moves_bytes m.asker m.files found is_allowed next)
     moves is_allowed next lacks holds =
         caused-refuses m (not (is_allowed found.opened.desc.mode)) E_BMODE (if m.asker.caller.regs.y == 0 then done m.asker.caller.regs m.files else next)
         (λ test. path_mode found refl names (lacks (not-is (is_allowed found.opened.desc.mode) test)))
-        (by_count (m.asker.caller.regs.y == 0))
+        (by_count (m.asker.caller.regs.y == 0) refl)
       where
-        by_count : (nothing : Bool) → C (if nothing then done m.asker.caller.regs m.files else next)
-        by_count true = caused-done m m.asker.caller.regs m.files
-        by_count false = holds
+        by_count : (nothing : Bool) → (m.asker.caller.regs.y == 0) ≡ nothing → C (if nothing then done m.asker.caller.regs m.files else next)
+        by_count true is = caused-done m m.asker.caller.regs m.files
+        by_count false is = holds (above-none m.asker.caller.regs.y is)
 
-    ends : NeedsByte m.call m.asker.caller.regs.b → (next : FileStep) → C next → C (refuses (nat_le (length found.file.contents) found.opened.desc.at) E_EOF next)
+    ends : NeedsByte m.call m.asker.caller.regs → (next : FileStep) → C next → C (refuses (nat_le (length found.file.contents) found.opened.desc.at) E_EOF next)
     ends asks next holds =
         caused-refuses m (nat_le (length found.file.contents) found.opened.desc.at) E_EOF next
         (λ test. end_of_file found refl asks names (leb-true (length found.file.contents) found.opened.desc.at test)) holds
 
-    read : NeedsByte m.call m.asker.caller.regs.b → (part : List ℕ → List ℕ) → C (reads_file m.asker m.files part found)
+    read : NeedsByte m.call m.asker.caller.regs → (part : List ℕ → List ℕ) → C (reads_file m.asker m.files part found)
     read asks part =
         ends asks (comes (leaves_so (answers_bytes m.asker m.files found (part (bytes_here m.asker found)))))
         (λ number is. absurd (not-refused _ number is))
@@ -88,43 +92,43 @@ module _ (m : Made) where
     write bytes asks regs =
         grows (writes found.place.number found.opened.desc.at bytes) (length (written found.file.contents found.opened.desc.at bytes)) asks regs (with_position m.files found.opened (found.opened.desc.at + length bytes))
 
-    send : (bytes : List ℕ) → Sizes m.call m.asker found (length (written found.file.contents found.opened.desc.at bytes)) → (can_write found.opened.desc.mode ≡ false → LacksMode m.call m.asker found) → C (sends_bytes m.asker m.files found bytes)
+    send : (bytes : List ℕ) → (0 < m.asker.caller.regs.y → Sizes m.call m.asker found (length (written found.file.contents found.opened.desc.at bytes))) → (can_write found.opened.desc.mode ≡ false → LacksMode m.call m.asker found) → C (sends_bytes m.asker m.files found bytes)
     send bytes asks lacks =
-        moves can_write (writes_bytes m.files found bytes (count_regs m.asker.caller (length bytes))) lacks (write bytes asks (count_regs m.asker.caller (length bytes)))
+        moves can_write (writes_bytes m.files found bytes (count_regs m.asker.caller (length bytes))) lacks (λ some. write bytes (asks some) (count_regs m.asker.caller (length bytes)))
 
 -- ---- I$Read, I$ReadLn, I$Write, I$WritLn and F$PErr
 
 module _ (asker : Asker) (files : Files) (terms : ℕ) where
-  theirs : (call : PathCall) (device : IoCall) → device_call call ≡ Some device → StepCaused (made call asker files terms) (comes (as_io (io_step device asker.caller files.io (length files.drives) terms)))
-  theirs call device is = inl (record { device = device; device_is = is; is = refl })
+  theirs : (call : PathCall) (device : IoCall) → device_call call ≡ Some device → IsOnNoFile call asker files terms → StepCaused (made call asker files terms) (comes (as_io (io_step device asker.caller files.io (length files.drives) terms)))
+  theirs call device is none = inl (record { device = device; device_is = is; is = refl }, none)
 
   pub read-caused : StepCaused (made Call.Read asker files terms) (i_read asker files)
   read-caused =
       on-number (made Call.Read asker files terms) asker.caller.regs.a (reads_device asker.caller files.io) _ (theirs Call.Read Device.Read refl) (λ found names.
       caused-refuses (made Call.Read asker files terms) (is_none (user_bytes asker.caller.cells asker.caller.regs.x asker.caller.regs.y)) E_BPADDR _
       (λ test. bad_address refl (is_nothing (user_bytes asker.caller.cells asker.caller.regs.x asker.caller.regs.y) test))
-      (moves (made Call.Read asker files terms) found names can_read (reads_file asker files (λ bytes. bytes) found) (λ lacks. lacks) (read (made Call.Read asker files terms) found names tt (λ bytes. bytes))))
+      (moves (made Call.Read asker files terms) found names can_read (reads_file asker files (λ bytes. bytes) found) (λ lacks. lacks) (λ some. read (made Call.Read asker files terms) found names some (λ bytes. bytes))))
 
   pub readln-caused : StepCaused (made Call.ReadLn asker files terms) (i_readln asker files)
   readln-caused =
       on-number (made Call.ReadLn asker files terms) asker.caller.regs.a (reads_device_line asker.caller files.io) _ (theirs Call.ReadLn Device.ReadLn refl) (λ found names.
       caused-refuses (made Call.ReadLn asker files terms) (is_none (user_bytes asker.caller.cells asker.caller.regs.x asker.caller.regs.y)) E_BPADDR _
       (λ test. bad_address refl (is_nothing (user_bytes asker.caller.cells asker.caller.regs.x asker.caller.regs.y) test))
-      (moves (made Call.ReadLn asker files terms) found names can_read (reads_file asker files first_line found) (λ lacks. lacks) (read (made Call.ReadLn asker files terms) found names tt first_line)))
+      (moves (made Call.ReadLn asker files terms) found names can_read (reads_file asker files first_line found) (λ lacks. lacks) (λ some. read (made Call.ReadLn asker files terms) found names some first_line)))
 
   pub write-caused : StepCaused (made Call.Write asker files terms) (i_write asker files)
   write-caused =
       on-number (made Call.Write asker files terms) asker.caller.regs.a (writes_device asker.caller files.io) _ (theirs Call.Write Device.Write refl) (λ found names.
       caused-needs (made Call.Write asker files terms) (user_bytes asker.caller.cells asker.caller.regs.x asker.caller.regs.y) E_BPADDR (sends_bytes asker files found)
       (λ none. bad_address refl none)
-      (λ bytes is. send (made Call.Write asker files terms) found names bytes (bytes, is, refl) (λ lacks. lacks)))
+      (λ bytes is. send (made Call.Write asker files terms) found names bytes (λ some. (bytes, is, some, refl)) (λ lacks. lacks)))
 
   pub writln-caused : StepCaused (made Call.WritLn asker files terms) (i_writln asker files)
   writln-caused =
       on-number (made Call.WritLn asker files terms) asker.caller.regs.a (writes_device_line asker.caller files.io) _ (theirs Call.WritLn Device.WritLn refl) (λ found names.
       caused-needs (made Call.WritLn asker files terms) (line_at asker.caller.cells asker.caller.regs.x asker.caller.regs.y) E_BPADDR (sends_bytes asker files found)
       (λ none. bad_address refl none)
-      (λ bytes is. send (made Call.WritLn asker files terms) found names bytes (bytes, is, refl) (λ lacks. lacks)))
+      (λ bytes is. send (made Call.WritLn asker files terms) found names bytes (λ some. (bytes, is, some, refl)) (λ lacks. lacks)))
 
   pub perr-caused : StepCaused (made Call.PErr asker files terms) (f_perr asker files)
   perr-caused =
@@ -147,7 +151,7 @@ module _ (asker : Asker) (files : Files) (terms : ℕ) where
   pub seek-caused : StepCaused (made Call.Seek asker files terms) (i_seek asker files)
   seek-caused =
       on-number (made Call.Seek asker files terms) asker.caller.regs.a (seeks_nothing asker.caller files.io) _
-      (inr (no-path (open_path files.io asker.caller.process.0 asker.caller.regs.a) refl))
+      (λ none. inr (no-path (open_path files.io asker.caller.process.0 asker.caller.regs.a) refl))
       (λ found names. caused-done (made Call.Seek asker files terms) asker.caller.regs (with_position files found.opened (long_of asker.caller.regs)))
 
   -- ---- I$GetStt

@@ -7,6 +7,7 @@ use Rattle.std.proofs.lemmas.Grind.{get_or_after_one}
 use Rattle.std.proofs.lemmas.List.{get_or-set_same, get_or-set_other, get_or_past, length-set}
 use Rattle.std.proofs.lemmas.List.Quantifiers.{position-Some}
 use Rattle.std.proofs.lemmas.Option.{none-some, option_and_then_some, same_Some}
+use Rattle.os9_base.specs.declared.registers.TimePacket.{TimePacket}
 use Rattle.os9_outer.specs.TerminalState.{TerminalState}
 use Rattle.call_rules.specs.CallResult.{CallResult}
 use Rattle.call_rules.specs.Inner.{Inner}
@@ -17,9 +18,11 @@ use Rattle.io_model.specs.declared.path.Target.{Target}
 use Rattle.rbf_model.specs.File.{DiskFile}
 use Rattle.rbf_model.specs.Volume.{DiskVolume}
 use Rattle.io_rules.specs.Io.{Io, OpenPath, kept_at, new_desc, open_path, with_call, with_paths}
-use Rattle.file_rules.specs.Files.{Files, OpenFile, open_file, open_file_at, place_of_target, volume_at}
+use Rattle.file_rules.specs.Attempts.{asker_of}
+use Rattle.file_rules.specs.Files.{Asker, Files, OpenFile, open_file, open_file_at, place_of_target, volume_at}
+use Rattle.file_rules.specs.declared.path_call.PathCall.{PathCall}
 use Rattle.file_rules.specs.declared.places.FilePlace.{FilePlace}
-use Rattle.touch_laws.specs.Devices.{IsDevice}
+use Rattle.touch_laws.specs.Devices.{IsDevice, number_in}
 use Rattle.touch_laws.specs.Touch.{BeginsPath, KeepsCalls, KeepsIo, KeepsPaths, LeavesDevices, MovesPosition, PathsMove}
 
 -- ---- calls that wait
@@ -154,10 +157,10 @@ file-named files p n found is =
     map-some (λ (file : DiskFile). record { opened = path; place = place; volume = v; file = file }) (v.files place.number) found mapped (λ file there same.
     subst (IsNamed files p n) same (record { desc = (opened-is files.io p n path named).desc; place = on })))))
 
-pub stay-position : (files : Files) (p : ℕ) (paths : PathTable) → MovesPosition files p paths → PathsStay p files.io.paths paths
-stay-position files p paths it =
-    let named = file-named files p it.number it.found it.named in
-    subst (PathsStay p files.io.paths) (sym it.is) (stay-moved p files.io.paths it.found.opened.path.0 it.at it.found.opened.desc it.found.place named.desc named.place)
+pub stay-position : (call : PathCall) (asker : Asker) (files : Files) (paths : PathTable) → MovesPosition call asker files paths → PathsStay asker.caller.process.0 files.io.paths paths
+stay-position call asker files paths it =
+    let named = file-named files asker.caller.process.0 (number_in call asker) it.found it.named in
+    subst (PathsStay asker.caller.process.0 files.io.paths) (sym it.is) (stay-moved asker.caller.process.0 files.io.paths it.found.opened.path.0 it.at it.found.opened.desc it.found.place named.desc named.place)
 
 -- ---- a new path
 
@@ -237,20 +240,21 @@ module _ (p : ℕ) (paths : PathTable) (target : Target) (mode : ℕ) (place : F
       by_places (Some n) None number_is path_is = stay-same p paths
       by_places (Some n) (Some s) number_is path_is = stay-new n s number_is path_is
 
-stay-path : (files : Files) (p : ℕ) (paths : PathTable) → BeginsPath files p paths → PathsStay p files.io.paths paths
-stay-path files p paths it =
-    subst (PathsStay p files.io.paths) (sym it.is) (stay-begun p files.io.paths it.target it.mode it.place it.on)
+stay-path : (call : PathCall) (asker : Asker) (files : Files) (paths : PathTable) → BeginsPath call asker files paths → PathsStay asker.caller.process.0 files.io.paths paths
+stay-path call asker files paths it =
+    subst (PathsStay asker.caller.process.0 files.io.paths) (sym it.is) (stay-begun asker.caller.process.0 files.io.paths it.target asker.caller.regs.a it.place it.on)
 
 -- ---- all of input and output
 
-pub stays : (files : Files) (p : ℕ) (paths : PathTable) → PathsMove files p paths → PathsStay p files.io.paths paths
-stays files p paths (inl same) = subst (PathsStay p files.io.paths) (sym same) (stay-same p files.io.paths)
-stays files p paths (inr (inl moves)) = stay-position files p paths moves
-stays files p paths (inr (inr begins)) = stay-path files p paths begins
+pub stays : (call : PathCall) (asker : Asker) (files : Files) (paths : PathTable) → PathsMove call asker files paths → PathsStay asker.caller.process.0 files.io.paths paths
+stays call asker files paths (inl same) =
+    subst (PathsStay asker.caller.process.0 files.io.paths) (sym same) (stay-same asker.caller.process.0 files.io.paths)
+stays call asker files paths (inr (inl moves)) = stay-position call asker files paths moves
+stays call asker files paths (inr (inr begins)) = stay-path call asker files paths begins
 
-pub io-kept : (inner : Inner) (files : Files) (p : ℕ) (result : CallResult) (new : Files) (before after : List TerminalState) → LeavesDevices inner files p result new before after → KeepsIo p files.io new.io
-io-kept inner files p result new before after it = subst (KeepsIo p files.io) (sym it.rest) (record {
-  paths = paths-kept p files.io new.io.paths (stays files p new.io.paths it.paths);
+pub io-kept : {call : PathCall} {now : TimePacket} (inner : Inner) (files : Files) (p : ℕ) (result : CallResult) (new : Files) (before after : List TerminalState) → LeavesDevices call inner files now p result new before after → KeepsIo p files.io new.io
+io-kept {call} {now} inner files p result new before after it = subst (KeepsIo p files.io) (sym it.rest) (record {
+  paths = paths-kept p files.io new.io.paths (stays call (asker_of inner p now) files new.io.paths it.paths);
   calls = calls-kept files.io new.io.paths p;
   terminals = refl;
   pipes = refl;

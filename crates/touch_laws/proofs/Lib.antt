@@ -17,3 +17,4 @@ pub mod CausedNames
 pub mod CausedDeletes
 pub mod CausedAttempts
 pub mod Loads
+pub mod CausedLoads

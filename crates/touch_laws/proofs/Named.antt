@@ -28,7 +28,7 @@ use Rattle.file_rules.specs.Way.{along, is_root, nowhere, to_device, way_by, way
 use Rattle.file_rules.specs.declared.path_call.PathCall.{PathCall}
 use Rattle.file_rules.specs.declared.path_call.PathCall.TheVariants as Call
 use Rattle.file_rules.specs.declared.places.FilePlace.{FilePlace}
-use Rattle.touch_laws.specs.Devices.{device_call, takes_number, IsDevice, IsOnDevice, LeadsToDevice}
+use Rattle.touch_laws.specs.Devices.{device_call, takes_number, IsDevice, IsOnDevice, IsOnNoFile, LeadsToDevice}
 use Rattle.touch_laws.proofs.Attempts.{on-device}
 
 -- ---- by the number of a path
@@ -63,6 +63,33 @@ module _ (asker : Asker) (files : Files) (terms : ℕ) where
   pub is-theirs : (call : PathCall) (device : IoCall) → device_call call ≡ Some device → IsTheirs call device
   is-theirs call device is =
       subst (λ (o : Option IoCall). MatchOption o (Unit {0}) (IsTheirs call)) is (theirs call)
+
+  -- and it is on no file then
+  abbrev IsOnNone : PathCall → IoCall → Type 0
+  IsOnNone call device =
+      takes_number device ≡ true → open_file files asker.caller.process.0 (path_number device asker.caller.regs) ≡ None → IsOnNoFile call asker files terms
+
+  on-none : (call : PathCall) → MatchOption (device_call call) (Unit {0}) (IsOnNone call)
+  on-none Call.Dup = λ takes none. tt
+  on-none Call.Create = λ takes none. absurd (false≢true takes)
+  on-none Call.Open = λ takes none. absurd (false≢true takes)
+  on-none Call.MakDir = tt
+  on-none Call.ChgDir = tt
+  on-none Call.Delete = tt
+  on-none Call.DeletX = tt
+  on-none Call.Seek = tt
+  on-none Call.Read = λ takes none. none
+  on-none Call.Write = λ takes none. none
+  on-none Call.ReadLn = λ takes none. none
+  on-none Call.WritLn = λ takes none. none
+  on-none Call.GetStt = λ takes none. none
+  on-none Call.SetStt = λ takes none. none
+  on-none Call.Close = λ takes none. tt
+  on-none Call.PErr = λ takes none. none
+
+  pub on-no-file : (call : PathCall) (device : IoCall) → device_call call ≡ Some device → IsOnNone call device
+  on-no-file call device is =
+      subst (λ (o : Option IoCall). MatchOption o (Unit {0}) (IsOnNone call)) is (on-none call)
 
 -- an attempt of a step that is one of terminals and pipes
 module _ (call : PathCall) (device : IoCall) (is : device_call call ≡ Some device) (inner : Inner) (files : Files) (now : TimePacket) (p : ℕ) (old new : List TerminalState) where

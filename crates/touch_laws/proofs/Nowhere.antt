@@ -59,6 +59,9 @@ module _ (m : Made) (list : PathList) (number : ℕ) where
   by-call true makes is = by-new makes (ends_in_dots list) (is_root m.files m.terms list) refl refl is
   by-call false makes is = by-name list.device refl is
 
+pub nowhere-why : (m : Made) (number : ℕ) (leads : Leads m (nowhere number)) → LeadsNowhere m leads.list number
+nowhere-why m number leads = by-call m leads.list number (makes_new m.call) refl leads.is
+
 pub nowhere-caused : (m : Made) (number : ℕ) → Leads m (nowhere number) → FileCause m number
 nowhere-caused m number leads =
-    leads_nowhere leads.list leads.reads leads.read (by-call m leads.list number (makes_new m.call) refl leads.is)
+    leads_nowhere leads.list leads.reads leads.read (nowhere-why m number leads)

@@ -1,5 +1,6 @@
 -- What the parts of a step of a call on files come to: a call on a terminal or a pipe, or what touches none.
-use Rattle.std.proofs.Common.{◌≡◌, ◌≢◌, ◌⊎◌, ℕ, Bool, true, false, Option, Some, None, Result, Ok, Err, List, [], length, refl, inl, inr}
+use Rattle.std.proofs.Common.{◌≡◌, ◌≢◌, ◌⊎◌, ℕ, Bool, true, false, Option, Some, None, Result, Ok, Err, List, [], length, refl, ap, inl, inr}
+use Rattle.std.specs.Prelude.{slice_index_or}
 use Rattle.os9_base.specs.declared.errors.TheConstants.{E_BPADDR, E_BPNAM, E_MNF, E_FNA, E_PNNF}
 use Rattle.os9_base.specs.declared.registers.Regs.{Regs}
 use Rattle.os9_outer.specs.TerminalState.{TerminalState}
@@ -12,14 +13,16 @@ use Rattle.io_rules.specs.Io.{with_paths}
 use Rattle.io_rules.specs.PathList.{PathList}
 use Rattle.io_rules.specs.Step.{IoEffect, IoStep, answers, fails}
 use Rattle.io_rules.specs.declared.io_call.IoCall.{IoCall}
-use Rattle.file_rules.specs.Files.{Files, Asker, OpenFile, directories_at, open_file, volume_at, with_position}
+use Rattle.file_rules.specs.Files.{Files, Asker, OpenFile, directories_at, no_directories, open_file, volume_at, with_position}
 use Rattle.file_rules.specs.OnFile.{by_kind, on_file}
-use Rattle.file_rules.specs.Step.{Step, refused, comes, reaches, needs, refuses, FileEffect, FileStep, Deed, leaves_so, as_io, changes, deed_of, VolumeChange, done}
+use Rattle.file_rules.specs.Step.{Step, refused, comes, reaches, needs, refuses, refuses_so, FileEffect, FileStep, Deed, leaves_so, as_io, changes, deed_of, drive_of, VolumeChange, done}
 use Rattle.file_rules.specs.Way.{Found, reads_list, walk_ends, walks}
 use Rattle.file_rules.specs.declared.path_call.PathCall.{PathCall}
+use Rattle.file_rules.specs.declared.path_call.PathCall.TheVariants as Call
+use Rattle.file_rules.specs.declared.places.Directories.{Directories}
 use Rattle.file_rules.specs.declared.places.FilePlace.{FilePlace}
-use Rattle.touch_laws.specs.Devices.{device_call}
-use Rattle.touch_laws.specs.Touch.{PathsMove}
+use Rattle.touch_laws.specs.Devices.{IsOnNoFile, device_call, number_in}
+use Rattle.touch_laws.specs.Touch.{PathsMove, may_change_volume, moves_position}
 
 -- ---- what holds of each part of a step holds of it
 
@@ -32,45 +35,48 @@ module _ {E : Type 0} (P : Step E → Type 0) (none : (number : ℕ) → P (refu
   refuses-by true number next holds = none number
   refuses-by false number next holds = holds
 
-  pub list-by : (list : Result PathList NameFault) (test : Step E → Step E) (next : PathList → Step E) → ((step : Step E) → P step → P (test step)) → ((list : PathList) → P (next list)) → P (reads_list list test next)
-  list-by (Ok list) test next tests holds = tests (next list) (holds list)
+  pub list-by : (list : Result PathList NameFault) (test : Step E → Step E) (next : PathList → Step E) → ((step : Step E) → P step → P (test step)) → ((l : PathList) → list ≡ Ok l → P (next l)) → P (reads_list list test next)
+  list-by (Ok list) test next tests holds = tests (next list) (holds list refl)
   list-by (Err Unreadable) test next tests holds = none E_BPADDR
   list-by (Err NoName) test next tests holds = tests (refused E_BPNAM) (none E_BPNAM)
 
 -- ---- what touches no terminal and no pipe
 
 -- of input and output the paths change alone; what is refused changes nothing
-pub record Leaves (p : ℕ) (files : Files) (effect : FileEffect) : Type 0 where
+pub record Leaves (call : PathCall) (asker : Asker) (files : Files) (effect : FileEffect) : Type 0 where
   pub over : kept_in effect.end ≡ None
-  pub paths : PathsMove files p effect.files.io.paths
+  pub paths : PathsMove call asker files effect.files.io.paths
   pub rest : effect.files.io ≡ with_paths files.io effect.files.io.paths
-  pub directories : (q : ℕ) → q ≢ p → directories_at effect.files q ≡ directories_at files q
+  pub directories : (q : ℕ) → q ≢ asker.caller.process.0 → directories_at effect.files q ≡ directories_at files q
+  pub own : call ≢ Call.ChgDir → effect.files.directories ≡ files.directories
   pub volumes : effect.files.volumes ≡ files.volumes
   pub refusal : (number : ℕ) → effect.end ≡ fails number → effect.files ≡ files
 
 pub not-refused : (regs : Regs) (number : ℕ) → answers regs ≡ fails number → ⊥
 not-refused regs number is = cc
 
--- it is done, and these are the files then
-pub answered : (p : ℕ) (files new : Files) (at : ℕ) (bytes : List ℕ) (regs : Regs) → PathsMove files p new.io.paths → new.io ≡ with_paths files.io new.io.paths → ((q : ℕ) → q ≢ p → directories_at new q ≡ directories_at files q) → new.volumes ≡ files.volumes → Leaves p files (record { end = answers regs; at = at; bytes = bytes; files = new })
-answered p files new at bytes regs paths rest directories volumes = record {
-  over = refl;
-  paths = paths;
-  rest = rest;
-  directories = directories;
-  volumes = volumes;
-  refusal = λ number is. absurd (not-refused regs number is);
-}
+module _ (call : PathCall) (asker : Asker) (files : Files) where
+  -- it is done, and these are the files then
+  pub answered : (new : Files) (at : ℕ) (bytes : List ℕ) (regs : Regs) → PathsMove call asker files new.io.paths → new.io ≡ with_paths files.io new.io.paths → new.directories ≡ files.directories → new.volumes ≡ files.volumes → Leaves call asker files (record { end = answers regs; at = at; bytes = bytes; files = new })
+  answered new at bytes regs paths rest directories volumes = record {
+    over = refl;
+    paths = paths;
+    rest = rest;
+    directories = λ q differ. ap (λ (all : List Directories). slice_index_or all q no_directories) directories;
+    own = λ differ. directories;
+    volumes = volumes;
+    refusal = λ number is. absurd (not-refused regs number is);
+  }
 
--- nothing of it changes
-pub answered-same : (p : ℕ) (files : Files) (at : ℕ) (bytes : List ℕ) (regs : Regs) → Leaves p files (record { end = answers regs; at = at; bytes = bytes; files = files })
-answered-same p files at bytes regs = answered p files files at bytes regs (inl refl) refl (λ q differ. refl) refl
+  -- nothing of it changes
+  pub answered-same : (at : ℕ) (bytes : List ℕ) (regs : Regs) → Leaves call asker files (record { end = answers regs; at = at; bytes = bytes; files = files })
+  answered-same at bytes regs = answered files at bytes regs (inl refl) refl refl refl
 
--- a position moves
-pub answered-at : (p number : ℕ) (files : Files) (found : OpenFile) → open_file files p number ≡ Some found → (place at : ℕ) (bytes : List ℕ) (regs : Regs) → Leaves p files (record { end = answers regs; at = at; bytes = bytes; files = with_position files found.opened place })
-answered-at p number files found named place at bytes regs =
-    answered p files (with_position files found.opened place) at bytes regs
-    (inr (inl (record { number = number; found = found; named = named; at = place; is = refl }))) refl (λ q differ. refl) refl
+  -- a position moves
+  pub answered-at : moves_position call ≡ true → (found : OpenFile) → open_file files asker.caller.process.0 (number_in call asker) ≡ Some found → (place at : ℕ) (bytes : List ℕ) (regs : Regs) → Leaves call asker files (record { end = answers regs; at = at; bytes = bytes; files = with_position files found.opened place })
+  answered-at moves found named place at bytes regs =
+      answered (with_position files found.opened place) at bytes regs
+      (inr (inl (record { moves = moves; found = found; named = named; at = place; is = refl }))) refl refl refl
 
 -- ---- what a step comes to
 
@@ -90,46 +96,60 @@ module _ (call : PathCall) (asker : Asker) (files : Files) (terms : ℕ) where
   abbrev pub IsStill : IoStep → Type 0
   IsStill step = (it : IoEffect) (old new : List TerminalState) → Does step asker.caller files.io it old new → DoesNothing it old new
 
-  -- a change of a volume is answered
-  abbrev pub Answers : VolumeChange → Type 0
-  Answers it =
-      (n : ℕ) → Leaves asker.caller.process.0 files (it.effect n) × (regs : Regs) × ((it.effect n).end ≡ answers regs)
+  -- a change of the volume of the drive that was reached is answered
+  pub record Answers (reached : Option ℕ) (it : VolumeChange) : Type 0 where
+    pub reaches : reached ≡ Some it.drive
+    pub may : may_change_volume call ≡ true
+    pub left : (n : ℕ) → Leaves call asker files (it.effect n)
+    pub answer : (n : ℕ) → (regs : Regs) × ((it.effect n).end ≡ answers regs)
 
-  abbrev pub Splits : Deed → Type 0
-  Splits (leaves_so it) = Leaves asker.caller.process.0 files it
-  Splits (as_io step) = IsDeviceStep step ⊎ IsStill step
-  Splits (changes it) = Answers it
+  -- what is done where this drive was reached, or none
+  abbrev pub Splits : Option ℕ → Deed → Type 0
+  Splits reached (leaves_so it) = Leaves call asker files it
+  Splits reached (as_io step) = IsDeviceStep step × IsOnNoFile call asker files terms ⊎ IsStill step
+  Splits reached (changes it) = Answers reached it
 
   abbrev pub StepSplits : FileStep → Type 0
-  StepSplits step = Splits (deed_of step files)
+  StepSplits step = Splits (drive_of step) (deed_of step files)
+
+  -- a step behind one that reached this drive
+  abbrev pub SplitsOn : ℕ → FileStep → Type 0
+  SplitsOn drive step = Splits (Some drive) (deed_of step files)
+
+  refused-leaves : (number : ℕ) → Leaves call asker files (refuses_so number files)
+  refused-leaves number =
+      record { over = refl; paths = inl refl; rest = refl; directories = λ q differ. refl; own = λ differ. refl; volumes = refl; refusal = λ number is. refl }
 
   pub none-splits : (number : ℕ) → StepSplits (refused number)
-  none-splits number =
-      record { over = refl; paths = inl refl; rest = refl; directories = λ q differ. refl; volumes = refl; refusal = λ number is. refl }
+  none-splits number = refused-leaves number
+
+  pub none-on : (drive number : ℕ) → SplitsOn drive (refused number)
+  none-on drive number = refused-leaves number
 
   pub done-splits : (regs : Regs) → StepSplits (done regs files)
-  done-splits regs = answered-same asker.caller.process.0 files 0 [] regs
+  done-splits regs = answered-same call asker files 0 [] regs
 
-  pub device-splits : (device : IoCall) → device_call call ≡ Some device → StepSplits (comes (as_io (io_step device asker.caller files.io (length files.drives) terms)))
-  device-splits device is = inl (record { device = device; device_is = is; is = refl })
+  pub device-splits : (device : IoCall) → device_call call ≡ Some device → IsOnNoFile call asker files terms → StepSplits (comes (as_io (io_step device asker.caller files.io (length files.drives) terms)))
+  device-splits device is none = inl (record { device = device; device_is = is; is = refl }, none)
 
   -- a walk, and what is done where it ends
-  pub walks-split : (execute : Bool) (from : FilePlace) (names : List (List ℕ)) (next : Found → FileStep) → ((found : Found) → StepSplits (next found)) → StepSplits (walks asker files execute from names next)
+  pub walks-split : (execute : Bool) (from : FilePlace) (names : List (List ℕ)) (next : Found → FileStep) → ((found : Found) → SplitsOn found.place.drive (next found)) → StepSplits (walks asker files execute from names next)
   walks-split execute from names next holds =
       needs-by StepSplits none-splits (volume_at files from.drive) E_MNF (λ v. reaches from.drive (walk_ends from.drive v (walk v.files asker.user execute from.number names) next))
       (λ v is. by_end v (walk v.files asker.user execute from.number names))
     where
-      by_end : (v : DiskVolume) (end : WalkEnd) → StepSplits (walk_ends from.drive v end next)
+      by_end : (v : DiskVolume) (end : WalkEnd) → SplitsOn from.drive (walk_ends from.drive v end next)
       by_end v (arrives n) =
-          needs-by StepSplits none-splits (v.files n) E_PNNF (λ file. next (record { place = record { drive = from.drive; number = n }; volume = v; file = file }))
+          needs-by (SplitsOn from.drive) (none-on from.drive) (v.files n) E_PNNF (λ file. next (record { place = record { drive = from.drive; number = n }; volume = v; file = file }))
           (λ file there. holds (record { place = record { drive = from.drive; number = n }; volume = v; file = file }))
-      by_end v not_allowed = none-splits E_FNA
-      by_end v not_found = none-splits E_PNNF
+      by_end v not_allowed = none-on from.drive E_FNA
+      by_end v not_found = none-on from.drive E_PNNF
 
   -- a call on a number: on a file, or the other call
-  pub number-splits : (number : ℕ) (otherwise : IoStep) (next : OpenFile → FileStep) → IsDeviceStep otherwise ⊎ IsStill otherwise → ((found : OpenFile) → open_file files asker.caller.process.0 number ≡ Some found → StepSplits (next found)) → StepSplits (on_file asker files number otherwise next)
-  number-splits number otherwise next other holds = by_file (open_file files asker.caller.process.0 number) holds
+  pub number-splits : (number : ℕ) (otherwise : IoStep) (next : OpenFile → FileStep) → (open_file files asker.caller.process.0 number ≡ None → IsDeviceStep otherwise × IsOnNoFile call asker files terms ⊎ IsStill otherwise) → ((found : OpenFile) → open_file files asker.caller.process.0 number ≡ Some found → StepSplits (next found)) → StepSplits (on_file asker files number otherwise next)
+  number-splits number otherwise next other holds =
+      by_file (open_file files asker.caller.process.0 number) other holds
     where
-      by_file : (o : Option OpenFile) → ((found : OpenFile) → o ≡ Some found → StepSplits (next found)) → StepSplits (by_kind o otherwise next)
-      by_file None holds = other
-      by_file (Some found) holds = holds found refl
+      by_file : (o : Option OpenFile) → (o ≡ None → IsDeviceStep otherwise × IsOnNoFile call asker files terms ⊎ IsStill otherwise) → ((found : OpenFile) → o ≡ Some found → StepSplits (next found)) → StepSplits (by_kind o otherwise next)
+      by_file None other holds = other refl
+      by_file (Some found) other holds = holds found refl

@@ -7,6 +7,7 @@ use Rattle.std.proofs.lemmas.Bool.{cases_eq, cases_lt, eq-eqb, false≢true, or_
 use Rattle.std.proofs.lemmas.List.{get_or-set_same, get_or-set_other, get_or_past, length-set}
 use Rattle.std.proofs.lemmas.List.Quantifiers.{position-Some}
 use Rattle.std.proofs.lemmas.Option.{none-some, same_Some}
+use Rattle.os9_base.specs.declared.registers.TimePacket.{TimePacket}
 use Rattle.os9_outer.specs.TerminalState.{TerminalState}
 use Rattle.call_rules.specs.CallResult.{CallResult}
 use Rattle.call_rules.specs.Inner.{Inner}
@@ -15,8 +16,11 @@ use Rattle.io_model.specs.declared.path.Desc.{Desc}
 use Rattle.io_model.specs.declared.path.SysPath.{SysPath}
 use Rattle.io_model.specs.declared.path.Target.{Target}
 use Rattle.io_rules.specs.Io.{new_desc}
-use Rattle.file_rules.specs.Files.{Files, place_of_target}
+use Rattle.file_rules.specs.Attempts.{asker_of}
+use Rattle.file_rules.specs.Files.{Asker, Files, place_of_target}
+use Rattle.file_rules.specs.declared.path_call.PathCall.{PathCall}
 use Rattle.file_rules.specs.declared.places.FilePlace.{FilePlace}
+use Rattle.touch_laws.specs.Devices.{number_in}
 use Rattle.touch_laws.specs.Touch.{KeepsTable, LeavesDevices, PathsMove}
 use Rattle.touch_laws.proofs.Keeps.{begun, begun-numbers, begun-other, desc-within, file-named, free-slot}
 
@@ -215,12 +219,13 @@ table-path p paths target mode place on = by_places (free_number paths p) (free_
     by_places (Some n) None number_is path_is = table-same paths
     by_places (Some n) (Some s) number_is path_is = table-begun p paths target mode place on n s number_is path_is
 
-table-kept : (files : Files) (p : ℕ) (paths : PathTable) → PathsMove files p paths → KeepsTable files.io.paths paths
-table-kept files p paths (inl same) = subst (KeepsTable files.io.paths) (sym same) (table-same files.io.paths)
-table-kept files p paths (inr (inl it)) =
-    subst (KeepsTable files.io.paths) (sym it.is) (table-moved files.io.paths it.found.opened.path.0 it.found.opened.desc (record it.found.opened.desc { at = it.at }) (file-named files p it.number it.found it.named).desc)
-table-kept files p paths (inr (inr it)) =
-    subst (KeepsTable files.io.paths) (sym it.is) (table-path p files.io.paths it.target it.mode it.place it.on)
+table-kept : (call : PathCall) (asker : Asker) (files : Files) (paths : PathTable) → PathsMove call asker files paths → KeepsTable files.io.paths paths
+table-kept call asker files paths (inl same) = subst (KeepsTable files.io.paths) (sym same) (table-same files.io.paths)
+table-kept call asker files paths (inr (inl it)) =
+    subst (KeepsTable files.io.paths) (sym it.is) (table-moved files.io.paths it.found.opened.path.0 it.found.opened.desc (record it.found.opened.desc { at = it.at }) (file-named files asker.caller.process.0 (number_in call asker) it.found it.named).desc)
+table-kept call asker files paths (inr (inr it)) =
+    subst (KeepsTable files.io.paths) (sym it.is) (table-path asker.caller.process.0 files.io.paths it.target asker.caller.regs.a it.place it.on)
 
-pub paths-kept : (inner : Inner) (files : Files) (p : ℕ) (result : CallResult) (new : Files) (old_terms new_terms : List TerminalState) → LeavesDevices inner files p result new old_terms new_terms → KeepsTable files.io.paths new.io.paths
-paths-kept inner files p result new old_terms new_terms it = table-kept files p new.io.paths it.paths
+pub paths-kept : {call : PathCall} {now : TimePacket} (inner : Inner) (files : Files) (p : ℕ) (result : CallResult) (new : Files) (old_terms new_terms : List TerminalState) → LeavesDevices call inner files now p result new old_terms new_terms → KeepsTable files.io.paths new.io.paths
+paths-kept {call} {now} inner files p result new old_terms new_terms it =
+    table-kept call (asker_of inner p now) files new.io.paths it.paths

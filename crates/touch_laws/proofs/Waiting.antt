@@ -227,7 +227,7 @@ pub file-waits : (call : PathCall) (inner : Inner) (files : Files) (now : TimePa
 file-waits call inner files now p result new before after it kept is =
     by_case (attempt-comes call inner files now p result new before after it)
   where
-    by_case : IsOnDevice call inner files p result new before after ⊎ LeavesDevices inner files p result new before after → WaitsOnDevice call inner files.io p new.io
+    by_case : IsOnDevice call inner files p result new before after ⊎ LeavesDevices call inner files now p result new before after → WaitsOnDevice call inner files.io p new.io
     by_case (inl on) =
         device-waits call on.device on.device_is inner files.io new.io (length files.drives) p result before after on.attempted kept is
     by_case (inr left) =

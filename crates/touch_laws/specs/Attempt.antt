@@ -15,8 +15,8 @@ use Rattle.file_rules.specs.Open.{is_for_execution}
 use Rattle.file_rules.specs.Way.{Way, list_of, way_of, way_to_new}
 use Rattle.file_rules.specs.declared.path_call.PathCall.{PathCall}
 use Rattle.touch_laws.specs.Causes.{Made}
-use Rattle.touch_laws.specs.Devices.{device_call, takes_number, HasNoFiles, IsOnDevice, WaitsOnDevice}
-use Rattle.touch_laws.specs.Touch.{KeepsIo, KeepsTable, LeavesDevices, OneDriveFails}
+use Rattle.touch_laws.specs.Devices.{device_call, takes_number, HasNoFiles, IsOnDevice, IsOnNoFile, WaitsOnDevice}
+use Rattle.touch_laws.specs.Touch.{KeepsIo, KeepsTable, LeavesDevices, OneDriveFails, drive_reached}
 
 pub record Attempt : Type 0 where
   pub call : PathCall
@@ -37,12 +37,17 @@ asker_in it = asker_of it.inner it.process it.now
 abbrev pub regs_in : Attempt → Regs
 regs_in it = regs_at it.inner it.process
 
--- it is one of the call on terminals and pipes, or touches none of them
-abbrev pub OnDevice : Attempt → Type 0
-OnDevice it = IsOnDevice it.call it.inner it.files it.process it.result it.new it.before it.after
+-- it comes to what one of the call on terminals and pipes comes to
+abbrev pub IsAsOnDevice : Attempt → Type 0
+IsAsOnDevice it = IsOnDevice it.call it.inner it.files it.process it.result it.new it.before it.after
 
+-- and it is one: it is on no file
+abbrev pub OnDevice : Attempt → Type 0
+OnDevice it = IsAsOnDevice it × IsOnNoFile it.call (asker_in it) it.files (length it.before)
+
+-- it touches no terminal and no pipe
 abbrev pub TouchesNone : Attempt → Type 0
-TouchesNone it = LeavesDevices it.inner it.files it.process it.result it.new it.before it.after
+TouchesNone it = LeavesDevices it.call it.inner it.files it.now it.process it.result it.new it.before it.after
 
 -- of input and output it leaves all but the position of a path and a new path of the process
 abbrev pub KeepsDevices : Attempt → Type 0
@@ -77,9 +82,10 @@ way_to_create it list = way_to_new (asker_in it) it.files (length it.before) (is
 abbrev pub IsWithoutFiles : Attempt → Type 0
 IsWithoutFiles it = HasNoFiles it.files it.process
 
--- a drive failed in it, and the number of that fault is answered
+-- the drive that it reached failed in it, and the number of that fault is answered
 abbrev pub HasFault : Attempt → Type 0
-HasFault it = OneDriveFails it.files it.result it.new
+HasFault it =
+    OneDriveFails (drive_reached it.call (asker_in it) it.files (length it.before)) it.files it.result it.new
 
 -- the call that it is an attempt of
 abbrev pub made_in : Attempt → Made

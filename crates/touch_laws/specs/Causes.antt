@@ -1,7 +1,8 @@
 -- Why a call on files is refused that is none on a terminal or a pipe (System Programmer's Manual, "I/O service
 -- requests"; OS-9 Technical Reference, Random Block File Manager), but for the fault of a drive.
-use Rattle.std.specs.Prelude.{◌≡◌, ◌≢◌, ◌⊎◌, ℕ, ◌<◌, ◌≤◌, ⊤, Bool, true, false, IsSome, Option, Some, None, Ok, Err, List, length, option_and_then, if◌then◌else◌}
+use Rattle.std.specs.Prelude.{◌≡◌, ◌≢◌, ◌⊎◌, ℕ, ◌<◌, ◌≤◌, ◌||◌, ⊤, Bool, true, false, IsSome, Option, Some, None, Ok, Err, List, length, option_and_then, if◌then◌else◌}
 use Rattle.os9_base.specs.declared.errors.TheConstants.{E_BPADDR, E_BPNAM, E_BPNUM, E_BMODE, E_CEF, E_EOF, E_FNA, E_FULL, E_MNF, E_PNNF, E_PTHFUL, E_SHARE, E_SLF, E_UNKSVC}
+use Rattle.os9_base.specs.declared.registers.Regs.{Regs}
 use Rattle.device_table.specs.Names.{device_of}
 use Rattle.device_table.specs.declared.devices.Dev.{Dev}
 use Rattle.device_table.specs.declared.devices.Dev.TheVariants as Device
@@ -20,7 +21,6 @@ use Rattle.io_rules.specs.Modes.{can_read, can_write, is_mode}
 use Rattle.io_rules.specs.PathList.{PathList, ends_in_dots, has_slash_behind_device}
 use Rattle.io_rules.specs.Transfer.{line_at}
 use Rattle.io_rules.specs.Write.{error_line}
-use Rattle.io_rules.specs.declared.modes.TheConstants.{STANDARD_ERROR}
 use Rattle.io_rules.specs.declared.status.TheConstants.{SS_EOF, SS_OPT, SS_READY, OPTION_BYTES}
 use Rattle.file_rules.specs.Attempts.{file_step}
 use Rattle.file_rules.specs.Change.{MayBeTooLong}
@@ -38,6 +38,7 @@ use Rattle.file_rules.specs.declared.path_call.PathCall.{PathCall}
 use Rattle.file_rules.specs.declared.path_call.PathCall.TheVariants as Call
 use Rattle.file_rules.specs.declared.places.FilePlace.{FilePlace}
 use Rattle.file_rules.specs.declared.status.TheConstants.{SS_ATTR, SS_FD, SS_POS, SS_SIZE}
+use Rattle.touch_laws.specs.Devices.{number_in}
 
 -- a call that a process makes, on a machine with so many terminals
 pub record Made : Type 0 where
@@ -63,6 +64,12 @@ abbrev pub makes_new : PathCall → Bool
 makes_new Call.Create = true
 makes_new Call.MakDir = true
 makes_new call = false
+
+-- it deletes what its list names
+abbrev pub deletes_name : PathCall → Bool
+deletes_name Call.Delete = true
+deletes_name Call.DeletX = true
+deletes_name call = false
 
 -- it looks for execution, by its mode
 abbrev pub executes : PathCall → ℕ → Bool
@@ -126,16 +133,12 @@ pub record Finds (m : Made) (names : List (List ℕ)) (found : Found) : Type 0 w
       (arrives found.place.number)
   pub there : found.volume.files found.place.number ≡ Some found.file
 
--- it finds a directory, and this is the name of what it makes or deletes there
+-- it makes or deletes something, finds a directory for it, and this is its name there
 pub record FindsIn (m : Made) (found : Found) (name : List ℕ) : Type 0 where
+  pub enters : (makes_new m.call || deletes_name m.call) ≡ true
   pub names : List (List ℕ)
   pub finds : Finds m names found
   pub last : last_of names ≡ Some name
-
--- the number of a path that a call takes
-abbrev pub number_in : PathCall → Asker → ℕ
-number_in Call.PErr asker = STANDARD_ERROR
-number_in call asker = asker.caller.regs.a
 
 -- its number names a path on this file
 abbrev pub Names : Made → OpenFile → Type 0
@@ -178,12 +181,12 @@ IsForbidden Call.ChgDir asker found = may_go_to found.file asker.user asker.call
 IsForbidden call asker found = ⊥
 
 -- the directory may not be changed, or a file with bit 7 in its attributes is to be made there, or the file of this
--- name there may not be deleted
+-- name there is to be deleted and may not be
 abbrev pub IsForbiddenIn : Made → Found → List ℕ → Type 0
 IsForbiddenIn m found name =
     (may_change found.file m.asker.user (executes m.call m.asker.caller.regs.a) ≡ false)
     ⊎ (m.call ≡ Call.Create) × (says_directory m.asker.caller.regs.b ≡ true)
-    ⊎ (n : ℕ) × (makes_new m.call ≡ false) × (look_up found.file.contents name ≡ Some n)
+    ⊎ (n : ℕ) × (deletes_name m.call ≡ true) × (look_up found.file.contents name ≡ Some n)
     × (may_delete (found.volume.files n) m.asker.user ≡ false)
 
 -- how many bytes a new file begins with
@@ -207,14 +210,14 @@ pub record HasNoSegment (m : Made) : Type 0 where
   pub needs : 0 < entry_clusters (cluster_size found.volume) found.file
   pub full : length found.file.segments ≡ 48
 
--- the size that a call makes a file have
+-- the size that a call makes a file have; one that is to write nothing makes none
 abbrev pub Sizes : PathCall → Asker → OpenFile → ℕ → Type 0
 Sizes Call.Write asker found size =
     (bytes : List ℕ) × (user_bytes asker.caller.cells asker.caller.regs.x asker.caller.regs.y ≡ Some bytes)
-    × (size ≡ length (written found.file.contents found.opened.desc.at bytes))
+    × (0 < asker.caller.regs.y) × (size ≡ length (written found.file.contents found.opened.desc.at bytes))
 Sizes Call.WritLn asker found size =
     (bytes : List ℕ) × (line_at asker.caller.cells asker.caller.regs.x asker.caller.regs.y ≡ Some bytes)
-    × (size ≡ length (written found.file.contents found.opened.desc.at bytes))
+    × (0 < asker.caller.regs.y) × (size ≡ length (written found.file.contents found.opened.desc.at bytes))
 Sizes Call.PErr asker found size =
     size ≡ length (written found.file.contents found.opened.desc.at (error_line asker.caller.regs.b))
 Sizes Call.SetStt asker found size = (asker.caller.regs.b ≡ SS_SIZE) × (size ≡ long_of asker.caller.regs)
@@ -236,12 +239,12 @@ pub record FindsNoSegment (m : Made) : Type 0 where
   pub mounted : volume_at m.files it.drive ≡ Some v
   pub full : MayBeTooLong it.change v
 
--- the call takes bytes from the position on, or asks whether there are any
-abbrev pub NeedsByte : PathCall → ℕ → Type 0
-NeedsByte Call.Read code = ⊤
-NeedsByte Call.ReadLn code = ⊤
-NeedsByte Call.GetStt code = code ≡ SS_EOF
-NeedsByte call code = ⊥
+-- the call is to take bytes from the position on, one at least, or asks whether there are any
+abbrev pub NeedsByte : PathCall → Regs → Type 0
+NeedsByte Call.Read regs = 0 < regs.y
+NeedsByte Call.ReadLn regs = 0 < regs.y
+NeedsByte Call.GetStt regs = regs.b ≡ SS_EOF
+NeedsByte call regs = ⊥
 
 -- the call has no such status
 abbrev pub HasNoStatus : PathCall → ℕ → Type 0
@@ -270,7 +273,7 @@ pub data FileCause (m : Made) (number : ℕ) : Type 0 where
       → Walks m names place v WalkEnd.not_found → FileCause m number
   not_there : (names : List (List ℕ)) (place : FilePlace) (v : DiskVolume) (n : ℕ) → number ≡ E_PNNF
       → Walks m names place v (arrives n) → v.files n ≡ None → FileCause m number
-  not_in : (found : Found) (name : List ℕ) → number ≡ E_PNNF → makes_new m.call ≡ false → FindsIn m found name
+  not_in : (found : Found) (name : List ℕ) → number ≡ E_PNNF → deletes_name m.call ≡ true → FindsIn m found name
       → look_up found.file.contents name ≡ None → FileCause m number
   may_not_pass : (names : List (List ℕ)) (place : FilePlace) (v : DiskVolume) → number ≡ E_FNA
       → Walks m names place v WalkEnd.not_allowed → FileCause m number
@@ -278,7 +281,7 @@ pub data FileCause (m : Made) (number : ℕ) : Type 0 where
       → IsForbidden m.call m.asker found → FileCause m number
   forbidden_in : (found : Found) (name : List ℕ) → number ≡ E_FNA → FindsIn m found name
       → IsForbiddenIn m found name → FileCause m number
-  a_root : (names : List (List ℕ)) (place : FilePlace) → number ≡ E_FNA → makes_new m.call ≡ false
+  a_root : (names : List (List ℕ)) (place : FilePlace) → number ≡ E_FNA → deletes_name m.call ≡ true
       → Leads m (along place names) → last_of names ≡ None → FileCause m number
   not_owned : (found : OpenFile) → number ≡ E_FNA → m.call ≡ Call.SetStt → m.asker.caller.regs.b ≡ SS_ATTR
       → Names m found → owns_file found.file m.asker.user ≡ false → FileCause m number
@@ -286,16 +289,16 @@ pub data FileCause (m : Made) (number : ℕ) : Type 0 where
       → IsSome (look_up found.file.contents name) → FileCause m number
   not_shared : (names : List (List ℕ)) (found : Found) → number ≡ E_SHARE → m.call ≡ Call.Open → Finds m names found
       → is_not_shared m.files found m.asker.caller.regs.a ≡ true → FileCause m number
-  is_used : (found : Found) (name : List ℕ) (n : ℕ) → number ≡ E_SHARE → makes_new m.call ≡ false
+  is_used : (found : Found) (name : List ℕ) (n : ℕ) → number ≡ E_SHARE → deletes_name m.call ≡ true
       → FindsIn m found name → look_up found.file.contents name ≡ Some n
       → is_open m.files (record { drive = found.place.drive; number = n }) ≡ true → FileCause m number
-  no_number : number ≡ E_PTHFUL → reads_list m.call ≡ true
+  no_number : number ≡ E_PTHFUL → (m.call ≡ Call.Open) ⊎ (m.call ≡ Call.Create)
       → new_number m.files.io.paths m.asker.caller.process.0 ≡ None → FileCause m number
   no_room : number ≡ E_FULL → HasNoRoom m → FileCause m number
   cannot_grow : number ≡ E_FULL → CannotGrow m → FileCause m number
   no_segment : number ≡ E_SLF → HasNoSegment m → FileCause m number
   finds_no_segment : number ≡ E_SLF → FindsNoSegment m → FileCause m number
-  end_of_file : (found : OpenFile) → number ≡ E_EOF → NeedsByte m.call m.asker.caller.regs.b → Names m found
+  end_of_file : (found : OpenFile) → number ≡ E_EOF → NeedsByte m.call m.asker.caller.regs → Names m found
       → length found.file.contents ≤ found.opened.desc.at → FileCause m number
   no_status : (found : OpenFile) → number ≡ E_UNKSVC → Names m found → HasNoStatus m.call m.asker.caller.regs.b
       → FileCause m number

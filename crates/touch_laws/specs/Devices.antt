@@ -1,6 +1,6 @@
 -- Attempts of calls on paths, files and directories that are attempts on a terminal or a pipe (Level Two manual, "I/O
 -- system"; System Programmer's Manual, "I/O service requests").
-use Rattle.std.specs.Prelude.{◌≡◌, ℕ, Bool, true, false, Option, Some, None, List, length}
+use Rattle.std.specs.Prelude.{◌≡◌, ℕ, ⊤, Bool, true, false, Option, Some, None, Ok, List, length}
 use Rattle.os9_outer.specs.TerminalState.{TerminalState}
 use Rattle.call_rules.specs.CallResult.{CallResult}
 use Rattle.call_rules.specs.Inner.{Inner, regs_at}
@@ -9,9 +9,13 @@ use Rattle.io_rules.specs.Again.{path_number}
 use Rattle.io_rules.specs.Attempts.{IoAttempts}
 use Rattle.io_rules.specs.Io.{Io, OpenPath, open_path}
 use Rattle.io_rules.specs.Lead.{Lead, to_terminal, to_pipe, nowhere}
+use Rattle.io_rules.specs.PathList.{PathList}
 use Rattle.io_rules.specs.declared.io_call.IoCall.{IoCall}
 use Rattle.io_rules.specs.declared.io_call.IoCall.TheVariants as Device
-use Rattle.file_rules.specs.Files.{Files, NoneFailed, directory_of, place_of_target, volume_at}
+use Rattle.io_rules.specs.declared.modes.TheConstants.{STANDARD_ERROR}
+use Rattle.file_rules.specs.Files.{Asker, Files, NoneFailed, directory_of, open_file, place_of_target, volume_at}
+use Rattle.file_rules.specs.Open.{is_for_execution}
+use Rattle.file_rules.specs.Way.{list_of, to_device, way_of, way_to_new}
 use Rattle.file_rules.specs.declared.path_call.PathCall.{PathCall}
 use Rattle.file_rules.specs.declared.path_call.PathCall.TheVariants as Call
 
@@ -41,12 +45,34 @@ takes_number Device.Open = false
 takes_number Device.Create = false
 takes_number call = true
 
+-- the number of a path that a call takes
+abbrev pub number_in : PathCall → Asker → ℕ
+number_in Call.PErr asker = STANDARD_ERROR
+number_in call asker = asker.caller.regs.a
+
 -- what was opened is a terminal or a pipe, and no file or directory
 abbrev pub IsDevice : Target → Type 0
 IsDevice target = place_of_target target ≡ None
 
--- an attempt is one of the call on terminals and pipes; the directories of processes and the volumes stay, and no
--- drive fails
+-- A call is on no file: its number names none, or its list leads to a terminal or a pipe. I$Dup and I$Close are the
+-- same on all paths; I$MakDir, I$ChgDir, I$Delete and I$DeletX are on files alone.
+abbrev pub IsOnNoFile : PathCall → Asker → Files → ℕ → Type 0
+IsOnNoFile Call.Dup asker files terms = ⊤
+IsOnNoFile Call.Close asker files terms = ⊤
+IsOnNoFile Call.Open asker files terms =
+    (list : PathList) × (list_of asker ≡ Ok list)
+    × (way_of asker files terms (is_for_execution asker.caller.regs.a) list ≡ to_device)
+IsOnNoFile Call.Create asker files terms =
+    (list : PathList) × (list_of asker ≡ Ok list)
+    × (way_to_new asker files terms (is_for_execution asker.caller.regs.a) list ≡ to_device)
+IsOnNoFile Call.MakDir asker files terms = ⊥
+IsOnNoFile Call.ChgDir asker files terms = ⊥
+IsOnNoFile Call.Delete asker files terms = ⊥
+IsOnNoFile Call.DeletX asker files terms = ⊥
+IsOnNoFile call asker files terms = open_file files asker.caller.process.0 (number_in call asker) ≡ None
+
+-- An attempt comes to what one of the call on terminals and pipes comes to; the directories of processes and the
+-- volumes stay, and no drive fails. That the call is on no file is not said here: there is an answer for files too.
 pub record IsOnDevice (call : PathCall) (inner : Inner) (files : Files) (p : ℕ) (result : CallResult) (new : Files)
     (before after : List TerminalState) : Type 0 where
   pub device : IoCall

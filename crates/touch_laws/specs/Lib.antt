@@ -1,4 +1,5 @@
 pub mod Attempt
 pub mod Causes
 pub mod Devices
+pub mod LoadCauses
 pub mod Touch

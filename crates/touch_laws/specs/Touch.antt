@@ -1,8 +1,9 @@
 -- What an attempt of a call on paths, files and directories touches of terminals, pipes, paths and calls that wait,
 -- where it is none on a terminal or a pipe (Level Two manual, "I/O system"; System Programmer's Manual, "I/O service
 -- requests").
-use Rattle.std.specs.Prelude.{◌≡◌, ◌≢◌, ◌⊎◌, ℕ, true, Some, None, List, length, slice_set}
+use Rattle.std.specs.Prelude.{◌≡◌, ◌≢◌, ◌⊎◌, ℕ, Bool, true, false, Option, Some, None, List, length, slice_set}
 use Rattle.os9_base.specs.declared.registers.Regs.{Regs}
+use Rattle.os9_base.specs.declared.registers.TimePacket.{TimePacket}
 use Rattle.os9_outer.specs.TerminalState.{TerminalState}
 use Rattle.proc_model.specs.MemoryChanges.{stored}
 use Rattle.call_rules.specs.CallResult.{CallResult, done, refused}
@@ -12,9 +13,47 @@ use Rattle.io_model.specs.Path.{ArePaths, PathTable, desc_of, is_held, new_numbe
 use Rattle.io_model.specs.declared.path.Desc.{Desc}
 use Rattle.io_model.specs.declared.path.Target.{Target}
 use Rattle.io_rules.specs.Io.{Io, OpenPath, kept_at, new_desc, open_path, with_call, with_paths}
-use Rattle.file_rules.specs.Files.{Files, NoneFailed, OneFailed, OpenFile, directories_at, open_file, place_of_target, volume_at}
+use Rattle.file_rules.specs.Attempts.{asker_of, file_step}
+use Rattle.file_rules.specs.Files.{Asker, Files, NoneFailed, OneFailed, OpenFile, directories_at, open_file, place_of_target, volume_at}
+use Rattle.file_rules.specs.Step.{drive_of}
+use Rattle.file_rules.specs.declared.path_call.PathCall.{PathCall}
+use Rattle.file_rules.specs.declared.path_call.PathCall.TheVariants as Call
 use Rattle.file_rules.specs.declared.places.FilePlace.{FilePlace}
-use Rattle.touch_laws.specs.Devices.{IsDevice}
+use Rattle.touch_laws.specs.Devices.{IsDevice, number_in}
+
+-- ---- what a call may touch
+
+-- it moves the position of the path that its number names
+abbrev pub moves_position : PathCall → Bool
+moves_position Call.Seek = true
+moves_position Call.Read = true
+moves_position Call.Write = true
+moves_position Call.ReadLn = true
+moves_position Call.WritLn = true
+moves_position Call.PErr = true
+moves_position call = false
+
+-- it begins a path
+abbrev pub begins_path : PathCall → Bool
+begins_path Call.Create = true
+begins_path Call.Open = true
+begins_path call = false
+
+-- it changes the volume of a drive
+abbrev pub may_change_volume : PathCall → Bool
+may_change_volume Call.Create = true
+may_change_volume Call.MakDir = true
+may_change_volume Call.Delete = true
+may_change_volume Call.DeletX = true
+may_change_volume Call.Write = true
+may_change_volume Call.WritLn = true
+may_change_volume Call.SetStt = true
+may_change_volume Call.PErr = true
+may_change_volume call = false
+
+-- the drive that an attempt of it reaches, if it reaches one, on a machine with so many terminals
+abbrev pub drive_reached : PathCall → Asker → Files → ℕ → Option ℕ
+drive_reached call asker files terms = drive_of (file_step call asker files terms)
 
 -- ---- how it ends
 
@@ -31,27 +70,28 @@ IsOver inner p result = IsDone inner p result ⊎ ((number : ℕ) × (result ≡
 
 -- ---- what becomes of the paths
 
--- a path on a file or a directory, which a number of the process names, has another position
-pub record MovesPosition (files : Files) (p : ℕ) (paths : PathTable) : Type 0 where
-  pub number : ℕ
+-- the path on a file or a directory that the number of the call names has another position
+pub record MovesPosition (call : PathCall) (asker : Asker) (files : Files) (paths : PathTable) : Type 0 where
+  pub moves : moves_position call ≡ true
   pub found : OpenFile
-  pub named : open_file files p number ≡ Some found
+  pub named : open_file files asker.caller.process.0 (number_in call asker) ≡ Some found
   pub at : ℕ
   pub is : paths ≡ with_desc files.io.paths found.opened.path.0 (Some (record found.opened.desc { at = at }))
 
--- the process has a new path, on a file or a directory
-pub record BeginsPath (files : Files) (p : ℕ) (paths : PathTable) : Type 0 where
+-- the process has a new path, on a file or a directory, with the mode in A
+pub record BeginsPath (call : PathCall) (asker : Asker) (files : Files) (paths : PathTable) : Type 0 where
+  pub begins : begins_path call ≡ true
   pub number : ℕ
-  pub free : new_number files.io.paths p ≡ Some number
+  pub free : new_number files.io.paths asker.caller.process.0 ≡ Some number
   pub target : Target
   pub place : FilePlace
   pub on : place_of_target target ≡ Some place
-  pub mode : ℕ
-  pub is : paths ≡ paths_after_begin files.io.paths p (new_desc target mode)
+  pub is : paths ≡ paths_after_begin files.io.paths asker.caller.process.0 (new_desc target asker.caller.regs.a)
 
 -- the paths are as they were, or one of these changes them
-abbrev pub PathsMove : Files → ℕ → PathTable → Type 0
-PathsMove files p paths = (paths ≡ files.io.paths) ⊎ MovesPosition files p paths ⊎ BeginsPath files p paths
+abbrev pub PathsMove : PathCall → Asker → Files → PathTable → Type 0
+PathsMove call asker files paths =
+    (paths ≡ files.io.paths) ⊎ MovesPosition call asker files paths ⊎ BeginsPath call asker files paths
 
 -- ---- what it leaves
 
@@ -60,18 +100,21 @@ pub record NoVolumeChanges (files new : Files) : Type 0 where
   pub volumes : new.volumes ≡ files.volumes
   pub none_failed : NoneFailed files.drives new.drives
 
--- one volume has changed, and no drive has failed
-pub record OneVolumeChanges (files new : Files) : Type 0 where
+-- the volume of the drive that was reached has changed, no other one, and no drive has failed
+pub record OneVolumeChanges (reached : Option ℕ) (files new : Files) : Type 0 where
   pub drive : ℕ
+  pub reaches : reached ≡ Some drive
   pub old : DiskVolume
   pub was : volume_at files drive ≡ Some old
   pub changed : DiskVolume
   pub is : new.volumes ≡ slice_set files.volumes drive (Some changed)
   pub none_failed : NoneFailed files.drives new.drives
 
--- a drive has failed: the call is refused with the number of its fault, and no volume but its own may have changed
-pub record OneDriveFails (files : Files) (result : CallResult) (new : Files) : Type 0 where
+-- the drive that was reached has failed: the call is refused with the number of its fault, and no volume but its own
+-- may have changed
+pub record OneDriveFails (reached : Option ℕ) (files : Files) (result : CallResult) (new : Files) : Type 0 where
   pub drive : ℕ
+  pub reaches : reached ≡ Some drive
   pub number : ℕ
   pub failed : OneFailed drive number files.drives new.drives
   pub answer : result ≡ refused number
@@ -80,39 +123,47 @@ pub record OneDriveFails (files : Files) (result : CallResult) (new : Files) : T
   pub left : DiskVolume
   pub is : new.volumes ≡ slice_set files.volumes drive (Some left)
 
--- what a refusal leaves: paths, pipes, terminals and directories as they were, and the volumes too where no drive has
--- failed. No call of the process waits then
-pub record RefusalLeaves (files : Files) (p : ℕ) (result : CallResult) (new : Files) : Type 0 where
+-- what a refusal leaves, where this drive was reached or none: paths, pipes, terminals and directories as they were,
+-- and the volumes too where no drive has failed. No call of the process waits then
+pub record RefusalLeaves (reached : Option ℕ) (files : Files) (p : ℕ) (result : CallResult) (new : Files)
+    : Type 0 where
   pub io : new.io ≡ with_call files.io p None
   pub directories : new.directories ≡ files.directories
-  pub volumes : NoVolumeChanges files new ⊎ OneDriveFails files result new
+  pub volumes : NoVolumeChanges files new ⊎ OneDriveFails reached files result new
 
 -- an attempt touches no terminal and no pipe: of input and output the paths change alone, and no call of the process
--- waits then. The other processes keep their directories
-pub record LeavesDevices (inner : Inner) (files : Files) (p : ℕ) (result : CallResult) (new : Files)
-    (before after : List TerminalState) : Type 0 where
+-- waits then. The other processes keep their directories, and the process its own but in I$ChgDir. The volumes stay, or
+-- that of the drive that is reached changes, in a call that changes one
+pub record LeavesDevices (call : PathCall) (inner : Inner) (files : Files) (now : TimePacket) (p : ℕ)
+    (result : CallResult) (new : Files) (before after : List TerminalState) : Type 0 where
   pub over : IsOver inner p result
-  pub paths : PathsMove files p new.io.paths
+  pub paths : PathsMove call (asker_of inner p now) files new.io.paths
   pub rest : new.io ≡ with_call (with_paths files.io new.io.paths) p None
   pub terminals : after ≡ before
   pub directories : (q : ℕ) → q ≢ p → directories_at new q ≡ directories_at files q
-  pub volumes : NoVolumeChanges files new ⊎ OneVolumeChanges files new ⊎ OneDriveFails files result new
-  pub refusal : (number : ℕ) → result ≡ refused number → RefusalLeaves files p result new
+  pub own : call ≢ Call.ChgDir → new.directories ≡ files.directories
+  pub still : may_change_volume call ≡ false → new.volumes ≡ files.volumes
+  pub volumes : NoVolumeChanges files new
+      ⊎ OneVolumeChanges (drive_reached call (asker_of inner p now) files (length before)) files new
+      ⊎ OneDriveFails (drive_reached call (asker_of inner p now) files (length before)) files result new
+  pub refusal : (number : ℕ) → result ≡ refused number
+      → RefusalLeaves (drive_reached call (asker_of inner p now) files (length before)) files p result new
 
--- a drive has failed, and the number of its fault is answered
-pub record FaultAnswers (old : Files) (result : CallResult) (new : Files) : Type 0 where
+-- the drive that was reached has failed, and the number of its fault is answered
+pub record FaultAnswers (reached : Option ℕ) (old : Files) (result : CallResult) (new : Files) : Type 0 where
   pub drive : ℕ
+  pub reaches : reached ≡ Some drive
   pub number : ℕ
   pub failed : OneFailed drive number old.drives new.drives
   pub answer : result ≡ refused number
 
--- what F$Load, F$Fork and F$Chain leave of all that calls on files change: only what the drives counted is not as it
--- was. The paths and directories of a child are given to it beside
-pub record LeavesFiles (old : Files) (result : CallResult) (new : Files) : Type 0 where
+-- what F$Load, F$Fork and F$Chain leave of all that calls on files change, where this drive was reached or none: only
+-- what the drives counted is not as it was. The paths and directories of a child are given to it beside
+pub record LeavesFiles (reached : Option ℕ) (old : Files) (result : CallResult) (new : Files) : Type 0 where
   pub io : new.io ≡ old.io
   pub directories : new.directories ≡ old.directories
   pub volumes : new.volumes ≡ old.volumes
-  pub drives : NoneFailed old.drives new.drives ⊎ FaultAnswers old result new
+  pub drives : NoneFailed old.drives new.drives ⊎ FaultAnswers reached old result new
 
 -- ---- the same by each path and each process
 

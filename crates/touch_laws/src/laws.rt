@@ -16,20 +16,25 @@ ghost use Rattle.file_rules.specs.Attempts.{FileAttempts};
 ghost use Rattle.file_rules.specs.Codes.{path_call_of};
 ghost use Rattle.file_rules.specs.Files.{Asker, Files, open_file, with_io};
 ghost use Rattle.file_rules.specs.Load.{LoadAttempts};
-ghost use Rattle.file_rules.specs.Program.{ChainAttempts, ForkAttempts};
+ghost use Rattle.file_rules.specs.Program.{ChainAttempts, ForkAttempts, named_program, tests_program};
+ghost use Rattle.file_rules.specs.ProgramFile.{program_file};
+ghost use Rattle.file_rules.specs.Step.{drive_of};
 ghost use Rattle.file_rules.specs.Way.{to_device, way_of, way_to_new};
 ghost use Rattle.file_rules.specs.declared.path_call.PathCall.{PathCall};
 ghost use Rattle.file_rules.specs.declared.path_call.PathCall.TheVariants as Call;
-ghost use Rattle.touch_laws.specs.Attempt.{Attempt, HasFault, HasList, IsOnNumber, IsWithoutFiles, KeepsDevices, KeepsPathTable, OnDevice, TouchesNone, Waits, made_in, way_to_create, way_to_open};
+ghost use Rattle.touch_laws.specs.Attempt.{Attempt, HasFault, HasList, IsAsOnDevice, IsOnNumber, IsWithoutFiles, KeepsDevices, KeepsPathTable, OnDevice, TouchesNone, Waits, made_in, way_to_create, way_to_open};
 ghost use Rattle.touch_laws.specs.Causes.{FileCause};
-ghost use Rattle.touch_laws.specs.Touch.{LeavesFiles};
+ghost use Rattle.touch_laws.specs.LoadCauses.{ChainCause, ForkCause, LoadCause};
+ghost use Rattle.touch_laws.specs.Touch.{FaultAnswers, LeavesFiles};
 ghost use Rattle.touch_laws.specs.Devices.{HasNoFiles, IsDevice, LeadsToDevice, device_call};
 
 /// An attempt of a call on paths, files and directories is an attempt of a call on terminals and
-/// pipes, or it touches no terminal and no pipe: then a position changes, or the process has a new
-/// path on a file or a directory, or the paths stay; no call of it waits; the other processes keep
-/// their directories, and one volume changes at most (System Programmer's Manual, "I/O service
-/// requests").
+/// pipes, on no file, or of I$Dup or I$Close, which are the same on all paths; or it touches no
+/// terminal and no pipe. Then the position of the path that its number names changes, or the
+/// process has a new path on a file or a directory, or the paths stay; no call of it waits; the
+/// directories of processes stay but for those of its own in I$ChgDir; and the volumes stay, but
+/// for that of the drive that it reaches, in a call that changes one (System Programmer's Manual,
+/// "I/O service requests").
 pub fn attempts_are_on_a_device_or_touch_none()
     ensures { (it : Attempt) → OnDevice it ⊎ TouchesNone it }
 {}
@@ -49,8 +54,8 @@ pub fn what_touches_no_device_keeps_the_paths_in_order()
 {}
 
 /// A call on the number of a path that is on no file and no directory, as on one of a terminal or a
-/// pipe, or on a number that names nothing, is the call on terminals and pipes (System Programmer's
-/// Manual, I$Read, I$Write and I$GetStt).
+/// pipe, or on a number that names nothing, is the call on terminals and pipes, but for I$Seek,
+/// which they do not have (System Programmer's Manual, I$Read, I$Write and I$GetStt).
 pub fn numbers_of_devices_are_theirs()
     ensures number { (it : Attempt) (n : ℕ) → IsOnNumber it n
         → open_file it.files it.process n ≡ None → OnDevice it }
@@ -90,28 +95,50 @@ pub fn lists_lead_to_the_same_devices()
         → LeadsToDevice (lead_of a_new_place (length files.drives) terms list) }
 {}
 
-/// A refused call on paths, files and directories is one of the call on terminals and pipes; or a
-/// drive failed in it, whose fault it answers; or its number comes from its cause, which is of the
-/// list that it reads, of the walk along it, of what is found there, of the path that its number
-/// names, or of the room on the volume (System Programmer's Manual, "I/O service requests").
+/// A refused call on paths, files and directories is one of the call on terminals and pipes, on no
+/// file, or I$Dup or I$Close; or the drive that it reached failed, whose fault it answers; or its
+/// number comes from its cause, which is of the list that it reads, of the walk along it, of what
+/// is found there, of the path that its number names, or of the room on the volume (System
+/// Programmer's Manual, "I/O service requests").
 pub fn refusals_on_files_have_their_causes()
     ensures { (it : Attempt) (number : ℕ) → it.result ≡ refused number
         → OnDevice it ⊎ HasFault it ⊎ FileCause (made_in it) number }
 {}
 
 /// F$Load, and F$Fork and F$Chain of a program in a file, read a drive at most, and leave paths,
-/// pipes, terminals, calls that wait, directories and volumes as they are; the paths of a child are
-/// given to it beside (System Programmer's Manual, F$Load, F$Fork and F$Chain).
+/// pipes, terminals, calls that wait, directories and volumes as they are. If a drive fails, it is
+/// the one that their path list leads to, and they answer its fault. The paths of a child are given
+/// to it beside (System Programmer's Manual, F$Load, F$Fork and F$Chain).
 pub fn loads_touch_no_device()
     ensures load { (m : Inner) (asker : Asker) (old : Files) (terms p : ℕ) (result : CallResult)
         (new : Files) → LoadAttempts m asker old terms p result new
-        → LeavesFiles old result new }
+        → LeavesFiles (drive_of (program_file asker old terms (λ step. step))) old result new }
     ensures fork { (m : Inner) (asker : Asker) (old : Files) (terms p : ℕ) (result : CallResult)
         (new : Files) → ForkAttempts m asker old terms p result new
-        → LeavesFiles old result new }
+        → LeavesFiles (drive_of (program_file asker old terms (tests_program m p))) old result new }
     ensures chain { (m : Inner) (asker : Asker) (old : Files) (terms p : ℕ) (result : CallResult)
         (new : Files) → ChainAttempts m asker old terms p result new
-        → LeavesFiles old result new }
+        → LeavesFiles (drive_of (program_file asker old terms (tests_program m p))) old result new }
+{}
+
+/// Where F$Load is refused, or F$Fork or F$Chain of a program in a file, the drive failed that its
+/// path list leads to, and its fault is answered; or the number comes from its cause, which is of
+/// the list, of the walk along it and of what is found there, as I$Open with the mode for execution
+/// has it, of the modules of the file, of what the call tests, or of what it does with the first
+/// module (System Programmer's Manual, F$Load, F$Fork and F$Chain).
+pub fn refusals_of_loads_have_their_causes()
+    ensures load { (m : Inner) (asker : Asker) (old : Files) (terms p number : ℕ) (new : Files)
+        → LoadAttempts m asker old terms p (refused number) new
+        → FaultAnswers (drive_of (program_file asker old terms (λ step. step))) old
+        (refused number) new ⊎ LoadCause m asker old terms p number }
+    ensures fork { (m : Inner) (asker : Asker) (old : Files) (terms p number : ℕ) (new : Files)
+        → ForkAttempts m asker old terms p (refused number) new → named_program m p ≡ None
+        → FaultAnswers (drive_of (program_file asker old terms (tests_program m p))) old
+        (refused number) new ⊎ ForkCause m asker old terms p number }
+    ensures chain { (m : Inner) (asker : Asker) (old : Files) (terms p number : ℕ) (new : Files)
+        → ChainAttempts m asker old terms p (refused number) new → named_program m p ≡ None
+        → FaultAnswers (drive_of (program_file asker old terms (tests_program m p))) old
+        (refused number) new ⊎ ChainCause m asker old terms p number }
 {}
 
 /// The code of a call on paths, files and directories is that of the call that it is on a terminal
@@ -124,10 +151,11 @@ pub fn codes_are_the_same_on_devices()
 {}
 
 /// Without a mounted volume and a directory of the process, each call that terminals and pipes have
-/// is theirs, and nothing else; and each of theirs is one (this project's own).
+/// comes to what theirs comes to, also where its path list leads nowhere; and each of theirs is one
+/// (this project's own).
 pub fn without_files_calls_are_those_of_devices()
     ensures attempt { (it : Attempt) → IsWithoutFiles it → IsSome (device_call it.call)
-        → OnDevice it }
+        → IsAsOnDevice it }
     ensures back { (call : PathCall) (device : IoCall) (m : Inner) (files : Files)
         (now : TimePacket) (p : ℕ) (result : CallResult) (io : Io)
         (before after : List TerminalState) → HasNoFiles files p
