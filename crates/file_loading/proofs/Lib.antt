@@ -1,3 +1,4 @@
 pub mod EnteringLemmas
 pub mod LoadedLemmas
+pub mod OutcomeLemmas
 pub mod SeenLemmas

@@ -25,12 +25,12 @@ use Rattle.proc_model.proofs.ModuleListLaws.{entry_at-with_entry_same, room_by_n
 use Rattle.call_rules.specs.ModuleLinks.{Entered, entered_at}
 use Rattle.file_rules.specs.Load.{Loaded, first_entered, loaded_by, with_file_entered}
 use Rattle.file_loading.proofs.EnteringLemmas.{entry-kept}
-use Rattle.file_loading.specs.Entering.{CanEnter, EntersFile, IsOfGroup, with_modules}
+use Rattle.file_loading.specs.Entering.{CanEnter, IsOfGroup, TriesFile}
 
 -- ---- what stays
 
 -- an entry stays where modules of a file are entered
-still-there : {file group : List ℕ} {from : ℕ} {entries : List (Option ModuleEntry)} {outcome : Result (List (Option ModuleEntry)) (ℕ × ℕ)} → (number : ℕ) (entry : ModuleEntry) → EntersModules file group false from entries outcome → module_entry_at entries number ≡ Some entry → IfOk outcome (λ after. module_entry_at after number ≡ Some entry)
+pub still-there : {file group : List ℕ} {from : ℕ} {entries : List (Option ModuleEntry)} {outcome : Result (List (Option ModuleEntry)) (ℕ × ℕ)} → (number : ℕ) (entry : ModuleEntry) → EntersModules file group false from entries outcome → module_entry_at entries number ≡ Some entry → IfOk outcome (λ after. module_entry_at after number ≡ Some entry)
 still-there number entry (at_end is) there = there
 still-there number entry (broken is) there = tt
 still-there number entry (refused is e) there = tt
@@ -47,24 +47,24 @@ none-entered m = by (free_number m.modules) refl
     by (Some place) is =
         ap (option_map (λ (entry : ModuleEntry). let it : Entered = record { number = place; entry = entry } in it)) (free_place m.modules place is).1
 
-pub no-module : (file : List ℕ) (m : MemoryState) (memory : Memory) → Represents memory m → step_from file 0 ≡ End → EntersFile file m (Err E_BMID) memory
-no-module file m memory tied is = record {
+pub no-module : (file : List ℕ) (m : MemoryState) → step_from file 0 ≡ End → TriesFile file m (Err E_BMID)
+no-module file m is = record {
   outcome = Err E_BMID;
   loads = record {
     entries = Ok m.modules;
     modules = at_end is;
     is = sym (ap (λ (first : Option Entered). option_map_or {U = Result Loaded ℕ} (λ first. if wants_blocks m (file_blocks file) then Err E_NORAM else Ok (record { first = first; memory = with_file_entered m file m.modules })) first (Err E_BMID)) (none-entered m));
   };
-  comes = (refl, tied);
+  answers = refl;
 }
 
 -- ---- a module was refused
 
-pub module-refused : (file : List ℕ) (m : MemoryState) (memory : Memory) (at number : ℕ) → Represents memory m → EntersModules file (new_numbers m (file_blocks file)) false 0 m.modules (Err (at, number)) → EntersFile file m (Err number) memory
-module-refused file m memory at number tied enters = record {
+pub module-refused : (file : List ℕ) (m : MemoryState) (at number : ℕ) → EntersModules file (new_numbers m (file_blocks file)) false 0 m.modules (Err (at, number)) → TriesFile file m (Err number)
+module-refused file m at number enters = record {
   outcome = Err number;
   loads = record { entries = Err (at, number); modules = enters; is = refl };
-  comes = (refl, tied);
+  answers = refl;
 }
 
 -- ---- the first module
@@ -145,30 +145,31 @@ module _ (file : List ℕ) (m : MemoryState) (info : ModuleInfo) (after : List (
       ap (loaded-if (wants_blocks m (file_blocks file))) (is-first file m info group after is enters number free)
       ∙ ap (λ (wants : Bool). loaded-if wants (Some (record { number = number; entry = new_entry info group false }))) e
 
-  abbrev answered : Bool → Result ModId MemoryFault → Memory → Type 0
-  answered wants result new = Answers (if wants then Err NoRam else Ok (with_first file m info)) m result new
-
   -- fewer blocks are free
-  pub enter-refused : (result : Result ModId MemoryFault) (fault : MemoryFault) (new : Memory) → result ≡ Err fault → Answers (change.entered m file info false) m result new → EntersFile file m (Err E_NORAM) new
-  enter-refused result fault new failed answers = by (wants_blocks m (file_blocks file)) refl answers
-    where
-      by : (wants : Bool) → wants_blocks m (file_blocks file) ≡ wants → answered wants result new → EntersFile file m (Err E_NORAM) new
-      by true e answers =
-          let number = some-number file m info group after is enters in
-          record {
-            outcome = Err E_NORAM;
-            loads = record { entries = Ok after; modules = enters; is = sym (loaded-is true number.0 e number.1) };
-            comes = (refl, answers.1);
-          }
-      by false e answers = absurd (not-both result fault failed answers.0)
+  pub no-room : wants_blocks m (file_blocks file) ≡ true → TriesFile file m (Err E_NORAM)
+  no-room wants =
+      let number = some-number file m info group after is enters in record {
+        outcome = Err E_NORAM;
+        loads = record { entries = Ok after; modules = enters; is = sym (loaded-is true number.0 wants number.1) };
+        answers = refl;
+      }
 
   -- or it has room
-  pub entered-first : (result : Result ModId MemoryFault) (id : ModId) (new : Memory) → result ≡ Ok id → Answers (change.entered m file info false) m result new → (wants_blocks m (file_blocks file) ≡ false) × Represents new (with_first file m info)
-  entered-first result id new done answers = by (wants_blocks m (file_blocks file)) refl answers
+  pub has-room : wants_blocks m (file_blocks file) ≡ false → TriesFile file m (Ok info)
+  has-room wants =
+      let number = some-number file m info group after is enters in record {
+        outcome = Ok (record { first = record { number = number.0; entry = new_entry info group false }; memory = with_file_entered m file after });
+        loads = record { entries = Ok after; modules = enters; is = sym (loaded-is false number.0 wants number.1) };
+        answers = refl;
+      }
+
+  -- it is loaded then
+  pub entered-first : (result : Result ModId MemoryFault) (id : ModId) (new : Memory) → wants_blocks m (file_blocks file) ≡ false → result ≡ Ok id → Answers (change.entered m file info false) m result new → Represents new (with_first file m info)
+  entered-first result id new room done answers = by (wants_blocks m (file_blocks file)) room answers
     where
-      by : (wants : Bool) → wants_blocks m (file_blocks file) ≡ wants → answered wants result new → (wants_blocks m (file_blocks file) ≡ false) × Represents new (with_first file m info)
-      by true e answers = absurd (let failed = answers.0 in cc)
-      by false e answers = (e, answers.1)
+      by : (wants : Bool) → wants ≡ false → Answers (if wants then Err NoRam else Ok (with_first file m info)) m result new → Represents new (with_first file m info)
+      by true none answers = absurd cc
+      by false e answers = answers.1
 
   pub first-group : (number : ℕ) → free_number m.modules ≡ Some number → IsOfGroup group number (with_first file m info)
   first-group number free = record {
@@ -192,12 +193,13 @@ module _ (file : List ℕ) (m : MemoryState) (info : ModuleInfo) (after : List (
     enters = rest-enters;
   }
 
-  pub file-entered : (id : ModId) (new : Memory) → free_number m.modules ≡ Some id.0 → wants_blocks m (file_blocks file) ≡ false → Represents new (with_modules (with_first file m info) after) → EntersFile file m (Ok id) new
-  file-entered id new free room tied = record {
-    outcome = Ok (record { first = record { number = id.0; entry = new_entry info group false }; memory = with_file_entered m file after });
-    loads = record { entries = Ok after; modules = enters; is = sym (loaded-is false id.0 room free) };
-    comes = (refl, tied);
-  }
+-- it is not refused where it has room
+pub not-refused : (file : List ℕ) (m : MemoryState) (info : ModuleInfo) (result : Result ModId MemoryFault) (fault : MemoryFault) (new : Memory) → wants_blocks m (file_blocks file) ≡ false → result ≡ Err fault → Answers (change.entered m file info false) m result new → ⊥
+not-refused file m info result fault new room failed answers = by (wants_blocks m (file_blocks file)) room answers
+  where
+    by : (wants : Bool) → wants ≡ false → Answers (if wants then Err NoRam else Ok (with_first file m info)) m result new → ⊥
+    by true none answers = absurd cc
+    by false e answers = not-both result fault failed answers.0
 
 -- ---- what was tried
 

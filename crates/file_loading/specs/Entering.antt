@@ -4,8 +4,11 @@ use Rattle.guest_memory.specs.Tie.{Represents}
 use Rattle.guest_memory.specs.declared.memory.Memory.{Memory}
 use Rattle.proc_model.specs.Loading.{EntersModules}
 use Rattle.proc_model.specs.Memory.{MemoryState}
-use Rattle.proc_model.specs.ModuleList.{ModuleEntry, module_entry_at}
+use Rattle.proc_model.specs.MemoryChanges.{new_numbers}
+use Rattle.proc_model.specs.ModuleList.{ModuleEntry, module_entry_at, new_entry}
+use Rattle.proc_model.specs.Objects.{file_blocks}
 use Rattle.proc_model.specs.declared.module.ModId.{ModId}
+use Rattle.proc_model.specs.declared.module.ModuleInfo.{ModuleInfo}
 use Rattle.file_rules.specs.Load.{Loaded, Loads}
 
 -- the module of this number is one of a group that is not the boot file's
@@ -27,6 +30,23 @@ pub record CanEnter (file : List ℕ) (number from : ℕ) (memory : Memory) : Ty
   pub room : length file ≤ 8192 * length group
   pub after : List (Option ModuleEntry)
   pub enters : EntersModules file group false from m.modules (Ok after)
+
+-- ---- before it is entered
+
+-- how a trial answers what becomes of a file: by the header of its first module, or by the number with which it is
+-- refused
+abbrev pub AnswersTrial : MemoryState → List ℕ → Result Loaded ℕ → Result ModuleInfo ℕ → Type 0
+AnswersTrial m file (Ok loaded) (Ok info) =
+    loaded.first.entry ≡ new_entry info (new_numbers m (file_blocks file)) false
+AnswersTrial m file (Ok loaded) (Err answer) = ⊥
+AnswersTrial m file (Err number) (Ok info) = ⊥
+AnswersTrial m file (Err number) (Err answer) = answer ≡ number
+
+-- a file was tried, and would be loaded or is refused
+pub record TriesFile (file : List ℕ) (m : MemoryState) (result : Result ModuleInfo ℕ) : Type 0 where
+  pub outcome : Result Loaded ℕ
+  pub loads : Loads m file outcome
+  pub answers : AnswersTrial m file outcome result
 
 -- ---- what comes of it
 

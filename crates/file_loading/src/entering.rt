@@ -1,18 +1,18 @@
 //! A file of modules in memory.
 
-ghost use Rattle.std.specs.Prelude.{◌≡◌, ℕ, ◌≤◌, false, Ok, Option, List, length};
-ghost use Rattle.file_loading.specs.Entering.{CanEnter, EntersFile, IsOfGroup, with_modules};
-ghost use Rattle.guest_memory.specs.Tie.{Represents};
+ghost use Rattle.std.specs.Prelude.{◌≡◌, ℕ, ◌≤◌, false, IsSome, Ok, Option, List, length};
+ghost use Rattle.file_loading.specs.Entering.{CanEnter, ComesLoaded, EntersFile, IsOfGroup, TriesFile, with_modules};
+ghost use Rattle.file_rules.specs.Load.{Loaded, Loads};
+ghost use Rattle.guest_memory.specs.Tie.{Represents, modules_of};
 ghost use Rattle.os9_base.specs.declared.limits.TheConstants.{MOST_GROUP_BYTES};
 ghost use Rattle.proc_model.specs.Loading.{EntersModules};
 ghost use Rattle.proc_model.specs.Memory.{MemoryState};
 ghost use Rattle.proc_model.specs.Module.{step_from};
-ghost use Rattle.proc_model.specs.ModuleList.{ModuleEntry};
+ghost use Rattle.proc_model.specs.ModuleList.{ModuleEntry, module_entry_at};
 
-use file_modules::trying::try_modules;
+use crate::trial::try_file;
 use guest_memory::memory::Memory;
 use module_format::next_module;
-use os9_base::errors::{E_BMID, E_NORAM};
 use proc_model::module::{ModId, ModuleInfo, ModuleStep};
 
 /// Loads a file of modules into new blocks and enters its modules, in order, as one group (System
@@ -20,61 +20,36 @@ use proc_model::module::{ModId, ModuleInfo, ModuleStep};
 ///
 /// # Errors
 ///
-/// That of the first module that is refused, as `try_modules` has it; else E$BMID exactly if the
-/// file has no module, else E$NoRAM exactly if fewer blocks are free than it needs. Nothing has
-/// changed then.
+/// Those of `try_file`. Nothing has changed then.
 pub fn enter_file(memory: &mut Memory, file: &[u8]) -> Result<ModId, u8>
     requires short { length file.now ≤ MOST_GROUP_BYTES }
     ensures loads { (m : MemoryState) → Represents memory.old m
         → EntersFile file.now m result memory.new }
 {
-    match try_modules(memory.modules(), file) {
+    match try_file(memory, file) {
         Err(number) => Err(number),
-        Ok(()) => enter_tried(memory, file),
+        Ok(first) => Ok(enter_tried(memory, file, first)),
     }
 }
 
-/// The same of a file whose modules were tried.
-///
-/// # Errors
-///
-/// E$BMID exactly if the file has no module, else E$NoRAM exactly if fewer blocks are free than it
-/// needs.
-fn enter_tried(memory: &mut Memory, file: &[u8]) -> Result<ModId, u8>
+/// Loads a file that was tried, and whose first module this is, into new blocks, and enters its
+/// modules, in order, as one group. Answers the number of the first.
+pub fn enter_tried(memory: &mut Memory, file: &[u8], first: ModuleInfo) -> ModId
     requires short { length file.now ≤ MOST_GROUP_BYTES }
-    requires tried { (m : MemoryState) (group : List ℕ) → Represents memory.old m
-        → (after : List (Option ModuleEntry))
-        × EntersModules file.now group false 0 m.modules (Ok after) }
-    ensures loads { (m : MemoryState) → Represents memory.old m
-        → EntersFile file.now m result memory.new }
+    requires tried { (m : MemoryState) → Represents memory.old m → TriesFile file.now m (Ok first) }
+    requires first { step_from file.now 0 ≡ ModuleStep.Module first }
+    ensures loads { (m : MemoryState) (loaded : Loaded) → Represents memory.old m
+        → Loads m file.now (Ok loaded) → ComesLoaded m (Ok loaded) (Ok result) memory.new }
+    ensures entered { IsSome (module_entry_at (modules_of memory.new) result.0) }
+    ensures stay { (number : ℕ) → IsSome (module_entry_at (modules_of memory.old) number)
+        → IsSome (module_entry_at (modules_of memory.new) number) }
 {
-    match next_module(file, 0) {
-        ModuleStep::End => Err(E_BMID),
-        ModuleStep::Fault(_, _) => unreachable!(),
-        ModuleStep::Module(info) => enter_all(memory, file, info),
-    }
-}
-
-/// The same of a file whose first module this is.
-///
-/// # Errors
-///
-/// E$NoRAM exactly if fewer blocks are free than it needs.
-fn enter_all(memory: &mut Memory, file: &[u8], info: ModuleInfo) -> Result<ModId, u8>
-    requires short { length file.now ≤ MOST_GROUP_BYTES }
-    requires first { step_from file.now 0 ≡ ModuleStep.Module info }
-    requires tried { (m : MemoryState) (group : List ℕ) → Represents memory.old m
-        → (after : List (Option ModuleEntry))
-        × EntersModules file.now group false 0 m.modules (Ok after) }
-    ensures loads { (m : MemoryState) → Represents memory.old m
-        → EntersFile file.now m result memory.new }
-{
-    let rest = info.at + u32::from(info.size);
-    match memory.enter(file, info, false) {
-        Err(_) => Err(E_NORAM),
+    let rest = first.at + u32::from(first.size);
+    match memory.enter(file, first, false) {
+        Err(_) => unreachable!(),
         Ok(id) => {
             enter_others(memory, file, id, rest);
-            Ok(id)
+            id
         }
     }
 }

@@ -4,3 +4,4 @@
 pub mod entering;
 #[cfg(test)]
 mod tests;
+pub mod trial;

@@ -10,16 +10,11 @@ use Rattle.call_rules.specs.ModuleLinks.{without_primary_link}
 use Rattle.call_rules.specs.Program.{Program, start_regs, start_own}
 use Rattle.fork_calls.specs.declared.starting.Beginning.{Beginning}
 use Rattle.fork_calls.specs.Chaining.{begun_so}
-use Rattle.fork_calls.specs.Loading.{loads_program}
 
 module _ (m : Inner) (p : ℕ) where
   -- what F$Chain does with the memory in which the process begins anew
   abbrev pub anew_next : Program → MemoryState → CallResult
   anew_next program memory = done (without_primary_link (begun_anew (with_program m p program memory) p program) (own_at m p))
-
-  -- what it does with the program that is named
-  abbrev pub chain_next : Program → CallResult
-  chain_next program = loads_program m p program (anew_next program)
 
   -- a process that begins so begins anew with the program
   pub begun_so-anew : (program : Program) (start : Beginning) → start.regs ≡ start_regs program → start.own ≡ start_own program → begun_so m p start ≡ begun_anew m p program

@@ -13,22 +13,19 @@ use Rattle.call_rules.specs.Program.{Program}
 use Rattle.proc_state.specs.Beginning.{with_made}
 use Rattle.fork_calls.specs.declared.starting.Beginning.{Beginning}
 use Rattle.fork_calls.specs.Loading.{loads_program, with_new_child}
+use Rattle.fork_calls.specs.Starting.{starts_child}
 
 module _ (m : Inner) (p : ℕ) where
   -- what F$Fork does with the child's number and the memory
   abbrev pub child_next : Program → ℕ → MemoryState → CallResult
   child_next program child memory = done (with_regs_of (with_child m p child program memory) p (forked_regs (regs_at m p) child program))
 
-  -- what it does with the program that is named
-  abbrev pub fork_next : Program → CallResult
-  fork_next program = needs (free_process m.records) E_PRCFUL (λ child. loads_program m child program (child_next program child))
-
   -- there is no number for a child
-  pub fork-full : (program : Program) → free_process m.records ≡ None → fork_next program ≡ refused E_PRCFUL
+  pub fork-full : (program : Program) → free_process m.records ≡ None → starts_child m p program ≡ refused E_PRCFUL
   fork-full program none = ap (λ (free : Option ℕ). needs free E_PRCFUL (λ child. loads_program m child program (child_next program child))) none
 
   -- there is one
-  pub fork-child : (program : Program) (child : ℕ) → free_process m.records ≡ Some child → fork_next program ≡ loads_program m child program (child_next program child)
+  pub fork-child : (program : Program) (child : ℕ) → free_process m.records ≡ Some child → starts_child m p program ≡ loads_program m child program (child_next program child)
   fork-child program child some = ap (λ (free : Option ℕ). needs free E_PRCFUL (λ child. loads_program m child program (child_next program child))) some
 
 -- the number that was taken is the least that is free

@@ -1,5 +1,5 @@
 mod EnteredModules
 mod Forking
 mod LoadedPrograms
-mod Programs
+pub mod Programs
 mod Chaining

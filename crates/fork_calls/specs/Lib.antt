@@ -1,3 +1,4 @@
 pub mod Loading
 pub mod Naming
 pub mod Chaining
+pub mod Starting

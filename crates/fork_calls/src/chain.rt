@@ -1,9 +1,9 @@
 //! F$Chain: another program in the same process.
 
-ghost use Rattle.std.specs.Prelude.{◌≡◌, None, IsSome};
+ghost use Rattle.std.specs.Prelude.{◌≡◌, None, Some, IsSome, take};
 ghost use Rattle.std.specs.Option.{ForSome};
 ghost use Rattle.guest_memory.specs.Tie.{modules_of};
-ghost use Rattle.proc_model.specs.ModuleList.{module_entry_at};
+ghost use Rattle.proc_model.specs.ModuleList.{ModuleEntry, module_entry_at};
 ghost use Rattle.proc_rules.specs.Records.{IsLiving, with_regs};
 ghost use Rattle.proc_rules.specs.Signals.{with_intercept};
 ghost use Rattle.call_rules.specs.Chain.{f_chain as f_chain_lem};
@@ -11,8 +11,11 @@ ghost use Rattle.call_rules.specs.Inner.{Inner, own_at, with_records};
 ghost use Rattle.call_rules.specs.ModuleLinks.{without_primary_link};
 ghost use Rattle.proc_state.specs.Tie.{Represents, Answers, Comes};
 ghost use Rattle.fork_calls.specs.Chaining.{begun_so};
+ghost use Rattle.fork_calls.specs.Naming.{meant};
+ghost use Rattle.fork_calls.specs.Starting.{starts_anew};
 
 use crate::loading::load_program;
+use crate::program::NamedProgram;
 use crate::reading::read_program;
 use crate::starting::Beginning;
 use os9_base::call::CallEnd;
@@ -47,6 +50,25 @@ fn chain(s: &mut ProcState, p: Pid) -> Result<(), u8>
     ensures lives { IsLiving s.new.table p.0 }
 {
     let program = read_program(s, p)?;
+    start_anew(s, p, program)
+}
+
+/// A process begins anew with a program. The parameters stand at the front of the buffer. What
+/// becomes of it is that of F$Chain.
+///
+/// # Errors
+///
+/// E$MemFul and E$NoRAM exactly if there is no room for its memory, as [`load_program`] has them,
+/// where the blocks of its own data area count as free. Nothing has changed then.
+pub fn start_anew(s: &mut ProcState, p: Pid, program: NamedProgram) -> Result<(), u8>
+    requires lives { IsLiving s.old.table p.0 }
+    requires entered { IsSome (module_entry_at (modules_of s.old.memory) program.id.0) }
+    ensures call { (m : Inner) (entry : ModuleEntry) → Represents s.old m
+        → module_entry_at m.memory.modules program.id.0 ≡ Some entry
+        → Answers m (starts_anew m p.0 (meant program entry
+        (take program.parameters s.old.buffer.items))) result s.new }
+    ensures lives { IsLiving s.new.table p.0 }
+{
     let start = load_program(s, p, program)?;
     begin_anew(s, p, start);
     Ok(())

@@ -1,17 +1,20 @@
 //! F$Fork: the beginning of a process.
 
-ghost use Rattle.std.specs.Prelude.{◌≡◌, None, Some, IsSome};
+ghost use Rattle.std.specs.Prelude.{◌≡◌, None, Some, IsSome, take};
 ghost use Rattle.std.specs.Option.{ForSome};
 ghost use Rattle.guest_memory.specs.Tie.{modules_of};
-ghost use Rattle.proc_model.specs.ModuleList.{module_entry_at};
+ghost use Rattle.proc_model.specs.ModuleList.{ModuleEntry, module_entry_at};
 ghost use Rattle.proc_rules.specs.Records.{IsLiving, free_process};
 ghost use Rattle.call_rules.specs.Fork.{f_fork as f_fork_lem, forked_regs as forked_regs_lem};
 ghost use Rattle.call_rules.specs.Inner.{Inner};
 ghost use Rattle.call_rules.specs.Program.{Program};
 ghost use Rattle.proc_state.specs.Tie.{Represents, Answers, Comes};
 ghost use Rattle.fork_calls.specs.Loading.{with_new_child};
+ghost use Rattle.fork_calls.specs.Naming.{meant};
+ghost use Rattle.fork_calls.specs.Starting.{starts_child};
 
 use crate::loading::load_program;
+use crate::program::NamedProgram;
 use crate::reading::read_program;
 use crate::starting::Beginning;
 use os9_base::call::CallEnd;
@@ -46,6 +49,25 @@ fn fork(s: &mut ProcState, p: Pid) -> Result<(), u8>
     ensures lives { IsLiving s.new.table p.0 }
 {
     let program = read_program(s, p)?;
+    start_child(s, p, program)
+}
+
+/// A process gets a child, which starts a program. The parameters stand at the front of the buffer.
+/// What it answers is that of F$Fork.
+///
+/// # Errors
+///
+/// E$PrcFul exactly if there are 31 records; else E$MemFul and E$NoRAM exactly if there is no room
+/// for its memory, as [`load_program`] has them. Nothing has changed then.
+pub fn start_child(s: &mut ProcState, p: Pid, program: NamedProgram) -> Result<(), u8>
+    requires lives { IsLiving s.old.table p.0 }
+    requires entered { IsSome (module_entry_at (modules_of s.old.memory) program.id.0) }
+    ensures call { (m : Inner) (entry : ModuleEntry) → Represents s.old m
+        → module_entry_at m.memory.modules program.id.0 ≡ Some entry
+        → Answers m (starts_child m p.0 (meant program entry
+        (take program.parameters s.old.buffer.items))) result s.new }
+    ensures lives { IsLiving s.new.table p.0 }
+{
     let Some(child) = s.table.free() else {
         return Err(E_PRCFUL);
     };
@@ -74,15 +96,15 @@ fn add_child(s: &mut ProcState, p: Pid, child: Pid, start: Beginning)
     s.set_regs(made, start.regs);
 }
 
-/// The registers of a process that has forked this child with a program whose name has so many
-/// characters.
-pub fn forked_regs(regs: Regs, child: Pid, count: u8) -> Regs
+/// The registers of a process that has forked this child with a program whose name, or path list,
+/// has so many characters.
+pub fn forked_regs(regs: Regs, child: Pid, count: u32) -> Regs
     ensures { (program : Program) → program.count ≡ count
         → result ≡ forked_regs_lem regs child.0 program }
 {
     Regs {
         a: child.0,
-        x: regs.x.wrapping_add(u16::from(count)),
+        x: regs.x.wrapping_add((count % 65_536) as u16),
         ..regs
     }
 }

@@ -12,8 +12,8 @@ pub struct NamedProgram {
     pub pages: u16,
     /// The bytes of its parameters.
     pub parameters: u16,
-    /// The characters of its name.
-    pub count: u8,
+    /// The characters of its name, or of the path list of its file.
+    pub count: u32,
     ghost some: { 1 ≤ pages },
     ghost most: { pages ≤ 256 },
     ghost fits: { parameters ≤ 256 * pages },

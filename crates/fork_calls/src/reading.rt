@@ -45,6 +45,6 @@ pub fn read_program(s: &mut ProcState, p: Pid) -> Result<NamedProgram, u8>
         id,
         pages: area_pages(info.storage, regs.b, regs.y),
         parameters: regs.y,
-        count,
+        count: u32::from(count),
     })
 }

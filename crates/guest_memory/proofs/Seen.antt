@@ -6,19 +6,21 @@ use Rattle.std.proofs.lemmas.List.{length-map, length-take-le}
 use Rattle.std.proofs.lemmas.Option.{slice_get-get_or, none-some, same_Some}
 use Rattle.block_map.specs.Window.{map_cells, live_byte, SameBeyond-self}
 use Rattle.block_map.proofs.Windows.{length-block_bytes}
-use Rattle.block_pool.specs.Blocks.{Blocks, IsLive, is_live, reference_count, block_bytes}
+use Rattle.block_pool.specs.Blocks.{Blocks, IsLive, is_live, free_block_count, reference_count, block_bytes}
 use Rattle.proc_model.specs.declared.group.BlockId.{BlockId}
 use Rattle.proc_model.specs.declared.group.Group.{Group}
 use Rattle.proc_model.specs.Group.{group_block_numbers}
-use Rattle.proc_model.specs.Memory.{MemoryState, map_at, group_at}
+use Rattle.proc_model.specs.Memory.{MemoryState, map_at, group_at, free_blocks}
 use Rattle.proc_model.specs.ModuleList.{ModuleEntry, module_entry_at, found_module}
+use Rattle.proc_model.specs.Objects.{NamesObjects}
 use Rattle.proc_model.specs.Slots.{Slots, no_slots, block_at, IsFreeRun, IsHighestFreeRun, highest_free_run}
 use Rattle.memory_laws.specs.Renaming.{renamed_map, renamed_entry}
 use Rattle.memory_laws.proofs.Directory.{entry_at-renamed}
-use Rattle.memory_laws.proofs.Keeping.{held_at}
-use Rattle.memory_laws.proofs.Naming.{map_at-memory_of}
+use Rattle.memory_laws.proofs.Keeping.{held_at, map_of, names_live}
+use Rattle.memory_laws.proofs.Naming.{map_at-memory_of, free_blocks-tied}
 use Rattle.memory_laws.proofs.Renamed.{found-renamed}
 use Rattle.memory_laws.proofs.Runs.{highest_free_run-renamed, highest_free_run-is, highest_free_run-none}
+use Rattle.memory_laws.proofs.Stores.{IsMap-renamed}
 use Rattle.memory_laws.proofs.Writing.{cells-tied}
 use Rattle.user_names.specs.UserNames.{user_cell}
 use Rattle.guest_memory.proofs.GroupCalls.{some-len}
@@ -61,6 +63,14 @@ module _ (memory : Memory) (m : MemoryState) (tied : Represents memory m) where
       ap (λ (s : MemoryState). map_at s process) tied.is
       ∙ map_at-memory_of tied.number memory.pool memory.maps.items memory.dir tied.objects process (omega (arith, memory.sound.processes))
 
+  -- and names objects that are there
+  pub names-seen : (process : ℕ) → process < 33 → NamesObjects m.objects (map_at m process).places
+  names-seen process within =
+      subst (λ (s : MemoryState). NamesObjects s.objects (map_at s process).places) (sym tied.is)
+      (subst (λ (s : Slots ℕ). NamesObjects tied.objects s.places) (sym (map_at-memory_of tied.number memory.pool memory.maps.items memory.dir tied.objects process (omega (arith, memory.sound.processes))))
+      (IsMap-renamed tied.number (map_of memory.pool memory.maps.items memory.dir memory.sound process) memory.pool tied.objects tied.represent (names_live memory.pool memory.maps.items memory.dir memory.sound process)
+      (held_at memory.pool memory.maps.items memory.dir memory.sound process within).map))
+
   -- an entry is that of the machine, by the numbers of objects
   pub entry-seen : (number : ℕ) → module_entry_at m.modules number ≡ option_map (renamed_entry tied.number) (module_entry_at (modules_of memory) number)
   entry-seen number = ap (λ (s : MemoryState). module_entry_at s.modules number) tied.is ∙ entry_at-renamed tied.number memory.dir number
@@ -79,33 +89,45 @@ module _ (memory : Memory) (m : MemoryState) (tied : Represents memory m) where
       by_place None = refl
       by_place (Some entry) = length-map entry.group tied.number
 
--- the slot at which a group would be mapped
-module _ (memory : Memory) (process : ℕ) (within : process < 33) (number : ℕ) (some : IsSome (module_entry_at (modules_of memory) number)) (group : Group) (group_is : option_map (λ (entry : ModuleEntry). entry.group) (module_entry_at (modules_of memory) number) ≡ Some (group_block_numbers group)) (old : Slots BlockId) (at : old ≡ get_or memory.maps.items process old) where
-  pub free-len : length group.blocks ≡ 7 → 1 ≤ group.len
-  free-len seven = some-len memory.pool memory.maps.items memory.dir memory.sound process within number some group seven group_is
-
-  long : length group.blocks ≡ 7 → option_map_or (λ (entry : ModuleEntry). length entry.group) (module_entry_at (modules_of memory) number) 0 ≡ group.len
-  long seven = by_place (module_entry_at (modules_of memory) number) group_is
-    where
-      by_place : (place : Option ModuleEntry) → option_map (λ (entry : ModuleEntry). entry.group) place ≡ Some (group_block_numbers group) → option_map_or (λ (entry : ModuleEntry). length entry.group) place 0 ≡ group.len
-      by_place None is = absurd (none-some (group_block_numbers group) is)
-      by_place (Some entry) is = ap (λ (g : List ℕ). length g) (same_Some entry.group (group_block_numbers group) is) ∙ length-map (take group.len group.blocks) (λ (id : BlockId). id.0) ∙ length-take-le group.len group.blocks (omega (arith, group.in_range))
-
-  pub free-slot : length group.blocks ≡ 7 → (m : MemoryState) → Represents memory m → highest_free_run (map_at m process) (length (group_at m number)) ≡ highest_free_run old group.len
-  free-slot seven m tied =
-      (λ i. highest_free_run (map-seen memory m tied process within i) (length (group_at m number)))
-      ∙ highest_free_run-renamed tied.number (get_or memory.maps.items process no_slots) (length (group_at m number))
-      ∙ (λ i. highest_free_run (sym (is_map_of memory.pool memory.maps.items memory.dir memory.sound process within old at) i) ((group-seen memory m tied number ∙ long seven) i))
+-- the slot at which a run of free slots begins
+module _ (memory : Memory) (process : ℕ) (within : process < 33) (old : Slots BlockId) (at : old ≡ get_or memory.maps.items process old) (len : ℕ) where
+  run-seen : (m : MemoryState) → Represents memory m → highest_free_run (map_at m process) len ≡ highest_free_run old len
+  run-seen m tied =
+      (λ i. highest_free_run (map-seen memory m tied process within i) len)
+      ∙ highest_free_run-renamed tied.number (get_or memory.maps.items process no_slots) len
+      ∙ (λ i. highest_free_run (sym (is_map_of memory.pool memory.maps.items memory.dir memory.sound process within old at) i) len)
 
   eight : length old.places ≡ 8
   eight =
       ap (λ (s : Slots BlockId). length s.places) (is_map_of memory.pool memory.maps.items memory.dir memory.sound process within old at)
       ∙ (held_at memory.pool memory.maps.items memory.dir memory.sound process within).map.eight_places
 
-  pub free-found : (len : ℕ) (result : Option ℕ) → IfNone result ((first : ℕ) → IsFreeRun old first len → ⊥) → IfSome result (IsHighestFreeRun old len) → result ≡ highest_free_run old len
-  free-found len None none highest = sym (highest_free_run-none old eight len none)
-  free-found len (Some first) none highest = sym (highest_free_run-is old eight len first highest)
+  found-run : (result : Option ℕ) → IfNone result ((first : ℕ) → IsFreeRun old first len → ⊥) → IfSome result (IsHighestFreeRun old len) → result ≡ highest_free_run old len
+  found-run None none highest = sym (highest_free_run-none old eight len none)
+  found-run (Some first) none highest = sym (highest_free_run-is old eight len first highest)
 
-  pub free-fits : length group.blocks ≡ 7 → (result : Option ℕ) → IfSome result (IsHighestFreeRun old group.len) → IfSome result (λ slot. slot + group_len memory number ≤ 8)
-  free-fits seven None highest = highest
-  free-fits seven (Some first) highest = subst (λ (n : ℕ). first + n ≤ 8) (sym (long seven)) highest.0.0
+  pub run-found : (result : Option ℕ) → IfNone result ((first : ℕ) → IsFreeRun old first len → ⊥) → IfSome result (IsHighestFreeRun old len) → (m : MemoryState) → Represents memory m → result ≡ highest_free_run (map_at m process) len
+  run-found result none highest m tied = found-run result none highest ∙ sym (run-seen m tied)
+
+  pub run-fits : (result : Option ℕ) → IfSome result (IsHighestFreeRun old len) → IfSome result (λ slot. slot + len ≤ 8)
+  run-fits None highest = highest
+  run-fits (Some first) highest = highest.0.0
+
+-- the group of an entered module
+module _ (memory : Memory) (process : ℕ) (within : process < 33) (number : ℕ) (some : IsSome (module_entry_at (modules_of memory) number)) (group : Group) (group_is : option_map (λ (entry : ModuleEntry). entry.group) (module_entry_at (modules_of memory) number) ≡ Some (group_block_numbers group)) (seven : length group.blocks ≡ 7) where
+  pub free-len : 1 ≤ group.len
+  free-len = some-len memory.pool memory.maps.items memory.dir memory.sound process within number some group seven group_is
+
+  pub group-long : group_len memory number ≡ group.len
+  group-long = by_place (module_entry_at (modules_of memory) number) group_is
+    where
+      by_place : (place : Option ModuleEntry) → option_map (λ (entry : ModuleEntry). entry.group) place ≡ Some (group_block_numbers group) → option_map_or (λ (entry : ModuleEntry). length entry.group) place 0 ≡ group.len
+      by_place None is = absurd (none-some (group_block_numbers group) is)
+      by_place (Some entry) is = ap (λ (g : List ℕ). length g) (same_Some entry.group (group_block_numbers group) is) ∙ length-map (take group.len group.blocks) (λ (id : BlockId). id.0) ∙ length-take-le group.len group.blocks (omega (arith, group.in_range))
+
+  pub group-as-long : (m : MemoryState) → Represents memory m → length (group_at m number) ≡ group.len
+  group-as-long m tied = group-seen memory m tied number ∙ group-long
+
+-- as many blocks of the machine are free as of the kernel's
+pub free-seen : (memory : Memory) (m : MemoryState) → Represents memory m → free_block_count memory.pool ≡ free_blocks m
+free-seen memory m tied = sym (ap free_blocks tied.is ∙ free_blocks-tied memory.pool memory.maps.items memory.dir memory.sound tied.number tied.objects tied.represent)

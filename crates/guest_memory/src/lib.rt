@@ -11,6 +11,7 @@ mod links;
 pub mod memory;
 mod new;
 mod reading;
+mod room;
 mod running;
 mod start;
 

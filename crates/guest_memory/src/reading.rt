@@ -107,7 +107,7 @@ impl Memory {
         ensures fits { IfSome result (λ slot. slot + group_len_lem self.now id.0 ≤ 8) }
     {
         let group = self.dir.group(id);
-        self.maps[p.0 as usize].highest_free_run(group.len)
+        self.free_run(p, group.len)
     }
 
     /// How many blocks the group of an entered module has: 1 to 7.

@@ -1,4 +1,4 @@
--- What F$Link comes to by the slot of the module's group.
+-- What a link comes to by the slot of the module's group.
 use Rattle.std.proofs.Common.{◌≡◌, ℕ, Bool, true, false, nat_le, Option, Some, None, option_map, option_and_then, if◌then◌else◌, List, length, refl, sym}
 use Rattle.std.proofs.lemmas.Option.{none-some, same_Some}
 use Rattle.os9_base.specs.declared.errors.TheConstants.{E_MEMFUL}
@@ -8,35 +8,28 @@ use Rattle.call_rules.specs.CallResult.{CallResult, done, refused, needs, refuse
 use Rattle.call_rules.specs.Inner.{Inner, own_at}
 use Rattle.call_rules.specs.Link.{Mapped, mapped_group, links_at, after_link}
 use Rattle.call_rules.specs.ModuleLinks.{Entered}
+use Rattle.module_calls.specs.Linked.{links_entered}
 use Rattle.module_calls.specs.Named.{link_slot}
 
--- what F$Link does with the module that is named
-abbrev pub link_next : Inner → ℕ → List ℕ → Entered → CallResult
-link_next m p name found =
-    refuses (has_most_links found.entry) E_MEMFUL
-    (needs (mapped_group m.memory p found.entry.group) E_MEMFUL
-    (λ mapped. refuses (nat_le MOST_LINKS (links_at (own_at m p) mapped.slot)) E_MEMFUL
-    (done (after_link m p found mapped (length name)))))
-
 -- the group stands at a slot, or is mapped there
-pub record IsLinked (m : Inner) (p : ℕ) (name : List ℕ) (found : Entered) (slot : ℕ) : Type 0 where
+pub record IsLinked (m : Inner) (p : ℕ) (found : Entered) (count slot : ℕ) : Type 0 where
   pub mapped : Mapped
   pub is : mapped_group m.memory p found.entry.group ≡ Some mapped
   pub slot_is : mapped.slot ≡ slot
-  pub goes : link_next m p name found ≡ done (after_link m p found mapped (length name))
+  pub goes : links_entered m p found count ≡ done (after_link m p found mapped count)
 
-module _ (m : Inner) (p : ℕ) (name : List ℕ) (found : Entered) where
+module _ (m : Inner) (p : ℕ) (found : Entered) (count : ℕ) where
   abbrev slot_by : Bool → Option Mapped → Option ℕ
   slot_by most place = if most then None else option_and_then (λ slot. if nat_le MOST_LINKS (links_at (own_at m p) slot) then None else Some slot) (option_map (λ mapped. mapped.slot) place)
 
   abbrev next_by : Bool → Option Mapped → CallResult
-  next_by most place = refuses most E_MEMFUL (needs place E_MEMFUL (λ mapped. refuses (nat_le MOST_LINKS (links_at (own_at m p) mapped.slot)) E_MEMFUL (done (after_link m p found mapped (length name)))))
+  next_by most place = refuses most E_MEMFUL (needs place E_MEMFUL (λ mapped. refuses (nat_le MOST_LINKS (links_at (own_at m p) mapped.slot)) E_MEMFUL (done (after_link m p found mapped count))))
 
   -- there is no slot
-  pub link-refused : None ≡ link_slot m p found.entry → link_next m p name found ≡ refused E_MEMFUL
+  pub link-refused : None ≡ link_slot m p found.entry → links_entered m p found count ≡ refused E_MEMFUL
   link-refused none = by_most (has_most_links found.entry) (mapped_group m.memory p found.entry.group) none
     where
-      by_full : (full : Bool) (mapped : Mapped) → None ≡ (if full then None else Some mapped.slot) → refuses full E_MEMFUL (done (after_link m p found mapped (length name))) ≡ refused E_MEMFUL
+      by_full : (full : Bool) (mapped : Mapped) → None ≡ (if full then None else Some mapped.slot) → refuses full E_MEMFUL (done (after_link m p found mapped count)) ≡ refused E_MEMFUL
       by_full true mapped none = refl
       by_full false mapped none = absurd (none-some mapped.slot none)
 
@@ -46,18 +39,22 @@ module _ (m : Inner) (p : ℕ) (name : List ℕ) (found : Entered) where
       by_most false (Some mapped) none = by_full (nat_le MOST_LINKS (links_at (own_at m p) mapped.slot)) mapped none
 
   -- there is one
-  pub link-linked : (slot : ℕ) → Some slot ≡ link_slot m p found.entry → IsLinked m p name found slot
+  pub link-linked : (slot : ℕ) → Some slot ≡ link_slot m p found.entry → IsLinked m p found count slot
   link-linked slot some =
       let there = by_most (has_most_links found.entry) (mapped_group m.memory p found.entry.group) some in
       record { mapped = there.0; is = there.1; slot_is = there.2; goes = there.3 }
     where
-      by_full : (full : Bool) (mapped : Mapped) → Some slot ≡ (if full then None else Some mapped.slot) → (mapped.slot ≡ slot) × (refuses full E_MEMFUL (done (after_link m p found mapped (length name))) ≡ done (after_link m p found mapped (length name)))
+      by_full : (full : Bool) (mapped : Mapped) → Some slot ≡ (if full then None else Some mapped.slot) → (mapped.slot ≡ slot) × (refuses full E_MEMFUL (done (after_link m p found mapped count)) ≡ done (after_link m p found mapped count))
       by_full true mapped some = absurd (none-some slot (sym some))
       by_full false mapped some = (sym (same_Some slot mapped.slot some), refl)
 
-      by_most : (most : Bool) (place : Option Mapped) → Some slot ≡ slot_by most place → (mapped : Mapped) × (place ≡ Some mapped) × (mapped.slot ≡ slot) × (next_by most place ≡ done (after_link m p found mapped (length name)))
+      by_most : (most : Bool) (place : Option Mapped) → Some slot ≡ slot_by most place → (mapped : Mapped) × (place ≡ Some mapped) × (mapped.slot ≡ slot) × (next_by most place ≡ done (after_link m p found mapped count))
       by_most true place some = absurd (none-some slot (sym some))
       by_most false None some = absurd (none-some slot (sym some))
       by_most false (Some mapped) some =
           let there = by_full (nat_le MOST_LINKS (links_at (own_at m p) mapped.slot)) mapped some in
           (mapped, refl, there.0, there.1)
+
+-- what F$Link does with the module that is named
+abbrev pub link_next : Inner → ℕ → List ℕ → Entered → CallResult
+link_next m p name found = links_entered m p found (length name)

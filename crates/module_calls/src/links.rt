@@ -12,6 +12,7 @@ ghost use Rattle.call_rules.specs.Link.{f_link as f_link_lem, Mapped, mapped_gro
 ghost use Rattle.call_rules.specs.ModuleLinks.{header_address};
 ghost use Rattle.call_rules.specs.UnLoad.{f_unload as f_unload_lem};
 ghost use Rattle.proc_state.specs.Tie.{Represents, Answers, Comes};
+ghost use Rattle.module_calls.specs.Linked.{entered_as, links_entered};
 ghost use Rattle.module_calls.specs.Named.{slot_in, link_slot as link_slot_lem};
 
 use crate::named::named_module;
@@ -49,6 +50,23 @@ fn link(s: &mut ProcState, p: Pid) -> Result<(), u8>
     ensures lives { IsLiving s.new.table p.0 }
 {
     let (id, count) = named_module(s, p)?;
+    link_module(s, p, id, u32::from(count))
+}
+
+/// A process links an entered module, and its X goes on by so many characters: those of the
+/// module's name, or of a path list. What it answers is that of F$Link.
+///
+/// # Errors
+///
+/// E$MemFul exactly if too few slots are left in the map, or no links. Nothing has changed then.
+pub fn link_module(s: &mut ProcState, p: Pid, id: ModId, count: u32) -> Result<(), u8>
+    requires lives { IsLiving s.old.table p.0 }
+    requires entered { IsSome (module_entry_at (modules_of s.old.memory) id.0) }
+    ensures call { (m : Inner) (entry : ModuleEntry) → Represents s.old m
+        → module_entry_at m.memory.modules id.0 ≡ Some entry
+        → Answers m (links_entered m p.0 (entered_as id entry) count) result s.new }
+    ensures lives { IsLiving s.new.table p.0 }
+{
     let Some(slot) = link_slot(s, p, id) else {
         return Err(E_MEMFUL);
     };
@@ -135,8 +153,8 @@ fn add_link(s: &mut ProcState, p: Pid, id: ModId, slot: u8)
     s.set_own(p, own);
 }
 
-/// The registers after a link: the name had so many characters.
-fn linked_regs(regs: Regs, info: ModuleInfo, slot: u8, count: u8) -> Regs
+/// The registers after a link: X goes on by so many characters.
+fn linked_regs(regs: Regs, info: ModuleInfo, slot: u8, count: u32) -> Regs
     requires slot { slot < 8 }
     requires fits { 8192 * slot + (info.at + info.size) ≤ 65536 }
     requires runs { info.entry < info.size }
@@ -147,7 +165,7 @@ fn linked_regs(regs: Regs, info: ModuleInfo, slot: u8, count: u8) -> Regs
     Regs {
         a: info.kind,
         b: info.attr,
-        x: regs.x.wrapping_add(u16::from(count)),
+        x: regs.x.wrapping_add((count % 65_536) as u16),
         y: u + info.entry,
         u,
         ..regs

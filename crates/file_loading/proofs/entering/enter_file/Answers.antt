@@ -1,20 +1,22 @@
-use Rattle.std.proofs.Common.{Option, List, subst, sym}
-use Rattle.file_modules.specs.Trying.{AreAlike}
-use Rattle.proc_model.specs.MemoryChanges.{new_numbers}
-use Rattle.proc_model.specs.ModuleList.{ModuleEntry}
-use Rattle.proc_model.specs.Objects.{file_blocks}
-use Rattle.file_loading.proofs.LoadedLemmas.{module-refused}
-use Rattle.file_loading.proofs.SeenLemmas.{alike-seen}
+use Rattle.file_loading.proofs.OutcomeLemmas.{tried-ok, tried-refused}
+use Rattle.std.proofs.Common.{Err, Ok, refl}
 use Rattle.file_loading.proofs.entering.enter_file.Goals as goal
 
 pub returns-in-Err : goal.returns-in-Err
 returns-in-Err c = record {
-  loads = λ m tied.
-      let alike = subst (λ (entries : List (Option ModuleEntry)). AreAlike entries m.modules) (sym c.modules.ensures) (alike-seen c.args.memory.now m tied) in
-      let tried = c.in-Err.ensures.tried m.modules (new_numbers m (file_blocks c.args.file.now)) alike in
-      module-refused c.args.file.now m c.args.memory.now tried.0 c.in-Err.number tied tried.1;
+  loads = λ m tied. record {
+    outcome = Err c.in-Err.number;
+    loads = tried-refused m c.args.file.now c.in-Err.number (c.in-Err.ensures.tries m tied);
+    comes = (refl, tied);
+  };
 }
 
-pub enter_tried-requires-clause-tried : goal.enter_tried-requires-clause-tried
-enter_tried-requires-clause-tried c m group tied =
-    c.in-Ok.ensures.tried m.modules group (subst (λ (entries : List (Option ModuleEntry)). AreAlike entries m.modules) (sym c.modules.ensures) (alike-seen c.args.memory.now m tied))
+pub returns-in-Ok : goal.returns-in-Ok
+returns-in-Ok c = record {
+  loads = λ m tied.
+      let tried = tried-ok m c.args.file.now c.in-Ok.first (c.in-Ok.ensures.tries m tied) in record {
+        outcome = Ok tried.loaded;
+        loads = tried.loads;
+        comes = c.enter_tried.ensures.loads m tried.loaded tied tried.loads;
+      };
+}

@@ -62,7 +62,7 @@ returns-clause-read c m tied =
     let passed : user_bytes (cells_at m p) (regs_at m p).u (regs_at m p).y ≡ Some bytes = ap (λ (r : Regs). user_bytes (cells_at m p) r.u r.y) (sym regs_are) ∙ c.if-not-read_bytes.ensures.read m stood in
     let found : IsFound m.memory.modules (regs_at m p).a c.in-Some.name c.in_ok-id.id.0 c.in_ok-id.count = subst (λ (r : Regs). IsFound m.memory.modules r.a c.in-Some.name c.in_ok-id.id.0 c.in_ok-id.count) regs_are (c.in_ok-id.ensures.found m.memory after.memory) in
     let long : length bytes ≡ regs.y = length-take-le regs.y buffer (omega arith) in
-    read-found m p c.in-Some.name name bytes passed _ buffer found
+    read-found m p c.in-Some.name name bytes passed _ buffer (subst (IsFound m.memory.modules (regs_at m p).a c.in-Some.name c.in_ok-id.id.0) (sym c.from.ensures) found)
     (λ entry is.
     let info_is : entry.info ≡ c.info-info.result = same_Some _ _ (sym (ap (option_map (λ (e : ModuleEntry). e.info)) is) ∙ c.info-info.ensures.tied m.memory after.memory) in
     c.area_pages.ensures.pages entry (ap (λ (i : ModuleInfo). i.storage) info_is)

@@ -1,19 +1,21 @@
-use Rattle.std.proofs.Common.{sym, ◌∙◌, arith}
-use Rattle.guest_memory.proofs.Seen.{free-len, free-slot, free-found, free-fits}
+use Rattle.std.proofs.Common.{ℕ, ◌+◌, ◌≤◌, IfSome, sym, ap, subst, ◌∙◌, arith}
+use Rattle.proc_model.specs.Memory.{map_at}
+use Rattle.proc_model.specs.Slots.{highest_free_run}
+use Rattle.guest_memory.proofs.Seen.{free-len, group-long, group-as-long}
 use Rattle.guest_memory.proofs.memory.Memory.free_slot.Goals as goal
 
-pub highest_free_run-requires : goal.highest_free_run-requires
-highest_free_run-requires c = free-len c.args.self.now c.args.p.0 c.requires.process c.args.id.0 c.requires.entered c.group-group.result c.group-group.ensures c.index.result.now c.index.ensures (omega arith)
+pub free_run-requires-clause-some : goal.free_run-requires-clause-some
+free_run-requires-clause-some c = free-len c.args.self.now c.args.p.0 c.requires.process c.args.id.0 c.requires.entered c.group-group.result c.group-group.ensures (omega arith)
 
 pub returns-clause-slot : goal.returns-clause-slot
 returns-clause-slot c =
     let memory = c.args.self.now in
-    let group = c.group-group.result in
     λ m tied.
-    free-found memory c.args.p.0 c.requires.process c.args.id.0 c.requires.entered group c.group-group.ensures c.index.result.now c.index.ensures group.len c.highest_free_run.result c.highest_free_run.ensures.none c.highest_free_run.ensures.highest
-    ∙ sym (free-slot memory c.args.p.0 c.requires.process c.args.id.0 c.requires.entered group c.group-group.ensures c.index.result.now c.index.ensures (omega arith) m tied)
+    c.free_run.ensures.slot m tied
+    ∙ ap (highest_free_run (map_at m c.args.p.0)) (sym (group-as-long memory c.args.p.0 c.requires.process c.args.id.0 c.requires.entered c.group-group.result c.group-group.ensures (omega arith) m tied))
 
 pub returns-clause-fits : goal.returns-clause-fits
 returns-clause-fits c =
-    let group = c.group-group.result in
-    free-fits c.args.self.now c.args.p.0 c.requires.process c.args.id.0 c.requires.entered group c.group-group.ensures c.index.result.now c.index.ensures (omega arith) c.highest_free_run.result c.highest_free_run.ensures.highest
+    let memory = c.args.self.now in
+    let long = group-long memory c.args.p.0 c.requires.process c.args.id.0 c.requires.entered c.group-group.result c.group-group.ensures (omega arith) in
+    subst (λ (n : ℕ). IfSome c.free_run.result (λ slot. slot + n ≤ 8)) (sym long) c.free_run.ensures.fits
