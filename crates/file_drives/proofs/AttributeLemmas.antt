@@ -13,11 +13,12 @@ use Rattle.rbf_access.specs.declared.volume.Volume.{Volume}
 use Rattle.rbf_walk.specs.Walk.{directory_fault}
 use Rattle.rbf_walk.specs.declared.error.DirError.{DirError}
 use Rattle.rbf_walk.specs.declared.error.DirError.TheVariants.{NotAllowed, BadPath, NotFound, Exists, File}
-use Rattle.rbf_update.specs.Attributes.{AnswersOwner, attribute_calls}
+use Rattle.rbf_update.specs.Attributes.{AnswersOwner, attribute_calls, with_new_attributes}
 use Rattle.rbf_update.specs.Becomes.{Becomes}
 use Rattle.file_rules.specs.Change.{sets_attributes}
+use Rattle.file_drives.proofs.IdentLemmas.{made-anyway}
 use Rattle.file_drives.proofs.SlotLemmas.{mounted-as, mounted-left, mounted-still}
-use Rattle.file_drives.specs.Changed.{Asked, numbered}
+use Rattle.file_drives.specs.Changed.{Asked, ChangeIsMade, numbered}
 use Rattle.file_drives.specs.Drives.{DriveView}
 use Rattle.file_drives.specs.Mounted.{IsMountedAs}
 use Rattle.file_drives.specs.SlotCalls.{SetsAttributesOn}
@@ -31,46 +32,52 @@ module _ (slot : Option Volume) (volume new : Volume) (before after : DriveView)
   abbrev request : Asked
   request = record { change = sets_attributes n attributes; user = user; now = now }
 
-  leaves : (result : Result (Unit {0}) DirError) → OnOk result (Becomes before.media after.media (λ old new. SetsAttributes old new n attributes now)) → OnFile before.media n (λ file. AnswersOwner file user result) → OnErr result (after.media ≡ before.media) → OnFile before.media n (λ file. MovesCounts (directory_fault result) (attribute_calls file user) before.counts after.counts) → (v : DiskVolume) (file : DiskFile) → IsMountedAs volume before.media v → v.files n ≡ Some file → LeavesMounted request (numbered result) (λ left. attribute_calls file user) v file before (Some new) after
-  leaves (Ok done) ok answer stayed counts v file was there =
+  leaves : (result : Result (Unit {0}) DirError) → OnOk result (Becomes before.media after.media (λ old new. SetsAttributes old new n attributes now)) → OnOk result (after.media ≡ with_new_attributes before.media n attributes now) → OnFile before.media n (λ file. AnswersOwner file user result) → OnErr result (after.media ≡ before.media) → OnFile before.media n (λ file. MovesCounts (directory_fault result) (attribute_calls file user) before.counts after.counts) → (v : DiskVolume) (file : DiskFile) → IsMountedAs volume before.media v → v.files n ≡ Some file → LeavesMounted request (numbered result) (λ left. attribute_calls file user) v file before (Some new) after
+  leaves (Ok done) ok written answer stayed counts v file was there =
       let it = ok v was.on in
+      let made : ChangeIsMade request v file it.volume 0 =
+      record {
+        allowed = answer v file was.on there;
+        enough = none-needed (free_total v);
+        list = refl;
+        makes = it.changed;
+      }
+      in
       record {
         left = it.volume;
-        answers = record {
-          allowed = answer v file was.on there;
-          enough = none-needed (free_total v);
-          list = refl;
-          makes = it.changed;
-        };
+        answers = made;
         on = mounted-left new after.media it.volume mounted it.on;
         counts = counts v file was.on there;
-        refused = λ h. absurd h;
+        refused = λ h. absurd (made-anyway request v file it.volume 0 made h);
+        disk = (written, tt);
       }
-  leaves (Err NotAllowed) ok answer stayed counts v file was there = record {
+  leaves (Err NotAllowed) ok written answer stayed counts v file was there = record {
     left = v;
     answers = record { forbidden = answer v file was.on there; same = refl };
     on = mounted-still volume new before.media after.media v kept_same stayed was;
     counts = counts v file was.on there;
     refused = λ _. stayed;
+    disk = (tt, stayed);
   }
-  leaves (Err BadPath) ok answer stayed counts v file was there = absurd (answer v file was.on there)
-  leaves (Err NotFound) ok answer stayed counts v file was there = absurd (answer v file was.on there)
-  leaves (Err Exists) ok answer stayed counts v file was there = absurd (answer v file was.on there)
-  leaves (Err (File (Device number))) ok answer stayed counts v file was there = record {
+  leaves (Err BadPath) ok written answer stayed counts v file was there = absurd (answer v file was.on there)
+  leaves (Err NotFound) ok written answer stayed counts v file was there = absurd (answer v file was.on there)
+  leaves (Err Exists) ok written answer stayed counts v file was there = absurd (answer v file was.on there)
+  leaves (Err (File (Device number))) ok written answer stayed counts v file was there = record {
     left = v;
     answers = record { may_be = refl; refused = λ _. refl };
     on = mounted-still volume new before.media after.media v kept_same stayed was;
     counts = counts v file was.on there;
-    refused = λ h. absurd h;
+    refused = λ _. stayed;
+    disk = (tt, stayed);
   }
-  leaves (Err (File NoCluster)) ok answer stayed counts v file was there = absurd (answer v file was.on there)
-  leaves (Err (File TooManyRuns)) ok answer stayed counts v file was there = absurd (answer v file was.on there)
+  leaves (Err (File NoCluster)) ok written answer stayed counts v file was there = absurd (answer v file was.on there)
+  leaves (Err (File TooManyRuns)) ok written answer stayed counts v file was there = absurd (answer v file was.on there)
 
-  pub attributes-changed : (result : Result (Unit {0}) DirError) → OnOk result (Becomes before.media after.media (λ old new. SetsAttributes old new n attributes now)) → OnFile before.media n (λ file. AnswersOwner file user result) → OnErr result (after.media ≡ before.media) → OnFile before.media n (λ file. MovesCounts (directory_fault result) (attribute_calls file user) before.counts after.counts) → SetsAttributesOn n attributes user now result slot before (Some new) after
-  attributes-changed result ok answer stayed counts = record {
+  pub attributes-changed : (result : Result (Unit {0}) DirError) → OnOk result (Becomes before.media after.media (λ old new. SetsAttributes old new n attributes now)) → OnOk result (after.media ≡ with_new_attributes before.media n attributes now) → OnFile before.media n (λ file. AnswersOwner file user result) → OnErr result (after.media ≡ before.media) → OnFile before.media n (λ file. MovesCounts (directory_fault result) (attribute_calls file user) before.counts after.counts) → SetsAttributesOn n attributes user now result slot before (Some new) after
+  attributes-changed result ok written answer stayed counts = record {
     changed = record {
       leaves = λ asked v file is_asked agrees there.
           subst (λ a. LeavesMounted a (numbered result) (λ left. attribute_calls file user) v file before (Some new) after) (sym is_asked)
-          (leaves result ok answer stayed counts v file (mounted-as slot volume before v is agrees) there);
+          (leaves result ok written answer stayed counts v file (mounted-as slot volume before v is agrees) there);
     };
   }

@@ -28,13 +28,14 @@ use Rattle.rbf_growth.specs.Grown.{is_gained}
 use Rattle.rbf_walk.specs.declared.error.DirError.TheVariants.{File}
 use Rattle.rbf_write.proofs.Contents.{put_none}
 use Rattle.rbf_write.specs.Files.{OnVolumeFile}
-use Rattle.rbf_write.specs.Outcomes.{AnswersWrite, IsRefusal, OnMarked, write_calls, WriteIsEnded, unchanged, stopped}
+use Rattle.rbf_write.specs.Outcomes.{AnswersWrite, IsRefusal, OnMarked, write_calls, WriteIsEnded, WriteStops, unchanged, stopped}
 use Rattle.rbf_write.specs.Sizes.{Sizing, AnswersSize, IsTidyEnd, giving_up, size_calls}
 use Rattle.file_rules.specs.Change.{writes, sizes}
 use Rattle.file_drives.proofs.FreeLemmas.{chosen-free, some-cluster}
+use Rattle.file_drives.proofs.IdentLemmas.{made-anyway}
 use Rattle.file_drives.proofs.SlotLemmas.{mounted-as, mounted-left}
 use Rattle.file_drives.specs.Calls.{marks_made, sizing_calls, writing_calls}
-use Rattle.file_drives.specs.Changed.{Asked, file_answer}
+use Rattle.file_drives.specs.Changed.{Asked, ChangeIsMade, file_answer, is_refused}
 use Rattle.file_drives.specs.Drives.{DriveView}
 use Rattle.file_drives.specs.Mounted.{IsMountedAs}
 use Rattle.file_drives.specs.SlotCalls.{SizesOn, WritesOn}
@@ -117,25 +118,37 @@ module _ (slot : Option Volume) (volume new : Volume) (before after : DriveView)
   leaves user (Ok done) answer few counts v file on there =
       let it = answer v file on there in
       let here : it.volume.files n ≡ Some it.writes.new = changed-there _ v it.volume n it.writes in
+      let made : ChangeIsMade (asks user) v file it.volume 0 =
+      record {
+        allowed = refl;
+        enough = le-ltb (free_total v) (clusters_needed (cluster_size v) file.segments (length (written file.contents at bytes))) it.enough;
+        list = refl;
+        makes = it.writes;
+      }
+      in
       record {
         left = it.volume;
-        answers = record {
-          allowed = refl;
-          enough = le-ltb (free_total v) (clusters_needed (cluster_size v) file.segments (length (written file.contents at bytes))) it.enough;
-          list = refl;
-          makes = it.writes;
-        };
+        answers = made;
         on = mounted-left new after.media it.volume mounted it.on;
         counts =
             subst (λ f. MovesCounts None (write_calls v file (marks_made (Ok done) v file f) at (length bytes)) before.counts after.counts) (sym here)
             (counts v file on there (marking_sectors (shape v) (is_gained (cluster_size v) file.segments it.writes.new.segments))
             (λ w shown other is_there. ap (λ (f : DiskFile). marking_sectors (shape v) (is_gained (cluster_size v) file.segments f.segments)) (shown-once after.media it.volume w n it.writes.new shown it.on other here is_there)));
-        refused = λ h. absurd h;
+        refused = λ h. absurd (made-anyway (asks user) v file it.volume 0 made h);
+        disk = (Ok done, refl, it);
       }
   leaves user (Err (Device number)) answer few counts v file on there = by (answer v file on there)
     where
       moved : MovesCounts (Some number) (write_calls v file (map_sectors (shape v)) at (length bytes)) before.counts after.counts
       moved = counts v file on there (map_sectors (shape v)) refl
+
+      -- the clusters had been chosen, and so it was not to be refused
+      chosen : WriteStops v (record { number = n; at = at; bytes = bytes; now = now }) before.media after.media → is_refused (asks user) v file ≡ true → ⊥
+      chosen it full =
+          let same : it.ends.old ≡ file = same_Some it.ends.old file (sym it.ends.is ∙ there) in
+          let enough = chosen-free before.media v on it.ends.old.segments (length (written it.ends.old.contents at bytes)) it.ends.taken it.choice in
+          let fits = subst (λ (f : DiskFile). clusters_needed (cluster_size v) f.segments (length (written f.contents at bytes)) ≤ free_total v) same enough in
+          both_ways (nat_lt (free_total v) (clusters_needed (cluster_size v) file.segments (length (written file.contents at bytes)))) (le-ltb (free_total v) (clusters_needed (cluster_size v) file.segments (length (written file.contents at bytes))) fits) (only_full _ full)
 
       by : WriteIsEnded v (record { number = n; at = at; bytes = bytes; now = now }) before.media after.media → LeavesMounted (asks user) (Err (File (Device number))) (writing_calls n at (length bytes) (Err (Device number)) v file) v file before (Some new) after
       by (unchanged some same) = record {
@@ -143,21 +156,19 @@ module _ (slot : Option Volume) (volume new : Volume) (before after : DriveView)
         answers = record { may_be = ends-before v file there some; refused = λ _. refl };
         on = stayed_on v same on;
         counts = moved;
-        refused = λ h. absurd h;
+        refused = λ _. same;
+        disk = (Err (Device number), refl, answer v file on there);
       }
       by (stopped it) = record {
         left = it.volume;
-        answers = record {
-          may_be = it.ends;
-          refused = λ full.
-              let same : it.ends.old ≡ file = same_Some it.ends.old file (sym it.ends.is ∙ there) in
-              let enough = chosen-free before.media v on it.ends.old.segments (length (written it.ends.old.contents at bytes)) it.ends.taken it.choice in
-              let fits = subst (λ (f : DiskFile). clusters_needed (cluster_size v) f.segments (length (written f.contents at bytes)) ≤ free_total v) same enough in
-              absurd (both_ways (nat_lt (free_total v) (clusters_needed (cluster_size v) file.segments (length (written file.contents at bytes)))) (le-ltb (free_total v) (clusters_needed (cluster_size v) file.segments (length (written file.contents at bytes))) fits) (only_full _ full));
-        };
+        answers = record { may_be = it.ends; refused = λ full. absurd (chosen it full) };
         on = mounted-left new after.media it.volume mounted it.on;
         counts = moved;
-        refused = λ h. absurd h;
+        refused = λ h. elim h [
+          | inl never ↦ absurd never
+          | inr full ↦ absurd (chosen it full)
+        ];
+        disk = (Err (Device number), refl, answer v file on there);
       }
   leaves user (Err NoCluster) answer few counts v file on there =
       let it = answer v file on there in
@@ -167,6 +178,7 @@ module _ (slot : Option Volume) (volume new : Volume) (before after : DriveView)
         on = stayed_on v it.media_kept on;
         counts = refusal_counts _ before.counts after.counts (few refl) (counts v file on there (map_sectors (shape v)) refl);
         refused = λ _. it.media_kept;
+        disk = (Err NoCluster, refl, it);
       }
   leaves user (Err TooManyRuns) answer few counts v file on there =
       let it = answer v file on there in
@@ -181,6 +193,7 @@ module _ (slot : Option Volume) (volume new : Volume) (before after : DriveView)
         on = stayed_on v it.media_kept on;
         counts = refusal_counts _ before.counts after.counts (few refl) (counts v file on there (map_sectors (shape v)) refl);
         refused = λ _. it.media_kept;
+        disk = (Err TooManyRuns, refl, it);
       }
 
   pub writes-on : (result : Result (Unit {0}) FileFault) → OnVolumeFile before.media n (λ v file. AnswersWrite v file (record { number = n; at = at; bytes = bytes; now = now }) before.media after.media result) → OnErr result (IsRefusal result → after.counts.calls ≤ before.counts.calls + 1) → OnMarked before.media after.media n result (λ v file marks. MovesCounts (file_fault result) (write_calls v file marks at (length bytes)) before.counts after.counts) → WritesOn n at bytes now result slot before (Some new) after
@@ -206,8 +219,8 @@ module _ (slot : Option Volume) (volume new : Volume) (before after : DriveView)
   size_stayed v same on = mounted-left new after.media v mounted (record { image = on.image; is = same ∙ on.is; vol = on.vol })
 
   -- a fault after which the size was to be refused has changed nothing
-  ends-refused : (v w : DiskVolume) (file : DiskFile) (image : List ℕ) → Represents before.media v → v.files n ≡ Some file → nat_lt (free_total v) (clusters_needed (cluster_size v) file.segments size) ≡ true → (it : SizeEnds image v w n size now) → IsTidyEnd image v w sizing (giving_up v file sizing) before.media after.media it → w ≡ v
-  ends-refused v w file image on there full (ends.before same) tidy = same
+  ends-refused : (v w : DiskVolume) (file : DiskFile) (image : List ℕ) → Represents before.media v → v.files n ≡ Some file → nat_lt (free_total v) (clusters_needed (cluster_size v) file.segments size) ≡ true → (it : SizeEnds image v w n size now) → IsTidyEnd image v w sizing (giving_up v file sizing) before.media after.media it → (w ≡ v) × (after.media ≡ before.media)
+  ends-refused v w file image on there full (ends.before same) tidy = (same, tidy)
   ends-refused v w file image on there full (ends.longer it) tidy =
       let same : it.old ≡ file = same_Some it.old file (sym it.is ∙ there) in
       let enough = chosen-free before.media v on it.old.segments size it.taken tidy.0 in
@@ -221,20 +234,24 @@ module _ (slot : Option Volume) (volume new : Volume) (before after : DriveView)
   size_leaves user (Ok done) answer few counts v file on there =
       let it = answer v file on there in
       let here : it.volume.files n ≡ Some it.sets.new = changed-there _ v it.volume n it.sets in
+      let made : ChangeIsMade (asks_size user) v file it.volume 0 =
+      record {
+        allowed = refl;
+        enough = le-ltb (free_total v) (clusters_needed (cluster_size v) file.segments size) it.enough;
+        list = refl;
+        makes = it.sets;
+      }
+      in
       record {
         left = it.volume;
-        answers = record {
-          allowed = refl;
-          enough = le-ltb (free_total v) (clusters_needed (cluster_size v) file.segments size) it.enough;
-          list = refl;
-          makes = it.sets;
-        };
+        answers = made;
         on = mounted-left new after.media it.volume mounted it.on;
         counts =
             subst (λ f. MovesCounts None (size_calls v file (marks_made (Ok done) v file f) sizing) before.counts after.counts) (sym here)
             (counts v file on there (marking_sectors (shape v) (is_gained (cluster_size v) file.segments it.sets.new.segments))
             (λ w shown other is_there. ap (λ (f : DiskFile). marking_sectors (shape v) (is_gained (cluster_size v) file.segments f.segments)) (shown-once after.media it.volume w n it.sets.new shown it.on other here is_there)));
-        refused = λ h. absurd h;
+        refused = λ h. absurd (made-anyway (asks_size user) v file it.volume 0 made h);
+        disk = (Ok done, refl, it);
       }
   size_leaves user (Err (Device number)) answer few counts v file on there =
       let it = answer v file on there in
@@ -242,11 +259,15 @@ module _ (slot : Option Volume) (volume new : Volume) (before after : DriveView)
         left = it.volume;
         answers = record {
           may_be = (it.on.image, it.on.vol, it.ends);
-          refused = λ full. ends-refused v it.volume file it.on.image on there (only_full _ full) it.ends it.tidy;
+          refused = λ full. (ends-refused v it.volume file it.on.image on there (only_full _ full) it.ends it.tidy).0;
         };
         on = mounted-left new after.media it.volume mounted it.on;
         counts = counts v file on there (map_sectors (shape v)) refl;
-        refused = λ h. absurd h;
+        refused = λ h. elim h [
+          | inl never ↦ absurd never
+          | inr full ↦ (ends-refused v it.volume file it.on.image on there (only_full _ full) it.ends it.tidy).1
+        ];
+        disk = (Err (Device number), refl, it);
       }
   size_leaves user (Err NoCluster) answer few counts v file on there =
       let it = answer v file on there in
@@ -256,6 +277,7 @@ module _ (slot : Option Volume) (volume new : Volume) (before after : DriveView)
         on = size_stayed v it.media_kept on;
         counts = refusal_counts _ before.counts after.counts (few refl) (counts v file on there (map_sectors (shape v)) refl);
         refused = λ _. it.media_kept;
+        disk = (Err NoCluster, refl, it);
       }
   size_leaves user (Err TooManyRuns) answer few counts v file on there =
       let it = answer v file on there in
@@ -270,6 +292,7 @@ module _ (slot : Option Volume) (volume new : Volume) (before after : DriveView)
         on = size_stayed v it.media_kept on;
         counts = refusal_counts _ before.counts after.counts (few refl) (counts v file on there (map_sectors (shape v)) refl);
         refused = λ _. it.media_kept;
+        disk = (Err TooManyRuns, refl, it);
       }
 
   pub sizes-on : (result : Result (Unit {0}) FileFault) → OnVolumeFile before.media n (λ v file. AnswersSize v file sizing before.media after.media result) → OnErr result (IsNone (file_fault result) → after.counts.calls ≤ before.counts.calls + 1) → OnMarked before.media after.media n result (λ v file marks. MovesCounts (file_fault result) (size_calls v file marks sizing) before.counts after.counts) → SizesOn n size now result slot before (Some new) after

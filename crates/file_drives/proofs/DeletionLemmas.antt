@@ -24,10 +24,11 @@ use Rattle.file_rules.specs.Change.{deletes}
 use Rattle.file_rules.specs.declared.places.FilePlace.{FilePlace}
 use Rattle.file_drives.proofs.AttributeLemmas.{none-needed}
 use Rattle.file_drives.proofs.EntryLemmas.{not-refused}
+use Rattle.file_drives.proofs.IdentLemmas.{made-anyway}
 use Rattle.file_drives.proofs.PlacedLemmas.{changes-volume, view-before}
 use Rattle.file_drives.proofs.SlotLemmas.{mounted-as, mounted-left}
 use Rattle.file_drives.specs.Calls.{deleting_calls}
-use Rattle.file_drives.specs.Changed.{Asked, ChangesVolume, file_answer}
+use Rattle.file_drives.specs.Changed.{Asked, ChangeIsMade, ChangesVolume, file_answer}
 use Rattle.file_drives.specs.Drives.{DriveView, boxed_drive_view, lent_drive_view}
 use Rattle.file_drives.specs.Entries.{IsDeletableOn, IsDeletionOn, MayBeDeletedOn}
 use Rattle.file_drives.specs.Mounted.{HasFileAt}
@@ -41,24 +42,30 @@ module _ (slot : Option Volume) (volume new : Volume) (before after : DriveView)
   deletion n name user now = record { change = deletes n found.descriptor name; user = user; now = now }
 
   deletion_leaves : (n : ℕ) (name : List ℕ) (user : ℕ) (now : TimePacket) (result : Result (Unit {0}) FileFault) (v : DiskVolume) (dir : DiskFile) → Represents before.media v → AnswersDeletionOf v n found.descriptor name before.media after.media result → MovesCounts (file_fault result) (deleting_calls found.descriptor v dir v) before.counts after.counts → LeavesMounted (deletion n name user now) (file_answer result) (deleting_calls found.descriptor v dir) v dir before (Some new) after
-  deletion_leaves n name user now (Ok done) v dir on it counts = record {
-    left = it.after;
-    answers = record {
-      allowed = refl;
-      enough = none-needed (free_total v);
-      list = refl;
-      makes = it.deletes;
-    };
-    on = mounted-left new after.media it.after mounted (record { image = it.now; is = it.is; vol = it.vol });
-    counts = counts;
-    refused = λ h. absurd h;
-  }
+  deletion_leaves n name user now (Ok done) v dir on it counts =
+      let made : ChangeIsMade (deletion n name user now) v dir it.after 0 =
+      record {
+        allowed = refl;
+        enough = none-needed (free_total v);
+        list = refl;
+        makes = it.deletes;
+      }
+      in
+      record {
+        left = it.after;
+        answers = made;
+        on = mounted-left new after.media it.after mounted (record { image = it.now; is = it.is; vol = it.vol });
+        counts = counts;
+        refused = λ h. absurd (made-anyway (deletion n name user now) v dir it.after 0 made h);
+        disk = (Ok done, refl, it);
+      }
   deletion_leaves n name user now (Err (Device number)) v dir on (inl same) counts = record {
     left = v;
     answers = record { may_be = (on.image, on.vol, ends.before refl); refused = λ _. refl };
     on = mounted-left new after.media v mounted (record { image = on.image; is = same ∙ on.is; vol = on.vol });
     counts = counts;
-    refused = λ h. absurd h;
+    refused = λ _. same;
+    disk = (Err (Device number), refl, inl same);
   }
   deletion_leaves n name user now (Err (Device number)) v dir on (inr half) counts = record {
     left = half.left;
@@ -68,7 +75,11 @@ module _ (slot : Option Volume) (volume new : Volume) (before after : DriveView)
     };
     on = mounted-left new after.media half.left mounted (record { image = half.now; is = half.is; vol = half.vol });
     counts = counts;
-    refused = λ h. absurd h;
+    refused = λ h. elim h [
+      | inl never ↦ absurd never
+      | inr full ↦ absurd (not-refused _ _ (none-needed (free_total v)) refl full)
+    ];
+    disk = (Err (Device number), refl, inr half);
   }
   deletion_leaves n name user now (Err NoCluster) v dir on it counts = absurd it
   deletion_leaves n name user now (Err TooManyRuns) v dir on it counts = absurd it

@@ -7,7 +7,7 @@ use Rattle.os9_base.specs.Count.{Rose}
 use Rattle.os9_outer.specs.Drive.{drive_error}
 use Rattle.file_rules.specs.Files.{DriveState, NoneFailed, OneFailed, drive_at, new_drive}
 use Rattle.rbf_access.specs.Drive.{MovesCounts}
-use Rattle.file_drives.specs.Drives.{DriveView, ChangesOneDrive, OneDriveMoves, drive_state, drive_states, media_of}
+use Rattle.file_drives.specs.Drives.{DriveView, ChangesOneDrive, OneDriveMoves, drive_state, drive_states, media_at, media_of, unused_drive}
 
 pub changes-one : {Driver : Type 0} (view : Driver → DriveView) (change : DriveView → DriveView → Type 0) (drivers : List Driver) (n : ℕ) (old new : Driver) → n < length drivers → old ≡ get_or drivers n old → change (view old) (view new) → ChangesOneDrive change n (map view drivers) (map view (slice_set drivers n new))
 changes-one view change drivers n old new inside here changed = (
@@ -29,6 +29,10 @@ media-kept view drivers n old new inside here same =
     ∙ map-set media (map view drivers) n (view new)
     ∙ ap (λ m. set (media_of (map view drivers)) n m) (same ∙ sym before)
     ∙ set-get_or (media_of (map view drivers)) n None
+
+-- the media of a drive of the list
+pub media-there : (views : List DriveView) (n : ℕ) (view : DriveView) → slice_get views n ≡ Some view → media_at views n ≡ view.media
+media-there views n view is = ap (λ (w : DriveView). w.media) (get_or_from_slice_get views n view unused_drive is)
 
 -- a weaker change
 pub changes-weaker : (change other : DriveView → DriveView → Type 0) (n : ℕ) (before after : List DriveView) → ((old new : DriveView) → change old new → other old new) → ChangesOneDrive change n before after → ChangesOneDrive other n before after

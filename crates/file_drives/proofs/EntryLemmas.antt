@@ -1,5 +1,5 @@
 -- A new file or directory on a volume that is mounted.
-use Rattle.std.proofs.Common.{◌≡◌, ℕ, ◌+◌, ◌∙◌, Bool, true, false, nat_lt, not, ◌||◌, Option, Some, None, is_some, List, length, min, Result, Ok, Err, refl, ap, sym, subst, inl, eq-eqb}
+use Rattle.std.proofs.Common.{◌≡◌, ℕ, ◌+◌, ◌∙◌, Bool, true, false, nat_lt, not, ◌||◌, Option, Some, None, is_some, List, length, min, Result, Ok, Err, refl, ap, sym, subst, inl, inr, eq-eqb}
 use Rattle.std.specs.Prelude.{if◌then◌else◌}
 use Rattle.os9_base.specs.declared.registers.TimePacket.{TimePacket}
 use Rattle.rbf_model.specs.File.{DiskFile, file_at}
@@ -30,9 +30,10 @@ use Rattle.rbf_walk.specs.declared.error.DirError.TheVariants.{File}
 use Rattle.rbf_make.specs.declared.place.NewPlace.{NewPlace}
 use Rattle.file_rules.specs.Change.{creates, makes_directory}
 use Rattle.file_rules.specs.MakDir.{new_directory_size}
+use Rattle.file_drives.proofs.IdentLemmas.{made-anyway}
 use Rattle.file_drives.proofs.SlotLemmas.{mounted-as, mounted-left}
 use Rattle.file_drives.specs.Calls.{directory_calls, making_calls}
-use Rattle.file_drives.specs.Changed.{Asked, has_no_segment, new_file_needs}
+use Rattle.file_drives.specs.Changed.{Asked, ChangeIsMade, has_no_segment, new_file_needs}
 use Rattle.file_drives.specs.Drives.{DriveView}
 use Rattle.file_drives.specs.Mounted.{IsMountedAs}
 use Rattle.file_drives.specs.SlotCalls.{CreatesOn, MakesDirectoryOn}
@@ -111,12 +112,14 @@ module _ (slot : Option Volume) (volume new : Volume) (before after : DriveView)
   create_leaves : (result : Result ℕ FileFault) (v : DiskVolume) (dir : DiskFile) → Represents before.media v → AnswersEntering v dir file_asked before.media after.media (widened result) → MovesCounts (file_fault result) (entering_calls v dir 2 (widened result)) before.counts after.counts → LeavesMounted creation (widened result) (λ left. entering_calls v dir 2 (widened result)) v dir before (Some new) after
   create_leaves (Ok n) v dir on it counts =
       let room = has_room v dir file_asked 0 refl it.allowed in
+      let made : ChangeIsMade creation v dir it.after n = record { allowed = refl; enough = room.0; list = room.1; makes = it.enters } in
       record {
         left = it.after;
-        answers = record { allowed = refl; enough = room.0; list = room.1; makes = it.enters };
+        answers = made;
         on = on-left it.after (record { image = it.now; is = it.is; vol = it.vol });
         counts = counts;
-        refused = λ h. absurd h;
+        refused = λ h. absurd (made-anyway creation v dir it.after n made h);
+        disk = (found.execute, it);
       }
   create_leaves (Err (Device number)) v dir on it counts = by it.1
     where
@@ -126,7 +129,8 @@ module _ (slot : Option Volume) (volume new : Volume) (before after : DriveView)
         answers = record { may_be = ends.before refl; refused = λ _. refl };
         on = stayed-on v same on;
         counts = counts;
-        refused = λ h. absurd h;
+        refused = λ _. same;
+        disk = (found.execute, it);
       }
       by (took some) = record {
         left = some.left;
@@ -136,7 +140,11 @@ module _ (slot : Option Volume) (volume new : Volume) (before after : DriveView)
         };
         on = on-left some.left (record { image = some.now; is = some.is; vol = some.vol });
         counts = counts;
-        refused = λ h. absurd h;
+        refused = λ h. elim h [
+          | inl never ↦ absurd never
+          | inr full ↦ let room = has_room v dir file_asked 0 refl some.allowed in absurd (not-refused _ _ room.0 room.1 full)
+        ];
+        disk = (found.execute, it);
       }
   create_leaves (Err NoCluster) v dir on it counts = record {
     left = v;
@@ -144,6 +152,7 @@ module _ (slot : Option Volume) (volume new : Volume) (before after : DriveView)
     on = stayed-on v it.media_kept on;
     counts = counts;
     refused = λ _. it.media_kept;
+    disk = (found.execute, it);
   }
   create_leaves (Err TooManyRuns) v dir on it counts =
       let long = is_long v dir file_asked 0 refl it.because in
@@ -153,6 +162,7 @@ module _ (slot : Option Volume) (volume new : Volume) (before after : DriveView)
         on = stayed-on v it.media_kept on;
         counts = counts;
         refused = λ _. it.media_kept;
+        disk = (found.execute, it);
       }
 
   pub creates-on : (result : Result ℕ FileFault) → OnVolumeFile before.media found.dir.number (λ v dir. AnswersEntering v dir file_asked before.media after.media (widened result)) → OnVolumeFile before.media found.dir.number (λ v dir. MovesCounts (file_fault result) (entering_calls v dir 2 (widened result)) before.counts after.counts) → CreatesOn found name attributes now result slot before (Some new) after
@@ -188,12 +198,14 @@ module _ (slot : Option Volume) (volume new : Volume) (before after : DriveView)
       let room = has_room v dir folder_asked new_directory_size folder_size it.allowed in
       let here : Represents after.media it.after = record { image = it.now; is = it.is; vol = it.vol } in
       let there : it.after.files n ≡ Some it.enters.both.file = ap (λ (u : DiskVolume). u.files n) it.enters.volume ∙ put-there (replaced v found.dir.number (Some it.enters.both.new)).files n (Some it.enters.both.file) in
+      let made : ChangeIsMade making v dir it.after n = record { allowed = refl; enough = room.0; list = room.1; makes = it.enters } in
       record {
         left = it.after;
-        answers = record { allowed = refl; enough = room.0; list = room.1; makes = it.enters };
+        answers = made;
         on = on-left it.after here;
         counts = subst (λ made. MovesCounts None (entering_calls v dir made (Ok n)) before.counts after.counts) (same_calls v it.after n it.enters.both.file it.now it.is here there) counts;
-        refused = λ h. absurd h;
+        refused = λ h. absurd (made-anyway making v dir it.after n made h);
+        disk = it;
       }
     where
       put-there : (files : ℕ → Option DiskFile) (n : ℕ) (file : Option DiskFile) → put_file files n file n ≡ file
@@ -206,7 +218,8 @@ module _ (slot : Option Volume) (volume new : Volume) (before after : DriveView)
         answers = record { may_be = ends.before refl; refused = λ _. refl };
         on = stayed-on v same on;
         counts = counts;
-        refused = λ h. absurd h;
+        refused = λ _. same;
+        disk = it;
       }
       by (took some) = record {
         left = some.left;
@@ -216,7 +229,11 @@ module _ (slot : Option Volume) (volume new : Volume) (before after : DriveView)
         };
         on = on-left some.left (record { image = some.now; is = some.is; vol = some.vol });
         counts = counts;
-        refused = λ h. absurd h;
+        refused = λ h. elim h [
+          | inl never ↦ absurd never
+          | inr full ↦ let room = has_room v dir folder_asked new_directory_size folder_size some.allowed in absurd (not-refused _ _ room.0 room.1 full)
+        ];
+        disk = it;
       }
   make_leaves (Err NoCluster) v dir on it counts = record {
     left = v;
@@ -224,6 +241,7 @@ module _ (slot : Option Volume) (volume new : Volume) (before after : DriveView)
     on = stayed-on v it.media_kept on;
     counts = counts;
     refused = λ _. it.media_kept;
+    disk = it;
   }
   make_leaves (Err TooManyRuns) v dir on it counts =
       let long = is_long v dir folder_asked new_directory_size folder_size it.because in
@@ -233,6 +251,7 @@ module _ (slot : Option Volume) (volume new : Volume) (before after : DriveView)
         on = stayed-on v it.media_kept on;
         counts = counts;
         refused = λ _. it.media_kept;
+        disk = it;
       }
 
   pub makes-on : (result : Result ℕ FileFault) → OnVolumeFile before.media found.dir.number (λ v dir. AnswersEntering v dir folder_asked before.media after.media (widened result)) → OnVolumeFile before.media found.dir.number (λ v dir. MovesCounts (file_fault result) (entering_calls v dir (folder_calls v after.media result) (widened result)) before.counts after.counts) → MakesDirectoryOn found name attributes now result slot before (Some new) after

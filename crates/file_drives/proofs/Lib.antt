@@ -6,6 +6,7 @@ pub mod EntryLemmas
 pub mod FindLemmas
 pub mod FoundLemmas
 pub mod FreeLemmas
+pub mod IdentLemmas
 pub mod MountLemmas
 pub mod MountedLemmas
 pub mod PlacedLemmas

@@ -12,10 +12,11 @@ use Rattle.rbf_walk.specs.Walk.{AnswersWalk, directory_fault}
 use Rattle.rbf_walk.specs.declared.error.DirError.{DirError}
 use Rattle.rbf_walk.specs.declared.error.DirError.TheVariants.{NotAllowed, BadPath, NotFound, Exists, File}
 use Rattle.file_rules.specs.declared.places.FilePlace.{FilePlace}
-use Rattle.file_drives.proofs.DriveLemmas.{changes-one, media-kept}
+use Rattle.file_drives.proofs.DriveLemmas.{changes-one, media-kept, media-there}
+use Rattle.file_drives.proofs.IdentLemmas.{ident-left}
 use Rattle.file_drives.proofs.MountedLemmas.{mounted-below, mounted-set, stay-set}
-use Rattle.file_drives.specs.Changed.{Asked, ChangesVolume}
-use Rattle.file_drives.specs.Drives.{DriveView, Reads}
+use Rattle.file_drives.specs.Changed.{AnswersOnDisk, Asked, ChangesVolume}
+use Rattle.file_drives.specs.Drives.{DriveView, KeepsIdent, Reads, media_at}
 use Rattle.file_drives.specs.Mounted.{AgreesOnDrive, AreMounted, ArrivesOn, HasFileAt, OnDisks, ReadsFile, kept_at, mounted_at, number_arrived}
 use Rattle.file_drives.specs.Slots.{ChangesMounted, HasDataFileOn, HasFileOn, OnMountedFile, ReadsMounted}
 
@@ -148,6 +149,13 @@ module _ {Driver : Type 0} (view : Driver → DriveView) (items disks : List (Op
     not_directory = data_file;
   }
 
+  -- its media, as it was and as it is then
+  media-before : media_at (map view drivers) place.drive ≡ (view driver).media
+  media-before = media-there (map view drivers) place.drive (view driver) here
+
+  media-after : (after : Driver) → media_at (map view (slice_set drivers place.drive after)) place.drive ≡ (view after).media
+  media-after after = media-there (map view (slice_set drivers place.drive after)) place.drive (view after) (view-after after)
+
   -- a call that changes its volume
   pub changes-volume : (asks : Asked → Type 0) (asked : Asked) (answer : Result ℕ DirError) (most : DiskVolume → DiskFile → DiskVolume → ℕ) (new : Option Volume) (after : Driver) → asks asked → ChangesMounted place.number asks answer most kept (view driver) new (view after) → ChangesVolume place asked answer most disks (map view drivers) (slice_set items place.drive new) (map view (slice_set drivers place.drive after))
   changes-volume asks asked answer most new after is_asked changed volumes v file mounted is here =
@@ -161,6 +169,13 @@ module _ {Driver : Type 0} (view : Driver → DriveView) (items disks : List (Op
             (mounted-set disks (map view drivers) volumes place.drive new (view after) (Some it.left) (subst (λ d. place.drive < length d) same there) (subst (λ k. place.drive < k) (sym (length-map drivers view)) inside) it.on mounted));
         moves = changes-one view (λ old now. MovesCounts (directory_fault answer) (most v file it.left) old.counts now.counts) drivers place.drive driver after inside driver_is it.counts;
         refused = λ h. media-kept view drivers place.drive driver after inside driver_is (it.refused h);
+        disk =
+            subst (λ media. AnswersOnDisk asked.change asked.user asked.now v file answer media (media_at (map view (slice_set drivers place.drive after)) place.drive)) (sym media-before)
+            (subst (λ media. AnswersOnDisk asked.change asked.user asked.now v file answer (view driver).media media) (sym (media-after after)) it.disk);
+        ident =
+            subst (λ media. KeepsIdent media (media_at (map view (slice_set drivers place.drive after)) place.drive)) (sym media-before)
+            (subst (λ media. KeepsIdent (view driver).media media) (sym (media-after after))
+            (ident-left asked v file it.left answer kept new (view driver) (view after) (agrees-at volumes v mounted is) it.on it.answers));
       }
 
   -- where the call names the file by another number that is the same

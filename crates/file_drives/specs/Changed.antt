@@ -1,6 +1,6 @@
 -- A change of a mounted volume: what a call that makes it answers, why, and what is mounted then (OS-9 Technical
 -- Reference, Random Block File Manager; the choice between the errors is this project's own).
-use Rattle.std.specs.Prelude.{◌≡◌, ◌⊎◌, ℕ, ◌+◌, nat_lt, ◌==◌, ◌&&◌, ◌||◌, not, Bool, true, false, Option, Some, List, length, slice_set, Result, Ok, Err}
+use Rattle.std.specs.Prelude.{◌≡◌, ◌⊎◌, ℕ, ◌+◌, nat_lt, ◌==◌, ◌&&◌, ◌||◌, not, Bool, true, false, Option, Some, List, length, slice_set, Result, Ok, Err, OnOk, OnErr}
 use Rattle.os9_base.specs.declared.registers.TimePacket.{TimePacket}
 use Rattle.rbf_model.specs.File.{DiskFile}
 use Rattle.rbf_model.specs.Volume.{DiskVolume}
@@ -11,13 +11,20 @@ use Rattle.rbf_change.specs.NewFiles.{entry_clusters, file_clusters, owns_file}
 use Rattle.rbf_access.specs.declared.faults.FileFault.{FileFault}
 use Rattle.rbf_access.specs.declared.faults.FileFault.TheVariants.{Device, NoCluster, TooManyRuns}
 use Rattle.rbf_access.specs.declared.volume.Volume.{Volume}
+use Rattle.rbf_append.specs.Entering.{AnswersEntering}
+use Rattle.rbf_creation.specs.Creating.{request}
+use Rattle.rbf_dirs.specs.Deleted.{AnswersDeletionOf}
+use Rattle.rbf_folder.specs.Asked.{folder_request}
+use Rattle.rbf_update.specs.Attributes.{with_new_attributes}
 use Rattle.rbf_walk.specs.Walk.{directory_fault}
 use Rattle.rbf_walk.specs.declared.error.DirError.{DirError}
 use Rattle.rbf_walk.specs.declared.error.DirError.TheVariants.{NotAllowed, BadPath, NotFound, Exists, File}
+use Rattle.rbf_write.specs.Outcomes.{AnswersWrite}
+use Rattle.rbf_write.specs.Sizes.{AnswersSize}
 use Rattle.file_rules.specs.Change.{Change, writes, sizes, sets_attributes, creates, makes_directory, deletes, Makes, MayLeave, MayBeTooLong}
 use Rattle.file_rules.specs.MakDir.{new_directory_size}
 use Rattle.file_rules.specs.declared.places.FilePlace.{FilePlace}
-use Rattle.file_drives.specs.Drives.{DriveView, OneDriveMoves, media_of}
+use Rattle.file_drives.specs.Drives.{DriveView, KeepsIdent, OneDriveMoves, media_at, media_of}
 use Rattle.file_drives.specs.Mounted.{AreMounted, mounted_at}
 
 -- a change of a volume that a user asks for, at a time
@@ -136,10 +143,33 @@ abbrev pub file_answer : Result (Unit {0}) FileFault → Result ℕ DirError
 file_answer (Ok done) = Ok 0
 file_answer (Err fault) = Err (File fault)
 
+-- ---- the media, with what no volume shows of it
+
+-- that holds of the answer of a call on a file, which is this
+abbrev pub OfFile : Result ℕ DirError → (Result (Unit {0}) FileFault → Type 0) → Type 0
+OfFile answer fact = (result : Result (Unit {0}) FileFault) × (answer ≡ file_answer result) × fact result
+
+-- what the disk's own call answers that makes a change for a user, at a time, and what it leaves of the media. Whether
+-- the place of a new file was looked for to execute a file is told by no change
+abbrev pub AnswersOnDisk : Change → ℕ → TimePacket → DiskVolume → DiskFile → Result ℕ DirError → Option (List ℕ)
+    → Option (List ℕ) → Type 0
+AnswersOnDisk (writes n at bytes) user now v file answer before after =
+    OfFile answer (AnswersWrite v file (record { number = n; at = at; bytes = bytes; now = now }) before after)
+AnswersOnDisk (sizes n size) user now v file answer before after =
+    OfFile answer (AnswersSize v file (record { number = n; size = size; now = now }) before after)
+AnswersOnDisk (sets_attributes n attributes) user now v file answer before after =
+    OnOk answer (after ≡ with_new_attributes before n attributes now) × OnErr answer (after ≡ before)
+AnswersOnDisk (creates d name attributes) user now v dir answer before after =
+    (execute : Bool) × AnswersEntering v dir (request d name attributes user execute now) before after answer
+AnswersOnDisk (makes_directory d name attributes) user now v dir answer before after =
+    AnswersEntering v dir (folder_request d name attributes user now) before after answer
+AnswersOnDisk (deletes d n name) user now v dir answer before after =
+    OfFile answer (AnswersDeletionOf v d n name before after)
+
 -- ---- the drives
 
 -- a volume on a drive has been changed, or not, as the answer says: it is mounted there then, and the others are as
--- they were. `most` is how many calls of the drive there may be. A refusal writes nothing
+-- they were. `most` is how many calls of the drive there may be
 pub record LeavesVolume (asked : Asked) (answer : Result ℕ DirError) (most : DiskVolume → ℕ) (v : DiskVolume)
     (file : DiskFile) (drive : ℕ) (volumes : List (Option DiskVolume)) (before : List DriveView)
     (new : List (Option Volume)) (after : List DriveView) : Type 0 where
@@ -147,7 +177,12 @@ pub record LeavesVolume (asked : Asked) (answer : Result ℕ DirError) (most : D
   pub answers : AnswersChange asked v file left answer
   pub mounted : AreMounted new after (slice_set volumes drive (Some left))
   pub moves : OneDriveMoves (directory_fault answer) (most left) drive before after
-  pub refused : IsRefused answer → media_of after ≡ media_of before
+  -- a call that is refused, or that was to be when the drive failed, writes nothing
+  pub refused : IsRefused answer ⊎ (is_refused asked v file ≡ true) → media_of after ≡ media_of before
+  -- the media of the drive
+  pub disk : AnswersOnDisk asked.change asked.user asked.now v file answer (media_at before drive)
+      (media_at after drive)
+  pub ident : KeepsIdent (media_at before drive) (media_at after drive)
 
 -- the same for the volume and the file at a place, whichever volumes are mounted
 abbrev pub ChangesVolume : FilePlace → Asked → Result ℕ DirError → (DiskVolume → DiskFile → DiskVolume → ℕ)

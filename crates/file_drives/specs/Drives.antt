@@ -1,8 +1,9 @@
 -- What can be observed of the drives of a machine, as lists that do not depend on how their drivers are made, and how
 -- they change in a call that reaches one of them (this project's own).
-use Rattle.std.specs.Prelude.{◌≡◌, ℕ, Option, Some, List, map, slice_get, slice_set}
+use Rattle.std.specs.Prelude.{◌≡◌, ℕ, Option, Some, None, List, length, map, option_map, slice_get, slice_index_or, slice_set}
 use Rattle.std.specs.declared.alloc.Global.{Global}
 use Rattle.std.specs.declared.dyn_box.DynBox.{DynBox}
+use Rattle.os9_outer.specs.Drive.{sector_at}
 use Rattle.os9_outer.specs.declared.drive.BlockDriver.{Ghosts}
 use Rattle.rbf_access.specs.Drive.{DriveCounts, MovesCounts, drive_counts}
 use Rattle.file_rules.specs.Files.{DriveState}
@@ -34,6 +35,19 @@ drive_views members drives = map (boxed_drive_view members) drives
 -- the bytes of the image that is in each drive
 abbrev pub media_of : List DriveView → List (Option (List ℕ))
 media_of views = map (λ view. view.media) views
+
+-- a drive that was never called and never failed, without media
+abbrev pub unused_drive : DriveView
+unused_drive = record { media = None; counts = record { faults = 0; last = None; calls = 0 } }
+
+-- the bytes of the image that is in the drive of this number; none also where there is no such drive
+abbrev pub media_at : List DriveView → ℕ → Option (List ℕ)
+media_at views n = (slice_index_or views n unused_drive).media
+
+-- the media is as long as it was, and its first sector, which identifies the volume, is as it was
+pub record KeepsIdent (before after : Option (List ℕ)) : Type 0 where
+  pub as_long : option_map length after ≡ option_map length before
+  pub first : sector_at after 0 ≡ sector_at before 0
 
 -- what the calls on files tell of a drive
 abbrev pub drive_state : DriveView → DriveState

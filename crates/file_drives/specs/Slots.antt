@@ -1,5 +1,5 @@
 -- One drive and what is kept for it: the same as of the drives of a machine.
-use Rattle.std.specs.Prelude.{◌≡◌, ℕ, false, Option, Some, Result}
+use Rattle.std.specs.Prelude.{◌≡◌, ◌⊎◌, ℕ, true, false, Option, Some, Result}
 use Rattle.os9_base.specs.declared.registers.TimePacket.{TimePacket}
 use Rattle.rbf_model.specs.File.{DiskFile, is_directory}
 use Rattle.rbf_model.specs.Volume.{DiskVolume}
@@ -8,7 +8,7 @@ use Rattle.rbf_access.specs.declared.volume.Volume.{Volume}
 use Rattle.rbf_walk.specs.Walk.{directory_fault}
 use Rattle.rbf_walk.specs.declared.error.DirError.{DirError}
 use Rattle.file_rules.specs.Change.{Change}
-use Rattle.file_drives.specs.Changed.{Asked, AnswersChange, IsRefused}
+use Rattle.file_drives.specs.Changed.{Asked, AnswersChange, AnswersOnDisk, IsRefused, is_refused}
 use Rattle.file_drives.specs.Drives.{DriveView, Reads}
 use Rattle.file_drives.specs.Mounted.{AgreesOnDrive}
 
@@ -51,7 +51,8 @@ pub record LeavesMounted (asked : Asked) (answer : Result ℕ DirError) (most : 
   pub answers : AnswersChange asked v file left answer
   pub on : AgreesOnDrive new after (Some left)
   pub counts : MovesCounts (directory_fault answer) (most left) before.counts after.counts
-  pub refused : IsRefused answer → after.media ≡ before.media
+  pub refused : IsRefused answer ⊎ (is_refused asked v file ≡ true) → after.media ≡ before.media
+  pub disk : AnswersOnDisk asked.change asked.user asked.now v file answer before.media after.media
 
 -- the same for each change of file n that the call makes
 pub record ChangesMounted (n : ℕ) (asks : Asked → Type 0) (answer : Result ℕ DirError)

@@ -22,9 +22,8 @@ use Rattle.rbf_walk.specs.Search.{IsFoundAt, NonePasses}
 use Rattle.file_rules.specs.Processes.{directory_in_root}
 use Rattle.file_rules.specs.declared.places.FilePlace.{FilePlace}
 use Rattle.file_drives.proofs.MountedLemmas.{mounted-below}
-use Rattle.file_drives.specs.Drives.{DriveView}
+use Rattle.file_drives.specs.Drives.{DriveView, unused_drive}
 use Rattle.file_drives.specs.Mounted.{AgreesOnDrive, AreMounted, HasFileAt, OnDisks, ReadsFile, kept_at, mounted_at}
-use Rattle.file_state.specs.Counted.{unused_drive}
 use Rattle.file_start.proofs.ReadLemmas.{drive-more, drive-then}
 use Rattle.file_start.specs.Start.{IsNamed, IsRootAt, OnVolumeOf, directory_at, search_calls}
 use Rattle.file_start.specs.declared.fault.StartFault.{StartFault}

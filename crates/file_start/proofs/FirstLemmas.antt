@@ -13,13 +13,12 @@ use Rattle.file_rules.specs.Processes.{directories_on, directory_in_root}
 use Rattle.file_rules.specs.Way.{root_of}
 use Rattle.file_rules.specs.declared.places.Directories.{Directories}
 use Rattle.file_rules.specs.declared.places.FilePlace.{FilePlace}
-use Rattle.file_drives.specs.Drives.{DriveView, drive_state, drive_states}
+use Rattle.file_drives.specs.Drives.{DriveView, drive_state, drive_states, media_at, unused_drive}
 use Rattle.file_drives.specs.Mounted.{DriveHolds, mounted_at}
-use Rattle.file_state.specs.Counted.{unused_drive}
 use Rattle.file_state.specs.Tie.{StandsFor}
 use Rattle.file_state.specs.declared.state.FileState.{FileState}
 use Rattle.file_start.proofs.ReadLemmas.{read-more, read-none, read-then}
-use Rattle.file_start.specs.Start.{HasMounted, HoldVolumes, MountsVolume, ReadUpTo, media_at, mounted_files, mounts_calls, only_drive}
+use Rattle.file_start.specs.Start.{HasMounted, HoldVolumes, MountsVolume, ReadUpTo, mounted_files, mounts_calls, only_drive}
 
 abbrev some_volume : DiskVolume → Option DiskVolume
 some_volume v = Some v

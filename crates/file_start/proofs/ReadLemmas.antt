@@ -15,11 +15,11 @@ use Rattle.file_rules.specs.Files.{NoneFailed}
 use Rattle.file_rules.specs.declared.places.FilePlace.{FilePlace}
 use Rattle.file_drives.proofs.DriveLemmas.{changes-weaker, none-failed, one-failed}
 use Rattle.file_drives.proofs.MountedLemmas.{read-same}
-use Rattle.file_drives.specs.Drives.{ChangesOneDrive, DriveView, OneDriveMoves, Reads, ReadsDrive, drive_states}
+use Rattle.file_drives.specs.Drives.{ChangesOneDrive, DriveView, OneDriveMoves, Reads, ReadsDrive, drive_states, media_at, unused_drive}
 use Rattle.file_drives.specs.Mounted.{ReadsFile, ReadsToMount, mounting_calls}
 use Rattle.file_state.proofs.ReachedLemmas.{moved-then}
-use Rattle.file_state.specs.Counted.{calls_at, unused_drive}
-use Rattle.file_start.specs.Start.{FailsOn, ReadUpTo, StartMoves, media_at, only_drive, start_fault}
+use Rattle.file_state.specs.Counted.{calls_at}
+use Rattle.file_start.specs.Start.{FailsOn, ReadUpTo, StartMoves, only_drive, start_fault}
 use Rattle.file_start.specs.declared.fault.StartFault.{StartFault}
 use Rattle.file_start.specs.declared.fault.StartFault.TheVariants.{OutOfMemory, Drive}
 

@@ -1,6 +1,6 @@
 -- The volumes of a machine at its start, and the directories of its first process (Level Two manual, "Booting"; which
 -- volumes are mounted and which directories the process has is this project's own).
-use Rattle.std.specs.Prelude.{◌≡◌, ℕ, ◌+◌, ◌≤◌, ◌==◌, nat_lt, Option, Some, None, List, length, replicate, slice_get, slice_index_or, Result, Ok, Err, if◌then◌else◌}
+use Rattle.std.specs.Prelude.{◌≡◌, ℕ, ◌+◌, ◌≤◌, ◌==◌, nat_lt, Option, Some, None, List, length, replicate, slice_get, Result, Ok, Err, if◌then◌else◌}
 use Rattle.std.specs.Option.{option_map_or}
 use Rattle.rbf_model.specs.File.{DiskFile, is_directory}
 use Rattle.rbf_model.specs.Volume.{DiskVolume}
@@ -14,19 +14,15 @@ use Rattle.file_rules.specs.Files.{Files, DriveState, NoneFailed, OneFailed, no_
 use Rattle.file_rules.specs.Processes.{StartsOn, directories_on, first_files}
 use Rattle.file_rules.specs.Way.{root_of}
 use Rattle.file_rules.specs.declared.places.FilePlace.{FilePlace}
-use Rattle.file_drives.specs.Drives.{DriveView, drive_states}
+use Rattle.file_drives.specs.Drives.{DriveView, drive_states, media_at}
 use Rattle.file_drives.specs.Mounted.{AreMounted, DriveHolds, mounted_at}
-use Rattle.file_state.specs.Counted.{calls_at, unused_drive}
+use Rattle.file_state.specs.Counted.{calls_at}
 use Rattle.file_state.specs.Tie.{StandsFor}
 use Rattle.file_state.specs.declared.state.FileState.{FileState}
 use Rattle.file_start.specs.declared.fault.StartFault.{StartFault}
 use Rattle.file_start.specs.declared.fault.StartFault.TheVariants.{OutOfMemory, Drive}
 
 -- ---- what is in the drives
-
--- the media in the drive of this number
-abbrev pub media_at : List DriveView → ℕ → Option (List ℕ)
-media_at views n = (slice_index_or views n unused_drive).media
 
 -- the media of the first drives represent these volumes
 pub record HoldVolumes (volumes : List DiskVolume) (views : List DriveView) : Type 0 where

@@ -3,9 +3,9 @@
 ghost use Rattle.std.specs.Prelude.{◌≡◌, ◌<◌, ◌≤◌, List, [], OnOk, length, vec_len};
 ghost use Rattle.rbf_access.specs.Mounted.{media_calls};
 ghost use Rattle.rbf_model.specs.Volume.{DiskVolume};
-ghost use Rattle.file_drives.specs.Drives.{drive_views};
+ghost use Rattle.file_drives.specs.Drives.{drive_views, media_at};
 ghost use Rattle.file_drives.specs.Mounted.{DriveHolds};
-ghost use Rattle.file_start.specs.Start.{HasMounted, HaveVolumes, HoldVolumes, MountsVolume, ReadUpTo, StartMoves, media_at, mounts_calls, only_drive};
+ghost use Rattle.file_start.specs.Start.{HasMounted, HaveVolumes, HoldVolumes, MountsVolume, ReadUpTo, StartMoves, mounts_calls, only_drive};
 
 use crate::fault::StartFault;
 use device_table::devices::Devices;

@@ -12,11 +12,10 @@ use Rattle.file_rules.specs.Files.{Files, volume_at}
 use Rattle.file_rules.specs.declared.places.FilePlace.{FilePlace}
 use Rattle.file_drives.proofs.DriveLemmas.{changes-weaker}
 use Rattle.file_drives.specs.Changed.{Asked, ChangesVolume}
-use Rattle.file_drives.specs.Drives.{DriveView, OneDriveMoves, Reads, ReadsDrive, drive_states}
+use Rattle.file_drives.specs.Drives.{DriveView, OneDriveMoves, Reads, ReadsDrive, unused_drive}
 use Rattle.file_drives.specs.Mounted.{ReadsFile}
-use Rattle.file_state.proofs.ReachedLemmas.{drives-move}
-use Rattle.file_state.specs.Counted.{CalledAtMost, HasChangedIn, calls_at, unused_drive}
-use Rattle.file_state.specs.Reached.{DrivesMove}
+use Rattle.file_state.proofs.ReachedLemmas.{has-changed}
+use Rattle.file_state.specs.Counted.{CalledAtMost, HasChangedIn, calls_at}
 use Rattle.file_state.specs.Tie.{StandsFor}
 use Rattle.file_state.specs.declared.state.FileState.{FileState}
 
@@ -71,19 +70,8 @@ called-read state new views now files place v file fault most stands is there re
 
 -- a change of a volume, as has-changed has it, and the calls that it made
 pub has-changed-in : (state new : FileState) (views now : List DriveView) (files : Files) (place : FilePlace) (v : DiskVolume) (file : DiskFile) (asked : Asked) (answer : Result ℕ DirError) (most : DiskVolume → DiskFile → DiskVolume → ℕ) → StandsFor state views files → volume_at files place.drive ≡ Some v → v.files place.number ≡ Some file → new.io ≡ state.io → new.directories ≡ state.directories → ChangesVolume place asked answer most state.disks views new.disks now → HasChangedIn (most v file) asked answer place.drive v file files new views now
+unfolding has-changed
 has-changed-in state new views now files place v file asked answer most stands is there io directories changes =
-    let it = changes files.volumes v file stands.mounted is there in
-    record {
-      changed = record {
-        left = it.left;
-        answers = it.answers;
-        moved = subst (λ drives. DrivesMove (directory_fault answer) place.drive drives (drive_states now)) (sym stands.drives) (drives-move (directory_fault answer) (most v file it.left) place.drive views now it.moves);
-        stands = record {
-          io = stands.io ∙ sym io;
-          directories = stands.directories ∙ sym directories;
-          drives = refl;
-          mounted = it.mounted;
-        };
-      };
-      calls = called-one (directory_fault answer) (most v file it.left) place.drive views now it.moves;
-    }
+    let it = has-changed state new views now files place v file asked answer most stands is there io directories changes in
+    let made : OneDriveMoves (directory_fault answer) (most v file it.left) place.drive views now = (changes files.volumes v file stands.mounted is there).moves in
+    record { changed = it; calls = called-one (directory_fault answer) (most v file it.left) place.drive views now made }

@@ -1,7 +1,7 @@
 -- From calls of one drive, as the mounted volumes have them, to the words of the calls on files. A call on files takes
 -- `has-read` after each read and `has-changed` after a change, puts them together by `has-read-then` and
--- `has-changed-then`, and ends by the lemmas of EndLemmas.
-use Rattle.std.proofs.Common.{◌≡◌, ℕ, zero, suc, ◌≤◌, ◌∙◌, Option, Some, None, option_and_then, List, [], ◌∷◌, map, length, get_or, slice_set, Result, refl, ap, sym, subst}
+-- `has-changed-then`, and ends by the lemmas of EndLemmas and KeepLemmas.
+use Rattle.std.proofs.Common.{◌≡◌, ◌⊎◌, ℕ, zero, suc, ◌≤◌, ◌∙◌, Option, Some, None, option_and_then, List, [], ◌∷◌, map, length, get_or, slice_get, slice_set, Result, refl, ap, sym, subst, inl, inr}
 use Rattle.std.proofs.lemmas.List.{length-map, set-get_or}
 use Rattle.std.proofs.lemmas.Option.{none-some}
 use Rattle.os9_base.specs.Count.{Rose}
@@ -13,9 +13,10 @@ use Rattle.rbf_walk.specs.declared.error.DirError.{DirError}
 use Rattle.file_rules.specs.Files.{DriveState, Files, NoneFailed, drive_at, file_in, volume_at, with_drives, with_volume}
 use Rattle.file_rules.specs.declared.places.FilePlace.{FilePlace}
 use Rattle.file_drives.proofs.DriveLemmas.{changes-weaker, none-failed, one-failed}
-use Rattle.file_drives.specs.Changed.{Asked, ChangesVolume}
-use Rattle.file_drives.specs.Drives.{DriveView, OneDriveMoves, Reads, ReadsDrive, drive_states}
+use Rattle.file_drives.specs.Changed.{AnswersOnDisk, Asked, ChangesVolume}
+use Rattle.file_drives.specs.Drives.{DriveView, KeepsIdent, OneDriveMoves, Reads, ReadsDrive, drive_states, media_at}
 use Rattle.file_drives.specs.Mounted.{HasFileAt, ReadsFile}
+use Rattle.file_state.proofs.MediaLemmas.{media-read, media-same, others-none, others-one, others-then}
 use Rattle.file_state.specs.Reached.{DrivesMove, HasChanged, HasRead}
 use Rattle.file_state.specs.Tie.{StandsFor}
 use Rattle.file_state.specs.declared.state.FileState.{FileState}
@@ -77,8 +78,17 @@ moved-then (Some number) drive before mid now none moved = record {
 
 -- ---- the files
 
+-- no drive was read
+pub read-none : (drive : ℕ) (state : FileState) (views : List DriveView) (files : Files) → StandsFor state views files → HasRead None drive files state views views
+read-none drive state views files stands = record {
+  moved = subst (λ drives. NoneFailed drives (drive_states views)) (sym stands.drives) refl;
+  stands = record { io = stands.io; directories = stands.directories; drives = refl; mounted = stands.mounted };
+  media_kept = refl;
+  others = others-none drive views;
+}
+
 -- a drive was read
-pub has-read : (state new : FileState) (views now : List DriveView) (files : Files) (place : FilePlace) (file : DiskFile) (fault : Option ℕ) (most : DiskVolume → DiskFile → ℕ) → StandsFor state views files → file_in files place ≡ Some file → new.io ≡ state.io → new.directories ≡ state.directories → ReadsFile place fault most state.disks views new.disks now → HasRead fault place.drive files new now
+pub has-read : (state new : FileState) (views now : List DriveView) (files : Files) (place : FilePlace) (file : DiskFile) (fault : Option ℕ) (most : DiskVolume → DiskFile → ℕ) → StandsFor state views files → file_in files place ≡ Some file → new.io ≡ state.io → new.directories ≡ state.directories → ReadsFile place fault most state.disks views new.disks now → HasRead fault place.drive files new views now
 has-read state new views now files place file fault most stands there io directories read =
     let on = on-volume files place file there in
     let calls = most on.volume file in
@@ -92,10 +102,12 @@ has-read state new views now files place file fault most stands there io directo
         drives = refl;
         mounted = read.mounted files.volumes stands.mounted;
       };
+      media_kept = media-read fault calls place.drive views now drive;
+      others = others-one (Reads fault calls) place.drive views now drive;
     }
 
 -- a volume was changed, or was to be
-pub has-changed : (state new : FileState) (views now : List DriveView) (files : Files) (place : FilePlace) (v : DiskVolume) (file : DiskFile) (asked : Asked) (answer : Result ℕ DirError) (most : DiskVolume → DiskFile → DiskVolume → ℕ) → StandsFor state views files → volume_at files place.drive ≡ Some v → v.files place.number ≡ Some file → new.io ≡ state.io → new.directories ≡ state.directories → ChangesVolume place asked answer most state.disks views new.disks now → HasChanged asked answer place.drive v file files new now
+unfoldable pub has-changed : (state new : FileState) (views now : List DriveView) (files : Files) (place : FilePlace) (v : DiskVolume) (file : DiskFile) (asked : Asked) (answer : Result ℕ DirError) (most : DiskVolume → DiskFile → DiskVolume → ℕ) → StandsFor state views files → volume_at files place.drive ≡ Some v → v.files place.number ≡ Some file → new.io ≡ state.io → new.directories ≡ state.directories → ChangesVolume place asked answer most state.disks views new.disks now → HasChanged asked answer place.drive v file files new views now
 has-changed state new views now files place v file asked answer most stands is there io directories changes =
     let it = changes files.volumes v file stands.mounted is there in
     record {
@@ -108,25 +120,47 @@ has-changed state new views now files place v file asked answer most stands is t
         drives = refl;
         mounted = it.mounted;
       };
+      others = others-one (λ old new. MovesCounts (directory_fault answer) (most v file it.left) old.counts new.counts) place.drive views now it.moves;
+      refused = it.refused;
+      disk = it.disk;
+      ident = it.ident;
     }
 
 -- ---- one after another
 
--- a read behind reads that did not fail
-pub has-read-then : (fault : Option ℕ) (first drive : ℕ) (files : Files) (mid new : FileState) (views now : List DriveView) → HasRead None first files mid views → HasRead fault drive (with_drives files (drive_states views)) new now → HasRead fault drive files new now
-has-read-then fault first drive files mid new views now was is = record {
+-- what was read of one drive, or of none, stands for what was read of another
+pub read-at : (first drive : ℕ) (files : Files) (mid : FileState) (before views : List DriveView) → (first ≡ drive) ⊎ (views ≡ before) → HasRead None first files mid before views → HasRead None drive files mid before views
+read-at first drive files mid before views (inl same) was = subst (λ (n : ℕ). HasRead None n files mid before views) same was
+read-at first drive files mid before views (inr same) was = record {
+  moved = was.moved;
+  stands = was.stands;
+  media_kept = was.media_kept;
+  others = λ n apart. ap (λ views. slice_get views n) same;
+}
+
+-- a read behind reads of the same drive that did not fail
+pub has-read-then : (fault : Option ℕ) (drive : ℕ) (files : Files) (mid new : FileState) (before views now : List DriveView) → HasRead None drive files mid before views → HasRead fault drive (with_drives files (drive_states views)) new views now → HasRead fault drive files new before now
+has-read-then fault drive files mid new before views now was is = record {
   moved = moved-then fault drive files.drives (drive_states views) (drive_states now) was.moved is.moved;
   stands = is.stands;
+  media_kept = is.media_kept ∙ was.media_kept;
+  others = others-then drive before views now was.others is.others;
 }
 
 -- and a change
-pub has-changed-then : (asked : Asked) (answer : Result ℕ DirError) (first drive : ℕ) (v : DiskVolume) (file : DiskFile) (files : Files) (mid new : FileState) (views now : List DriveView) → HasRead None first files mid views → HasChanged asked answer drive v file (with_drives files (drive_states views)) new now → HasChanged asked answer drive v file files new now
-has-changed-then asked answer first drive v file files mid new views now was is = record {
-  left = is.left;
-  answers = is.answers;
-  moved = moved-then (directory_fault answer) drive files.drives (drive_states views) (drive_states now) was.moved is.moved;
-  stands = is.stands;
-}
+pub has-changed-then : (asked : Asked) (answer : Result ℕ DirError) (drive : ℕ) (v : DiskVolume) (file : DiskFile) (files : Files) (mid new : FileState) (before views now : List DriveView) → HasRead None drive files mid before views → HasChanged asked answer drive v file (with_drives files (drive_states views)) new views now → HasChanged asked answer drive v file files new before now
+has-changed-then asked answer drive v file files mid new before views now was is =
+    let same : media_at views drive ≡ media_at before drive = media-same before views drive was.media_kept in
+    record {
+      left = is.left;
+      answers = is.answers;
+      moved = moved-then (directory_fault answer) drive files.drives (drive_states views) (drive_states now) was.moved is.moved;
+      stands = is.stands;
+      others = others-then drive before views now was.others is.others;
+      refused = λ quiet. is.refused quiet ∙ was.media_kept;
+      disk = subst (λ media. AnswersOnDisk asked.change asked.user asked.now v file answer media (media_at now drive)) same is.disk;
+      ident = subst (λ media. KeepsIdent media (media_at now drive)) same is.ident;
+    }
 
 -- a volume that is as it was
 pub same-volume : (files : Files) (drive : ℕ) (v : DiskVolume) → volume_at files drive ≡ Some v → with_volume files drive v ≡ files

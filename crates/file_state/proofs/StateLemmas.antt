@@ -5,17 +5,16 @@ use Rattle.std.specs.List.{list_any}
 use Rattle.std.specs.Option.{option_map_or}
 use Rattle.std.proofs.lemmas.Bool.{cases_lt}
 use Rattle.std.proofs.lemmas.List.{get_or-replicate, get_or_past, length-replicate}
-use Rattle.io_model.specs.Path.{desc_of, with_desc}
 use Rattle.io_model.specs.declared.path.Desc.{Desc}
 use Rattle.io_model.specs.declared.path.Target.{Target}
 use Rattle.io_model.specs.declared.path.Target.TheVariants.{File, Folder, Term, Pipe}
-use Rattle.io_rules.specs.Io.{Io, first_io, with_paths}
+use Rattle.io_rules.specs.Io.{Io, first_io}
 use Rattle.io_rules.specs.Processes.{io_ended}
 use Rattle.io_state.specs.Files.{is_of_file, is_path_on as is_path_of, some_path_on as some_path_of}
 use Rattle.rbf_model.specs.Volume.{DiskVolume}
 use Rattle.rbf_access.specs.declared.faults.VolFault.{VolFault}
 use Rattle.rbf_access.specs.declared.volume.Volume.{Volume}
-use Rattle.file_rules.specs.Files.{Files, directory_of, no_directories, place_of_target, with_directories_of, with_io, with_position}
+use Rattle.file_rules.specs.Files.{Files, directory_of, no_directories, place_of_target, with_directories_of, with_io}
 use Rattle.file_rules.specs.Processes.{files_ended}
 use Rattle.file_rules.specs.Sharing.{is_path_on, is_same_place, some_path_on}
 use Rattle.file_rules.specs.declared.places.Directories.{Directories}
@@ -24,11 +23,9 @@ use Rattle.file_drives.specs.Drives.{DriveView, drive_states}
 use Rattle.file_drives.specs.Mounted.{AgreesOnDrive, HasFileAt, MountsAs, kept_at, mounted_at}
 use Rattle.file_laws.specs.Kinds.{AreKinds}
 use Rattle.file_state.proofs.ReachedLemmas.{has-file}
-use Rattle.file_state.specs.Opened.{path_of}
 use Rattle.file_state.specs.Reached.{MountsOn}
 use Rattle.file_state.specs.Tie.{StandsFor}
 use Rattle.file_state.specs.declared.state.FileState.{FileState}
-use Rattle.file_state.specs.declared.state.OpenFile.{OpenFile}
 
 -- ---- the paths on a file
 
@@ -74,15 +71,6 @@ stands-with_directories state views files p directories other same stands = reco
   drives = stands.drives;
   mounted = stands.mounted;
 }
-
-if-some : {X : Type 0} (o : Option X) (x : X) (fact : X → Type 0) → IfSome o fact → o ≡ Some x → fact x
-if-some {X} o x fact holds is = subst (λ (o : Option X). IfSome o fact) is holds
-
--- another position
-pub stands-with_position : (state : FileState) (views : List DriveView) (files : Files) (opened : OpenFile) (at : ℕ) (new : Io) → desc_of state.io.paths opened.path.0 ≡ Some opened.desc → IfSome (desc_of state.io.paths opened.path.0) (λ desc. new ≡ with_paths state.io (with_desc state.io.paths opened.path.0 (Some (record desc { at = at })))) → StandsFor state views files → StandsFor (record { io = new; disks = state.disks; directories = state.directories }) views (with_position files (path_of opened) at)
-stands-with_position state views files opened at new is moved stands =
-    let now = if-some (desc_of state.io.paths opened.path.0) opened.desc (λ desc. new ≡ with_paths state.io (with_desc state.io.paths opened.path.0 (Some (record desc { at = at })))) moved is in
-    stands-with_io state views files (with_paths files.io (with_desc files.io.paths opened.path.0 (Some (record opened.desc { at = at })))) new (ap (λ (io : Io). with_paths io (with_desc io.paths opened.path.0 (Some (record opened.desc { at = at })))) stands.io ∙ sym now) stands
 
 -- ---- the directories of processes
 

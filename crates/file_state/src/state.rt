@@ -1,20 +1,19 @@
 //! The state of input and output with the disks.
 
-ghost use Rattle.std.specs.Prelude.{◌≡◌, ◌<◌, ℕ, Bool, None, Some, IfOk, IfSome, IsSome, OnOk, OnErr, List, replicate, vec_len};
-ghost use Rattle.std.specs.Result.{result_ok};
-ghost use Rattle.io_model.specs.Path.{desc_of, new_number, paths_after_begin};
-ghost use Rattle.io_rules.specs.Io.{first_io, kept_at, new_desc};
+ghost use Rattle.std.specs.Prelude.{◌≡◌, ◌≢◌, ◌<◌, ℕ, Bool, None, Some, IfOk, IfSome, IsSome, OnOk, OnErr, List, replicate, vec_len};
+ghost use Rattle.io_model.specs.Path.{desc_of, new_number};
+ghost use Rattle.io_rules.specs.Io.{first_io, kept_at};
 ghost use Rattle.io_state.specs.Files.{IsOnDisk};
 ghost use Rattle.rbf_model.specs.File.{DiskFile, is_directory as is_directory_lem};
 ghost use Rattle.rbf_model.specs.Volume.{DiskVolume};
-ghost use Rattle.file_rules.specs.Files.{Files, directories_at, directory_of, no_directories, target_on as target_on_lem, with_directories_of, with_directory, with_drives, with_path_table, with_position, with_volume};
+ghost use Rattle.file_rules.specs.Files.{Files, directories_at, directory_of, no_directories, target_on as target_on_lem, with_directories_of, with_directory, with_drives, with_volume};
 ghost use Rattle.file_rules.specs.Processes.{files_started, files_ended};
 ghost use Rattle.file_rules.specs.Sharing.{is_open as is_open_lem, is_not_shared as is_not_shared_lem, is_single as is_single_lem, some_path_on};
 ghost use Rattle.file_rules.specs.Way.{Found};
 ghost use Rattle.file_drives.specs.Drives.{ChangesOneDrive, DriveView, drive_states, drive_views};
-ghost use Rattle.file_drives.specs.Mounted.{HasFileAt, ReadsToMount};
+ghost use Rattle.file_drives.specs.Mounted.{HasFileAt, ReadsToMount, kept_at as kept_of_drive};
 ghost use Rattle.file_laws.specs.Kinds.{AreKinds};
-ghost use Rattle.file_state.specs.Opened.{NamesFile, directory_in, opened_by, path_of};
+ghost use Rattle.file_state.specs.Opened.{NamesFile, directory_in, opened_by};
 ghost use Rattle.file_state.specs.Reached.{MountsOn};
 ghost use Rattle.file_state.specs.Tie.{StandsFor};
 
@@ -22,7 +21,7 @@ use device_table::devices::Devices;
 use file_drives::disks::Disks;
 use file_rules::places::{Directories, FilePlace};
 use file_rules::status::SINGLE_USER;
-use io_model::path::{Desc, PathsFull, SysPath, Target};
+use io_model::path::{Desc, SysPath, Target};
 use io_state::state::IoState;
 use os9_base::call::OutOfMemory;
 use os9_base::registers::Pid;
@@ -79,7 +78,7 @@ impl FileState {
     }
 
     /// Mounts the volume that the media of a drive holds, in place of the one that was mounted
-    /// there.
+    /// there. Paths, directories and what is kept of the other drives stay.
     ///
     /// # Errors
     ///
@@ -94,6 +93,10 @@ impl FileState {
         ensures drive { ChangesOneDrive (ReadsToMount result) n
             (drive_views ⟦<dyn BlockDriver as BlockDriver>⟧ devices.old.drives.items)
             (drive_views ⟦<dyn BlockDriver as BlockDriver>⟧ devices.new.drives.items) }
+        ensures io_kept { self.new.io ≡ self.old.io }
+        ensures directories_kept { self.new.directories ≡ self.old.directories }
+        ensures others { (m : ℕ) → m ≢ n
+            → kept_of_drive self.new.disks m ≡ kept_of_drive self.old.disks m }
         ensures terms_kept { devices.new.terms ≡ devices.old.terms }
     {
         self.disks.mount(alloc, n, devices)
@@ -113,15 +116,6 @@ impl FileState {
         }
     }
 
-    /// Sets the position of a path on a file, in bytes (System Programmer's Manual, I$Seek).
-    pub fn set_position(&mut self, opened: &OpenFile, at: u32)
-        requires { desc_of self.old.io.paths opened.now.path.0 ≡ Some opened.now.desc }
-        ensures { (views : List DriveView) (files : Files) → StandsFor self.old views files
-            → StandsFor self.new views (with_position files (path_of opened.now) at) }
-    {
-        self.io.set_position(opened.path, at);
-    }
-
     /// The number that a new path of a process gets; None if its sixteen numbers or the 64 system
     /// paths are in use.
     pub fn next_number(&self, p: Pid) -> Option<u8>
@@ -130,24 +124,6 @@ impl FileState {
             → result ≡ new_number files.io.paths p.0 }
     {
         self.io.next_number(p)
-    }
-
-    /// Opens a path of a process on a file or a directory. It gets the least number of the process
-    /// that is free.
-    ///
-    /// # Errors
-    ///
-    /// `PathsFull` if the process's sixteen numbers or the 64 system paths are in use. Nothing
-    /// changes then.
-    pub fn begin_path(&mut self, p: Pid, target: Target, mode: u8) -> Result<u8, PathsFull>
-        requires process { p.0 < 33 }
-        requires disk { IsOnDisk target }
-        ensures number { result_ok result ≡ new_number self.old.io.paths p.0 }
-        ensures files { (views : List DriveView) (files : Files) → StandsFor self.old views files
-            → StandsFor self.new views (with_path_table files
-            (paths_after_begin files.io.paths p.0 (new_desc target mode))) }
-    {
-        self.io.begin_on_disk(p, target, mode)
     }
 
     /// Is some path of any process on the file at a place?

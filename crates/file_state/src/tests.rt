@@ -16,7 +16,7 @@ fn paths_on_a_file(rt: HostRuntime) -> Result<(), Fail> {
     assert!(rt; !state.is_open(place));
     assert_eq!(rt; state.open_file(first, 0), None);
     assert_eq!(rt; state.next_number(first), Some(3));
-    assert_eq!(rt; state.begin_path(first, Target::File(1, 7), 1), Ok(3));
+    assert_eq!(rt; state.io.begin_on_disk(first, Target::File(1, 7), 1), Ok(3));
     assert!(rt; state.is_open(place));
     assert!(rt; !state.is_not_shared(place, 3, 1));
     assert!(rt; state.is_not_shared(place, 0x40, 1));

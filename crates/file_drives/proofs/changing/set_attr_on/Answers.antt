@@ -11,4 +11,4 @@ set_attr-requires-clause-file g c = has-file c.args.kept.now c.in-Some.volume _ 
 pub returns : goal.returns
 returns g c =
     attributes-changed c.args.kept.now c.in-Some.volume c.set_attr.new.v _ _ c.args.number c.args.attr c.args.user c.args.now c.in-Some.is c.set_attr.ensures.mounted c.set_attr.ensures.volume_kept
-    c.set_attr.result c.set_attr.ensures.ok c.set_attr.ensures.answer c.set_attr.ensures.media_kept c.set_attr.ensures.counts
+    c.set_attr.result c.set_attr.ensures.ok c.set_attr.ensures.written c.set_attr.ensures.answer c.set_attr.ensures.media_kept c.set_attr.ensures.counts
