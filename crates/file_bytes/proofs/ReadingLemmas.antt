@@ -1,5 +1,5 @@
 -- What a read of the file of a path comes to, by what was answered to it.
-use Rattle.std.proofs.Common.{◌≡◌, ◌≢◌, ◌∙◌, ℕ, ◌+◌, ◌-◌, ◌<◌, ◌≤◌, ◌^◌, min, nat_le, Bool, true, false, Some, None, IsSome, OnErr, IfOk, Result, Ok, Err, List, ◌++◌, length, take, drop, take-take, append_assoc, ⊎_elim, sym, ap, refl, subst, arith, le-leb, leb-true, length-take, length-drop}
+use Rattle.std.proofs.Common.{◌≡◌, ◌≢◌, ◌∙◌, ℕ, ◌+◌, ◌-◌, ◌<◌, ◌≤◌, ◌^◌, min, nat_le, Bool, true, false, Option, Some, None, IsSome, OnErr, IfOk, Result, Ok, Err, List, ◌++◌, length, take, drop, take-take, append_assoc, ⊎_elim, inl, sym, ap, refl, subst, arith, le-leb, leb-true, length-take, length-drop}
 use Rattle.std.proofs.lemmas.Bool.{cases_lt, false≢true}
 use Rattle.std.proofs.lemmas.List.{length-take-le, take_at}
 use Rattle.os9_base.specs.declared.call.CallEnd.{CallEnd}
@@ -24,9 +24,12 @@ use Rattle.file_rules.specs.Files as rules
 use Rattle.file_rules.specs.Read.{answers_bytes, bytes_here}
 use Rattle.file_rules.specs.Step.{FileEffect, FileStep, MayBeLeft, comes, deed_of, leaves_so, reaches, refuses, refuses_so, with_drives_after}
 use Rattle.file_state.proofs.EndLemmas.{breaks, goes-well}
+use Rattle.file_state.proofs.KeepLemmas.{MayKeepAll, keeps-read}
 use Rattle.file_state.proofs.ReachedLemmas.{same-volume}
 use Rattle.file_state.proofs.StateLemmas.{stands-with_io}
 use Rattle.file_state.specs.Counted.{CalledAtMost}
+use Rattle.file_state.specs.Ends.{Ends}
+use Rattle.file_state.specs.Media.{KeepsDrives}
 use Rattle.file_state.specs.Reached.{HasRead}
 use Rattle.file_state.specs.Tie.{StandsFor}
 use Rattle.file_state.specs.declared.state.FileState.{FileState}
@@ -35,7 +38,6 @@ use Rattle.file_bytes.proofs.TryingLemmas.{deed-goes, deed-refused}
 use Rattle.file_bytes.specs.Ending.{EndsFound, GivesBytes, IsRefused}
 use Rattle.file_bytes.specs.Opened.{found_on, moved_to}
 use Rattle.file_bytes.specs.Reading.{EndsRead, IsLoaded, part_of, read_file}
-use Rattle.file_bytes.specs.Trying.{Takes}
 
 not-le : (a b : ℕ) → b < a → nat_le a b ≡ false
 not-le a b less = by (nat_le a b) refl
@@ -113,10 +115,18 @@ module _ (kind : ReadKind) (m : Inner) (files : Files) (v : DiskVolume) (file : 
 
   -- what is done
   abbrev Done : Type 0
-  Done = Takes (read_file kind asker files found) most m files now p end processes (record mid { io = new }) before after terms
+  Done = Ends (read_file kind asker files found) most m files now p end processes (record mid { io = new }) before after terms
+
+  -- the drive was only read
+  keeps : (fault : Option ℕ) → HasRead fault drive files mid before after → KeepsDrives (reaches drive (behind ended)) asker files end before after
+  keeps fault read = keeps-read (reaches drive (behind ended)) asker files end drive before after (inl refl) (may ended) fault mid read
+    where
+      may : (test : Bool) → MayKeepAll (deed_of (behind test) files) end
+      may true = tt
+      may false = tt
 
   -- a fault
-  broken : (number : ℕ) → HasRead (Some number) drive files mid after → IsRefused number m p mid.io end processes new → Done
+  broken : (number : ℕ) → HasRead (Some number) drive files mid before after → IsRefused number m p mid.io end processes new → Done
   unfolding read_file
   broken number read it = record {
     effect = refuses_so number (with_drives (with_volume files drive v) drives);
@@ -126,6 +136,7 @@ module _ (kind : ReadKind) (m : Inner) (files : Files) (v : DiskVolume) (file : 
         subst (λ (f : Files). StandsFor (record mid { io = new }) after (with_io (with_drives f drives) (with_call f.io p None))) (sym (same-volume files drive v is))
         (stands-with_io mid after (with_drives files drives) (with_call files.io p None) new (ap (λ (io : Io). with_call io p None) read.stands.io ∙ sym it.io_is) read.stands);
     calls = called;
+    drives = keeps (Some number) read;
   }
     where
       stays : (test : Bool) → MayBeLeft (deed_of (behind test) files) asker v v
@@ -133,7 +144,7 @@ module _ (kind : ReadKind) (m : Inner) (files : Files) (v : DiskVolume) (file : 
       stays false = refl
 
   -- the end
-  at_end : length file.contents ≤ at → HasRead None drive files mid after → IsRefused E_EOF m p mid.io end processes new → Done
+  at_end : length file.contents ≤ at → HasRead None drive files mid before after → IsRefused E_EOF m p mid.io end processes new → Done
   unfolding read_file
   at_end past read it = record {
     effect = with_drives_after (refuses_so E_EOF files) drives;
@@ -143,10 +154,11 @@ module _ (kind : ReadKind) (m : Inner) (files : Files) (v : DiskVolume) (file : 
     comes = (it.end_is, it.tied);
     stands = stands-with_io mid after (with_drives files drives) (with_call files.io p None) new (ap (λ (io : Io). with_call io p None) read.stands.io ∙ sym it.io_is) read.stands;
     calls = called;
+    drives = keeps None read;
   }
 
   -- bytes
-  gives : at < length file.contents → HasRead None drive files mid after → GivesBytes (part_of kind (bytes_from file.contents at (regs_at m p).y)) (regs_at m p) opened m p mid.io end processes new → Done
+  gives : at < length file.contents → HasRead None drive files mid before after → GivesBytes (part_of kind (bytes_from file.contents at (regs_at m p).y)) (regs_at m p) opened m p mid.io end processes new → Done
   unfolding read_file
   gives inside read it = record {
     effect = with_drives_after given drives;
@@ -158,10 +170,11 @@ module _ (kind : ReadKind) (m : Inner) (files : Files) (v : DiskVolume) (file : 
         let moved : Io → Io = λ io. with_call (moved_to io opened (at + length (part_of kind (bytes_from file.contents at (regs_at m p).y)))) p None in
         stands-with_io mid after (with_drives files drives) (moved files.io) new (ap moved read.stands.io ∙ sym it.io_is) read.stands;
     calls = called;
+    drives = keeps None read;
   }
 
-  pub read-takes : (loaded : Result ℕ FileFault) (buffer : List ℕ) → HasRead (file_fault loaded) drive files mid after → OnErr loaded (IsSome (file_fault loaded)) → IfOk loaded (IsLoaded file at (regs_at m p).y buffer) → EndsRead loaded kind buffer (regs_at m p) opened m p mid.io end processes new → Done
-  read-takes (Ok count) buffer read device it ends =
+  pub read-ends : (loaded : Result ℕ FileFault) (buffer : List ℕ) → HasRead (file_fault loaded) drive files mid before after → OnErr loaded (IsSome (file_fault loaded)) → IfOk loaded (IsLoaded file at (regs_at m p).y buffer) → EndsRead loaded kind buffer (regs_at m p) opened m p mid.io end processes new → Done
+  read-ends (Ok count) buffer read device it ends =
       let y = (regs_at m p).y in
       let long = count-from file.contents at y in
       let same : EndsFound (bytes_from file.contents at y) (part_of kind (bytes_from file.contents at y)) (regs_at m p) opened m p mid.io end processes new =
@@ -170,6 +183,6 @@ module _ (kind : ReadKind) (m : Inner) (files : Files) (v : DiskVolume) (file : 
       (λ inside. gives inside read (same.some (λ none. omega (arith, long, none, some, inside))))
       (λ past. at_end past read (same.none (omega (arith, long, past))))
       (cases_lt at (length file.contents))
-  read-takes (Err (Device number)) buffer read device it ends = broken number read ends
-  read-takes (Err NoCluster) buffer read device it ends = absurd (false≢true device)
-  read-takes (Err TooManyRuns) buffer read device it ends = absurd (false≢true device)
+  read-ends (Err (Device number)) buffer read device it ends = broken number read ends
+  read-ends (Err NoCluster) buffer read device it ends = absurd (false≢true device)
+  read-ends (Err TooManyRuns) buffer read device it ends = absurd (false≢true device)

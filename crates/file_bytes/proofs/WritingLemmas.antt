@@ -1,5 +1,5 @@
 -- What a write to the file of a path comes to, by what was answered to it.
-use Rattle.std.proofs.Common.{◌≡◌, ◌∙◌, ℕ, ◌+◌, ◌<◌, ◌^◌, nat_lt, not, ◌||◌, Bool, true, false, Option, Some, None, IsOk, Result, Ok, Err, List, [], ◌∷◌, length, slice_set, sym, ap, refl, subst, arith, eq-eqb}
+use Rattle.std.proofs.Common.{◌≡◌, ◌∙◌, ℕ, ◌+◌, ◌<◌, ◌^◌, nat_lt, not, ◌||◌, Bool, true, false, Option, Some, None, IsOk, Result, Ok, Err, List, [], ◌∷◌, length, slice_set, ◌⊎◌, inl, inr, sym, ap, refl, subst, arith, eq-eqb}
 use Rattle.std.specs.Prelude.{if◌then◌else◌}
 use Rattle.std.proofs.lemmas.Bool.{false≢true}
 use Rattle.std.proofs.lemmas.List.{get_or-set_same}
@@ -23,7 +23,7 @@ use Rattle.rbf_model.specs.Volume.{DiskVolume}
 use Rattle.rbf_model.specs.Writes.{put_file}
 use Rattle.file_drives.proofs.MountedLemmas.{mounted-below}
 use Rattle.file_drives.specs.Calls.{writing_calls}
-use Rattle.file_drives.specs.Changed.{LeavesVolume, file_answer}
+use Rattle.file_drives.specs.Changed.{IsRefused as IsNotMade, LeavesVolume, file_answer, is_refused}
 use Rattle.file_drives.specs.Drives.{DriveView, drive_states}
 use Rattle.file_drives.specs.Mounted.{mounted_at}
 use Rattle.file_rules.specs.Attempts.{asker_of}
@@ -34,9 +34,12 @@ use Rattle.file_rules.specs.Step.{FileEffect, FileStep, MayBeLeft, VolumeChange,
 use Rattle.file_rules.specs.Write.{writes_bytes}
 use Rattle.file_state.proofs.CountLemmas.{called-more}
 use Rattle.file_state.proofs.EndLemmas.{asked_of, breaks, goes-well, is-made, is-too-long}
+use Rattle.file_state.proofs.KeepLemmas.{error-keeps, keeps-broken, keeps-made, keeps-refused}
 use Rattle.file_state.proofs.ReachedLemmas.{same-volume}
 use Rattle.file_state.proofs.StateLemmas.{stands-with_io}
 use Rattle.file_state.specs.Counted.{CalledAtMost, HasChangedIn}
+use Rattle.file_state.specs.Ends.{Ends}
+use Rattle.file_state.specs.Media.{KeepsDrives}
 use Rattle.file_state.specs.Tie.{StandsFor}
 use Rattle.file_state.specs.declared.state.FileState.{FileState}
 use Rattle.file_state.specs.declared.state.OpenFile.{OpenFile}
@@ -48,7 +51,6 @@ use Rattle.file_bytes.specs.Calls.{writing_attempt_calls}
 use Rattle.file_bytes.specs.Ending.{EndsWrite, IsRefused}
 use Rattle.file_state.specs.Opened.{path_of}
 use Rattle.file_bytes.specs.Opened.{found_on, moved_to}
-use Rattle.file_bytes.specs.Trying.{Takes}
 use Rattle.file_bytes.specs.Writing.{write_file}
 
 -- ---- the end of what was written
@@ -82,7 +84,7 @@ changed-same number at one other user now result v file drive files mid before a
 
 -- ---- what it comes to
 
-module _ (m : Inner) (files : Files) (v : DiskVolume) (file : DiskFile) (now : TimePacket) (p : ℕ) (opened : OpenFile) (bytes : List ℕ) (regs : Regs) (end : CallEnd) (processes : ProcState) (mid : FileState) (new : Io) (before after : List DriveView) (terms : List TerminalState) (is : volume_at files opened.place.drive ≡ Some v) (count : ℕ) (long : length bytes ≡ count) where
+module _ (m : Inner) (files : Files) (v : DiskVolume) (file : DiskFile) (now : TimePacket) (p : ℕ) (opened : OpenFile) (bytes : List ℕ) (regs : Regs) (end : CallEnd) (processes : ProcState) (mid : FileState) (new : Io) (before after : List DriveView) (terms : List TerminalState) (is : volume_at files opened.place.drive ≡ Some v) (there : v.files opened.place.number ≡ Some file) (drives_are : files.drives ≡ drive_states before) (count : ℕ) (long : length bytes ≡ count) where
   abbrev asker : Asker
   asker = asker_of m p now
 
@@ -134,9 +136,29 @@ module _ (m : Inner) (files : Files) (v : DiskVolume) (file : DiskFile) (now : T
   refused-as-before number left same stands it =
       subst (λ (f : Files). StandsFor (record mid { io = new }) after (with_io (with_drives f drives) (with_call f.io p None))) (ap (λ (w : DiskVolume). with_volume files drive w) same ∙ same-volume files drive v is) (refused-on number left stands it)
 
-  pub write-takes : (result : Result (Unit {0}) FileFault) → Changed result → EndsWrite result (length bytes) regs opened m p mid.io end processes new → Takes (write_file bytes regs asker files found) (writing_attempt_calls count found) m files now p end processes (record mid { io = new }) before after terms
+  -- ---- what it leaves of the drives
+
+  keeps-as : (made : CallEnd) → end ≡ made → KeepsDrives step asker files made before after → KeepsDrives step asker files end before after
+  keeps-as made end_is keeps = subst (λ e. KeepsDrives step asker files e before after) (sym end_is) keeps
+
+  -- it was refused, or was to be when the drive failed
+  keeps-all : (number : ℕ) (result : Result (Unit {0}) FileFault) → Changed result → IsNotMade (file_answer result) ⊎ (is_refused (asked_of change asker) v file ≡ true) → end ≡ CallEnd.Error number → KeepsDrives step asker files end before after
+  keeps-all number result it quiet end_is =
+      keeps-as (CallEnd.Error number) end_is
+      (keeps-refused step asker files (CallEnd.Error number) drive before after (inl refl) (error-keeps (deed_of step files) number) (asked_of change asker) (file_answer result) v file mid it.changed quiet)
+
+  keeps-done : (done : Unit {0}) → Changed (Ok done) → end ≡ CallEnd.Done → full ≡ false → KeepsDrives step asker files end before after
+  keeps-done done it end_is enough =
+      keeps-as CallEnd.Done end_is (keeps-made step asker files change v file mid before after refl (deed-goes files full E_FULL (changes change) enough) is there 0 it.changed)
+
+  keeps-failed : (number : ℕ) → Changed (Err (Device number)) → end ≡ CallEnd.Error number → (test : Bool) → full ≡ test → KeepsDrives step asker files end before after
+  keeps-failed number it end_is true e = keeps-all number (Err (Device number)) it (inr (ap (λ (t : Bool). not true || (t || false)) e)) end_is
+  keeps-failed number it end_is false e =
+      keeps-as (CallEnd.Error number) end_is (keeps-broken step asker files change v file mid before after refl (deed-goes files full E_FULL (changes change) e) is there number drives_are it.changed)
+
+  pub write-ends : (result : Result (Unit {0}) FileFault) → Changed result → EndsWrite result (length bytes) regs opened m p mid.io end processes new → Ends (write_file bytes regs asker files found) (writing_attempt_calls count found) m files now p end processes (record mid { io = new }) before after terms
   unfolding write_file
-  write-takes (Ok done) it ends = record {
+  write-ends (Ok done) it ends = record {
     effect = with_drives_after (with_volume_after beside drive it.changed.left) drives;
     does =
         is-made step asker files change v it.changed.left file 0 drives terms (deed-goes files full E_FULL (changes change) it.changed.answers.enough) is it.changed.answers it.changed.moved;
@@ -145,42 +167,46 @@ module _ (m : Inner) (files : Files) (v : DiskVolume) (file : DiskFile) (now : T
         let moved : Io → Io = λ io. with_call (moved_to io opened (at + length bytes)) p None in
         stands-with_io mid after (with_drives (with_volume files drive it.changed.left) drives) (moved files.io) new (ap moved it.changed.stands.io ∙ sym ends.io_is) it.changed.stands;
     calls = few (Ok done) it;
+    drives = keeps-done done it ends.end_is it.changed.answers.enough;
   }
-  write-takes (Err (Device number)) it ends = record {
+  write-ends (Err (Device number)) it ends = record {
     effect = refuses_so number (with_drives (with_volume files drive it.changed.left) drives);
     does = breaks step asker files drive number v it.changed.left drives terms refl is (may full refl) it.changed.moved;
     comes = (ends.end_is, ends.tied);
     stands = refused-on number it.changed.left it.changed.stands ends;
     calls = few (Err (Device number)) it;
+    drives = keeps-failed number it ends.end_is full refl;
   }
     where
       may : (test : Bool) → full ≡ test → MayBeLeft (deed_of (behind test) files) asker v it.changed.left
       may true e = it.changed.answers.refused (ap (λ (t : Bool). not true || (t || false)) e)
       may false e = it.changed.answers.may_be
-  write-takes (Err NoCluster) it ends = record {
+  write-ends (Err NoCluster) it ends = record {
     effect = with_drives_after (refuses_so E_FULL files) drives;
     does = goes-well step asker files (refuses_so E_FULL files) drives terms (deed-refused files full E_FULL (comes (changes change)) it.changed.answers.few) it.changed.moved;
     comes = (ends.end_is, ends.tied);
     stands = refused-as-before E_FULL it.changed.left it.changed.answers.same it.changed.stands ends;
     calls = few (Err NoCluster) it;
+    drives = keeps-all E_FULL (Err NoCluster) it (inl tt) ends.end_is;
   }
-  write-takes (Err TooManyRuns) it ends = record {
+  write-ends (Err TooManyRuns) it ends = record {
     effect = with_drives_after (refuses_so E_SLF files) drives;
     does =
         is-too-long step asker files change v it.changed.left file drives terms (deed-goes files full E_FULL (changes change) it.changed.answers.enough) is refl it.changed.answers it.changed.moved;
     comes = (ends.end_is, ends.tied);
     stands = refused-as-before E_SLF it.changed.left it.changed.answers.same it.changed.stands ends;
     calls = few (Err TooManyRuns) it;
+    drives = keeps-all E_SLF (Err TooManyRuns) it (inl tt) ends.end_is;
   }
 
 -- the same, where other registers are answered that are these
-pub takes-writes : (m : Inner) (files : Files) (now : TimePacket) (p : ℕ) (end : CallEnd) (processes : ProcState) {most : ℕ} (new : FileState) {before : List DriveView} (views : List DriveView) (terms : List TerminalState) (bytes : List ℕ) (regs other : Regs) (found : rules.OpenFile) → regs ≡ other → Takes (write_file bytes regs (asker_of m p now) files found) most m files now p end processes new before views terms → Takes (writes_bytes files found bytes other) most m files now p end processes new before views terms
+pub ends-writes : (m : Inner) (files : Files) (now : TimePacket) (p : ℕ) (end : CallEnd) (processes : ProcState) {most : ℕ} (new : FileState) {before : List DriveView} (views : List DriveView) (terms : List TerminalState) (bytes : List ℕ) (regs other : Regs) (found : rules.OpenFile) → regs ≡ other → Ends (write_file bytes regs (asker_of m p now) files found) most m files now p end processes new before views terms → Ends (writes_bytes files found bytes other) most m files now p end processes new before views terms
 unfolding write_file
-takes-writes m files now p end processes {most} new {before} views terms bytes regs other found same takes =
-    subst (λ (r : Regs). Takes (writes_bytes files found bytes r) most m files now p end processes new before views terms) same takes
+ends-writes m files now p end processes {most} new {before} views terms bytes regs other found same ends =
+    subst (λ (r : Regs). Ends (writes_bytes files found bytes r) most m files now p end processes new before views terms) same ends
 
 -- the same, where the bytes are these too
-pub takes-write_file : (m : Inner) (files : Files) (now : TimePacket) (p : ℕ) (end : CallEnd) (processes : ProcState) {most : ℕ} (new : FileState) {before : List DriveView} (views : List DriveView) (terms : List TerminalState) (bytes line : List ℕ) (regs other : Regs) (found : rules.OpenFile) → bytes ≡ line → regs ≡ other → Takes (write_file bytes regs (asker_of m p now) files found) most m files now p end processes new before views terms → Takes (write_file line other (asker_of m p now) files found) most m files now p end processes new before views terms
-takes-write_file m files now p end processes {most} new {before} views terms bytes line regs other found is same takes =
-    subst (λ (r : Regs). Takes (write_file line r (asker_of m p now) files found) most m files now p end processes new before views terms) same
-    (subst (λ (b : List ℕ). Takes (write_file b regs (asker_of m p now) files found) most m files now p end processes new before views terms) is takes)
+pub ends-write_file : (m : Inner) (files : Files) (now : TimePacket) (p : ℕ) (end : CallEnd) (processes : ProcState) {most : ℕ} (new : FileState) {before : List DriveView} (views : List DriveView) (terms : List TerminalState) (bytes line : List ℕ) (regs other : Regs) (found : rules.OpenFile) → bytes ≡ line → regs ≡ other → Ends (write_file bytes regs (asker_of m p now) files found) most m files now p end processes new before views terms → Ends (write_file line other (asker_of m p now) files found) most m files now p end processes new before views terms
+ends-write_file m files now p end processes {most} new {before} views terms bytes line regs other found is same ends =
+    subst (λ (r : Regs). Ends (write_file line r (asker_of m p now) files found) most m files now p end processes new before views terms) same
+    (subst (λ (b : List ℕ). Ends (write_file b regs (asker_of m p now) files found) most m files now p end processes new before views terms) is ends)

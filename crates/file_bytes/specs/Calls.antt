@@ -26,6 +26,10 @@ writing_attempt_calls count opened =
 
 -- ---- by the file that a number of the process names
 
+-- a seek reaches no drive
+abbrev pub i_seek_calls : Asker → Files → ℕ → ℕ
+i_seek_calls asker files terms = 0
+
 abbrev pub i_read_calls : Asker → Files → ℕ → ℕ
 i_read_calls asker files terms =
     option_map_or (reading_attempt_calls asker) (open_file files asker.caller.process.0 asker.caller.regs.a) 0

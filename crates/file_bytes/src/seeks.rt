@@ -2,11 +2,12 @@
 
 ghost use Rattle.std.specs.Prelude.{◌≡◌, ℕ, List};
 ghost use Rattle.call_rules.specs.Inner.{Inner};
+ghost use Rattle.file_bytes.specs.Calls.{i_seek_calls};
 ghost use Rattle.file_bytes.specs.Opened.{IsOpened, ReadsNoTerminal};
 ghost use Rattle.file_drives.specs.Drives.{DriveView};
 ghost use Rattle.file_rules.specs.Seek.{long_of as long_of_lem, seeks_nothing};
 ghost use Rattle.file_rules.specs.declared.path_call.PathCall.TheVariants as Call;
-ghost use Rattle.file_state.specs.Attempt.{AttemptsFrom};
+ghost use Rattle.file_state.specs.Counted.{AttemptsWithin};
 ghost use Rattle.io_rules.specs.Attempts.{caller_of};
 ghost use Rattle.os9_base.specs.declared.registers.TimePacket.{TimePacket};
 ghost use Rattle.os9_outer.specs.TerminalState.{TerminalState};
@@ -30,7 +31,7 @@ pub fn seek(s: &mut ProcState, files: &mut FileState, p: Pid, opened: &OpenFile)
     requires no_read { ReadsNoTerminal files.old.io p.0 }
     requires opened { IsOpened files.old p.0 (record_at s.old.table p.0).regs.a opened.now }
     ensures call { (now : TimePacket) (views : List DriveView) (terms : List TerminalState)
-        → AttemptsFrom Call.Seek now p.0 result terms terms
+        → AttemptsWithin i_seek_calls Call.Seek now p.0 result terms terms
         (record { processes = s.old; files = files.old; views = views })
         (record { processes = s.new; files = files.new; views = views }) }
     ensures lives { IsLiving s.new.table p.0 }

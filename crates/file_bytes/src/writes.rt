@@ -111,7 +111,9 @@ pub fn write_line(
 ///
 /// # Errors
 ///
-/// E$BMode exactly if the path may not be written; then as [`write`].
+/// E$BMode exactly if the path may not be written. Else the number of the fault, if the drive
+/// fails; E$Full exactly if fewer clusters are free than the write needs; E$SLF if one that was
+/// chosen finds no place in the list of segments.
 pub fn write_error(
     s: &mut ProcState,
     files: &mut FileState,

@@ -1,5 +1,5 @@
 -- What an attempt of a call on terminals and pipes comes to, in the state of files.
-use Rattle.std.proofs.Common.{◌≡◌, ◌≢◌, ◌∙◌, ℕ, List, length, refl, sym, subst}
+use Rattle.std.proofs.Common.{◌≡◌, ◌≢◌, ◌∙◌, ℕ, None, List, [], length, replicate, refl, sym, subst, arith}
 use Rattle.os9_base.specs.declared.call.CallEnd.{CallEnd}
 use Rattle.os9_base.specs.declared.call.CallEnd.TheVariants.{Done, Error, Wait, Ended, NoMemory}
 use Rattle.os9_base.specs.declared.registers.TimePacket.{TimePacket}
@@ -16,17 +16,22 @@ use Rattle.proc_state.specs.Tie.{Comes}
 use Rattle.proc_state.specs.declared.state.ProcState.{ProcState}
 use Rattle.stream_calls.specs.Trying.{WantsMemory}
 use Rattle.file_rules.specs.Attempts.{asker_of, file_step, files_after}
-use Rattle.file_rules.specs.Files.{Files}
-use Rattle.file_rules.specs.Step.{FileEffect, as_io, deed_of, on_files}
+use Rattle.file_rules.specs.Files.{Asker, Files}
+use Rattle.file_rules.specs.Step.{Deed, FileEffect, as_io, deed_of, on_files}
 use Rattle.file_rules.specs.declared.path_call.PathCall.{PathCall}
 use Rattle.file_drives.specs.Drives.{DriveView}
+use Rattle.file_state.proofs.CountLemmas.{called-more, called-none}
 use Rattle.file_state.proofs.EndLemmas.{goes-as-io}
+use Rattle.file_state.proofs.KeepLemmas.{MayKeepAll, keeps-same}
 use Rattle.file_state.proofs.StateLemmas.{stands-with_io}
-use Rattle.file_state.specs.Attempt.{Attempts}
-use Rattle.file_state.specs.Tie.{StandsFor}
+use Rattle.file_state.specs.Attempt.{Attempts, Standing}
+use Rattle.file_state.specs.Counted.{AttemptsIn, AttemptsWithin, calls_of}
+use Rattle.file_state.specs.Tie.{IsSound, StandsFor}
 use Rattle.file_state.specs.declared.state.FileState.{FileState}
+use Rattle.file_tree.proofs.SameLemmas.{some-machine}
 use Rattle.path_calls.specs.Quiet.{Ends, IsQuiet, effect_of}
 use Rattle.file_dispatch.specs.Attempts.{IsOnDevice, LacksMemory, Tries}
+use Rattle.file_dispatch.specs.Bounds.{attempt_calls}
 
 -- an attempt comes to something else than want of memory
 pub not-memory : (m : Inner) (p : ℕ) (result : CallResult) (end : CallEnd) (processes : ProcState) → Comes m p result end processes → end ≢ NoMemory
@@ -35,11 +40,33 @@ not-memory m p (Result.refused number) end processes told is = let e : Error num
 not-memory m p (Result.waits after) end processes told is = let e : Wait ≡ NoMemory = sym told.0 ∙ is in cc
 not-memory m p (Result.ends status) end processes told is = let e : Ended ≡ NoMemory = sym told.0 ∙ is in cc
 
+-- so many terminals
+abbrev pub unused_terminal : TerminalState
+unused_terminal = record { keys = []; put = None; faults = 0 }
+
+abbrev pub some-terms : ℕ → List TerminalState
+some-terms n = replicate n unused_terminal
+
+-- so none was wanting where all attempts come to something
+pub never-memory : (most : Asker → Files → ℕ → ℕ) (call : PathCall) (now : TimePacket) (p : ℕ) (end : CallEnd) (terms terms_after : List TerminalState) (old processes : ProcState) (state new : FileState) (views later : List DriveView) → IsSound state views → AttemptsWithin most call now p end terms terms_after (record { processes = old; files = state; views = views }) (record { processes = processes; files = new; views = later }) → end ≢ NoMemory
+never-memory most call now p end terms terms_after old processes state new views later sound attempts =
+    let (m, tied) = some-machine old in
+    let it = attempts m sound.files tied sound.stands sound.kinds in
+    not-memory m p it.attempts.result end processes it.attempts.comes
+
+pub tries-of : (call : PathCall) (m : Inner) (files : Files) (now : TimePacket) (p : ℕ) (end : CallEnd) (terms terms_after : List TerminalState) (before after : Standing) → AttemptsIn (attempt_calls call (asker_of m p now) files (length terms)) call m files now p end terms terms_after before after → Tries call m files now p end terms terms_after before after
+tries-of call m files now p end terms terms_after before after it = record {
+  attempted = λ differ. it;
+  memory = λ is. absurd (not-memory m p it.attempts.result end after.processes it.attempts.comes is);
+}
+
 module _ (call : PathCall) (m : Inner) (files : Files) (now : TimePacket) (p : ℕ) (end : CallEnd) (processes : ProcState) where
-  pub tries-of : (new : FileState) (views : List DriveView) (before after : List TerminalState) → Attempts call m files now p end processes new views before after → Tries call m files now p end processes new views before after
-  tries-of new views before after attempts = record {
-    attempted = λ differ. attempts;
-    memory = λ is. absurd (not-memory m p attempts.result end processes attempts.comes is);
+  -- no drive is called where the step is one of terminals and pipes
+  pub uncalled-in : (most : ℕ) (step : IoStep) (old : ProcState) (state new : FileState) (views : List DriveView) (terms terms_after : List TerminalState) → deed_of (file_step call (asker_of m p now) files (length terms)) files ≡ as_io step → Attempts call m files now p end processes new views terms terms_after → AttemptsIn most call m files now p end terms terms_after (record { processes = old; files = state; views = views }) (record { processes = processes; files = new; views = views })
+  uncalled-in most step old state new views terms terms_after on attempts = record {
+    attempts = attempts;
+    calls = called-more 0 (calls_of (file_step call (asker_of m p now) files (length terms)) most) views views (omega arith) (called-none views);
+    drives = keeps-same (file_step call (asker_of m p now) files (length terms)) (asker_of m p now) files end views (subst (λ (deed : Deed). MayKeepAll deed end) (sym on) tt);
   }
 
   -- what a step of a call on terminals and pipes comes to
@@ -74,8 +101,11 @@ module _ (call : PathCall) (m : Inner) (files : Files) (now : TimePacket) (p : �
         wants = subst (λ (old : Io). WantsMemory (step_of device m p old drives before) (caller_of m p) old before after) (sym stands.io) wants;
       }
 
-      pub tries-on-device : (end ≢ NoMemory → AttemptsOnDevice device m state.io drives p end processes io before after) → (end ≡ NoMemory → WantsMemory (step_of device m p state.io drives before) (caller_of m p) state.io before after) → Tries call m files now p end processes (record { io = io; disks = state.disks; directories = state.directories }) views before after
-      tries-on-device attempts wants = record { attempted = λ differ. lifts (attempts differ); memory = λ is. lacks (wants is) }
+      pub tries-on-device : (old : ProcState) → (end ≢ NoMemory → AttemptsOnDevice device m state.io drives p end processes io before after) → (end ≡ NoMemory → WantsMemory (step_of device m p state.io drives before) (caller_of m p) state.io before after) → Tries call m files now p end before after (record { processes = old; files = state; views = views }) (record { processes = processes; files = record { io = io; disks = state.disks; directories = state.directories }; views = views })
+      tries-on-device old attempts wants = record {
+        attempted = λ differ. uncalled-in (attempt_calls call (asker_of m p now) files (length before)) (step_of device m p files.io drives before) old state (record { io = io; disks = state.disks; directories = state.directories }) views before after on (lifts (attempts differ));
+        memory = λ is. lacks (wants is);
+      }
 
 -- ---- attempts that reach no terminal
 

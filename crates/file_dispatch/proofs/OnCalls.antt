@@ -13,9 +13,10 @@ use Rattle.proc_state.specs.declared.state.ProcState.{ProcState}
 use Rattle.file_rules.specs.Files.{Files}
 use Rattle.file_rules.specs.declared.path_call.PathCall.{PathCall}
 use Rattle.file_drives.specs.Drives.{DriveView}
-use Rattle.file_state.specs.Attempt.{Attempts}
+use Rattle.file_state.specs.Counted.{AttemptsWithin}
 use Rattle.file_state.specs.declared.state.FileState.{FileState}
 use Rattle.file_dispatch.specs.Attempts.{LacksMemory, MayAttempt}
+use Rattle.file_dispatch.specs.Bounds.{attempt_calls}
 use Rattle.file_dispatch.specs.Calls.{kind_call, list_call}
 use Rattle.file_dispatch.specs.declared.calls.CallKind.{CallKind}
 use Rattle.file_dispatch.specs.declared.lists.ListCall.{ListCall}
@@ -30,11 +31,6 @@ list-first Listed.ChgDir processes state p terms sound may = may
 list-first Listed.Delete processes state p terms sound may = may
 list-first Listed.DeletX processes state p terms sound may = may
 
-module _ (call other : ListCall) (m : Inner) (files : Files) (now : TimePacket) (p : ℕ) (is : call ≡ other) where
-  pub list-as : (end : CallEnd) (processes : ProcState) (new : FileState) (views : List DriveView) (before after : List TerminalState) → Attempts (list_call other) m files now p end processes new views before after → Attempts (list_call call) m files now p end processes new views before after
-  list-as end processes new views before after attempts =
-      subst (λ (call : ListCall). Attempts (list_call call) m files now p end processes new views before after) (sym is) attempts
-
 -- the call that a kind of call is
 pub call-is : (kind other : CallKind) (call : PathCall) → kind ≡ other → kind_call kind ≡ call → kind_call other ≡ call
 call-is kind other call is known = sym (ap kind_call is) ∙ known
@@ -43,10 +39,10 @@ pub may-as : (call other : PathCall) (processes : ProcState) (state : FileState)
 may-as call other processes state p terms is may = subst (λ (c : PathCall). MayAttempt c processes state p terms) (sym is) may
 
 -- what comes of a call is what comes of the one that it is
-module _ (call other : PathCall) (m : Inner) (files : Files) (now : TimePacket) (p : ℕ) (is : other ≡ call) where
-  pub call-attempts : (end : CallEnd) (processes : ProcState) (new : FileState) (views : List DriveView) (before after : List TerminalState) → Attempts other m files now p end processes new views before after → Attempts call m files now p end processes new views before after
-  call-attempts end processes new views before after attempts =
-      subst (λ (c : PathCall). Attempts c m files now p end processes new views before after) is attempts
+module _ (call other : PathCall) (now : TimePacket) (p : ℕ) (is : other ≡ call) where
+  pub call-attempts : (end : CallEnd) (terms terms_after : List TerminalState) (old processes : ProcState) (state new : FileState) (views later : List DriveView) → AttemptsWithin (attempt_calls other) other now p end terms terms_after (record { processes = old; files = state; views = views }) (record { processes = processes; files = new; views = later }) → AttemptsWithin (attempt_calls call) call now p end terms terms_after (record { processes = old; files = state; views = views }) (record { processes = processes; files = new; views = later })
+  call-attempts end terms terms_after old processes state new views later attempts =
+      subst (λ (c : PathCall). AttemptsWithin (attempt_calls c) c now p end terms terms_after (record { processes = old; files = state; views = views }) (record { processes = processes; files = new; views = later })) is attempts
 
-  pub call-lacks : (before after : List TerminalState) → LacksMemory other m files now p before after → LacksMemory call m files now p before after
-  call-lacks before after lacks = subst (λ (c : PathCall). LacksMemory c m files now p before after) is lacks
+  pub call-lacks : (m : Inner) (files : Files) (before after : List TerminalState) → LacksMemory other m files now p before after → LacksMemory call m files now p before after
+  call-lacks m files before after lacks = subst (λ (c : PathCall). LacksMemory c m files now p before after) is lacks

@@ -1,7 +1,6 @@
 -- Calls that use an open path: on a number that names no file they are those on terminals and pipes, and on one that
 -- names a file no read of a terminal waits.
 use Rattle.std.proofs.Common.{◌≡◌, ℕ, Option, Some, None, IfSome, List, length, ◌∙◌, ap, refl, sym, subst}
-use Rattle.os9_base.specs.declared.call.CallEnd.{CallEnd}
 use Rattle.os9_base.specs.declared.errors.TheConstants.{E_BPNUM}
 use Rattle.os9_base.specs.declared.registers.Regs.{Regs}
 use Rattle.os9_base.specs.declared.registers.TimePacket.{TimePacket}
@@ -14,7 +13,6 @@ use Rattle.io_rules.specs.Step.{Caller, IoStep, needs, done as io_done}
 use Rattle.io_rules.specs.declared.io_call.IoCall.{IoCall}
 use Rattle.io_model.specs.declared.kept.Kept.{Kept}
 use Rattle.io_state.specs.Sound.{IsNoRead}
-use Rattle.proc_state.specs.declared.state.ProcState.{ProcState}
 use Rattle.file_rules.specs.Attempts.{asker_of, file_step}
 use Rattle.file_rules.specs.Files.{Files, OpenFile, open_file}
 use Rattle.file_rules.specs.OnFile.{by_kind}
@@ -22,7 +20,6 @@ use Rattle.file_rules.specs.Seek.{seeks_nothing}
 use Rattle.file_rules.specs.Step.{FileStep, as_io, deed_of}
 use Rattle.file_rules.specs.declared.path_call.PathCall.TheVariants as Call
 use Rattle.file_drives.specs.Drives.{DriveView}
-use Rattle.file_state.specs.Attempt.{Attempts}
 use Rattle.file_state.specs.Tie.{IsSound}
 use Rattle.file_state.specs.declared.state.FileState.{FileState}
 use Rattle.file_state.specs.declared.state.OpenFile.{OpenFile as KernelFile}
@@ -73,13 +70,6 @@ no-read state views p opened call regs sound is again =
 -- and nothing waits where nothing is kept
 pub none-reads : (io : Io) (p : ℕ) → kept_at io p ≡ None → ReadsNoTerminal io p
 none-reads io p none = subst (λ (o : Option Kept). IfSome o (IsNoRead io)) (sym none) tt
-
--- ---- a call by its name
-
-module _ (call other : PathUse) (m : Inner) (files : Files) (now : TimePacket) (p : ℕ) (is : call ≡ other) where
-  pub attempts-as : (end : CallEnd) (processes : ProcState) (new : FileState) (views : List DriveView) (before after : List TerminalState) → Attempts (call_of other) m files now p end processes new views before after → Attempts (call_of call) m files now p end processes new views before after
-  attempts-as end processes new views before after attempts =
-      subst (λ (call : PathUse). Attempts (call_of call) m files now p end processes new views before after) (sym is) attempts
 
 -- the number that a call takes is that of its process on the machine
 pub none-named : (files : Files) (p : ℕ) (call : IoCall) (m : Inner) (regs : Regs) (n : ℕ) → n ≡ path_number call regs → regs ≡ regs_at m p → open_file files p n ≡ None → open_file files p (path_number call (regs_at m p)) ≡ None

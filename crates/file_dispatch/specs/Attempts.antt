@@ -17,10 +17,11 @@ use Rattle.file_rules.specs.Attempts.{asker_of, file_step}
 use Rattle.file_rules.specs.Files.{Files}
 use Rattle.file_rules.specs.Step.{as_io, deed_of}
 use Rattle.file_rules.specs.declared.path_call.PathCall.{PathCall}
-use Rattle.file_drives.specs.Drives.{DriveView}
-use Rattle.file_state.specs.Attempt.{Attempts}
+use Rattle.file_state.specs.Attempt.{Standing}
+use Rattle.file_state.specs.Counted.{AttemptsIn}
 use Rattle.file_state.specs.declared.state.FileState.{FileState}
 use Rattle.touch_laws.specs.Devices.{device_call}
+use Rattle.file_dispatch.specs.Bounds.{attempt_calls}
 
 -- ---- terminals and pipes
 
@@ -47,10 +48,11 @@ pub record LacksMemory (call : PathCall) (m : Inner) (files : Files) (now : Time
   pub on_device : deed_of (file_step call (asker_of m p now) files (length before)) files ≡ as_io step
   pub wants : WantsMemory step (caller_of m p) files.io before after
 
--- a process tries a call, at a time: the attempt of it ends so, and these are the processes, the files and the
--- terminals then, or memory was wanting
+-- a process tries a call, at a time: the attempt of it ends so, and these are the terminals and the kernel's state
+-- then, or memory was wanting
 pub record Tries (call : PathCall) (m : Inner) (files : Files) (now : TimePacket) (p : ℕ) (end : CallEnd)
-    (processes : ProcState) (new : FileState) (views : List DriveView) (before after : List TerminalState)
-    : Type 0 where
-  pub attempted : end ≢ NoMemory → Attempts call m files now p end processes new views before after
-  pub memory : end ≡ NoMemory → LacksMemory call m files now p before after
+    (terms terms_after : List TerminalState) (before after : Standing) : Type 0 where
+  pub attempted : end ≢ NoMemory
+      → AttemptsIn (attempt_calls call (asker_of m p now) files (length terms)) call m files now p end terms terms_after
+      before after
+  pub memory : end ≡ NoMemory → LacksMemory call m files now p terms terms_after

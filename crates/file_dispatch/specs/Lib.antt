@@ -1,4 +1,5 @@
 pub mod Attempts
+pub mod Bounds
 pub mod Calls
 pub mod Numbers
 pub mod Uses

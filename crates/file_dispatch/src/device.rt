@@ -6,6 +6,7 @@ ghost use Rattle.file_dispatch.specs.Attempts.{IsOnDevice, Tries};
 ghost use Rattle.file_drives.specs.Drives.{drive_views};
 ghost use Rattle.file_rules.specs.Files.{Files};
 ghost use Rattle.file_rules.specs.declared.path_call.PathCall.{PathCall};
+ghost use Rattle.file_state.specs.Attempt.{standing};
 ghost use Rattle.file_state.specs.Tie.{StandsFor};
 ghost use Rattle.io_dispatch.specs.Staying.{MayAttempt};
 ghost use Rattle.os9_base.specs.declared.registers.TimePacket.{TimePacket};
@@ -45,10 +46,13 @@ pub fn attempt_on_device(
         (drive_views ⟦<dyn BlockDriver as BlockDriver>⟧ devices.old.drives.items) was
         → IsOnDevice call device m was now p.0 (vec_len devices.old.drives)
         (terminal_states ⟦<dyn CharDriver as CharDriver>⟧ devices.old.terms.items)
-        → Tries call m was now p.0 result s.new files.new
-        (drive_views ⟦<dyn BlockDriver as BlockDriver>⟧ devices.new.drives.items)
+        → Tries call m was now p.0 result
         (terminal_states ⟦<dyn CharDriver as CharDriver>⟧ devices.old.terms.items)
-        (terminal_states ⟦<dyn CharDriver as CharDriver>⟧ devices.new.terms.items) }
+        (terminal_states ⟦<dyn CharDriver as CharDriver>⟧ devices.new.terms.items)
+        (standing ⟦<dyn BlockDriver as BlockDriver>⟧ s.old files.old devices.old.drives.items)
+        (standing ⟦<dyn BlockDriver as BlockDriver>⟧ s.new files.new devices.new.drives.items) }
+    ensures disks_kept { files.new.disks ≡ files.old.disks }
+    ensures directories_kept { files.new.directories ≡ files.old.directories }
     ensures lives { IsLiving s.new.table p.0 }
     ensures drives { devices.new.drives ≡ devices.old.drives }
     ensures count { vec_len devices.new.terms ≡ vec_len devices.old.terms }

@@ -1,17 +1,15 @@
 //! Calls that take a path list.
 
 ghost use Rattle.std.specs.Prelude.{◌≡◌, None, List, length, vec_len};
-ghost use Rattle.call_rules.specs.Inner.{Inner};
+ghost use Rattle.file_dispatch.specs.Bounds.{attempt_calls};
 ghost use Rattle.file_dispatch.specs.Calls.{list_call};
 ghost use Rattle.file_drives.specs.Drives.{drive_views};
-ghost use Rattle.file_laws.specs.Kinds.{AreKinds};
-ghost use Rattle.file_rules.specs.Files.{Files};
-ghost use Rattle.file_state.specs.Attempt.{Attempts};
-ghost use Rattle.file_state.specs.Tie.{IsSound, StandsFor};
+ghost use Rattle.file_state.specs.Attempt.{standing};
+ghost use Rattle.file_state.specs.Counted.{AttemptsWithin};
+ghost use Rattle.file_state.specs.Tie.{IsSound};
 ghost use Rattle.io_rules.specs.Io.{kept_at};
 ghost use Rattle.os9_outer.specs.TerminalState.{TerminalState};
 ghost use Rattle.proc_rules.specs.Records.{IsLiving};
-ghost use Rattle.proc_state.specs.Tie.{Represents};
 
 use device_table::devices::Devices;
 use file_opens::create::i_create;
@@ -61,12 +59,11 @@ pub fn attempt_on_list(
     requires first { kept_at files.old.io p.0 ≡ None }
     requires sound { IsSound files.old
         (drive_views ⟦<dyn BlockDriver as BlockDriver>⟧ devices.old.drives.items) }
-    ensures call { (m : Inner) (was : Files) (terms : List TerminalState) → Represents s.old m
-        → StandsFor files.old
-        (drive_views ⟦<dyn BlockDriver as BlockDriver>⟧ devices.old.drives.items) was → AreKinds was
-        → length terms ≡ vec_len devices.old.terms
-        → Attempts (list_call call) m was now p.0 result s.new files.new
-        (drive_views ⟦<dyn BlockDriver as BlockDriver>⟧ devices.new.drives.items) terms terms }
+    ensures call { (terms : List TerminalState) → length terms ≡ vec_len devices.old.terms
+        → AttemptsWithin (attempt_calls (list_call call)) (list_call call) now p.0 result terms
+        terms
+        (standing ⟦<dyn BlockDriver as BlockDriver>⟧ s.old files.old devices.old.drives.items)
+        (standing ⟦<dyn BlockDriver as BlockDriver>⟧ s.new files.new devices.new.drives.items) }
     ensures lives { IsLiving s.new.table p.0 }
     ensures terms_kept { devices.new.terms ≡ devices.old.terms }
 {

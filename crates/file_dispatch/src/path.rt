@@ -4,12 +4,14 @@ ghost use Rattle.std.specs.Prelude.{◌≡◌, List, None, vec_len};
 ghost use Rattle.call_rules.specs.Inner.{Inner};
 ghost use Rattle.file_bytes.specs.Opened.{IsOpened};
 ghost use Rattle.file_dispatch.specs.Attempts.{Tries};
+ghost use Rattle.file_dispatch.specs.Bounds.{attempt_calls};
 ghost use Rattle.file_dispatch.specs.Uses.{call_of, device_of};
 ghost use Rattle.file_drives.specs.Drives.{DriveView, drive_views};
 ghost use Rattle.file_laws.specs.Kinds.{AreKinds};
 ghost use Rattle.file_rules.specs.Files.{Files};
 ghost use Rattle.file_rules.specs.declared.path_call.PathCall.TheVariants as Call;
-ghost use Rattle.file_state.specs.Attempt.{Attempts};
+ghost use Rattle.file_state.specs.Attempt.{standing};
+ghost use Rattle.file_state.specs.Counted.{AttemptsWithin};
 ghost use Rattle.file_state.specs.Tie.{IsSound, StandsFor};
 ghost use Rattle.io_dispatch.specs.Staying.{MayAttempt};
 ghost use Rattle.io_rules.specs.Again.{IsAgain, path_number};
@@ -37,7 +39,7 @@ use proc_state::state::ProcState;
 /// An attempt, at a time, of a call that uses an open path, by a process that lives (System
 /// Programmer's Manual, "I/O service requests"): on a file or a directory it is that of files, and
 /// else that of terminals and pipes. Where a call of the process waits, this is a further attempt
-/// of it. `NoMemory` comes only where a byte was to be put on a terminal.
+/// of it. `NoMemory` comes only where a byte was to be put on a terminal; no drive was called then.
 ///
 /// # Errors
 ///
@@ -56,10 +58,12 @@ pub fn use_path(
         (drive_views ⟦<dyn BlockDriver as BlockDriver>⟧ devices.old.drives.items) }
     ensures call { (m : Inner) (was : Files) → Represents s.old m → StandsFor files.old
         (drive_views ⟦<dyn BlockDriver as BlockDriver>⟧ devices.old.drives.items) was → AreKinds was
-        → Tries (call_of call) m was now p.0 result s.new files.new
-        (drive_views ⟦<dyn BlockDriver as BlockDriver>⟧ devices.new.drives.items)
+        → Tries (call_of call) m was now p.0 result
         (terminal_states ⟦<dyn CharDriver as CharDriver>⟧ devices.old.terms.items)
-        (terminal_states ⟦<dyn CharDriver as CharDriver>⟧ devices.new.terms.items) }
+        (terminal_states ⟦<dyn CharDriver as CharDriver>⟧ devices.new.terms.items)
+        (standing ⟦<dyn BlockDriver as BlockDriver>⟧ s.old files.old devices.old.drives.items)
+        (standing ⟦<dyn BlockDriver as BlockDriver>⟧ s.new files.new devices.new.drives.items) }
+    ensures drives_kept { result ≡ CallEnd.NoMemory → devices.new.drives ≡ devices.old.drives }
     ensures lives { IsLiving s.new.table p.0 }
     ensures count { vec_len devices.new.terms ≡ vec_len devices.old.terms }
 {
@@ -86,11 +90,10 @@ fn use_file(
         (drive_views ⟦<dyn BlockDriver as BlockDriver>⟧ devices.old.drives.items) }
     requires opened { IsOpened files.old p.0
         (path_number (device_of call) (record_at s.old.table p.0).regs) opened.now }
-    ensures call { (m : Inner) (was : Files) (terms : List TerminalState) → Represents s.old m
-        → StandsFor files.old
-        (drive_views ⟦<dyn BlockDriver as BlockDriver>⟧ devices.old.drives.items) was → AreKinds was
-        → Attempts (call_of call) m was now p.0 result s.new files.new
-        (drive_views ⟦<dyn BlockDriver as BlockDriver>⟧ devices.new.drives.items) terms terms }
+    ensures call { (terms : List TerminalState)
+        → AttemptsWithin (attempt_calls (call_of call)) (call_of call) now p.0 result terms terms
+        (standing ⟦<dyn BlockDriver as BlockDriver>⟧ s.old files.old devices.old.drives.items)
+        (standing ⟦<dyn BlockDriver as BlockDriver>⟧ s.new files.new devices.new.drives.items) }
     ensures lives { IsLiving s.new.table p.0 }
     ensures terms_kept { devices.new.terms ≡ devices.old.terms }
 {
@@ -117,9 +120,10 @@ fn use_file(
 pub fn seek_path(s: &mut ProcState, files: &mut FileState, p: Pid) -> CallEnd
     requires lives { IsLiving s.old.table p.0 }
     requires first { kept_at files.old.io p.0 ≡ None }
-    ensures call { (m : Inner) (was : Files) (now : TimePacket) (views : List DriveView)
-        (terms : List TerminalState) → Represents s.old m → StandsFor files.old views was
-        → AreKinds was → Attempts Call.Seek m was now p.0 result s.new files.new views terms terms }
+    ensures call { (now : TimePacket) (views : List DriveView) (terms : List TerminalState)
+        → AttemptsWithin (attempt_calls Call.Seek) Call.Seek now p.0 result terms terms
+        (record { processes = s.old; files = files.old; views = views })
+        (record { processes = s.new; files = files.new; views = views }) }
     ensures lives { IsLiving s.new.table p.0 }
 {
     let number = s.table.regs(p).a;

@@ -1,12 +1,17 @@
 -- I$Create, step by step.
-use Rattle.std.proofs.Common.{◌≡◌, ◌∙◌, ℕ, nat_lt, ◌||◌, not, Bool, true, false, Option, Some, None, is_some, List, [], Result, Ok, refl, ap, sym, if◌then◌else◌}
+use Rattle.std.proofs.Common.{◌≡◌, ◌∙◌, ℕ, nat_lt, ◌||◌, not, Bool, true, false, Option, Some, None, is_some, List, [], Result, Ok, refl, ap, sym, subst, if◌then◌else◌}
 use Rattle.os9_base.specs.declared.errors.TheConstants.{E_BPNAM, E_CEF, E_FNA, E_FULL, E_PTHFUL, E_SLF}
 use Rattle.std.specs.Option.{option_map_or}
 use Rattle.os9_base.specs.Cells.{Cells}
+use Rattle.os9_base.specs.declared.call.CallEnd.{CallEnd}
+use Rattle.os9_base.specs.declared.registers.TimePacket.{TimePacket}
+use Rattle.os9_outer.specs.TerminalState.{TerminalState}
+use Rattle.call_rules.specs.Inner.{Inner}
 use Rattle.user_names.specs.declared.name_fault.NameFault.{NameFault}
 use Rattle.io_model.specs.Path.{new_number}
 use Rattle.io_rules.specs.Modes.{can_write}
 use Rattle.io_rules.specs.PathList.{PathList, ends_in_dots}
+use Rattle.proc_state.specs.declared.state.ProcState.{ProcState}
 use Rattle.rbf_model.specs.Volume.{DiskVolume}
 use Rattle.rbf_model.specs.Walk.{look_up}
 use Rattle.rbf_change.specs.Calls.{free_total}
@@ -14,20 +19,26 @@ use Rattle.rbf_change.specs.Faults as ends
 use Rattle.rbf_change.specs.Names.{is_dots, may_change}
 use Rattle.rbf_change.specs.NewFiles.{Refusal, bad_path, exists, no_cluster, not_allowed, too_many_runs}
 use Rattle.rbf_make.specs.Places.{IsRefused}
+use Rattle.file_rules.specs.Attempts.{asker_of}
 use Rattle.file_rules.specs.Change.{MayLeave, creates}
 use Rattle.file_rules.specs.Create.{clusters_for, creates_in, creates_on_way, creates_with_path, has_room_for, i_create, opens_new}
-use Rattle.file_rules.specs.Files.{Asker, Files}
+use Rattle.file_rules.specs.Files.{Asker, Files, volume_at}
 use Rattle.file_rules.specs.Open.{is_for_execution, says_directory}
 use Rattle.file_rules.specs.Step.{FileStep, MayBeLeft, Step, VolumeChange, changes, comes, deed_of, leaves_so, needs, reaches, refused, refuses, refuses_so}
-use Rattle.file_rules.specs.Way.{Found, before_last, is_root, last_of, list_of, nowhere, reads_list, walks, way_of, way_to_new}
+use Rattle.file_rules.specs.Way.{Found, along, before_last, is_root, last_of, list_of, nowhere, reads_list, walks, way_of, way_to_new}
 use Rattle.file_rules.specs.declared.places.FilePlace.{FilePlace}
 use Rattle.file_drives.specs.Changed.{has_no_segment, is_full_for}
+use Rattle.file_drives.specs.Drives.{DriveView}
+use Rattle.file_state.specs.Ends.{Ends}
+use Rattle.file_state.specs.declared.state.FileState.{FileState}
 use Rattle.file_ways.proofs.WayLemmas.{leads-on, mode-tested}
 use Rattle.file_ways.specs.Ways.{IsRoute, Led, led_by, leads, mode_refusal, next_step, refuses_by, way_for, way_to}
 use Rattle.file_ways.specs.declared.way.Purpose.TheVariants.{New}
 use Rattle.file_ways.specs.declared.way.Route.{Route}
 use Rattle.file_ways.specs.declared.way.Way.{Way as Routed}
 use Rattle.file_opens.proofs.OpenLemmas.{deed-walks}
+use Rattle.file_ways.specs.Calls.{walk_and}
+use Rattle.file_opens.specs.Calls.{creating_calls, new_file_calls}
 use Rattle.file_opens.specs.Steps.{creates_along, makes_there}
 
 -- the change that is made, beside which a path gets this number
@@ -230,10 +241,21 @@ pub along-nameless : (asker : Asker) (files : Files) (list : PathList) (from : F
 along-nameless asker files list from none =
     ap (λ (names : List (List ℕ)). needs (last_of names) E_BPNAM (λ name. walks asker files (is_for_execution asker.caller.regs.a) from (before_last names) (creates_in asker files list name))) none
 
-pub along-named : (asker : Asker) (files : Files) (list : PathList) (from : FilePlace) (execute : Bool) (name : List ℕ) → execute ≡ is_for_execution asker.caller.regs.a → last_of list.names ≡ Some name → walks asker files execute from (before_last list.names) (creates_in asker files list name) ≡ creates_along asker files list from
-along-named asker files list from execute name execute_is last =
-    ap (λ (execute : Bool). walks asker files execute from (before_last list.names) (creates_in asker files list name)) execute_is
-    ∙ ap (λ (o : Option (List ℕ)). needs o E_BPNAM (λ name. walks asker files (is_for_execution asker.caller.regs.a) from (before_last list.names) (creates_in asker files list name))) (sym last)
+-- with one it walks along those before it
+module _ (m : Inner) (was : Files) (now : TimePacket) (p : ℕ) (list : PathList) (from : FilePlace) (name : List ℕ) (last : last_of list.names ≡ Some name) where
+  abbrev asked : Asker
+  asked = asker_of m p now
+
+  abbrev for_it : Bool
+  for_it = is_for_execution asked.caller.regs.a
+
+  pub along-named : (end : CallEnd) (processes : ProcState) (new : FileState) (before after : List DriveView) (terms : List TerminalState) → Ends (walks asked was for_it from (before_last list.names) (creates_in asked was list name)) (walk_and asked.user for_it from.number (before_last list.names) (new_file_calls asked name) (volume_at was from.drive)) m was now p end processes new before after terms → Ends (creates_along asked was list from) (creating_calls asked was (along from list.names)) m was now p end processes new before after terms
+  along-named end processes new before after terms it =
+      subst
+      (λ (o : Option (List ℕ)). Ends (needs o E_BPNAM (λ name. walks asked was for_it from (before_last list.names) (creates_in asked was list name)))
+      (option_map_or (λ name. walk_and asked.user for_it from.number (before_last list.names) (new_file_calls asked name) (volume_at was from.drive)) o 0)
+      m was now p end processes new before after terms)
+      (sym last) it
 
 -- the last one is not that of a directory itself or of the one above it
 pub last-proper : (list : PathList) (name : List ℕ) → ends_in_dots list ≡ false → last_of list.names ≡ Some name → is_dots name ≡ false

@@ -20,11 +20,13 @@ use Rattle.file_rules.specs.Attempts.{asker_of}
 use Rattle.file_rules.specs.Files.{DriveState, Files}
 use Rattle.file_rules.specs.Step.{FileStep, as_io, comes, on_files}
 use Rattle.file_drives.specs.Drives.{DriveView, boxed_drive_view, drive_state, drive_views}
+use Rattle.file_state.proofs.CountLemmas.{called-none}
 use Rattle.file_state.proofs.EndLemmas.{goes-as-io}
+use Rattle.file_state.proofs.KeepLemmas.{keeps-same}
 use Rattle.file_state.proofs.StateLemmas.{stands-with_io}
+use Rattle.file_state.specs.Ends.{Ends}
 use Rattle.file_state.specs.Tie.{StandsFor}
 use Rattle.file_state.specs.declared.state.FileState.{FileState}
-use Rattle.file_opens.specs.Ends.{Ends}
 
 -- the kernel has as many drives as the machine
 pub as-many : (state : FileState) (views : List DriveView) (files : Files) → StandsFor state views files → length files.drives ≡ length views
@@ -35,8 +37,8 @@ pub views-many : {Table : Type 0} {Driver : Table → Type 0} (members : (table 
 views-many members drives = length-map drives (boxed_drive_view members)
 
 -- what the call on a terminal or a pipe does is done in the state of files
-pub device-ends : (call : IoCall) (m : Inner) (was : Files) (now : TimePacket) (p : ℕ) (state : FileState) (views : List DriveView) (drives : ℕ) (end : CallEnd) (processes : ProcState) (io : Io) (terms : List TerminalState) → StandsFor state views was → length was.drives ≡ drives → io_attempt.Attempts call m state.io drives p end processes io terms terms → Ends (comes (as_io (io_step call (caller_of m p) was.io (length was.drives) (length terms)))) m was now p end processes (record { io = io; disks = state.disks; directories = state.directories }) views terms
-device-ends call m was now p state views drives end processes io terms stands many it =
+pub device-ends : (most : ℕ) (call : IoCall) (m : Inner) (was : Files) (now : TimePacket) (p : ℕ) (state : FileState) (views : List DriveView) (drives : ℕ) (end : CallEnd) (processes : ProcState) (io : Io) (terms : List TerminalState) → StandsFor state views was → length was.drives ≡ drives → io_attempt.Attempts call m state.io drives p end processes io terms terms → Ends (comes (as_io (io_step call (caller_of m p) was.io (length was.drives) (length terms)))) most m was now p end processes (record { io = io; disks = state.disks; directories = state.directories }) views views terms
+device-ends most call m was now p state views drives end processes io terms stands many it =
     let effect : IoEffect = it.attempt.effect in
     let deed : ℕ → Io → IoStep = λ drives before. io_step call (caller_of m p) before drives (length terms) in
     let step : FileStep = comes (as_io (deed (length was.drives) was.io)) in
@@ -47,4 +49,6 @@ device-ends call m was now p state views drives end processes io terms stands ma
           (subst (λ (count : ℕ). Does (deed count state.io) (caller_of m p) state.io effect terms terms) (sym many) it.attempt.does));
       comes = subst (λ (result : CallResult). Comes m p result end processes) it.attempt.result_is it.comes;
       stands = stands-with_io state views was (io_after p effect) io (sym it.attempt.state) stands;
+      calls = called-none views;
+      drives = keeps-same step (asker_of m p now) was end views tt;
     }

@@ -1,4 +1,5 @@
 pub mod BeginLemmas
+pub mod CallLemmas
 pub mod CreateLemmas
 pub mod DeviceLemmas
 pub mod EndLemmas

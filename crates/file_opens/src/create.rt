@@ -1,18 +1,20 @@
 //! I$Create (System Programmer's Manual, I$Create).
 
-ghost use Rattle.std.specs.Prelude.{◌≡◌, ◌<◌, false, List, None, length, vec_len};
+ghost use Rattle.std.specs.Prelude.{◌≡◌, ◌<◌, ℕ, ◌+◌, false, List, None, length, vec_len};
 ghost use Rattle.call_rules.specs.Inner.{Inner, cells_at};
-ghost use Rattle.file_drives.specs.Drives.{drive_views};
+ghost use Rattle.file_drives.specs.Drives.{DriveView, drive_views};
 ghost use Rattle.file_drives.specs.Entries.{IsPlaceAt};
 ghost use Rattle.file_drives.specs.Mounted.{HasFileAt};
-ghost use Rattle.file_opens.specs.Ends.{Ends};
+ghost use Rattle.file_opens.specs.Calls.{calls_at_place, creating_calls, i_create_calls, new_file_calls};
+ghost use Rattle.file_opens.specs.Ends.{HasReadIn};
 ghost use Rattle.file_opens.specs.Steps.{IsFoundAt, creates_along, creates_there, makes_there};
 ghost use Rattle.file_rules.specs.Attempts.{asker_of};
 ghost use Rattle.file_rules.specs.Files.{Files};
-ghost use Rattle.file_rules.specs.Way.{Found};
+ghost use Rattle.file_rules.specs.Way.{Found, along};
 ghost use Rattle.file_rules.specs.declared.path_call.PathCall.TheVariants as Call;
-ghost use Rattle.file_state.specs.Attempt.{AttemptsFrom, standing};
-ghost use Rattle.file_state.specs.Reached.{HasRead};
+ghost use Rattle.file_state.specs.Attempt.{standing};
+ghost use Rattle.file_state.specs.Counted.{AttemptsWithin};
+ghost use Rattle.file_state.specs.Ends.{Ends};
 ghost use Rattle.file_state.specs.Tie.{IsSound, StandsFor};
 ghost use Rattle.file_ways.specs.Walks.{SomeFrom, SomeStand};
 ghost use Rattle.guest_memory.specs.Tie.{cells_of};
@@ -53,9 +55,13 @@ use rbf_make::NewPlace;
 /// `FFFF`; else E$BMode exactly if the mode lacks write; else those of the list, E$BPNam, E$MNF and
 /// E$PNNF, and on a drive those of the walk, E$FNA and E$PNNF; then E$FNA exactly if the directory
 /// may not be changed so or B says a directory, E$CEF exactly if the name is there, E$PthFul
-/// exactly if no number or no path is free, E$Full and E$SLF exactly if the file and its entry find
-/// no room. The number of the fault, if the drive fails: then the tree is as it was. Else nothing
-/// has changed.
+/// exactly if no number or no path is free, or for a pipe no pipe, E$Full and E$SLF exactly if the
+/// file and its entry find no room. The number of the fault, if the drive fails: then the tree is
+/// as it was. Else nothing has changed.
+///
+/// The drive is called for the directories of the walk, the place of the entry and the file that
+/// is made, at most as often as `i_create_calls` has it. The other drives are not called, and a
+/// call that is refused leaves all media as they were.
 pub fn i_create(
     s: &mut ProcState,
     files: &mut FileState,
@@ -68,7 +74,7 @@ pub fn i_create(
     requires sound { IsSound files.old
         (drive_views ⟦<dyn BlockDriver as BlockDriver>⟧ devices.old.drives.items) }
     ensures call { (terms : List TerminalState) → length terms ≡ vec_len devices.old.terms
-        → AttemptsFrom Call.Create now p.0 result terms terms
+        → AttemptsWithin i_create_calls Call.Create now p.0 result terms terms
         (standing ⟦<dyn BlockDriver as BlockDriver>⟧ s.old files.old devices.old.drives.items)
         (standing ⟦<dyn BlockDriver as BlockDriver>⟧ s.new files.new devices.new.drives.items) }
     ensures lives { IsLiving s.new.table p.0 }
@@ -108,8 +114,11 @@ fn create_along(
         (drive_views ⟦<dyn BlockDriver as BlockDriver>⟧ devices.old.drives.items) was
         → NamesFrom (cells_at m p.0) first list.names → list.next ≡ next
         → ends_in_dots list ≡ false
-        → Ends (creates_along (asker_of m p.0 now) was list from) m was now p.0 result s.new
-        files.new (drive_views ⟦<dyn BlockDriver as BlockDriver>⟧ devices.new.drives.items) terms }
+        → Ends (creates_along (asker_of m p.0 now) was list from)
+        (creating_calls (asker_of m p.0 now) was (along from list.names))
+        m was now p.0 result s.new files.new
+        (drive_views ⟦<dyn BlockDriver as BlockDriver>⟧ devices.old.drives.items)
+        (drive_views ⟦<dyn BlockDriver as BlockDriver>⟧ devices.new.drives.items) terms }
     ensures lives { IsLiving s.new.table p.0 }
     ensures terms_kept { devices.new.terms ≡ devices.old.terms }
 {
@@ -140,8 +149,11 @@ fn create_from(
         (drive_views ⟦<dyn BlockDriver as BlockDriver>⟧ devices.old.drives.items) was
         → NamesStand (cells_at m p.0) first list.names → list.next ≡ next
         → ends_in_dots list ≡ false
-        → Ends (creates_along (asker_of m p.0 now) was list from) m was now p.0 result s.new
-        files.new (drive_views ⟦<dyn BlockDriver as BlockDriver>⟧ devices.new.drives.items) terms }
+        → Ends (creates_along (asker_of m p.0 now) was list from)
+        (creating_calls (asker_of m p.0 now) was (along from list.names))
+        m was now p.0 result s.new files.new
+        (drive_views ⟦<dyn BlockDriver as BlockDriver>⟧ devices.old.drives.items)
+        (drive_views ⟦<dyn BlockDriver as BlockDriver>⟧ devices.new.drives.items) terms }
     ensures lives { IsLiving s.new.table p.0 }
     ensures terms_kept { devices.new.terms ≡ devices.old.terms }
 {
@@ -167,12 +179,13 @@ fn create_in(
     requires file { HasFileAt files.old.disks
         (drive_views ⟦<dyn BlockDriver as BlockDriver>⟧ devices.old.drives.items) last.directory }
     ensures creates { (m : Inner) (was : Files) (list : PathList) (dir : Found)
-        (terms : List TerminalState) → Represents s.old m
-        → HasRead None last.directory.drive was files.old
+        (most : ℕ) (before : List DriveView) (terms : List TerminalState) → Represents s.old m
+        → HasReadIn most None last.directory.drive was files.old before
         (drive_views ⟦<dyn BlockDriver as BlockDriver>⟧ devices.old.drives.items)
         → IsFoundAt was last.directory dir → list.next ≡ next → is_dots last.name ≡ false
-        → Ends (creates_there (asker_of m p.0 now) was list last.name dir) m was now p.0 result
-        s.new files.new
+        → Ends (creates_there (asker_of m p.0 now) was list last.name dir)
+        (most + new_file_calls (asker_of m p.0 now) last.name dir.volume dir.file)
+        m was now p.0 result s.new files.new before
         (drive_views ⟦<dyn BlockDriver as BlockDriver>⟧ devices.new.drives.items) terms }
     ensures lives { IsLiving s.new.table p.0 }
     ensures terms_kept { devices.new.terms ≡ devices.old.terms }
@@ -213,12 +226,14 @@ fn create_at(
     requires user { found.now.user ≡ (record_at s.old.table p.0).user }
     requires attributes { (record_at s.old.table p.0).regs.b < 128 }
     ensures makes { (m : Inner) (was : Files) (list : PathList) (dir : Found)
-        (terms : List TerminalState) → Represents s.old m
-        → HasRead None last.directory.drive was files.old
+        (most : ℕ) (before : List DriveView) (terms : List TerminalState) → Represents s.old m
+        → HasReadIn most None last.directory.drive was files.old before
         (drive_views ⟦<dyn BlockDriver as BlockDriver>⟧ devices.old.drives.items)
         → IsFoundAt was last.directory dir → list.next ≡ next
-        → Ends (makes_there (asker_of m p.0 now) was list last.name dir) m was now p.0 result s.new
-        files.new (drive_views ⟦<dyn BlockDriver as BlockDriver>⟧ devices.new.drives.items) terms }
+        → Ends (makes_there (asker_of m p.0 now) was list last.name dir)
+        (most + calls_at_place dir.volume dir.file)
+        m was now p.0 result s.new files.new before
+        (drive_views ⟦<dyn BlockDriver as BlockDriver>⟧ devices.new.drives.items) terms }
     ensures lives { IsLiving s.new.table p.0 }
     ensures terms_kept { devices.new.terms ≡ devices.old.terms }
 {

@@ -1,18 +1,20 @@
 //! I$Open (System Programmer's Manual, I$Open).
 
-ghost use Rattle.std.specs.Prelude.{◌≡◌, List, None, length, vec_len};
+ghost use Rattle.std.specs.Prelude.{◌≡◌, ℕ, ◌+◌, List, None, length, vec_len};
 ghost use Rattle.call_rules.specs.Inner.{Inner, cells_at};
 ghost use Rattle.file_drives.specs.Drives.{DriveView, drive_views};
 ghost use Rattle.file_drives.specs.Mounted.{HasFileAt};
-ghost use Rattle.file_opens.specs.Ends.{Ends, EndsQuietly};
+ghost use Rattle.file_opens.specs.Calls.{i_open_calls, opening_calls};
+ghost use Rattle.file_opens.specs.Ends.{EndsQuietly, HasReadIn};
 ghost use Rattle.file_opens.specs.Steps.{IsFoundAt, opens_along, opens_there};
 ghost use Rattle.file_rules.specs.Attempts.{asker_of};
 ghost use Rattle.file_rules.specs.Files.{Files};
 ghost use Rattle.file_rules.specs.Open.{opens_device, opens_found};
-ghost use Rattle.file_rules.specs.Way.{Found};
+ghost use Rattle.file_rules.specs.Way.{Found, along};
 ghost use Rattle.file_rules.specs.declared.path_call.PathCall.TheVariants as Call;
-ghost use Rattle.file_state.specs.Attempt.{AttemptsFrom, standing};
-ghost use Rattle.file_state.specs.Reached.{HasRead};
+ghost use Rattle.file_state.specs.Attempt.{standing};
+ghost use Rattle.file_state.specs.Counted.{AttemptsWithin};
+ghost use Rattle.file_state.specs.Ends.{Ends};
 ghost use Rattle.file_state.specs.Tie.{IsSound, StandsFor};
 ghost use Rattle.file_ways.specs.Walks.{SomeFrom};
 ghost use Rattle.guest_memory.specs.Tie.{cells_of};
@@ -52,8 +54,11 @@ use rbf_sector::Fd;
 /// `FFFF`; else E$BMode exactly if the mode has none of read, write and execute; else those of the
 /// list, E$BPNam, E$MNF and E$PNNF, and on a drive those of the walk, E$FNA and E$PNNF, at the
 /// first name that fails; then E$FNA exactly if the file may not be opened so, E$Share exactly if
-/// it may not be shared, and E$PthFul exactly if no number or no path is free. The number of the
-/// fault, if the drive fails. Nothing has changed then.
+/// it may not be shared, and E$PthFul exactly if no number or no path is free, or for a pipe no
+/// pipe. The number of the fault, if the drive fails. Nothing has changed then.
+///
+/// The drive is called for the directories of the walk and for the file's descriptor, at most as
+/// often as `i_open_calls` has it. It is only read, and the other drives are not called.
 pub fn i_open(s: &mut ProcState, files: &mut FileState, devices: &mut Devices, p: Pid) -> CallEnd
     requires lives { IsLiving s.old.table p.0 }
     requires first { kept_at files.old.io p.0 ≡ None }
@@ -61,7 +66,7 @@ pub fn i_open(s: &mut ProcState, files: &mut FileState, devices: &mut Devices, p
         (drive_views ⟦<dyn BlockDriver as BlockDriver>⟧ devices.old.drives.items) }
     ensures call { (now : TimePacket) (terms : List TerminalState)
         → length terms ≡ vec_len devices.old.terms
-        → AttemptsFrom Call.Open now p.0 result terms terms
+        → AttemptsWithin i_open_calls Call.Open now p.0 result terms terms
         (standing ⟦<dyn BlockDriver as BlockDriver>⟧ s.old files.old devices.old.drives.items)
         (standing ⟦<dyn BlockDriver as BlockDriver>⟧ s.new files.new devices.new.drives.items) }
     ensures lives { IsLiving s.new.table p.0 }
@@ -99,8 +104,11 @@ fn open_along(
         (terms : List TerminalState) → Represents s.old m → StandsFor files.old
         (drive_views ⟦<dyn BlockDriver as BlockDriver>⟧ devices.old.drives.items) was
         → NamesFrom (cells_at m p.0) first list.names → list.next ≡ next
-        → Ends (opens_along (asker_of m p.0 now) was list from) m was now p.0 result s.new
-        files.new (drive_views ⟦<dyn BlockDriver as BlockDriver>⟧ devices.new.drives.items) terms }
+        → Ends (opens_along (asker_of m p.0 now) was list from)
+        (opening_calls (asker_of m p.0 now) was (along from list.names))
+        m was now p.0 result s.new files.new
+        (drive_views ⟦<dyn BlockDriver as BlockDriver>⟧ devices.old.drives.items)
+        (drive_views ⟦<dyn BlockDriver as BlockDriver>⟧ devices.new.drives.items) terms }
     ensures lives { IsLiving s.new.table p.0 }
     ensures terms_kept { devices.new.terms ≡ devices.old.terms }
 {
@@ -111,7 +119,7 @@ fn open_along(
     }
 }
 
-/// Opens a path on the file at a place.
+/// Opens a path on the file at a place, whose descriptor it reads.
 fn open_place(
     s: &mut ProcState,
     files: &mut FileState,
@@ -125,11 +133,13 @@ fn open_place(
     requires file { HasFileAt files.old.disks
         (drive_views ⟦<dyn BlockDriver as BlockDriver>⟧ devices.old.drives.items) place }
     ensures opens { (m : Inner) (was : Files) (now : TimePacket) (list : PathList) (found : Found)
-        (terms : List TerminalState) → Represents s.old m → HasRead None place.drive was files.old
+        (most : ℕ) (before : List DriveView) (terms : List TerminalState) → Represents s.old m
+        → HasReadIn most None place.drive was files.old before
         (drive_views ⟦<dyn BlockDriver as BlockDriver>⟧ devices.old.drives.items)
         → IsFoundAt was place found → list.next ≡ next
-        → Ends (opens_there (asker_of m p.0 now) was list found) m was now p.0 result s.new
-        files.new (drive_views ⟦<dyn BlockDriver as BlockDriver>⟧ devices.new.drives.items) terms }
+        → Ends (opens_there (asker_of m p.0 now) was list found) (most + 1)
+        m was now p.0 result s.new files.new before
+        (drive_views ⟦<dyn BlockDriver as BlockDriver>⟧ devices.new.drives.items) terms }
     ensures lives { IsLiving s.new.table p.0 }
     ensures terms_kept { devices.new.terms ≡ devices.old.terms }
 {

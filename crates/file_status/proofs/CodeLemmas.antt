@@ -6,6 +6,7 @@ use Rattle.os9_base.specs.declared.call.CallEnd.{CallEnd}
 use Rattle.os9_base.specs.declared.errors.TheConstants.{E_UNKSVC}
 use Rattle.os9_base.specs.declared.registers.Regs.{Regs}
 use Rattle.os9_base.specs.declared.registers.TimePacket.{TimePacket}
+use Rattle.os9_outer.specs.TerminalState.{TerminalState}
 use Rattle.call_rules.specs.Inner.{Inner, regs_at, with_regs_of}
 use Rattle.io_model.specs.declared.path.Desc.{Desc}
 use Rattle.proc_state.specs.Tie.{Represents}
@@ -15,11 +16,12 @@ use Rattle.file_rules.specs.Files.{Files, OpenFile}
 use Rattle.file_rules.specs.Status.{gets_status, long_regs, sets_status}
 use Rattle.file_rules.specs.Step.{FileStep, done, refused}
 use Rattle.file_drives.specs.Drives.{DriveView}
+use Rattle.file_state.specs.Ends.{Ends}
 use Rattle.file_state.specs.Tie.{StandsFor}
 use Rattle.file_state.specs.declared.state.FileState.{FileState}
 use Rattle.file_state.specs.declared.state.OpenFile.{OpenFile as KernelFile}
 use Rattle.file_status.proofs.StandLemmas.{ends-done, ends-refused}
-use Rattle.file_status.specs.Ends.{Ends, IsOpen, setting_calls, uncalled}
+use Rattle.file_status.specs.Status.{IsOpen, setting_calls, uncalled}
 
 -- none of the tests holds
 two-fail : (a b : Bool) (one two other : FileStep) → a ≡ false → b ≡ false → (if a then one else (if b then two else other)) ≡ other
@@ -34,35 +36,35 @@ six-fail a b c d e f one two three four five six other na nb nc nd ne nf =
     (two-fail e f five six other ne nf))))
 
 -- the code that B has
-pub by-code : (m : Inner) (files : Files) (now : TimePacket) (p : ℕ) (end : CallEnd) (processes : ProcState) (new : FileState) (before after : List DriveView) (it : OpenFile) (known code : ℕ) → known ≡ code → Ends (gets_status (asker_of m p now) files it known) 1 m files now p end processes new before after → Ends (gets_status (asker_of m p now) files it code) 1 m files now p end processes new before after
-by-code m files now p end processes new before after it known code is ends = subst (λ n. Ends (gets_status (asker_of m p now) files it n) 1 m files now p end processes new before after) is ends
+pub by-code : (m : Inner) (files : Files) (now : TimePacket) (p : ℕ) (end : CallEnd) (processes : ProcState) (new : FileState) (before after : List DriveView) (terms : List TerminalState) (it : OpenFile) (known code : ℕ) → known ≡ code → Ends (gets_status (asker_of m p now) files it known) 1 m files now p end processes new before after terms → Ends (gets_status (asker_of m p now) files it code) 1 m files now p end processes new before after terms
+by-code m files now p end processes new before after terms it known code is ends = subst (λ n. Ends (gets_status (asker_of m p now) files it n) 1 m files now p end processes new before after terms) is ends
 
-pub set-by-code : (m : Inner) (files : Files) (now : TimePacket) (p : ℕ) (end : CallEnd) (processes : ProcState) (new : FileState) (before after : List DriveView) (it : OpenFile) (known code : ℕ) → known ≡ code → Ends (sets_status (asker_of m p now) files it known) (setting_calls (asker_of m p now) it known) m files now p end processes new before after → Ends (sets_status (asker_of m p now) files it code) (setting_calls (asker_of m p now) it code) m files now p end processes new before after
-set-by-code m files now p end processes new before after it known code is ends =
-    subst (λ n. Ends (sets_status (asker_of m p now) files it n) (setting_calls (asker_of m p now) it n) m files now p end processes new before after) is ends
+pub set-by-code : (m : Inner) (files : Files) (now : TimePacket) (p : ℕ) (end : CallEnd) (processes : ProcState) (new : FileState) (before after : List DriveView) (terms : List TerminalState) (it : OpenFile) (known code : ℕ) → known ≡ code → Ends (sets_status (asker_of m p now) files it known) (setting_calls (asker_of m p now) it known) m files now p end processes new before after terms → Ends (sets_status (asker_of m p now) files it code) (setting_calls (asker_of m p now) it code) m files now p end processes new before after terms
+set-by-code m files now p end processes new before after terms it known code is ends =
+    subst (λ n. Ends (sets_status (asker_of m p now) files it n) (setting_calls (asker_of m p now) it n) m files now p end processes new before after terms) is ends
 
-module _ (m : Inner) (files : Files) (now : TimePacket) (p : ℕ) (end : CallEnd) (processes : ProcState) (state new : FileState) (views : List DriveView) (it : OpenFile) (regs : Regs) (same : regs ≡ regs_at m p) (stands : StandsFor state views files) (new_is : new ≡ uncalled state p) where
-  pub getting-unknown : (code : ℕ) → (code ≡ 0 → ⊥) → (code ≡ 1 → ⊥) → (code ≡ 2 → ⊥) → (code ≡ 5 → ⊥) → (code ≡ 6 → ⊥) → (code ≡ 15 → ⊥) → end ≡ CallEnd.Error E_UNKSVC → Represents processes m → Ends (gets_status (asker_of m p now) files it code) 1 m files now p end processes new views views
+module _ (m : Inner) (files : Files) (now : TimePacket) (p : ℕ) (end : CallEnd) (processes : ProcState) (state new : FileState) (views : List DriveView) (terms : List TerminalState) (it : OpenFile) (regs : Regs) (same : regs ≡ regs_at m p) (stands : StandsFor state views files) (new_is : new ≡ uncalled state p) where
+  pub getting-unknown : (code : ℕ) → (code ≡ 0 → ⊥) → (code ≡ 1 → ⊥) → (code ≡ 2 → ⊥) → (code ≡ 5 → ⊥) → (code ≡ 6 → ⊥) → (code ≡ 15 → ⊥) → end ≡ CallEnd.Error E_UNKSVC → Represents processes m → Ends (gets_status (asker_of m p now) files it code) 1 m files now p end processes new views views terms
   getting-unknown code n0 n1 n2 n5 n6 n15 is_end tied =
-      subst (λ step. Ends step 1 m files now p end processes new views views)
+      subst (λ step. Ends step 1 m files now p end processes new views views terms)
       (sym (six-fail (code == 0) (code == 1) (code == 2) (code == 5) (code == 6) (code == 15) _ _ _ _ _ _ (refused E_UNKSVC) (ne_eqb code 0 n0) (ne_eqb code 1 n1) (ne_eqb code 2 n2) (ne_eqb code 5 n5) (ne_eqb code 6 n6) (ne_eqb code 15 n15)))
-      (ends-refused (refused E_UNKSVC) 1 m files now p end processes state new views E_UNKSVC refl is_end tied stands new_is)
+      (ends-refused (refused E_UNKSVC) 1 m files now p end processes state new views terms E_UNKSVC refl is_end tied stands new_is)
 
-  pub setting-unknown : (most code : ℕ) → (code ≡ 2 → ⊥) → (code ≡ 28 → ⊥) → end ≡ CallEnd.Error E_UNKSVC → Represents processes m → Ends (sets_status (asker_of m p now) files it code) most m files now p end processes new views views
+  pub setting-unknown : (most code : ℕ) → (code ≡ 2 → ⊥) → (code ≡ 28 → ⊥) → end ≡ CallEnd.Error E_UNKSVC → Represents processes m → Ends (sets_status (asker_of m p now) files it code) most m files now p end processes new views views terms
   setting-unknown most code n2 n28 is_end tied =
-      subst (λ step. Ends step most m files now p end processes new views views)
+      subst (λ step. Ends step most m files now p end processes new views views terms)
       (sym (two-fail (code == 2) (code == 28) _ _ (refused E_UNKSVC) (ne_eqb code 2 n2) (ne_eqb code 28 n28)))
-      (ends-refused (refused E_UNKSVC) most m files now p end processes state new views E_UNKSVC refl is_end tied stands new_is)
+      (ends-refused (refused E_UNKSVC) most m files now p end processes state new views terms E_UNKSVC refl is_end tied stands new_is)
 
   -- SS.Ready
-  pub ready-told : end ≡ CallEnd.Done → Represents processes (with_regs_of m p (record regs { b = 0 })) → Ends (gets_status (asker_of m p now) files it 1) 1 m files now p end processes new views views
+  pub ready-told : end ≡ CallEnd.Done → Represents processes (with_regs_of m p (record regs { b = 0 })) → Ends (gets_status (asker_of m p now) files it 1) 1 m files now p end processes new views views terms
   ready-told is_end tied =
-      ends-done (done (record (regs_at m p) { b = 0 }) files) 1 m files now p end processes state new views (record (regs_at m p) { b = 0 }) refl is_end
+      ends-done (done (record (regs_at m p) { b = 0 }) files) 1 m files now p end processes state new views terms (record (regs_at m p) { b = 0 }) refl is_end
       (subst (λ (r : Regs). Represents processes (with_regs_of m p (record r { b = 0 }))) same tied) stands new_is
 
   -- SS.Pos
-  pub position-told : (opened : KernelFile) → IsOpen files opened it → end ≡ CallEnd.Done → Represents processes (with_regs_of m p (long_regs regs opened.desc.at)) → Ends (gets_status (asker_of m p now) files it 5) 1 m files now p end processes new views views
+  pub position-told : (opened : KernelFile) → IsOpen files opened it → end ≡ CallEnd.Done → Represents processes (with_regs_of m p (long_regs regs opened.desc.at)) → Ends (gets_status (asker_of m p now) files it 5) 1 m files now p end processes new views views terms
   position-told opened open_is is_end tied =
-      ends-done (done (long_regs (regs_at m p) it.opened.desc.at) files) 1 m files now p end processes state new views (long_regs (regs_at m p) it.opened.desc.at) refl is_end
+      ends-done (done (long_regs (regs_at m p) it.opened.desc.at) files) 1 m files now p end processes state new views terms (long_regs (regs_at m p) it.opened.desc.at) refl is_end
       (subst (λ (desc : Desc). Represents processes (with_regs_of m p (long_regs (regs_at m p) desc.at))) (sym open_is.desc_is)
       (subst (λ (r : Regs). Represents processes (with_regs_of m p (long_regs r opened.desc.at))) same tied)) stands new_is

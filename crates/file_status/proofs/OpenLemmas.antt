@@ -17,7 +17,7 @@ use Rattle.file_state.specs.Opened.{IsFileOf}
 use Rattle.file_state.specs.Tie.{IsSound, StandsFor}
 use Rattle.file_state.specs.declared.state.FileState.{FileState}
 use Rattle.file_state.specs.declared.state.OpenFile.{OpenFile as KernelFile}
-use Rattle.file_status.specs.Ends.{IsOpen}
+use Rattle.file_status.specs.Status.{IsOpen}
 
 and-then : {A B : Type 0} (f : A → Option B) (o : Option A) (b : B) → option_and_then f o ≡ Some b → (a : A) × (o ≡ Some a) × (f a ≡ Some b)
 and-then f None b h = absurd (none-some b h)

@@ -5,7 +5,7 @@ ghost use Rattle.io_rules.specs.Io.{kept_at};
 ghost use Rattle.proc_rules.specs.Records.{IsLiving};
 ghost use Rattle.call_rules.specs.Inner.{Inner, with_regs_of};
 ghost use Rattle.proc_state.specs.Tie.{Represents};
-ghost use Rattle.file_status.specs.Ends.{uncalled};
+ghost use Rattle.file_status.specs.Status.{uncalled};
 
 use file_state::state::FileState;
 use os9_base::call::CallEnd;

@@ -15,9 +15,10 @@ ghost use Rattle.file_drives.specs.Drives.{DriveView, drive_views};
 ghost use Rattle.file_drives.specs.Mounted.{HasFileAt};
 ghost use Rattle.file_state.specs.Attempt.{standing};
 ghost use Rattle.file_state.specs.Counted.{AttemptsWithin};
+ghost use Rattle.file_state.specs.Ends.{Ends};
 ghost use Rattle.file_state.specs.Tie.{IsSound, StandsFor};
 ghost use Rattle.file_state.specs.declared.state.OpenFile.{OpenFile as KernelFile};
-ghost use Rattle.file_status.specs.Ends.{Ends, IsNamedInA, IsOpen, gets_options as gets_options_lem, i_getstt_calls};
+ghost use Rattle.file_status.specs.Status.{IsNamedInA, IsOpen, gets_options as gets_options_lem, i_getstt_calls};
 
 use crate::ends::{answer, refuse};
 use crate::front::{descriptor_front, file_options, long_regs};
@@ -79,12 +80,12 @@ fn get_status_of(
     requires there { HasFileAt files.old.disks
         (drive_views ⟦<dyn BlockDriver as BlockDriver>⟧ devices.old.drives.items) opened.now.place }
     ensures call { (m : Inner) (was : Files) (now : TimePacket) (it : RulesFile)
-        → Represents s.old m → StandsFor files.old
+        (terms : List TerminalState) → Represents s.old m → StandsFor files.old
         (drive_views ⟦<dyn BlockDriver as BlockDriver>⟧ devices.old.drives.items) was
         → IsOpen was opened.now it → (code : ℕ) → code ≡ (regs_at m p.0).b
         → Ends (gets_status_lem (asker_of m p.0 now) was it code) 1 m was now p.0 result s.new
         files.new (drive_views ⟦<dyn BlockDriver as BlockDriver>⟧ devices.old.drives.items)
-        (drive_views ⟦<dyn BlockDriver as BlockDriver>⟧ devices.new.drives.items) }
+        (drive_views ⟦<dyn BlockDriver as BlockDriver>⟧ devices.new.drives.items) terms }
     ensures lives { IsLiving s.new.table p.0 }
     ensures terms_kept { devices.new.terms ≡ devices.old.terms }
 {
@@ -105,10 +106,10 @@ fn get_options(s: &mut ProcState, files: &mut FileState, p: Pid) -> CallEnd
     requires lives { IsLiving s.old.table p.0 }
     requires first { kept_at files.old.io p.0 ≡ None }
     ensures call { (m : Inner) (was : Files) (now : TimePacket) (it : RulesFile)
-        (opened : KernelFile) (views : List DriveView) → Represents s.old m
+        (terms : List TerminalState) (opened : KernelFile) (views : List DriveView) → Represents s.old m
         → StandsFor files.old views was → IsOpen was opened it
         → Ends (gets_options_lem (asker_of m p.0 now) was it) 1 m was now p.0 result s.new
-        files.new views views }
+        files.new views views terms }
     ensures lives { IsLiving s.new.table p.0 }
 {
     let regs = s.regs(p);
@@ -132,12 +133,12 @@ fn get_size(
     requires there { HasFileAt files.old.disks
         (drive_views ⟦<dyn BlockDriver as BlockDriver>⟧ devices.old.drives.items) opened.now.place }
     ensures call { (m : Inner) (was : Files) (now : TimePacket) (it : RulesFile)
-        → Represents s.old m → StandsFor files.old
+        (terms : List TerminalState) → Represents s.old m → StandsFor files.old
         (drive_views ⟦<dyn BlockDriver as BlockDriver>⟧ devices.old.drives.items) was
         → IsOpen was opened.now it
         → Ends (gets_size_lem (asker_of m p.0 now) was it) 1 m was now p.0 result s.new
         files.new (drive_views ⟦<dyn BlockDriver as BlockDriver>⟧ devices.old.drives.items)
-        (drive_views ⟦<dyn BlockDriver as BlockDriver>⟧ devices.new.drives.items) }
+        (drive_views ⟦<dyn BlockDriver as BlockDriver>⟧ devices.new.drives.items) terms }
     ensures lives { IsLiving s.new.table p.0 }
     ensures terms_kept { devices.new.terms ≡ devices.old.terms }
 {
@@ -161,12 +162,12 @@ fn get_end(
     requires there { HasFileAt files.old.disks
         (drive_views ⟦<dyn BlockDriver as BlockDriver>⟧ devices.old.drives.items) opened.now.place }
     ensures call { (m : Inner) (was : Files) (now : TimePacket) (it : RulesFile)
-        → Represents s.old m → StandsFor files.old
+        (terms : List TerminalState) → Represents s.old m → StandsFor files.old
         (drive_views ⟦<dyn BlockDriver as BlockDriver>⟧ devices.old.drives.items) was
         → IsOpen was opened.now it
         → Ends (gets_end_lem (asker_of m p.0 now) was it) 1 m was now p.0 result s.new
         files.new (drive_views ⟦<dyn BlockDriver as BlockDriver>⟧ devices.old.drives.items)
-        (drive_views ⟦<dyn BlockDriver as BlockDriver>⟧ devices.new.drives.items) }
+        (drive_views ⟦<dyn BlockDriver as BlockDriver>⟧ devices.new.drives.items) terms }
     ensures lives { IsLiving s.new.table p.0 }
     ensures terms_kept { devices.new.terms ≡ devices.old.terms }
 {
@@ -195,12 +196,12 @@ fn get_descriptor(
     requires there { HasFileAt files.old.disks
         (drive_views ⟦<dyn BlockDriver as BlockDriver>⟧ devices.old.drives.items) opened.now.place }
     ensures call { (m : Inner) (was : Files) (now : TimePacket) (it : RulesFile)
-        → Represents s.old m → StandsFor files.old
+        (terms : List TerminalState) → Represents s.old m → StandsFor files.old
         (drive_views ⟦<dyn BlockDriver as BlockDriver>⟧ devices.old.drives.items) was
         → IsOpen was opened.now it
         → Ends (gets_descriptor_lem (asker_of m p.0 now) was it) 1 m was now p.0 result s.new
         files.new (drive_views ⟦<dyn BlockDriver as BlockDriver>⟧ devices.old.drives.items)
-        (drive_views ⟦<dyn BlockDriver as BlockDriver>⟧ devices.new.drives.items) }
+        (drive_views ⟦<dyn BlockDriver as BlockDriver>⟧ devices.new.drives.items) terms }
     ensures lives { IsLiving s.new.table p.0 }
     ensures terms_kept { devices.new.terms ≡ devices.old.terms }
 {

@@ -15,8 +15,9 @@ ghost use Rattle.file_drives.specs.Drives.{drive_views};
 ghost use Rattle.file_drives.specs.Mounted.{HasDataFileAt, HasFileAt};
 ghost use Rattle.file_state.specs.Attempt.{standing};
 ghost use Rattle.file_state.specs.Counted.{AttemptsWithin};
+ghost use Rattle.file_state.specs.Ends.{Ends};
 ghost use Rattle.file_state.specs.Tie.{IsSound, StandsFor};
-ghost use Rattle.file_status.specs.Ends.{Ends, IsNamedInA, IsOpen, i_setstt_calls, setting_calls};
+ghost use Rattle.file_status.specs.Status.{IsNamedInA, IsOpen, i_setstt_calls, setting_calls};
 
 use crate::ends::{answer, refuse};
 use crate::front::long_of;
@@ -37,12 +38,13 @@ use proc_state::state::ProcState;
 ///
 /// # Errors
 ///
-/// In this order: E$UnkSvc exactly if the code is another one. Of SS.Size E$BMode exactly if the
-/// path may not be written, then E$Full exactly if fewer clusters are free than it needs, then
-/// E$SLF if a cluster that was chosen finds no place in the list of segments. Of SS.Attr E$FNA
-/// exactly if the user is neither the owner nor user 0. Nothing has changed then. The number of the
-/// drive's fault if it fails: then SS.Attr has changed nothing, and SS.Size has left what a fault
-/// may leave.
+/// In this order: E$UnkSvc exactly if the code is another one; of SS.Size E$BMode exactly if the
+/// path may not be written; the number of the drive's fault if it fails; of SS.Size E$Full exactly
+/// if fewer clusters are free than it needs, then E$SLF if a cluster that was chosen finds no place
+/// in the list of segments; of SS.Attr E$FNA exactly if the user is neither the owner nor user 0.
+/// Nothing has changed then, but for the counts of the drive; where a fault has ended SS.Size, the
+/// volume is what a fault may leave. The drive is not called where the call is refused before it is
+/// reached.
 pub fn set_status(
     s: &mut ProcState,
     files: &mut FileState,
@@ -82,14 +84,14 @@ fn set_status_of(
         (drive_views ⟦<dyn BlockDriver as BlockDriver>⟧ devices.old.drives.items) opened.now.place }
     requires written { can_write_lem opened.now.desc.mode ≡ true → HasDataFileAt files.old.disks
         (drive_views ⟦<dyn BlockDriver as BlockDriver>⟧ devices.old.drives.items) opened.now.place }
-    ensures call { (m : Inner) (was : Files) (it : RulesFile) → Represents s.old m
-        → StandsFor files.old
+    ensures call { (m : Inner) (was : Files) (it : RulesFile) (terms : List TerminalState)
+        → Represents s.old m → StandsFor files.old
         (drive_views ⟦<dyn BlockDriver as BlockDriver>⟧ devices.old.drives.items) was
         → IsOpen was opened.now it → (code : ℕ) → code ≡ (regs_at m p.0).b
         → Ends (sets_status_lem (asker_of m p.0 now) was it code)
         (setting_calls (asker_of m p.0 now) it code) m was now p.0 result s.new files.new
         (drive_views ⟦<dyn BlockDriver as BlockDriver>⟧ devices.old.drives.items)
-        (drive_views ⟦<dyn BlockDriver as BlockDriver>⟧ devices.new.drives.items) }
+        (drive_views ⟦<dyn BlockDriver as BlockDriver>⟧ devices.new.drives.items) terms }
     ensures lives { IsLiving s.new.table p.0 }
     ensures terms_kept { devices.new.terms ≡ devices.old.terms }
 {
@@ -121,14 +123,14 @@ fn set_size(
     requires first { kept_at files.old.io p.0 ≡ None }
     requires written { can_write_lem opened.now.desc.mode ≡ true → HasDataFileAt files.old.disks
         (drive_views ⟦<dyn BlockDriver as BlockDriver>⟧ devices.old.drives.items) opened.now.place }
-    ensures call { (m : Inner) (was : Files) (it : RulesFile) → Represents s.old m
-        → StandsFor files.old
+    ensures call { (m : Inner) (was : Files) (it : RulesFile) (terms : List TerminalState)
+        → Represents s.old m → StandsFor files.old
         (drive_views ⟦<dyn BlockDriver as BlockDriver>⟧ devices.old.drives.items) was
         → IsOpen was opened.now it
         → Ends (sets_size_lem (asker_of m p.0 now) was it)
         (setting_calls (asker_of m p.0 now) it SS_SIZE) m was now p.0 result s.new files.new
         (drive_views ⟦<dyn BlockDriver as BlockDriver>⟧ devices.old.drives.items)
-        (drive_views ⟦<dyn BlockDriver as BlockDriver>⟧ devices.new.drives.items) }
+        (drive_views ⟦<dyn BlockDriver as BlockDriver>⟧ devices.new.drives.items) terms }
     ensures lives { IsLiving s.new.table p.0 }
     ensures terms_kept { devices.new.terms ≡ devices.old.terms }
 {
@@ -156,14 +158,14 @@ fn set_attributes(
     requires first { kept_at files.old.io p.0 ≡ None }
     requires there { HasFileAt files.old.disks
         (drive_views ⟦<dyn BlockDriver as BlockDriver>⟧ devices.old.drives.items) opened.now.place }
-    ensures call { (m : Inner) (was : Files) (it : RulesFile) → Represents s.old m
-        → StandsFor files.old
+    ensures call { (m : Inner) (was : Files) (it : RulesFile) (terms : List TerminalState)
+        → Represents s.old m → StandsFor files.old
         (drive_views ⟦<dyn BlockDriver as BlockDriver>⟧ devices.old.drives.items) was
         → IsOpen was opened.now it
         → Ends (sets_attributes_lem (asker_of m p.0 now) was it)
         (setting_calls (asker_of m p.0 now) it SS_ATTR) m was now p.0 result s.new files.new
         (drive_views ⟦<dyn BlockDriver as BlockDriver>⟧ devices.old.drives.items)
-        (drive_views ⟦<dyn BlockDriver as BlockDriver>⟧ devices.new.drives.items) }
+        (drive_views ⟦<dyn BlockDriver as BlockDriver>⟧ devices.new.drives.items) terms }
     ensures lives { IsLiving s.new.table p.0 }
     ensures terms_kept { devices.new.terms ≡ devices.old.terms }
 {

@@ -1,5 +1,5 @@
 -- I$ChgDir in two parts.
-use Rattle.std.proofs.Common.{◌≡◌, ◌∙◌, ℕ, ◌%◌, not, Bool, true, false, Option, None, List, Result, Ok, Err, refl, ap, sym, subst}
+use Rattle.std.proofs.Common.{◌≡◌, ◌∙◌, ℕ, ◌%◌, ◌+◌, ◌≤◌, not, Bool, true, false, Option, None, List, Result, Ok, Err, refl, ap, sym, subst}
 use Rattle.os9_base.specs.declared.errors.TheConstants.{E_FNA}
 use Rattle.os9_base.specs.declared.registers.Regs.{Regs}
 use Rattle.user_names.specs.declared.name_fault.NameFault.{NameFault}
@@ -23,9 +23,12 @@ use Rattle.file_rules.specs.Step.{FileStep, Step, refused, comes, leaves, reache
 use Rattle.file_rules.specs.Way.{Way, along, to_device, nowhere, Found, list_of, reads_list, walks, way_of}
 use Rattle.file_rules.specs.declared.places.FilePlace.{FilePlace}
 use Rattle.file_ways.specs.Ways.{mode_refusal, next_step, refuses_by}
+use Rattle.file_tree.proofs.CallLemmas.{located-seen, located-within}
 use Rattle.file_tree.proofs.LookLemmas.{walks-on}
+use Rattle.file_tree.specs.Calls.{i_chgdir_calls, located_calls}
 use Rattle.file_tree.specs.ChgDir.{allows_to_go, goes_there, looks_for_directory}
 use Rattle.file_tree.specs.Locating.{FoundBy, found_by, locates, locates_on}
+use Rattle.file_tree.specs.Looks.{answer_of}
 
 -- on from a step, and on again
 on-twice : {A B E : Type 0} (step : Step A) (first : A → Step B) (last : B → Step E) → next_step (next_step step first) last ≡ next_step step (λ it. next_step (first it) last)
@@ -68,6 +71,18 @@ pub looks-same : (asker : Asker) (files : Files) (terms : ℕ) (regs : Regs) (ex
 looks-same asker files terms regs execute allowed refusal same execute_is allowed_is refusal_is =
     ap (λ (execute : Bool). next_step (locates asker files terms execute refusal) (allows_to_go asker)) (execute_is ∙ ap (λ (regs : Regs). is_for_execution regs.a) same)
     ∙ ap (λ (refusal : Option ℕ). next_step (locates asker files terms (is_for_execution asker.caller.regs.a) refusal) (allows_to_go asker)) (refusal_is ∙ ap mode_refusal (allowed_is ∙ ap (λ (regs : Regs). is_mode regs.a) same))
+
+-- and the calls of the walk are a part of its calls, beside one for what was found
+module _ (asker : Asker) (files : Files) (terms : ℕ) (execute : Bool) (same : execute ≡ is_for_execution asker.caller.regs.a) where
+  pub chgdir-seen : located_calls asker files terms execute (λ v file. 0) ≤ i_chgdir_calls asker files terms
+  chgdir-seen =
+      subst (λ (e : Bool). located_calls asker files terms execute (λ v file. 0) ≤ located_calls asker files terms e (λ v file. 1)) same
+      (located-seen asker files terms execute (λ v file. 1))
+
+  pub chgdir-within : (refusal : Option ℕ) (it : FoundBy) → answer_of (locates asker files terms execute refusal) ≡ Ok it → located_calls asker files terms execute (λ v file. 0) + 1 ≤ i_chgdir_calls asker files terms
+  chgdir-within refusal it is =
+      subst (λ (e : Bool). located_calls asker files terms execute (λ v file. 0) + 1 ≤ located_calls asker files terms e (λ v file. 1)) same
+      (located-within asker files terms execute (λ v file. 1) it refusal is)
 
 -- the call of a process is done, and its directory is another one
 pub gone-there : (mid final : FileState) (views : List DriveView) (was : Files) (p : ℕ) (regs : Regs) (io : Io) (execute searched : Bool) (place found : FilePlace) → io ≡ with_call mid.io p None → execute ≡ searched → found ≡ place → StandsFor mid views (with_drives was (drive_states views)) → ((views : List DriveView) (files : Files) → StandsFor (record { io = io; disks = mid.disks; directories = mid.directories }) views files → StandsFor final views (with_directories_of files p (with_directory (directories_at files p) execute place))) → StandsFor final views (files_after p (with_drives_after (leaves (answers regs) (with_directories_of was p (with_directory (directories_at was p) searched found))) (drive_states views)))

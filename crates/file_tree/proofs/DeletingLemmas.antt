@@ -1,7 +1,8 @@
 -- A file that is deleted from a directory that was found.
-use Rattle.std.proofs.Common.{◌≡◌, ◌∙◌, ℕ, ◌%◌, not, Bool, true, false, Option, Some, None, List, Result, Ok, Err, inl, inr, refl, ap, sym, subst, if◌then◌else◌, ltb, arith}
+use Rattle.std.proofs.Common.{◌≡◌, ◌∙◌, ℕ, ◌+◌, ◌%◌, not, Bool, true, false, Option, Some, None, List, Result, Ok, Err, inl, inr, refl, ap, sym, subst, if◌then◌else◌, ltb, arith}
 use Rattle.std.proofs.lemmas.Bool.{false≢true}
 use borrow.Author.Tests.{ltb-true}
+use Rattle.std.specs.Option.{option_map_or}
 use Rattle.os9_base.specs.declared.errors.TheConstants.{E_FNA, E_PNNF, E_SHARE}
 use Rattle.rbf_model.specs.File.{DiskFile}
 use Rattle.rbf_model.specs.Volume.{DiskVolume}
@@ -11,7 +12,7 @@ use Rattle.rbf_change.specs.Names.{deletion_end, deletion_of, may_change, may_de
 use Rattle.rbf_access.specs.Faults.{file_error}
 use Rattle.rbf_access.specs.declared.faults.FileFault.{FileFault}
 use Rattle.rbf_access.specs.declared.faults.FileFault.TheVariants.{Device, NoCluster, TooManyRuns}
-use Rattle.rbf_update.specs.Deletions.{descriptor_found}
+use Rattle.rbf_update.specs.Deletions.{deletion_calls, descriptor_found}
 use Rattle.rbf_update.specs.declared.deletion.Deletable.{Deletable}
 use Rattle.rbf_walk.specs.Walk.{AnswersWalk, directory_error, directory_fault}
 use Rattle.rbf_walk.specs.declared.error.DirError.{DirError}
@@ -23,19 +24,23 @@ use Rattle.file_rules.specs.Sharing.{is_open}
 use Rattle.file_rules.specs.Step.{FileStep, Step, VolumeChange, comes, changes, deed_of, drive_of, leaves, leaves_so, needs, refuses, refuses_so}
 use Rattle.file_rules.specs.declared.places.FilePlace.{FilePlace}
 use Rattle.io_rules.specs.Step.{answers}
+use Rattle.file_drives.specs.Calls as drives
 use Rattle.file_drives.specs.Changed.{Asked, ChangesVolume, file_answer}
 use Rattle.file_drives.specs.Drives.{DriveView, drive_states}
 use Rattle.file_drives.specs.Entries.{IsDeletableOn, IsDeletionOn}
 use Rattle.file_drives.specs.Mounted.{OnDisks, ReadsFile}
 use Rattle.file_state.proofs.EndLemmas.{WritesNothing, asked_of}
+use Rattle.file_state.proofs.CountLemmas.{called-more, called-then}
+use Rattle.file_state.specs.Counted.{CalledAtMost}
 use Rattle.file_state.specs.Reached.{HasChanged, HasRead}
 use Rattle.file_state.specs.Tie.{StandsFor}
 use Rattle.file_state.specs.declared.state.FileState.{FileState}
 use Rattle.file_ways.specs.Ways.{next_step}
 use Rattle.file_ways.specs.declared.way.Purpose.TheVariants.{Existing}
 use Rattle.file_tree.proofs.AgainLemmas as again
+use Rattle.file_tree.proofs.LookLemmas.{found-calls, found-read}
 use Rattle.file_tree.proofs.TryLemmas.{refuses-quiet, tries-broken, tries-broken-change, tries-changed, tries-refused}
-use Rattle.file_tree.specs.Delete.{deletes_it}
+use Rattle.file_tree.specs.Delete.{deletes_it, deletes_it_calls}
 use Rattle.file_tree.specs.Looks.{HasFound}
 use Rattle.file_tree.specs.Naming.{IsNamed, NamedBy}
 use Rattle.file_tree.specs.Tries.{Tries}
@@ -76,6 +81,16 @@ module _ (wanted : ℕ → Bool) (next : ℕ → FileStep) (files : Files) where
   wanted-deed n m true is =
       let same : n ≡ m = (let e : arrives n ≡ arrives m = is in cc) in ap (λ (n : ℕ). deed_of (next n) files) same
   wanted-deed n m false is = absurd (let no : not_allowed ≡ arrives m = is in cc)
+
+  found-named : (may : Bool) (named : Option ℕ) (m : ℕ) → ladder-end may named wanted ≡ arrives m → named ≡ Some m
+  found-named false named m is = absurd (let no : not_allowed ≡ arrives m = is in cc)
+  found-named true None m is = absurd (let no : not_found ≡ arrives m = is in cc)
+  found-named true (Some n) m is = by (wanted n) is
+    where
+      by : (b : Bool) → (if b then arrives n else not_allowed) ≡ arrives m → Some n ≡ Some m
+      by true is =
+          let same : n ≡ m = (let e : arrives n ≡ arrives m = is in cc) in ap (λ (n : ℕ). Some n) same
+      by false is = absurd (let no : not_allowed ≡ arrives m = is in cc)
 
   found-deed : (may : Bool) (named : Option ℕ) (m : ℕ) → ladder-end may named wanted ≡ arrives m → deed_of (ladder may named wanted next) files ≡ deed_of (next m) files
   found-deed false named m is = absurd (let no : not_allowed ≡ arrives m = is in cc)
@@ -122,7 +137,7 @@ module _ (asker : Asker) (files : Files) (execute : Bool) (it : NamedBy) where
 
 -- ---- by what was answered
 
-module _ (user : ℕ) (execute : Bool) (last : LastLocated) (look : Step NamedBy) (asker : Asker) (files : Files) (old new : FileState) (before now : List DriveView) (who : asker.user ≡ user) (loc : HasFound (IsNamed Existing look files) look last files old before) where
+module _ (user : ℕ) (execute : Bool) (last : LastLocated) (look : Step NamedBy) (seen : ℕ) (asker : Asker) (files : Files) (old new : FileState) (before between now : List DriveView) (who : asker.user ≡ user) (loc : HasFound (IsNamed Existing look files) look seen last files old before between) (called : CalledAtMost (deletes_it_calls seen asker execute loc.it) before now) where
   abbrev it : NamedBy
   it = loc.it
 
@@ -144,14 +159,17 @@ module _ (user : ℕ) (execute : Bool) (last : LastLocated) (look : Step NamedBy
   pub file-is : v.files last.directory.number ≡ Some dir
   file-is = ap (λ (at : FilePlace). v.files at.number) (sym loc.is.place_is) ∙ loc.is.there.file_is
 
-  at : drive_of look ≡ Some last.directory.drive
+  pub at : drive_of look ≡ Some last.directory.drive
   at = loc.is.reached ∙ ap (λ (place : FilePlace). Some place.drive) loc.is.place_is
 
   abbrev step : FileStep
   step = next_step look (deletes_it asker files execute)
 
-  refused-by : (number : ℕ) → HasRead None last.directory.drive files new now → deed_of (deletes_it asker files execute it) files ≡ leaves_so (refuses_so number files) → Tries step asker files (Err number) new now
-  refused-by number read deed = tries-refused look (deletes_it asker files execute) asker files it loc.answer new now number last.directory.drive read deed
+  abbrev most : ℕ
+  most = deletes_it_calls seen asker execute it
+
+  refused-by : (number : ℕ) → HasRead None last.directory.drive files new before now → deed_of (deletes_it asker files execute it) files ≡ leaves_so (refuses_so number files) → Tries step most asker files (Err number) new before now
+  refused-by number read deed = tries-refused look (deletes_it asker files execute) most asker files it loc.answer new before now called last.directory.drive at number read deed
 
   -- the name is looked for
   pub entry-answers : (result : Result ℕ DirError) → AnswersWalk (deletion_end v.files dir last.name user execute) result → AnswersWalk (deletion_end v.files dir it.name asker.user execute) result
@@ -159,7 +177,7 @@ module _ (user : ℕ) (execute : Bool) (last : LastLocated) (look : Step NamedBy
       subst (λ (user : ℕ). AnswersWalk (deletion_end v.files dir it.name user execute) result) (sym who)
       (subst (λ (name : List ℕ). AnswersWalk (deletion_end v.files dir name user execute) result) (sym loc.is.name_is) fact)
 
-  pub no-entry : (error : DirError) → AnswersWalk (deletion_end v.files dir it.name asker.user execute) (Err error) → HasRead (directory_fault {A = Deletable} (Err error)) last.directory.drive files new now → Tries step asker files (Err (directory_error error)) new now
+  pub no-entry : (error : DirError) → AnswersWalk (deletion_end v.files dir it.name asker.user execute) (Err error) → HasRead (directory_fault {A = Deletable} (Err error)) last.directory.drive files new before now → Tries step most asker files (Err (directory_error error)) new before now
   no-entry NotAllowed fact read =
       refused-by E_FNA read (forbidden-deed (is_wanted asker files execute it) (deleted asker files execute it) files may named (by-end asker files execute it not_allowed fact))
   no-entry BadPath fact read = absurd fact
@@ -167,12 +185,15 @@ module _ (user : ℕ) (execute : Bool) (last : LastLocated) (look : Step NamedBy
       refused-by E_PNNF read (unfound-deed (is_wanted asker files execute it) (deleted asker files execute it) files may named (by-end asker files execute it not_found fact))
   no-entry Exists fact read = absurd fact
   no-entry (File (Device number)) fact read =
-      tries-broken look (deletes_it asker files execute) asker files it loc.answer new now last.directory.drive v at volume-is number (deletes-quiet asker files execute it) read
+      tries-broken look (deletes_it asker files execute) most asker files it loc.answer new before now called last.directory.drive at v volume-is number (deletes-quiet asker files execute it) read
   no-entry (File NoCluster) fact read = absurd fact
   no-entry (File TooManyRuns) fact read = absurd fact
 
   -- the file that the entry names
   module _ (n : ℕ) (ends : deletion_end v.files dir it.name asker.user execute ≡ arrives n) (shared : Bool) (shared_is : shared ≡ is_open files (record { drive = last.directory.drive; number = n })) where
+    pub names-it : named ≡ Some n
+    names-it = found-named (is_wanted asker files execute it) (deleted asker files execute it) files may named n (by-end asker files execute it (arrives n) ends)
+
     deed : deed_of (deletes_it asker files execute it) files ≡ deed_of (refuses shared E_SHARE (comes (changes (deletion asker files execute it n)))) files
     deed =
         found-deed (is_wanted asker files execute it) (deleted asker files execute it) files may named n (by-end asker files execute it (arrives n) ends)
@@ -180,7 +201,7 @@ module _ (user : ℕ) (execute : Bool) (last : LastLocated) (look : Step NamedBy
         (ap (λ (at : FilePlace). is_open files (record { drive = at.drive; number = n })) loc.is.place_is ∙ sym shared_is)
 
     -- a path is on it
-    pub is-shared : shared ≡ true → HasRead None last.directory.drive files new now → Tries step asker files (Err E_SHARE) new now
+    pub is-shared : shared ≡ true → HasRead None last.directory.drive files new before now → Tries step most asker files (Err E_SHARE) new before now
     is-shared is read = refused-by E_SHARE read (deed ∙ ap (λ (b : Bool). deed_of (refuses b E_SHARE (comes (changes (deletion asker files execute it n)))) files) is)
 
     -- no path is
@@ -199,18 +220,18 @@ module _ (user : ℕ) (execute : Bool) (last : LastLocated) (look : Step NamedBy
           ap (λ (at : FilePlace). deletes at.number n it.name) loc.is.place_is
           ∙ ap (λ (name : List ℕ). deletes last.directory.number n name) loc.is.name_is
 
-      as-asked : (answer : Result ℕ DirError) → HasChanged asked answer last.directory.drive v dir files new now → HasChanged asked answer change.drive v dir files new now
-      as-asked answer changed = subst (λ (drive : ℕ). HasChanged asked answer drive v dir files new now) (ap (λ (at : FilePlace). at.drive) (sym loc.is.place_is)) changed
+      as-asked : (answer : Result ℕ DirError) → HasChanged asked answer last.directory.drive v dir files new before now → HasChanged asked answer change.drive v dir files new before now
+      as-asked answer changed = subst (λ (drive : ℕ). HasChanged asked answer drive v dir files new before now) (ap (λ (at : FilePlace). at.drive) (sym loc.is.place_is)) changed
 
-      pub is-deleted : HasChanged asked (Ok 0) last.directory.drive v dir files new now → Tries step asker files (Ok last.next) new now
+      pub is-deleted : HasChanged asked (Ok 0) last.directory.drive v dir files new before now → Tries step most asker files (Ok last.next) new before now
       is-deleted changed =
-          tries-changed look (deletes_it asker files execute) asker files it loc.answer new now change v dir loc.is.reached loc.is.there.volume_is changing 0 last.next
+          tries-changed look (deletes_it asker files execute) most asker files it loc.answer new before now called change v dir loc.is.reached loc.is.there.volume_is loc.is.there.file_is changing 0 last.next
           (ap (λ (next : ℕ). leaves (answers (record asker.caller.regs { x = next % 65536 })) files) (sym loc.is.next_is))
           (as-asked (Ok 0) changed)
 
-      pub not-deleted : (fault : FileFault) → HasChanged asked (file_answer (Err fault)) last.directory.drive v dir files new now → Tries step asker files (Err (file_error fault)) new now
+      pub not-deleted : (fault : FileFault) → HasChanged asked (file_answer (Err fault)) last.directory.drive v dir files new before now → Tries step most asker files (Err (file_error fault)) new before now
       not-deleted (Device number) changed =
-          tries-broken-change look (deletes_it asker files execute) asker files it loc.answer new now change v dir loc.is.reached loc.is.there.volume_is changing number
+          tries-broken-change look (deletes_it asker files execute) most asker files it loc.answer new before now called change v dir loc.is.reached loc.is.there.volume_is loc.is.there.file_is changing number loc.drives_are
           (as-asked (Err (File (Device number))) changed)
       not-deleted NoCluster changed = absurd (never-below (free_total v) changed.answers.few)
         where
@@ -223,7 +244,7 @@ module _ (user : ℕ) (execute : Bool) (last : LastLocated) (look : Step NamedBy
 
 -- ---- as the calls of the drive answered
 
-module _ (user : ℕ) (execute : Bool) (last : LastLocated) (look : Step NamedBy) (asker : Asker) (files : Files) (old mid : FileState) (before views : List DriveView) (who : asker.user ≡ user) (loc : HasFound (IsNamed Existing look files) look last files old before) (found : Result Deletable DirError) (io : mid.io ≡ old.io) (directories : mid.directories ≡ old.directories) (answer : OnDisks old.disks before last.directory (λ v file. AnswersWalk (deletion_end v.files file last.name user execute) (descriptor_found found))) (most : DiskVolume → DiskFile → ℕ) (reads : ReadsFile last.directory (directory_fault found) most old.disks before mid.disks views) where
+module _ (user : ℕ) (execute : Bool) (last : LastLocated) (look : Step NamedBy) (seen : ℕ) (asker : Asker) (files : Files) (old mid : FileState) (before between views : List DriveView) (who : asker.user ≡ user) (loc : HasFound (IsNamed Existing look files) look seen last files old before between) (found : Result Deletable DirError) (io : mid.io ≡ old.io) (directories : mid.directories ≡ old.directories) (answer : OnDisks old.disks between last.directory (λ v file. AnswersWalk (deletion_end v.files file last.name user execute) (descriptor_found found))) (reads : ReadsFile last.directory (directory_fault found) (λ v file. deletion_calls file last.name user execute) old.disks between mid.disks views) where
   abbrev way : FileStep
   way = next_step look (deletes_it asker files execute)
 
@@ -233,59 +254,99 @@ module _ (user : ℕ) (execute : Bool) (last : LastLocated) (look : Step NamedBy
   abbrev folder : DiskFile
   folder = loc.it.directory.file
 
+  abbrev bound : ℕ
+  bound = deletes_it_calls seen asker execute loc.it
+
   volume-there : volume_at files last.directory.drive ≡ Some volume
-  volume-there = volume-is user execute last look asker files old mid before views who loc
+  volume-there = ap (λ (at : FilePlace). volume_at files at.drive) (sym loc.is.place_is) ∙ loc.is.there.volume_is
 
   file-there : volume.files last.directory.number ≡ Some folder
-  file-there = file-is user execute last look asker files old mid before views who loc
+  file-there = ap (λ (at : FilePlace). volume.files at.number) (sym loc.is.place_is) ∙ loc.is.there.file_is
+
+  searched : HasRead None last.directory.drive files old before between
+  searched =
+      found-read (IsNamed Existing look files) look seen files last old before between loc last.directory.drive
+      (loc.is.reached ∙ ap (λ (place : FilePlace). Some place.drive) loc.is.place_is)
+
+  -- the calls for the search and for the entry
+  same-calls : deletion_calls folder last.name user execute ≡ deletion_calls folder loc.it.name asker.user execute
+  same-calls =
+      ap (λ (name : List ℕ). deletion_calls folder name user execute) (sym loc.is.name_is)
+      ∙ ap (λ (u : ℕ). deletion_calls folder loc.it.name u execute) (sym who)
+
+  entry-calls : CalledAtMost (seen + deletion_calls folder last.name user execute) before views
+  entry-calls =
+      called-then seen (deletion_calls folder last.name user execute) before between views
+      (found-calls (IsNamed Existing look files) look seen files last old before between loc)
+      (again.read-calls files last.directory volume folder volume-there file-there old mid before between views searched (directory_fault found) (λ v file. deletion_calls file last.name user execute) reads)
+
+  called : CalledAtMost bound before views
+  called = called-more (seen + deletion_calls folder last.name user execute) bound before views (omega (arith, same-calls)) entry-calls
 
   fact : AnswersWalk (deletion_end volume.files folder last.name user execute) (descriptor_found found)
-  fact = again.of-found files last.directory volume folder volume-there file-there loc.drive old mid before views loc.read (λ v file. AnswersWalk (deletion_end v.files file last.name user execute) (descriptor_found found)) answer
+  fact = again.of-found files last.directory volume folder volume-there file-there old mid before between views searched (λ v file. AnswersWalk (deletion_end v.files file last.name user execute) (descriptor_found found)) answer
 
-  was-read : HasRead (directory_fault found) last.directory.drive files mid views
-  was-read = again.read-again files last.directory volume folder volume-there file-there loc.drive old mid before views loc.read (directory_fault found) most io directories reads
+  was-read : HasRead (directory_fault found) last.directory.drive files mid before views
+  was-read = again.read-again files last.directory volume folder volume-there file-there old mid before between views searched (directory_fault found) (λ v file. deletion_calls file last.name user execute) io directories reads
 
   -- no entry was found
-  pub entry-refused : (error : DirError) (number : ℕ) → found ≡ Err error → number ≡ directory_error error → Tries way asker files (Err number) mid views
+  pub entry-refused : (error : DirError) (number : ℕ) → found ≡ Err error → number ≡ directory_error error → Tries way bound asker files (Err number) mid before views
   entry-refused error number is number_is =
-      subst (λ (n : ℕ). Tries way asker files (Err n) mid views) (sym number_is)
-      (no-entry user execute last look asker files old mid before views who loc error
-      (entry-answers user execute last look asker files old mid before views who loc (Err error) (subst (λ (r : Result Deletable DirError). AnswersWalk (deletion_end volume.files folder last.name user execute) (descriptor_found r)) is fact))
-      (subst (λ (r : Result Deletable DirError). HasRead (directory_fault r) last.directory.drive files mid views) is was-read))
+      subst (λ (n : ℕ). Tries way bound asker files (Err n) mid before views) (sym number_is)
+      (no-entry user execute last look seen asker files old mid before between views who loc called error
+      (entry-answers user execute last look seen asker files old mid before between views who loc called (Err error) (subst (λ (r : Result Deletable DirError). AnswersWalk (deletion_end volume.files folder last.name user execute) (descriptor_found r)) is fact))
+      (subst (λ (r : Result Deletable DirError). HasRead (directory_fault r) last.directory.drive files mid before views) is was-read))
 
   module _ (entry : Deletable) (is : found ≡ Ok entry) (shared : Bool) (shared_so : (f : Files) → StandsFor mid views f → shared ≡ is_open f (record { drive = last.directory.drive; number = entry.descriptor })) where
     shared_is : shared ≡ is_open files (record { drive = last.directory.drive; number = entry.descriptor })
     shared_is = shared_so (with_drives files (drive_states views)) was-read.stands
 
     ends : deletion_end volume.files folder loc.it.name asker.user execute ≡ arrives entry.descriptor
-    ends = entry-answers user execute last look asker files old mid before views who loc (Ok entry.descriptor) (subst (λ (r : Result Deletable DirError). AnswersWalk (deletion_end volume.files folder last.name user execute) (descriptor_found r)) is fact)
+    ends = entry-answers user execute last look seen asker files old mid before between views who loc called (Ok entry.descriptor) (subst (λ (r : Result Deletable DirError). AnswersWalk (deletion_end volume.files folder last.name user execute) (descriptor_found r)) is fact)
 
-    read : HasRead None last.directory.drive files mid views
-    read = subst (λ (r : Result Deletable DirError). HasRead (directory_fault r) last.directory.drive files mid views) is was-read
+    read : HasRead None last.directory.drive files mid before views
+    read = subst (λ (r : Result Deletable DirError). HasRead (directory_fault r) last.directory.drive files mid before views) is was-read
 
-    pub file-shared : shared ≡ true → Tries way asker files (Err E_SHARE) mid views
-    file-shared taken = is-shared user execute last look asker files old mid before views who loc entry.descriptor ends shared shared_is taken read
+    pub file-shared : shared ≡ true → Tries way bound asker files (Err E_SHARE) mid before views
+    file-shared taken = is-shared user execute last look seen asker files old mid before between views who loc called entry.descriptor ends shared shared_is taken read
 
-    module _ (quiet : shared ≡ false) (new : FileState) (now : List DriveView) (new_io : new.io ≡ mid.io) (new_directories : new.directories ≡ mid.directories) (result : Result (Unit {0}) FileFault) (calls : DiskVolume → DiskFile → DiskVolume → ℕ) (at : IsDeletableOn views last.directory last.name entry) (deletes_so : (asked : Asked) → IsDeletionOn last.directory entry asked views → ChangesVolume last.directory asked (file_answer result) calls mid.disks views new.disks now) where
+    module _ (quiet : shared ≡ false) (new : FileState) (now : List DriveView) (new_io : new.io ≡ mid.io) (new_directories : new.directories ≡ mid.directories) (result : Result (Unit {0}) FileFault) (at : IsDeletableOn views last.directory last.name entry) (deletes_so : (asked : Asked) → IsDeletionOn last.directory entry asked views → ChangesVolume last.directory asked (file_answer result) (drives.deleting_calls entry.descriptor) mid.disks views new.disks now) where
       abbrev wanted : Asked
-      wanted = asked user execute last look asker files old new before now who loc entry.descriptor ends shared shared_is quiet
+      wanted = asked user execute last look seen asker files old mid before between views who loc called entry.descriptor ends shared shared_is quiet
 
-      changed : HasChanged wanted (file_answer result) last.directory.drive volume folder files new now
-      changed =
-          again.changed-again files last.directory volume folder volume-there file-there last.directory.drive mid new views now read wanted (file_answer result) calls new_io new_directories
-          (deletes_so wanted (record {
+      deleting-it : ChangesVolume last.directory wanted (file_answer result) (drives.deleting_calls entry.descriptor) mid.disks views new.disks now
+      deleting-it =
+          deletes_so wanted (record {
             name = last.name;
             is = at;
-            change_is = asked-is user execute last look asker files old new before now who loc entry.descriptor ends shared shared_is quiet;
-          }))
+            change_is = asked-is user execute last look seen asker files old mid before between views who loc called entry.descriptor ends shared shared_is quiet;
+          })
 
-      pub file-deleted : result ≡ Ok tt → Tries way asker files (Ok last.next) new now
+      changed : HasChanged wanted (file_answer result) last.directory.drive volume folder files new before now
+      changed = again.changed-again files last.directory volume folder volume-there file-there mid new before views now read wanted (file_answer result) (drives.deleting_calls entry.descriptor) new_io new_directories deleting-it
+
+      -- the calls for the deletion besides
+      abbrev freeing : ℕ
+      freeing = drives.deleting_calls entry.descriptor volume folder volume
+
+      freeing-is : option_map_or (λ n. drives.deleting_calls n volume folder volume) (look_up folder.contents loc.it.name) 0 ≡ freeing
+      freeing-is =
+          ap (λ (named : Option ℕ). option_map_or (λ n. drives.deleting_calls n volume folder volume) named 0)
+          (names-it user execute last look seen asker files old mid before between views who loc called entry.descriptor ends shared shared_is)
+
+      all-called : CalledAtMost bound before now
+      all-called =
+          called-more (seen + deletion_calls folder last.name user execute + freeing) bound before now (omega (arith, same-calls, freeing-is))
+          (called-then (seen + deletion_calls folder last.name user execute) freeing before views now entry-calls
+          (again.change-calls files last.directory volume folder volume-there file-there mid new before views now read wanted (file_answer result) (drives.deleting_calls entry.descriptor) freeing (λ left. omega arith) deleting-it))
+
+      pub file-deleted : result ≡ Ok tt → Tries way bound asker files (Ok last.next) new before now
       file-deleted done =
-          is-deleted user execute last look asker files old new before now who loc entry.descriptor ends shared shared_is quiet
-          (subst (λ (r : Result (Unit {0}) FileFault). HasChanged wanted (file_answer r) last.directory.drive volume folder files new now) done changed)
+          is-deleted user execute last look seen asker files old new before between now who loc all-called entry.descriptor ends shared shared_is quiet
+          (subst (λ (r : Result (Unit {0}) FileFault). HasChanged wanted (file_answer r) last.directory.drive volume folder files new before now) done changed)
 
-      pub file-kept : (fault : FileFault) (number : ℕ) → result ≡ Err fault → number ≡ file_error fault → Tries way asker files (Err number) new now
+      pub file-kept : (fault : FileFault) (number : ℕ) → result ≡ Err fault → number ≡ file_error fault → Tries way bound asker files (Err number) new before now
       file-kept fault number failed number_is =
-          subst (λ (n : ℕ). Tries way asker files (Err n) new now) (sym number_is)
-          (not-deleted user execute last look asker files old new before now who loc entry.descriptor ends shared shared_is quiet fault
-          (subst (λ (r : Result (Unit {0}) FileFault). HasChanged wanted (file_answer r) last.directory.drive volume folder files new now) failed changed))
+          subst (λ (n : ℕ). Tries way bound asker files (Err n) new before now) (sym number_is)
+          (not-deleted user execute last look seen asker files old new before between now who loc all-called entry.descriptor ends shared shared_is quiet fault
+          (subst (λ (r : Result (Unit {0}) FileFault). HasChanged wanted (file_answer r) last.directory.drive volume folder files new before now) failed changed))

@@ -1,5 +1,6 @@
 pub mod AgainLemmas
 pub mod AttemptLemmas
+pub mod CallLemmas
 pub mod ChgDirLemmas
 pub mod DeleteLemmas
 pub mod DeletingLemmas

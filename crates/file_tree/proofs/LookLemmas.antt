@@ -1,33 +1,37 @@
 -- Parts of calls that change no volume, one after another.
-use Rattle.std.proofs.Common.{◌≡◌, ℕ, Bool, Option, Some, None, List, Result, Ok, Err, inl, inr, refl, ap, sym, subst}
+use Rattle.std.proofs.Common.{◌≡◌, ◌∙◌, ⊎_elim, ℕ, Bool, Option, Some, None, List, Result, Ok, Err, inl, inr, refl, ap, sym}
 use Rattle.os9_base.specs.declared.errors.TheConstants.{E_MNF, E_PNNF}
 use Rattle.rbf_model.specs.File.{DiskFile}
 use Rattle.rbf_model.specs.Volume.{DiskVolume}
 use Rattle.rbf_model.specs.Walk.{WalkEnd, arrives, not_allowed, not_found, walk}
-use Rattle.file_rules.specs.Files.{Asker, Files, NoneFailed, volume_at}
+use Rattle.file_rules.specs.Files.{Asker, Files, volume_at}
 use Rattle.file_rules.specs.Step.{FileStep, Step, refused, comes, reaches, deed_of, drive_of, leaves_so, needs, refuses_so}
 use Rattle.file_rules.specs.Way.{Found, walk_ends, walks}
 use Rattle.file_rules.specs.declared.places.FilePlace.{FilePlace}
 use Rattle.file_drives.specs.Drives.{DriveView, drive_states}
+use Rattle.file_state.proofs.CountLemmas.{called-more}
+use Rattle.file_state.proofs.KeepLemmas.{ReachesAtMost}
+use Rattle.file_state.proofs.ReachedLemmas.{read-at, read-none}
+use Rattle.file_state.specs.Counted.{CalledAtMost, calls_of}
 use Rattle.file_state.specs.Reached.{HasRead}
 use Rattle.file_state.specs.Tie.{StandsFor}
 use Rattle.file_state.specs.declared.state.FileState.{FileState}
 use Rattle.file_ways.specs.Ways.{next_step}
+use Rattle.file_tree.proofs.CallLemmas.{called-nothing, calls-few}
 use Rattle.file_tree.specs.Looks.{AnswersBy, HasFound, Looks, LooksFor, answer_of}
 
--- no drive was read
-pub read-none : (state : FileState) (views : List DriveView) (files : Files) → StandsFor state views files → HasRead None 0 files state views
-read-none state views files stands = record {
-  moved = subst (λ drives. NoneFailed drives (drive_states views)) (sym stands.drives) refl;
-  stands = record { io = stands.io; directories = stands.directories; drives = refl; mounted = stands.mounted };
-}
+-- an answer for which no drive was called
+pub looks-none : {A : Type 0} (step : Step A) (answer : Result A ℕ) (files : Files) (state : FileState) (views : List DriveView) → StandsFor state views files → answer ≡ answer_of step → Looks step answer files state views views
+looks-none step answer files state views stands is = inl (record { is = is; drive = 0; reached = inr refl; read = read-none 0 state views files stands })
 
 -- a refusal that reaches no drive
-pub refused-there : {A R : Type 0} (fact : A → R → Type 0) (step : Step A) (number : ℕ) (files : Files) (state : FileState) (views : List DriveView) → StandsFor state views files → step ≡ refused number → LooksFor fact step (Err number) files state views
-refused-there fact step number files state views stands is = record {
+pub refused-there : {A R : Type 0} (fact : A → R → Type 0) (step : Step A) (most number : ℕ) (files : Files) (state : FileState) (views : List DriveView) → StandsFor state views files → step ≡ refused number → LooksFor fact step most (Err number) files state views views
+refused-there fact step most number files state views stands is = record {
   answer = Err number;
   is = refl;
-  looks = inl (record { is = sym (ap answer_of is); drive = 0; read = read-none state views files stands });
+  looks = looks-none step (Err number) files state views stands (sym (ap answer_of is));
+  drives_are = stands.drives;
+  calls = called-nothing step most views;
 }
 
 -- ---- what goes on from it
@@ -62,18 +66,34 @@ drive-on (refused number) next drive is = cc
 drive-on (comes it) next drive is = cc
 drive-on (reaches other step) next drive is = is
 
+pub reaches-next : {A B : Type 0} (step : Step A) (next : A → Step B) (drive : ℕ) (before now : List DriveView) → ReachesAtMost step drive before now → ReachesAtMost (next_step step next) drive before now
+reaches-next step next drive before now reached =
+    ⊎_elim (λ at. inl (drive-on step next drive at)) (λ same. inr same) reached
+
 -- ---- what was found
 
-module _ {A R : Type 0} (fact : A → R → Type 0) (look : Step A) (files : Files) (thing : R) (mid : FileState) (views : List DriveView) where
-  found-answer : (answer : Result A ℕ) → AnswersBy fact answer (Ok thing) → Looks look answer files mid views → HasFound fact look thing files mid views
-  found-answer (Err number) is looks = absurd is
-  found-answer (Ok it) is looks = elim looks [
-    | inl well ↦ record { it = it; is = is; answer = sym well.is; drive = well.drive; read = well.read }
+module _ {A R : Type 0} (fact : A → R → Type 0) (look : Step A) (most : ℕ) (files : Files) (thing : R) (mid : FileState) (before views : List DriveView) where
+  found-answer : files.drives ≡ drive_states before → CalledAtMost (calls_of look most) before views → (answer : Result A ℕ) → AnswersBy fact answer (Ok thing) → Looks look answer files mid before views → HasFound fact look most thing files mid before views
+  found-answer drives calls (Err number) is looks = absurd is
+  found-answer drives calls (Ok it) is looks = elim looks [
+    | inl well ↦ record { it = it; is = is; answer = sym well.is; drive = well.drive; reached = well.reached; read = well.read; drives_are = drives; calls = calls }
     | inr broken ↦ let no = broken.answer_is in cc
   ]
 
-  pub found : LooksFor fact look (Ok thing) files mid views → HasFound fact look thing files mid views
-  found it = found-answer it.answer it.is it.looks
+  pub found : LooksFor fact look most (Ok thing) files mid before views → HasFound fact look most thing files mid before views
+  found it = found-answer it.drives_are it.calls it.answer it.is it.looks
+
+  module _ (loc : HasFound fact look most thing files mid before views) where
+    -- the drive that was reached was read
+    pub found-read : (drive : ℕ) → drive_of look ≡ Some drive → HasRead None drive files mid before views
+    found-read drive at =
+        read-at loc.drive drive files mid before views
+        (⊎_elim (λ is. inl (let same : Some loc.drive ≡ Some drive = sym is ∙ at in cc)) (λ same. inr same) loc.reached)
+        loc.read
+
+    -- so often
+    pub found-calls : CalledAtMost most before views
+    found-calls = called-more (calls_of look most) most before views (calls-few look most) loc.calls
 
 -- ---- a walk on a volume, in two parts
 

@@ -1,5 +1,5 @@
 -- The last name of the path list of a call, and the directory in which it is to be looked up.
-use Rattle.std.proofs.Common.{◌≡◌, ◌∙◌, ℕ, zero, suc, ◌+◌, ◌-◌, ◌≤◌, arith, length, ◌∷◌, ◌||◌, Bool, true, false, IfOk, Option, Some, None, List, [], Result, Ok, Err, inl, refl, ap, sym, subst, if◌then◌else◌}
+use Rattle.std.proofs.Common.{◌≡◌, ◌∙◌, ℕ, zero, suc, ◌+◌, ◌-◌, ◌≤◌, arith, length, ◌∷◌, ◌||◌, Bool, true, false, IfOk, Option, Some, None, List, [], Result, Ok, Err, refl, ap, sym, subst, if◌then◌else◌}
 use Rattle.std.proofs.lemmas.Option.{slice_get-get_or}
 use Rattle.std.specs.Option.{option_map_or}
 use Rattle.os9_base.specs.declared.errors.TheConstants.{E_BPNAM, E_FNA}
@@ -9,10 +9,11 @@ use Rattle.user_names.specs.declared.name_fault.NameFault.{NameFault}
 use Rattle.io_rules.specs.PathList.{Behind, Names, PathList, a_slash, another, behind, ends_in_dots, name_before, names_at, names_behind, names_with, nothing, unreadable}
 use Rattle.rbf_change.specs.Names.{is_dots}
 use Rattle.rbf_model.specs.Volume.{DiskVolume}
+use Rattle.rbf_walk.specs.Walk.{walk_calls}
 use Rattle.rbf_walk.specs.declared.error.DirError.{DirError}
-use Rattle.file_rules.specs.Files.{Asker, Files}
-use Rattle.file_rules.specs.Step.{Step, refused, comes, reaches}
-use Rattle.file_rules.specs.Way.{Way, along, to_device, nowhere, before_last, is_root, last_of, list_of, reads_list, walks, way_of}
+use Rattle.file_rules.specs.Files.{Asker, Files, volume_at}
+use Rattle.file_rules.specs.Step.{Step, refused, comes}
+use Rattle.file_rules.specs.Way.{Way, along, nowhere, before_last, is_root, last_of, walks, way_of}
 use Rattle.file_rules.specs.declared.places.FilePlace.{FilePlace}
 use Rattle.file_drives.specs.Drives.{DriveView}
 use Rattle.file_drives.specs.Mounted.{ArrivesOn, HasFileAt}
@@ -25,7 +26,7 @@ use Rattle.file_ways.proofs.VolumeLemmas.{file-there}
 use Rattle.file_ways.proofs.WayLemmas.{leads-on}
 use Rattle.file_ways.specs.Reached.{Finds}
 use Rattle.file_ways.specs.Walks.{WalksToLast, directory_reached}
-use Rattle.file_ways.specs.Ways.{IsRoute, Led, NamesOn, led_by, leads, next_step, refuses_by, way_for, way_to}
+use Rattle.file_ways.specs.Ways.{IsRoute, Led, NamesOn, leads, next_step, way_for, way_to}
 use Rattle.file_ways.specs.declared.way.Route.{Route}
 use Rattle.file_ways.specs.declared.way.Way.{Way as Taken}
 use Rattle.file_ways.specs.declared.way.Way.TheVariants.{Along, Device}
@@ -33,19 +34,17 @@ use Rattle.file_ways.specs.declared.walk.LastName.{LastName}
 use Rattle.file_ways.specs.declared.walk.Walker.{Walker}
 use Rattle.file_ways.specs.declared.way.Purpose.{Purpose}
 use Rattle.file_ways.specs.declared.way.Purpose.TheVariants.{Existing, New}
-use Rattle.file_tree.proofs.LookLemmas.{read-none}
+use Rattle.file_tree.proofs.CallLemmas.{called-nothing, walk-part}
+use Rattle.file_tree.proofs.LocatingLemmas.{way-is}
+use Rattle.file_tree.proofs.LookLemmas.{looks-none}
 use Rattle.file_tree.proofs.WalkedLemmas.{found-in, reached-there, walk-found, walk-lost}
+use Rattle.file_ways.specs.Calls.{listed_calls, walk_and}
+use Rattle.file_tree.specs.Calls.{last_calls, named_calls}
 use Rattle.file_tree.specs.Looks.{answer_of}
 use Rattle.file_tree.specs.Naming.{IsNamed, LocatesLast, NamedBy, last_by, named_by, names_last, names_on, unnamed_number}
 use Rattle.file_tree.specs.declared.naming.LastLocated.{LastLocated}
 
 -- ---- the list
-
--- where a step comes to a way
-abbrev way-in : Step Led → Way
-way-in (refused number) = to_device
-way-in (comes led) = led.way
-way-in (reaches drive step) = way-in step
 
 module _ (purpose : Purpose) (asker : Asker) (files : Files) (terms : ℕ) (execute : Bool) (refusal : Option ℕ) where
   abbrev way : PathList → Way
@@ -62,16 +61,6 @@ module _ (purpose : Purpose) (asker : Asker) (files : Files) (terms : ℕ) (exec
   pub names-refused : (number : ℕ) → leads asker refusal way ≡ refused number → names_last purpose asker files terms execute refusal ≡ refused number
   names-refused number is = by-leads ∙ ap (λ (step : Step Led). next_step step (λ led. names_on purpose asker files execute led.list led.way (last_of led.list.names))) is
 
-  -- the way that was found is that of the list
-  pub way-is : (list : PathList) (to : Way) → list_of asker ≡ Ok list → leads asker refusal way ≡ comes (record { list = list; way = to }) → way list ≡ to
-  way-is list to read is = by refusal (way list) (ap (λ (read : Result PathList NameFault). reads_list read (refuses_by refusal) (λ list. led_by list (way list))) (sym read) ∙ is)
-    where
-      by : (refusal : Option ℕ) (led : Way) → refuses_by refusal (led_by list led) ≡ comes (record { list = list; way = to }) → led ≡ to
-      by None (along from names) is = ap way-in is
-      by None to_device is = ap way-in is
-      by None (nowhere number) is = absurd (let no : refused number ≡ comes (record { list = list; way = to }) = is in cc)
-      by (Some number) led is = absurd (let no : refused number ≡ comes (record { list = list; way = to }) = is in cc)
-
 -- ---- a name of what is made
 
 no-dots : (dots root : Bool) (way : Way) (from : FilePlace) (names : List (List ℕ)) → (if dots || root then nowhere E_BPNAM else way) ≡ along from names → dots ≡ false
@@ -86,7 +75,7 @@ proper-name New asker files terms execute list from names name is last made =
 
 -- ---- the walk
 
-module _ (purpose : Purpose) (asker : Asker) (walker : Walker) (files : Files) (list : PathList) (from : FilePlace) (state new : FileState) (views now : List DriveView) (user : asker.user ≡ walker.user) (stands : StandsFor state views files) (has : HasFileAt state.disks views from) (io : new.io ≡ state.io) (directories : new.directories ≡ state.directories) where
+module _ (purpose : Purpose) (asker : Asker) (walker : Walker) (files : Files) (list : PathList) (from : FilePlace) (state new : FileState) (views now : List DriveView) (user : asker.user ≡ walker.user) (stands : StandsFor state views files) (has : HasFileAt state.disks views from) (io : new.io ≡ state.io) (directories : new.directories ≡ state.directories) (most : ℕ) (enough : (v : DiskVolume) → volume_at files from.drive ≡ Some v → walk_calls v.files walker.user walker.execute from.number (before_last list.names) ≤ most) where
   abbrev step : Step NamedBy
   step = names_on purpose asker files walker.execute list (along from list.names) (last_of list.names)
 
@@ -94,9 +83,9 @@ module _ (purpose : Purpose) (asker : Asker) (walker : Walker) (files : Files) (
   step-of name = walks asker files walker.execute from (before_last list.names) (λ directory. comes (named_by list name directory))
 
   module _ (proper : (name : List ℕ) → last_of list.names ≡ Some name → purpose ≡ New → is_dots name ≡ false) (next : ℕ) (next_is : next ≡ list.next) where
-    pub last-located : (name : List ℕ) → last_of list.names ≡ Some name → (reached : Result LastName DirError) → WalksToLast walker from list.names reached state.disks views new.disks now → LocatesLast purpose (step-of name) (last_by reached next) files new now
+    pub last-located : (name : List ℕ) → last_of list.names ≡ Some name → (reached : Result LastName DirError) → WalksToLast walker from list.names reached state.disks views new.disks now → LocatesLast purpose (step-of name) most (last_by reached next) files new views now
     last-located name last (Ok at) it =
-        walk-found (IsNamed purpose (step-of name) files) (named_by list name) asker walker files from (before_last list.names) state new views now user stands has io directories at.directory (record { directory = at.directory; name = at.name; next = next }) it.walks
+        walk-found (IsNamed purpose (step-of name) files) (named_by list name) asker walker files from (before_last list.names) state new views now user stands has io directories most enough at.directory (record { directory = at.directory; name = at.name; next = next }) it.walks
         (λ found. record {
           place_is = found.place_is;
           name_is = let same : Some name ≡ Some at.name = sym last ∙ it.name in cc;
@@ -106,16 +95,18 @@ module _ (purpose : Purpose) (asker : Asker) (walker : Walker) (files : Files) (
           proper = proper name last;
         })
     last-located name last (Err error) it =
-        walk-lost (IsNamed purpose (step-of name) files) (named_by list name) asker walker files from (before_last list.names) state new views now user stands has io directories error it.walks
+        walk-lost (IsNamed purpose (step-of name) files) (named_by list name) asker walker files from (before_last list.names) state new views now user stands has io directories most enough error it.walks
 
 -- of a list without names no drive is called
-pub unnamed-there : (purpose : Purpose) (asker : Asker) (files : Files) (execute : Bool) (whole : Step NamedBy) (list : PathList) (from : FilePlace) (state : FileState) (views : List DriveView) → StandsFor state views files → HasFileAt state.disks views from → whole ≡ names_on purpose asker files execute list (along from []) None → LocatesLast purpose whole (Err (unnamed_number purpose)) files state views
-unnamed-there New asker files execute whole list from state views stands has is = record {
+pub unnamed-there : (purpose : Purpose) (asker : Asker) (files : Files) (execute : Bool) (whole : Step NamedBy) (most : ℕ) (list : PathList) (from : FilePlace) (state : FileState) (views : List DriveView) → StandsFor state views files → HasFileAt state.disks views from → whole ≡ names_on purpose asker files execute list (along from []) None → LocatesLast purpose whole most (Err (unnamed_number purpose)) files state views views
+unnamed-there New asker files execute whole most list from state views stands has is = record {
   answer = Err E_BPNAM;
   is = refl;
-  looks = inl (record { is = sym (ap answer_of is); drive = 0; read = read-none state views files stands });
+  looks = looks-none whole (Err E_BPNAM) files state views stands (sym (ap answer_of is));
+  drives_are = stands.drives;
+  calls = called-nothing whole most views;
 }
-unnamed-there Existing asker files execute whole list from state views stands has is =
+unnamed-there Existing asker files execute whole most list from state views stands has is =
     let walker : Walker = record { process = asker.caller.process; user = asker.user; execute = execute } in
     let volume : (v : DiskVolume) × _ = volume-there state.disks views from files.volumes has stands.mounted in
     let it : Finds walker files from [] from = record {
@@ -129,11 +120,9 @@ unnamed-there Existing asker files execute whole list from state views stands ha
     record {
       answer = Err E_FNA;
       is = refl;
-      looks = inl (record {
-        is = sym (ap answer_of (is ∙ walks-found asker walker files from [] refl (λ root. refused E_FNA) from it));
-        drive = 0;
-        read = read-none state views files stands;
-      });
+      looks = looks-none whole (Err E_FNA) files state views stands (sym (ap answer_of (is ∙ walks-found asker walker files from [] refl (λ root. refused E_FNA) from it)));
+      drives_are = stands.drives;
+      calls = called-nothing whole most views;
     }
 
 -- ---- by the route
@@ -141,6 +130,9 @@ unnamed-there Existing asker files execute whole list from state views stands ha
 module _ (purpose : Purpose) (asker : Asker) (files : Files) (terms : ℕ) (execute : Bool) (refusal : Option ℕ) (cells : Cells) (route : Route) (it : IsRoute cells asker (leads asker refusal (way_for purpose asker files terms execute)) route) where
   abbrev whole : Step NamedBy
   whole = names_last purpose asker files terms execute refusal
+
+  abbrev most : ℕ
+  most = named_calls purpose asker files terms execute (λ name v dir. 0)
 
   -- it leads to a terminal or a pipe
   pub names-device : route.way ≡ Device → whole ≡ refused E_FNA
@@ -163,24 +155,40 @@ module _ (purpose : Purpose) (asker : Asker) (files : Files) (terms : ℕ) (exec
     proper : (name : List ℕ) → last_of it.list.names ≡ Some name → purpose ≡ New → is_dots name ≡ false
     proper name last =
         proper-name purpose asker files terms execute it.list from it.list.names name
-        (way-is purpose asker files terms execute refusal it.list it.way it.read it.comes_to ∙ is-along) last
+        (way-is asker refusal (way_for purpose asker files terms execute) it.list it.way it.read it.comes_to ∙ is-along) last
+
+    -- the calls of the walk
+    calls-along : (name : List ℕ) → last_of it.list.names ≡ Some name → most ≡ walk_and asker.user execute from.number (before_last it.list.names) (λ v file. 0) (volume_at files from.drive)
+    calls-along name last =
+        ap (λ (read : Result PathList NameFault). listed_calls read (λ list. last_calls asker files execute (λ name v dir. 0) (way_for purpose asker files terms execute list) (last_of list.names))) it.read
+        ∙ ap (λ (way : Way). last_calls asker files execute (λ name v dir. 0) way (last_of it.list.names))
+        (way-is asker refusal (way_for purpose asker files terms execute) it.list it.way it.read it.comes_to ∙ is-along)
+        ∙ ap (last_calls asker files execute (λ name v dir. 0) (along from it.list.names)) last
+
+    calls-enough : (name : List ℕ) → last_of it.list.names ≡ Some name → (walker : Walker) → walker.execute ≡ execute → asker.user ≡ walker.user → (v : DiskVolume) → volume_at files from.drive ≡ Some v → walk_calls v.files walker.user walker.execute from.number (before_last it.list.names) ≤ most
+    calls-enough name last walker searches user v there =
+        subst (λ (n : ℕ). walk_calls v.files walker.user walker.execute from.number (before_last it.list.names) ≤ n)
+        (ap (λ (e : Bool). walk_and walker.user e from.number (before_last it.list.names) (λ v file. 0) (volume_at files from.drive)) searches
+        ∙ ap (λ (u : ℕ). walk_and u execute from.number (before_last it.list.names) (λ v file. 0) (volume_at files from.drive)) (sym user)
+        ∙ sym (calls-along name last))
+        (walk-part walker.user walker.execute from.number (before_last it.list.names) (λ v file. 0) (volume_at files from.drive) v there)
 
     -- a list without names
-    pub along-unnamed : (state : FileState) (views : List DriveView) (number : ℕ) → first ≡ None → number ≡ unnamed_number purpose → StandsFor state views files → HasFileAt state.disks views from → LocatesLast purpose whole (Err number) files state views
+    pub along-unnamed : (state : FileState) (views : List DriveView) (number : ℕ) → first ≡ None → number ≡ unnamed_number purpose → StandsFor state views files → HasFileAt state.disks views from → LocatesLast purpose whole most (Err number) files state views views
     along-unnamed state views number none number_is stands has =
         let empty : it.list.names ≡ [] = subst (λ (first : Option ℕ). NamesFrom cells first it.list.names) none names-along in
-        subst (λ (n : ℕ). LocatesLast purpose whole (Err n) files state views) (sym number_is)
-        (unnamed-there purpose asker files execute whole it.list from state views stands has
+        subst (λ (n : ℕ). LocatesLast purpose whole most (Err n) files state views views) (sym number_is)
+        (unnamed-there purpose asker files execute whole most it.list from state views stands has
         (names-along-way ∙ ap (λ (names : List (List ℕ)). names_on purpose asker files execute it.list (along from names) (last_of names)) empty))
 
     -- by its last name
-    pub along-named : (walker : Walker) (state new : FileState) (views now : List DriveView) → walker.execute ≡ execute → asker.user ≡ walker.user → StandsFor state views files → HasFileAt state.disks views from → new.io ≡ state.io → new.directories ≡ state.directories → (name : List ℕ) → last_of it.list.names ≡ Some name → (reached : Result LastName DirError) (result : Result LastLocated ℕ) → result ≡ last_by reached route.next → WalksToLast walker from it.list.names reached state.disks views new.disks now → LocatesLast purpose whole result files new now
+    pub along-named : (walker : Walker) (state new : FileState) (views now : List DriveView) → walker.execute ≡ execute → asker.user ≡ walker.user → StandsFor state views files → HasFileAt state.disks views from → new.io ≡ state.io → new.directories ≡ state.directories → (name : List ℕ) → last_of it.list.names ≡ Some name → (reached : Result LastName DirError) (result : Result LastLocated ℕ) → result ≡ last_by reached route.next → WalksToLast walker from it.list.names reached state.disks views new.disks now → LocatesLast purpose whole most result files new views now
     along-named walker state new views now searches user stands has io directories name last reached result result_is walk =
-        subst (λ (step : Step NamedBy). LocatesLast purpose step result files new now)
+        subst (λ (step : Step NamedBy). LocatesLast purpose step most result files new views now)
         (ap (λ (e : Bool). walks asker files e from (before_last it.list.names) (λ directory. comes (named_by it.list name directory))) searches
         ∙ sym (names-along-way ∙ ap (names_on purpose asker files execute it.list (along from it.list.names)) last))
-        (subst (λ (r : Result LastLocated ℕ). LocatesLast purpose (walks asker files walker.execute from (before_last it.list.names) (λ directory. comes (named_by it.list name directory))) r files new now) (sym result_is)
-        (last-located purpose asker walker files it.list from state new views now user stands has io directories proper route.next it.route_is.next_is name last reached walk))
+        (subst (λ (r : Result LastLocated ℕ). LocatesLast purpose (walks asker files walker.execute from (before_last it.list.names) (λ directory. comes (named_by it.list name directory))) most r files new views now) (sym result_is)
+        (last-located purpose asker walker files it.list from state new views now user stands has io directories most (calls-enough name last walker searches user) proper route.next it.route_is.next_is name last reached walk))
 
 -- ---- some names
 

@@ -1,5 +1,5 @@
 -- I$Delete and I$DeletX in two parts: the name and the directory that are looked for, and what is deleted there.
-use Rattle.std.specs.Prelude.{◌≡◌, ℕ, Bool, List, Result}
+use Rattle.std.specs.Prelude.{◌≡◌, ℕ, ◌+◌, Bool, List, Result}
 use Rattle.file_drives.specs.Drives.{DriveView}
 use Rattle.file_rules.specs.Delete.{deletes_in}
 use Rattle.file_rules.specs.Files.{Asker, Files}
@@ -7,6 +7,7 @@ use Rattle.file_rules.specs.Step.{FileStep, Step}
 use Rattle.file_state.specs.declared.state.FileState.{FileState}
 use Rattle.file_ways.specs.Ways.{next_step}
 use Rattle.file_ways.specs.declared.way.Purpose.TheVariants.{Existing}
+use Rattle.file_tree.specs.Calls.{deleting_calls}
 use Rattle.file_tree.specs.Looks.{HasFound}
 use Rattle.file_tree.specs.Naming.{IsNamed, NamedBy}
 use Rattle.file_tree.specs.Tries.{Tries}
@@ -15,11 +16,17 @@ use Rattle.file_tree.specs.declared.naming.LastLocated.{LastLocated}
 abbrev pub deletes_it : Asker → Files → Bool → NamedBy → FileStep
 deletes_it asker files execute it = deletes_in asker files execute it.list it.name it.directory
 
+-- how often the drives are called at most after such a search, which has found this and has called them so often
+abbrev pub deletes_it_calls : ℕ → Asker → Bool → NamedBy → ℕ
+deletes_it_calls seen asker execute it =
+    seen + deleting_calls asker.user execute it.name it.directory.volume it.directory.file
+
 -- by this user, for execution or not: after whatever search that has found the name and its directory, the attempt was
 -- answered so
 abbrev pub DeletesIn : ℕ → Bool → LastLocated → FileState → List DriveView → Result ℕ ℕ → FileState → List DriveView
     → Type 0
-DeletesIn user execute last old before result new after =
-    (look : Step NamedBy) (asker : Asker) (files : Files) → asker.user ≡ user
-    → HasFound (IsNamed Existing look files) look last files old before
-    → Tries (next_step look (deletes_it asker files execute)) asker files result new after
+DeletesIn user execute last old views result new after =
+    (look : Step NamedBy) (seen : ℕ) (asker : Asker) (files : Files) (before : List DriveView) → asker.user ≡ user
+    → (loc : HasFound (IsNamed Existing look files) look seen last files old before views)
+    → Tries (next_step look (deletes_it asker files execute)) (deletes_it_calls seen asker execute loc.it) asker files
+    result new before after

@@ -1,3 +1,4 @@
+pub mod Calls
 pub mod ChgDir
 pub mod Delete
 pub mod Locating

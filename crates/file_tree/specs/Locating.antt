@@ -53,5 +53,5 @@ located_by (Ok place) next = Ok (record { place = place; next = next })
 located_by (Err error) next = Err (directory_error error)
 
 -- a search by this step came to this
-abbrev pub Locates : Step FoundBy → Result Located ℕ → Files → FileState → List DriveView → Type 0
-Locates step result files new now = LooksFor (IsLocated step files) step result files new now
+abbrev pub Locates : Step FoundBy → ℕ → Result Located ℕ → Files → FileState → List DriveView → List DriveView → Type 0
+Locates step most result files new before now = LooksFor (IsLocated step files) step most result files new before now

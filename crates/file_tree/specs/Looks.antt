@@ -4,7 +4,8 @@ use Rattle.std.specs.Prelude.{◌≡◌, ◌⊎◌, ℕ, Some, None, List, Resul
 use Rattle.rbf_model.specs.Volume.{DiskVolume}
 use Rattle.file_rules.specs.Files.{Files, volume_at}
 use Rattle.file_rules.specs.Step.{Step, refused, comes, reaches, drive_of}
-use Rattle.file_drives.specs.Drives.{DriveView}
+use Rattle.file_drives.specs.Drives.{DriveView, drive_states}
+use Rattle.file_state.specs.Counted.{CalledAtMost, calls_of}
 use Rattle.file_state.specs.Reached.{HasRead}
 use Rattle.file_state.specs.declared.state.FileState.{FileState}
 
@@ -14,26 +15,28 @@ answer_of (refused number) = Err number
 answer_of (comes it) = Ok it
 answer_of (reaches drive step) = answer_of step
 
--- no drive failed
+-- no drive failed; the one that it reached was read, or none was
 pub record LooksWell {A : Type 0} (step : Step A) (answer : Result A ℕ) (files : Files) (new : FileState)
-    (now : List DriveView) : Type 0 where
+    (before now : List DriveView) : Type 0 where
   pub is : answer ≡ answer_of step
   pub drive : ℕ
-  pub read : HasRead None drive files new now
+  pub reached : (drive_of step ≡ Some drive) ⊎ (now ≡ before)
+  pub read : HasRead None drive files new before now
 
 -- the drive that it reached has failed, and its answer is the number of that fault
 pub record LooksBroken {A : Type 0} (step : Step A) (answer : Result A ℕ) (files : Files) (new : FileState)
-    (now : List DriveView) : Type 0 where
+    (before now : List DriveView) : Type 0 where
   pub drive : ℕ
   pub reached : drive_of step ≡ Some drive
   pub volume : DiskVolume
   pub is : volume_at files drive ≡ Some volume
   pub number : ℕ
-  pub read : HasRead (Some number) drive files new now
+  pub read : HasRead (Some number) drive files new before now
   pub answer_is : answer ≡ Err number
 
-abbrev pub Looks : {A : Type 0} → Step A → Result A ℕ → Files → FileState → List DriveView → Type 0
-Looks step answer files new now = LooksWell step answer files new now ⊎ LooksBroken step answer files new now
+abbrev pub Looks : {A : Type 0} → Step A → Result A ℕ → Files → FileState → List DriveView → List DriveView → Type 0
+Looks step answer files new before now =
+    LooksWell step answer files new before now ⊎ LooksBroken step answer files new before now
 
 -- ---- as the code has its answer
 
@@ -44,18 +47,23 @@ AnswersBy fact (Err number) (Err other) = number ≡ other
 AnswersBy fact (Ok it) (Err number) = ⊥
 AnswersBy fact (Err number) (Ok found) = ⊥
 
--- it came to this
-pub record LooksFor {A R : Type 0} (fact : A → R → Type 0) (step : Step A) (result : Result R ℕ) (files : Files)
-    (new : FileState) (now : List DriveView) : Type 0 where
+-- it came to this, and the drives were called at most so often where it reaches one
+pub record LooksFor {A R : Type 0} (fact : A → R → Type 0) (step : Step A) (most : ℕ) (result : Result R ℕ)
+    (files : Files) (new : FileState) (before now : List DriveView) : Type 0 where
   pub answer : Result A ℕ
   pub is : AnswersBy fact answer result
-  pub looks : Looks step answer files new now
+  pub looks : Looks step answer files new before now
+  pub drives_are : files.drives ≡ drive_states before
+  pub calls : CalledAtMost (calls_of step most) before now
 
 -- it came to what was found, and so the drives are then
-pub record HasFound {A R : Type 0} (fact : A → R → Type 0) (step : Step A) (found : R) (files : Files)
-    (mid : FileState) (views : List DriveView) : Type 0 where
+pub record HasFound {A R : Type 0} (fact : A → R → Type 0) (step : Step A) (most : ℕ) (found : R) (files : Files)
+    (mid : FileState) (before views : List DriveView) : Type 0 where
   pub it : A
   pub is : fact it found
   pub answer : answer_of step ≡ Ok it
   pub drive : ℕ
-  pub read : HasRead None drive files mid views
+  pub reached : (drive_of step ≡ Some drive) ⊎ (views ≡ before)
+  pub read : HasRead None drive files mid before views
+  pub drives_are : files.drives ≡ drive_states before
+  pub calls : CalledAtMost (calls_of step most) before views

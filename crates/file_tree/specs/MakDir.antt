@@ -1,5 +1,5 @@
 -- I$MakDir in two parts: the name and the directory that are looked for, and what is made there.
-use Rattle.std.specs.Prelude.{◌≡◌, ℕ, List, Result}
+use Rattle.std.specs.Prelude.{◌≡◌, ℕ, ◌+◌, List, Result}
 use Rattle.file_drives.specs.Drives.{DriveView}
 use Rattle.file_rules.specs.Files.{Asker, Files}
 use Rattle.file_rules.specs.MakDir.{makes_in}
@@ -7,6 +7,7 @@ use Rattle.file_rules.specs.Step.{FileStep, Step}
 use Rattle.file_state.specs.declared.state.FileState.{FileState}
 use Rattle.file_ways.specs.Ways.{next_step}
 use Rattle.file_ways.specs.declared.way.Purpose.TheVariants.{New}
+use Rattle.file_tree.specs.Calls.{making_calls}
 use Rattle.file_tree.specs.Looks.{HasFound}
 use Rattle.file_tree.specs.Naming.{IsNamed, NamedBy}
 use Rattle.file_tree.specs.Tries.{Tries}
@@ -22,10 +23,15 @@ pub record Makes (making : Making) (asker : Asker) : Type 0 where
   pub attributes_are : asker.caller.regs.b ≡ making.attributes
   pub now_is : asker.now ≡ making.now
 
+-- how often the drives are called at most after a search that has found this and has called them so often
+abbrev pub makes_it_calls : ℕ → Asker → NamedBy → ℕ
+makes_it_calls seen asker it = seen + making_calls asker.user it.name it.directory.volume it.directory.file
+
 -- after whatever search that has found the name and its directory, the attempt was answered so
 abbrev pub MakesIn : Making → LastLocated → FileState → List DriveView → Result ℕ ℕ → FileState → List DriveView
     → Type 0
-MakesIn making last old before result new after =
-    (look : Step NamedBy) (asker : Asker) (files : Files) → Makes making asker
-    → HasFound (IsNamed New look files) look last files old before
-    → Tries (next_step look (makes_it asker files)) asker files result new after
+MakesIn making last old views result new after =
+    (look : Step NamedBy) (seen : ℕ) (asker : Asker) (files : Files) (before : List DriveView) → Makes making asker
+    → (loc : HasFound (IsNamed New look files) look seen last files old before views)
+    → Tries (next_step look (makes_it asker files)) (makes_it_calls seen asker loc.it) asker files result new before
+    after

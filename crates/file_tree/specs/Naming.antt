@@ -70,5 +70,7 @@ last_by (Ok last) next = Ok (record { directory = last.directory; name = last.na
 last_by (Err error) next = Err (directory_error error)
 
 -- a search by this step came to this
-abbrev pub LocatesLast : Purpose → Step NamedBy → Result LastLocated ℕ → Files → FileState → List DriveView → Type 0
-LocatesLast purpose step result files new now = LooksFor (IsNamed purpose step files) step result files new now
+abbrev pub LocatesLast : Purpose → Step NamedBy → ℕ → Result LastLocated ℕ → Files → FileState → List DriveView
+    → List DriveView → Type 0
+LocatesLast purpose step most result files new before now =
+    LooksFor (IsNamed purpose step files) step most result files new before now

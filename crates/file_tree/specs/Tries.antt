@@ -1,11 +1,15 @@
 -- What an attempt of a call comes to that answers X past its path list, or is refused.
 use Rattle.std.specs.Prelude.{ℕ, ◌%◌, List, Result, Ok, Err}
+use Rattle.os9_base.specs.declared.call.CallEnd.{CallEnd}
+use Rattle.os9_base.specs.declared.call.CallEnd.TheVariants.{Done, Error}
 use Rattle.os9_base.specs.declared.registers.Regs.{Regs}
 use Rattle.os9_outer.specs.TerminalState.{TerminalState}
 use Rattle.io_rules.specs.Step.{IoEnd, answers, fails}
 use Rattle.file_drives.specs.Drives.{DriveView}
 use Rattle.file_rules.specs.Files.{Asker, Files}
 use Rattle.file_rules.specs.Step.{FileDoes, FileStep, leaves}
+use Rattle.file_state.specs.Counted.{CalledAtMost, calls_of}
+use Rattle.file_state.specs.Media.{KeepsDrives}
 use Rattle.file_state.specs.Tie.{StandsFor}
 use Rattle.file_state.specs.declared.state.FileState.{FileState}
 
@@ -14,10 +18,17 @@ abbrev pub end_by : Regs → Result ℕ ℕ → IoEnd
 end_by regs (Ok next) = answers (record regs { x = next % 65536 })
 end_by regs (Err number) = fails number
 
--- the attempt that this step is, answered so
-pub record Tries (step : FileStep) (asker : Asker) (files : Files) (result : Result ℕ ℕ) (new : FileState)
-    (now : List DriveView) : Type 0 where
+-- and so the process is told
+abbrev pub told_by : Result ℕ ℕ → CallEnd
+told_by (Ok next) = Done
+told_by (Err number) = Error number
+
+-- the attempt that this step is, answered so, in which the drives are called at most so often where it reaches one
+pub record Tries (step : FileStep) (most : ℕ) (asker : Asker) (files : Files) (result : Result ℕ ℕ) (new : FileState)
+    (before now : List DriveView) : Type 0 where
   pub left : Files
   pub does : (terms : List TerminalState)
       → FileDoes step asker files (leaves (end_by asker.caller.regs result) left) terms terms
   pub stands : StandsFor new now left
+  pub calls : CalledAtMost (calls_of step most) before now
+  pub drives : KeepsDrives step asker files (told_by result) before now

@@ -7,8 +7,10 @@ ghost use Rattle.file_rules.specs.Attempts.{asker_of};
 ghost use Rattle.file_rules.specs.ChgDir.{may_go_to as may_go_to_lem};
 ghost use Rattle.file_rules.specs.Files.{Files};
 ghost use Rattle.file_rules.specs.declared.path_call.PathCall.TheVariants as Call;
-ghost use Rattle.file_state.specs.Attempt.{Attempts};
+ghost use Rattle.file_state.specs.Attempt.{standing};
+ghost use Rattle.file_state.specs.Counted.{AttemptsWithin};
 ghost use Rattle.file_state.specs.Tie.{IsSound, StandsFor};
+ghost use Rattle.file_tree.specs.Calls.{i_chgdir_calls};
 ghost use Rattle.file_tree.specs.ChgDir.{looks_for_directory};
 ghost use Rattle.file_tree.specs.Locating.{Locates};
 ghost use Rattle.io_rules.specs.Io.{kept_at};
@@ -41,19 +43,19 @@ use rbf_walk::may;
 ///
 /// E$BPAddr exactly if a byte of the path list that has to be read is in no named slot or past
 /// `FFFF`; else E$BMode exactly if the mode has none of read, write and execute; else those of the
-/// list and of the walk; else E$FNA exactly if the file is no directory or may not be used so. The
-/// number of the fault, if the drive fails. No directory has changed then.
+/// list; else E$FNA exactly if it leads to a terminal or a pipe; else those of the walk; else E$FNA
+/// exactly if the file is no directory or may not be used so. The number of the fault, if the drive
+/// fails. No directory has changed then.
 pub fn i_chgdir(s: &mut ProcState, files: &mut FileState, devices: &mut Devices, p: Pid) -> CallEnd
     requires lives { IsLiving s.old.table p.0 }
     requires first { kept_at files.old.io p.0 ≡ None }
     requires sound { IsSound files.old
         (drive_views ⟦<dyn BlockDriver as BlockDriver>⟧ devices.old.drives.items) }
-    ensures call { (m : Inner) (was : Files) (now : TimePacket) (terms : List TerminalState)
-        → Represents s.old m → StandsFor files.old
-        (drive_views ⟦<dyn BlockDriver as BlockDriver>⟧ devices.old.drives.items) was
+    ensures call { (now : TimePacket) (terms : List TerminalState)
         → length terms ≡ vec_len devices.old.terms
-        → Attempts Call.ChgDir m was now p.0 result s.new files.new
-        (drive_views ⟦<dyn BlockDriver as BlockDriver>⟧ devices.new.drives.items) terms terms }
+        → AttemptsWithin i_chgdir_calls Call.ChgDir now p.0 result terms terms
+        (standing ⟦<dyn BlockDriver as BlockDriver>⟧ s.old files.old devices.old.drives.items)
+        (standing ⟦<dyn BlockDriver as BlockDriver>⟧ s.new files.new devices.new.drives.items) }
     ensures lives { IsLiving s.new.table p.0 }
     ensures terms_kept { devices.new.terms ≡ devices.old.terms }
 {
@@ -87,7 +89,8 @@ fn find_directory(
         → StandsFor files.old
         (drive_views ⟦<dyn BlockDriver as BlockDriver>⟧ devices.old.drives.items) was
         → Locates (looks_for_directory (asker_of m p.0 now) was (vec_len devices.old.terms))
-        result was files.new
+        (i_chgdir_calls (asker_of m p.0 now) was (vec_len devices.old.terms)) result was files.new
+        (drive_views ⟦<dyn BlockDriver as BlockDriver>⟧ devices.old.drives.items)
         (drive_views ⟦<dyn BlockDriver as BlockDriver>⟧ devices.new.drives.items) }
     ensures io_kept { files.new.io ≡ files.old.io }
     ensures directories_kept { files.new.directories ≡ files.old.directories }

@@ -8,8 +8,10 @@ ghost use Rattle.file_rules.specs.Attempts.{asker_of};
 ghost use Rattle.file_rules.specs.Delete.{deletes_by};
 ghost use Rattle.file_rules.specs.Files.{Files};
 ghost use Rattle.file_rules.specs.declared.path_call.PathCall.TheVariants as Call;
-ghost use Rattle.file_state.specs.Attempt.{Attempts};
+ghost use Rattle.file_state.specs.Attempt.{standing};
+ghost use Rattle.file_state.specs.Counted.{AttemptsWithin};
 ghost use Rattle.file_state.specs.Tie.{IsSound, StandsFor};
+ghost use Rattle.file_tree.specs.Calls.{deletes_by_calls, i_delete_calls, i_deletx_calls};
 ghost use Rattle.file_tree.specs.Delete.{DeletesIn};
 ghost use Rattle.file_tree.specs.Tries.{Tries};
 ghost use Rattle.file_ways.specs.Ways.{refuses_by};
@@ -39,21 +41,21 @@ use proc_state::state::ProcState;
 /// # Errors
 ///
 /// E$BPAddr exactly if a byte of the path list that has to be read is in no named slot or past
-/// `FFFF`; else those of the list and of the walk to the directory; else E$FNA exactly if the user
-/// may not change that one, E$PNNF exactly if the name is not there, E$FNA exactly if it is that of
-/// a directory or of a file that the user may not write, E$Share exactly if a path is on the file.
+/// `FFFF`; else those of the list; else E$FNA exactly if it leads to a terminal, a pipe or the root
+/// of a drive; else those of the walk to the directory; else E$FNA exactly if the user may not
+/// change that one, E$PNNF exactly if the name is not there, E$FNA exactly if it is that of a
+/// directory or of a file that the user may not write, E$Share exactly if a path is on the file.
 /// The number of the fault, if the drive fails.
 pub fn i_delete(s: &mut ProcState, files: &mut FileState, devices: &mut Devices, p: Pid) -> CallEnd
     requires lives { IsLiving s.old.table p.0 }
     requires first { kept_at files.old.io p.0 ≡ None }
     requires sound { IsSound files.old
         (drive_views ⟦<dyn BlockDriver as BlockDriver>⟧ devices.old.drives.items) }
-    ensures call { (m : Inner) (was : Files) (now : TimePacket) (terms : List TerminalState)
-        → Represents s.old m → StandsFor files.old
-        (drive_views ⟦<dyn BlockDriver as BlockDriver>⟧ devices.old.drives.items) was
+    ensures call { (now : TimePacket) (terms : List TerminalState)
         → length terms ≡ vec_len devices.old.terms
-        → Attempts Call.Delete m was now p.0 result s.new files.new
-        (drive_views ⟦<dyn BlockDriver as BlockDriver>⟧ devices.new.drives.items) terms terms }
+        → AttemptsWithin i_delete_calls Call.Delete now p.0 result terms terms
+        (standing ⟦<dyn BlockDriver as BlockDriver>⟧ s.old files.old devices.old.drives.items)
+        (standing ⟦<dyn BlockDriver as BlockDriver>⟧ s.new files.new devices.new.drives.items) }
     ensures lives { IsLiving s.new.table p.0 }
     ensures terms_kept { devices.new.terms ≡ devices.old.terms }
 {
@@ -75,12 +77,11 @@ pub fn i_deletx(s: &mut ProcState, files: &mut FileState, devices: &mut Devices,
     requires first { kept_at files.old.io p.0 ≡ None }
     requires sound { IsSound files.old
         (drive_views ⟦<dyn BlockDriver as BlockDriver>⟧ devices.old.drives.items) }
-    ensures call { (m : Inner) (was : Files) (now : TimePacket) (terms : List TerminalState)
-        → Represents s.old m → StandsFor files.old
-        (drive_views ⟦<dyn BlockDriver as BlockDriver>⟧ devices.old.drives.items) was
+    ensures call { (now : TimePacket) (terms : List TerminalState)
         → length terms ≡ vec_len devices.old.terms
-        → Attempts Call.DeletX m was now p.0 result s.new files.new
-        (drive_views ⟦<dyn BlockDriver as BlockDriver>⟧ devices.new.drives.items) terms terms }
+        → AttemptsWithin i_deletx_calls Call.DeletX now p.0 result terms terms
+        (standing ⟦<dyn BlockDriver as BlockDriver>⟧ s.old files.old devices.old.drives.items)
+        (standing ⟦<dyn BlockDriver as BlockDriver>⟧ s.new files.new devices.new.drives.items) }
     ensures lives { IsLiving s.new.table p.0 }
     ensures terms_kept { devices.new.terms ≡ devices.old.terms }
 {
@@ -111,7 +112,10 @@ fn delete_named(
         → StandsFor files.old
         (drive_views ⟦<dyn BlockDriver as BlockDriver>⟧ devices.old.drives.items) was
         → Tries (deletes_by (asker_of m p.0 now) was (vec_len devices.old.terms) execute
-        (refuses_by refusal)) (asker_of m p.0 now) was result files.new
+        (refuses_by refusal))
+        (deletes_by_calls (asker_of m p.0 now) was (vec_len devices.old.terms) execute)
+        (asker_of m p.0 now) was result files.new
+        (drive_views ⟦<dyn BlockDriver as BlockDriver>⟧ devices.old.drives.items)
         (drive_views ⟦<dyn BlockDriver as BlockDriver>⟧ devices.new.drives.items) }
     ensures io_kept { files.new.io ≡ files.old.io }
     ensures same { IsSame s.old s.new }

@@ -1,12 +1,12 @@
 //! How calls end that answer where their path list ends.
 
-ghost use Rattle.std.specs.Prelude.{◌≡◌, ℕ, List, None, length};
+ghost use Rattle.std.specs.Prelude.{◌≡◌, ℕ, List, None};
 ghost use Rattle.call_rules.specs.Inner.{Inner};
 ghost use Rattle.file_drives.specs.Drives.{DriveView};
-ghost use Rattle.file_rules.specs.Attempts.{asker_of, file_step};
+ghost use Rattle.file_rules.specs.Attempts.{asker_of};
 ghost use Rattle.file_rules.specs.Files.{Files};
-ghost use Rattle.file_rules.specs.declared.path_call.PathCall.{PathCall};
-ghost use Rattle.file_state.specs.Attempt.{Attempts};
+ghost use Rattle.file_rules.specs.Step.{FileStep};
+ghost use Rattle.file_state.specs.Ends.{Ends};
 ghost use Rattle.file_tree.specs.Tries.{Tries};
 ghost use Rattle.io_rules.specs.Io.{kept_at};
 ghost use Rattle.os9_base.specs.declared.registers.TimePacket.{TimePacket};
@@ -30,11 +30,10 @@ pub(crate) fn end_call(
 ) -> CallEnd
     requires lives { IsLiving s.old.table p.0 }
     requires first { kept_at files.old.io p.0 ≡ None }
-    ensures attempt { (call : PathCall) (m : Inner) (was : Files) (now : TimePacket)
-        (terms : List TerminalState) (views : List DriveView) → Represents s.old m
-        → Tries (file_step call (asker_of m p.0 now) was (length terms)) (asker_of m p.0 now) was
-        came files.old views
-        → Attempts call m was now p.0 result s.new files.new views terms terms }
+    ensures ends { (step : FileStep) (most : ℕ) (m : Inner) (was : Files) (now : TimePacket)
+        (terms : List TerminalState) (before views : List DriveView) → Represents s.old m
+        → Tries step most (asker_of m p.0 now) was came files.old before views
+        → Ends step most m was now p.0 result s.new files.new before views terms }
     ensures lives { IsLiving s.new.table p.0 }
 {
     let regs = s.regs(p);

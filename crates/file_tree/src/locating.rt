@@ -7,6 +7,7 @@ ghost use Rattle.file_drives.specs.Mounted.{HasFileAt};
 ghost use Rattle.file_rules.specs.Attempts.{asker_of};
 ghost use Rattle.file_rules.specs.Files.{Files};
 ghost use Rattle.file_state.specs.Tie.{IsSound, StandsFor};
+ghost use Rattle.file_tree.specs.Calls.{located_calls};
 ghost use Rattle.file_tree.specs.Locating.{Locates, located_by, locates};
 ghost use Rattle.file_ways.specs.Ways.{HasNames, RouteIs, StartsOn, leads, way_for};
 ghost use Rattle.guest_memory.specs.Tie.{cells_of};
@@ -95,7 +96,9 @@ pub(crate) fn locate(
         → StandsFor files.old
         (drive_views ⟦<dyn BlockDriver as BlockDriver>⟧ devices.old.drives.items) was
         → Locates (locates (asker_of m p.0 now) was (vec_len devices.old.terms) execute refusal)
+        (located_calls (asker_of m p.0 now) was (vec_len devices.old.terms) execute (λ v file. 0))
         result was files.new
+        (drive_views ⟦<dyn BlockDriver as BlockDriver>⟧ devices.old.drives.items)
         (drive_views ⟦<dyn BlockDriver as BlockDriver>⟧ devices.new.drives.items) }
     ensures there { IfOk result (λ located. HasFileAt files.new.disks
         (drive_views ⟦<dyn BlockDriver as BlockDriver>⟧ devices.new.drives.items) located.place) }

@@ -8,8 +8,10 @@ ghost use Rattle.file_rules.specs.Attempts.{asker_of};
 ghost use Rattle.file_rules.specs.Files.{Files};
 ghost use Rattle.file_rules.specs.MakDir.{i_makdir as i_makdir_lem};
 ghost use Rattle.file_rules.specs.declared.path_call.PathCall.TheVariants as Call;
-ghost use Rattle.file_state.specs.Attempt.{Attempts};
+ghost use Rattle.file_state.specs.Attempt.{standing};
+ghost use Rattle.file_state.specs.Counted.{AttemptsWithin};
 ghost use Rattle.file_state.specs.Tie.{IsSound, StandsFor};
+ghost use Rattle.file_tree.specs.Calls.{i_makdir_calls};
 ghost use Rattle.file_tree.specs.MakDir.{MakesIn};
 ghost use Rattle.file_tree.specs.Tries.{Tries};
 ghost use Rattle.io_rules.specs.Io.{kept_at};
@@ -41,10 +43,11 @@ pub struct Making {
 /// # Errors
 ///
 /// E$BPAddr exactly if a byte of the path list that has to be read is in no named slot or past
-/// `FFFF`; else those of the list and of the walk to the directory above; else E$FNA exactly if the
-/// user may not change that one, E$CEF exactly if the name is there, E$Full exactly if too few
-/// clusters are free, E$SLF exactly if the directory above needs a segment more and has no room for
-/// it. The number of the fault, if the drive fails.
+/// `FFFF`; else those of the list; else E$FNA exactly if it leads to a terminal or a pipe; else
+/// those of the walk to the directory above; else E$FNA exactly if the user may not change that
+/// one, E$CEF exactly if the name is there, E$Full exactly if too few clusters are free, E$SLF
+/// exactly if the directory above needs a segment more and has no room for it. The number of the
+/// fault, if the drive fails.
 pub fn i_makdir(
     s: &mut ProcState,
     files: &mut FileState,
@@ -56,12 +59,10 @@ pub fn i_makdir(
     requires first { kept_at files.old.io p.0 ≡ None }
     requires sound { IsSound files.old
         (drive_views ⟦<dyn BlockDriver as BlockDriver>⟧ devices.old.drives.items) }
-    ensures call { (m : Inner) (was : Files) (terms : List TerminalState)
-        → Represents s.old m → StandsFor files.old
-        (drive_views ⟦<dyn BlockDriver as BlockDriver>⟧ devices.old.drives.items) was
-        → length terms ≡ vec_len devices.old.terms
-        → Attempts Call.MakDir m was now p.0 result s.new files.new
-        (drive_views ⟦<dyn BlockDriver as BlockDriver>⟧ devices.new.drives.items) terms terms }
+    ensures call { (terms : List TerminalState) → length terms ≡ vec_len devices.old.terms
+        → AttemptsWithin i_makdir_calls Call.MakDir now p.0 result terms terms
+        (standing ⟦<dyn BlockDriver as BlockDriver>⟧ s.old files.old devices.old.drives.items)
+        (standing ⟦<dyn BlockDriver as BlockDriver>⟧ s.new files.new devices.new.drives.items) }
     ensures lives { IsLiving s.new.table p.0 }
     ensures terms_kept { devices.new.terms ≡ devices.old.terms }
 {
@@ -87,7 +88,9 @@ fn make_directory(
     ensures tries { (m : Inner) (was : Files) → Represents s.old m → StandsFor files.old
         (drive_views ⟦<dyn BlockDriver as BlockDriver>⟧ devices.old.drives.items) was
         → Tries (i_makdir_lem (asker_of m p.0 now) was (vec_len devices.old.terms))
+        (i_makdir_calls (asker_of m p.0 now) was (vec_len devices.old.terms))
         (asker_of m p.0 now) was result files.new
+        (drive_views ⟦<dyn BlockDriver as BlockDriver>⟧ devices.old.drives.items)
         (drive_views ⟦<dyn BlockDriver as BlockDriver>⟧ devices.new.drives.items) }
     ensures io_kept { files.new.io ≡ files.old.io }
     ensures same { IsSame s.old s.new }

@@ -7,6 +7,7 @@ ghost use Rattle.file_drives.specs.Mounted.{HasFileAt};
 ghost use Rattle.file_rules.specs.Attempts.{asker_of};
 ghost use Rattle.file_rules.specs.Files.{Files};
 ghost use Rattle.file_state.specs.Tie.{IsSound, StandsFor};
+ghost use Rattle.file_tree.specs.Calls.{named_calls};
 ghost use Rattle.file_tree.specs.Naming.{LocatesLast, last_by, names_last};
 ghost use Rattle.file_tree.specs.Naming.{unnamed_number as unnamed_number_lem};
 ghost use Rattle.os9_base.specs.declared.registers.TimePacket.{TimePacket};
@@ -61,7 +62,9 @@ pub(crate) fn locate_last(
         → StandsFor files.old
         (drive_views ⟦<dyn BlockDriver as BlockDriver>⟧ devices.old.drives.items) was
         → LocatesLast purpose (names_last purpose (asker_of m p.0 now) was
-        (vec_len devices.old.terms) execute refusal) result was files.new
+        (vec_len devices.old.terms) execute refusal) (named_calls purpose (asker_of m p.0 now) was
+        (vec_len devices.old.terms) execute (λ name v dir. 0)) result was files.new
+        (drive_views ⟦<dyn BlockDriver as BlockDriver>⟧ devices.old.drives.items)
         (drive_views ⟦<dyn BlockDriver as BlockDriver>⟧ devices.new.drives.items) }
     ensures there { IfOk result (λ last. HasFileAt files.new.disks
         (drive_views ⟦<dyn BlockDriver as BlockDriver>⟧ devices.new.drives.items) last.directory) }

@@ -1,5 +1,5 @@
 -- The way along which the path list of a file of modules leads, and the walk along it.
-use Rattle.std.proofs.Common.{◌≡◌, ◌∙◌, ℕ, ◌+◌, Option, Some, None, option_and_then, Result, Ok, Err, List, length, refl, ap, sym, subst, arith, true}
+use Rattle.std.proofs.Common.{◌≡◌, ◌∙◌, ℕ, ◌+◌, Option, Some, None, option_and_then, Result, Ok, Err, List, length, inl, refl, ap, sym, subst, arith, true}
 use Rattle.std.proofs.lemmas.List.{length-map}
 use Rattle.os9_base.specs.declared.errors.TheConstants.{E_FNA, E_MNF, E_PNNF}
 use Rattle.os9_base.specs.declared.registers.Pid.{Pid}
@@ -15,14 +15,14 @@ use Rattle.rbf_walk.specs.declared.error.DirError.{DirError}
 use Rattle.rbf_walk.specs.declared.error.DirError.TheVariants.{NotAllowed, BadPath, NotFound, Exists, File}
 use Rattle.file_rules.specs.Files.{Asker, DriveState, Files, file_in, volume_at}
 use Rattle.file_rules.specs.ProgramFile.{ProgramFile, program_file, program_found, program_on_way, reading_of}
-use Rattle.file_rules.specs.Step.{Step, refused, comes, reaches, needs}
+use Rattle.file_rules.specs.Step.{Step, refused, comes, reaches, drive_of, needs}
 use Rattle.file_rules.specs.Way.{Way, along, to_device, nowhere, Found, list_of, reads_list, walk_ends, way_of}
 use Rattle.file_rules.specs.declared.places.FilePlace.{FilePlace}
 use Rattle.file_drives.specs.Drives.{DriveView, drive_state}
 use Rattle.file_drives.specs.Mounted.{HasFileAt}
-use Rattle.file_state.proofs.CountLemmas.{called-more, called-none, called-read}
-use Rattle.file_state.proofs.ReachedLemmas.{has-read}
-use Rattle.file_state.specs.Counted.{CalledAtMost}
+use Rattle.file_state.proofs.CountLemmas.{called-more, called-read}
+use Rattle.file_state.proofs.ReachedLemmas.{has-read, read-none}
+use Rattle.file_state.specs.Counted.{CalledAtMost, calls_of}
 use Rattle.file_state.specs.Reached.{HasRead}
 use Rattle.file_state.specs.Tie.{StandsFor}
 use Rattle.file_state.specs.declared.state.FileState.{FileState}
@@ -39,8 +39,8 @@ use Rattle.file_ways.specs.declared.way.Way.TheVariants.{Along, Device}
 use Rattle.os9_base.specs.Cells.{Cells}
 use Rattle.path_lists.specs.Standing.{NamesFrom}
 use Rattle.program_files.proofs.FoundLemmas.{found-step}
-use Rattle.program_files.proofs.ReadingLemmas.{read-none, reads-behind, reads-broken, reads-well}
-use Rattle.program_files.specs.Calls.{calls_at_end, calls_on_volume, found_calls, if_reached, list_calls, program_calls, way_calls}
+use Rattle.program_files.proofs.ReadingLemmas.{OnlyReads, only-none, only-read, reads-behind, reads-broken, reads-well}
+use Rattle.program_files.specs.Calls.{calls_at_end, calls_on_volume, found_calls, list_calls, program_calls, way_calls}
 use Rattle.program_files.specs.Found.{IsFoundAt, program_by, program_size, program_there}
 use Rattle.program_files.specs.Reading.{ReadsTo}
 use Rattle.program_files.specs.declared.reading.ProgramRead.{ProgramRead}
@@ -82,23 +82,23 @@ module _ (asker : Asker) (files : Files) (terms : ℕ) (refusal : Option ℕ) wh
       (sym (ap (λ (read : Result PathList NameFault). reads_list read (refuses_by refusal) (λ list. led_by list (way_of asker files terms true list))) read) ∙ is)
 
   -- a walk reaches its drive, if there is a volume
-  calls-reached : (from : FilePlace) (names : List (List ℕ)) (volume : Option DiskVolume) (step : DiskVolume → Step ProgramFile) → if_reached (needs volume E_MNF (λ v. reaches from.drive (step v))) (calls_on_volume asker.user from.number names volume) ≡ calls_on_volume asker.user from.number names volume
+  calls-reached : (from : FilePlace) (names : List (List ℕ)) (volume : Option DiskVolume) (step : DiskVolume → Step ProgramFile) → calls_of (needs volume E_MNF (λ v. reaches from.drive (step v))) (calls_on_volume asker.user files from names volume) ≡ calls_on_volume asker.user files from names volume
   calls-reached from names None step = refl
   calls-reached from names (Some v) step = refl
 
   calls-along : (list : PathList) (from : FilePlace) (names : List (List ℕ)) → list_of asker ≡ Ok list → leads asker refusal (way_of asker files terms true) ≡ comes (record { list = list; way = along from names }) → program_calls asker files terms refusal ≡ way_calls asker files (along from names)
   calls-along list from names read is =
-      ap (λ (step : Step ProgramFile). if_reached step (list_calls asker files terms (list_of asker))) (program-way list (along from names) is)
-      ∙ ap (λ (read : Result PathList NameFault). if_reached (program_on_way asker files list (along from names)) (list_calls asker files terms read)) read
-      ∙ ap (λ (way : Way). if_reached (program_on_way asker files list (along from names)) (way_calls asker files way)) (listed-way list (along from names) read is)
+      ap (λ (step : Step ProgramFile). calls_of step (list_calls asker files terms (list_of asker))) (program-way list (along from names) is)
+      ∙ ap (λ (read : Result PathList NameFault). calls_of (program_on_way asker files list (along from names)) (list_calls asker files terms read)) read
+      ∙ ap (λ (way : Way). calls_of (program_on_way asker files list (along from names)) (way_calls asker files way)) (listed-way list (along from names) read is)
       ∙ calls-reached from names (volume_at files from.drive) (λ v. walk_ends from.drive v (walk v.files asker.user true from.number names) (program_found asker files list))
 
   -- what comes of a call whose list leads to no file
   pub program-nowhere : (state : FileState) (views : List DriveView) (number : ℕ) (buffer : List ℕ) → StandsFor state views files → program_file asker files terms (refuses_by refusal) ≡ refused number → ReadsTo (program_file asker files terms (refuses_by refusal)) (program_calls asker files terms refusal) files (Err number) buffer state views views
   program-nowhere state views number buffer stands is =
-      reads-well (program_file asker files terms (refuses_by refusal)) (program_calls asker files terms refusal) files (Err number) (Err number) buffer state views views 0
-      (ap reading_of is) (read-none state views files stands) refl
-      (called-more 0 (program_calls asker files terms refusal) views views (omega arith) (called-none views))
+      reads-well (program_file asker files terms (refuses_by refusal)) (program_calls asker files terms refusal) files (Err number) (Err number) buffer state views views views 0
+      (ap reading_of is) (read-none 0 state views files stands) refl
+      (only-none (program_file asker files terms (refuses_by refusal)) (program_calls asker files terms refusal) views)
 
   -- or along names
   pub program-along : (list : PathList) (from : FilePlace) (result : Result ProgramRead ℕ) (buffer : List ℕ) (new : FileState) (before after : List DriveView) → list_of asker ≡ Ok list → leads asker refusal (way_of asker files terms true) ≡ comes (record { list = list; way = along from list.names }) → ReadsTo (program_on_way asker files list (along from list.names)) (way_calls asker files (along from list.names)) files result buffer new before after → ReadsTo (program_file asker files terms (refuses_by refusal)) (program_calls asker files terms refusal) files result buffer new before after
@@ -112,11 +112,11 @@ module _ (asker : Asker) (files : Files) (terms : ℕ) (refusal : Option ℕ) wh
 pub record Arrives (asker : Asker) (files : Files) (list : PathList) (from place : FilePlace) (new : FileState) (views now : List DriveView) : Type 0 where
   pub found : Found
   pub there : IsFoundAt files place found
-  pub read : HasRead None place.drive files new now
+  pub read : HasRead None place.drive files new views now
   pub step_is : program_on_way asker files list (along from list.names) ≡ program_there asker.user files list.next found
   pub walk_most : ℕ
   pub called : CalledAtMost walk_most views now
-  pub most_is : way_calls asker files (along from list.names) ≡ walk_most + found_calls found.file
+  pub most_is : way_calls asker files (along from list.names) ≡ walk_most + found_calls asker.user files found
 
 module _ (asker : Asker) (process : Pid) (user : ℕ) (files : Files) (list : PathList) (from : FilePlace) (state new : FileState) (views now : List DriveView) (same : asker.user ≡ user) (stands : StandsFor state views files) (has : HasFileAt state.disks views from) (io : new.io ≡ state.io) (directories : new.directories ≡ state.directories) where
   abbrev walker : Walker
@@ -132,7 +132,7 @@ module _ (asker : Asker) (process : Pid) (user : ℕ) (files : Files) (list : Pa
   walked v = walk_calls v.files user true from.number list.names
 
   abbrev ending : DiskVolume → ℕ
-  ending v = calls_on (walk v.files user true from.number list.names) (λ n. calls_at_end (v.files n))
+  ending v = calls_on (walk v.files user true from.number list.names) (λ n. calls_at_end user files (record { drive = from.drive; number = n }) v (v.files n))
 
   volume : (v : DiskVolume) × (volume_at files from.drive ≡ Some v)
   volume = volume-there state.disks views from files.volumes has stands.mounted
@@ -145,11 +145,11 @@ module _ (asker : Asker) (process : Pid) (user : ℕ) (files : Files) (list : Pa
 
   most-is : (v : DiskVolume) → volume_at files from.drive ≡ Some v → most ≡ walked v + ending v
   most-is v is =
-      ap (λ (volume : Option DiskVolume). calls_on_volume asker.user from.number list.names volume) is
-      ∙ ap (λ (u : ℕ). calls_on_volume u from.number list.names (Some v)) same
+      ap (λ (volume : Option DiskVolume). calls_on_volume asker.user files from list.names volume) is
+      ∙ ap (λ (u : ℕ). calls_on_volume u files from list.names (Some v)) same
 
   module _ (arrived : Result FilePlace DirError) (it : Walks walker from list.names arrived state.disks views new.disks now) where
-    read : HasRead (directory_fault arrived) from.drive files new now
+    read : HasRead (directory_fault arrived) from.drive files new views now
     read = has-read state new views now files from has.file (directory_fault arrived) (λ v file. walk_calls v.files user true from.number list.names) stands there io directories it.drive
 
     comes-to : WalkComes walker files from list.names arrived
@@ -161,22 +161,26 @@ module _ (asker : Asker) (process : Pid) (user : ℕ) (files : Files) (list : Pa
     called-all : CalledAtMost most views now
     called-all = called-more (walked volume.0) most views now (let e = most-is volume.0 volume.1 in omega (arith, e)) (called volume.0 volume.1 on-volume)
 
-  ended : (number : ℕ) (buffer : List ℕ) → step ≡ reaches from.drive (refused number) → HasRead None from.drive files new now → CalledAtMost most views now → ReadsTo step most files (Err number) buffer new views now
-  ended number buffer is it calls =
-      reads-well step most files (Err number) (Err number) buffer new views now from.drive (ap reading_of is) it refl calls
+    only : drive_of step ≡ Some from.drive → OnlyReads step most views now
+    only reached =
+        only-read step most (directory_fault arrived) from.drive files new views now (inl reached) read called-all
+
+  ended : (number : ℕ) (buffer : List ℕ) → step ≡ reaches from.drive (refused number) → HasRead None from.drive files new views now → (drive_of step ≡ Some from.drive → OnlyReads step most views now) → ReadsTo step most files (Err number) buffer new views now
+  ended number buffer is it only =
+      reads-well step most files (Err number) (Err number) buffer new views views now from.drive (ap reading_of is) it refl (only (ap drive_of is))
 
   -- no file was found
   walk-refused : (error : DirError) (buffer : List ℕ) → Walks walker from list.names (Err error) state.disks views new.disks now → ReadsTo step most files (Err (directory_error error)) buffer new views now
   walk-refused NotAllowed buffer it =
-      ended E_FNA buffer (walks-forbidden asker walker files from list.names same (program_found asker files list) (comes-to (Err NotAllowed) it)) (read (Err NotAllowed) it) (called-all (Err NotAllowed) it)
+      ended E_FNA buffer (walks-forbidden asker walker files from list.names same (program_found asker files list) (comes-to (Err NotAllowed) it)) (read (Err NotAllowed) it) (only (Err NotAllowed) it)
   walk-refused BadPath buffer it = absurd (comes-to (Err BadPath) it)
   walk-refused NotFound buffer it =
-      ended E_PNNF buffer (walks-unfound asker walker files from list.names same (program_found asker files list) (comes-to (Err NotFound) it)) (read (Err NotFound) it) (called-all (Err NotFound) it)
+      ended E_PNNF buffer (walks-unfound asker walker files from list.names same (program_found asker files list) (comes-to (Err NotFound) it)) (read (Err NotFound) it) (only (Err NotFound) it)
   walk-refused Exists buffer it = absurd (comes-to (Err Exists) it)
   walk-refused (File (fault.Device number)) buffer it =
-      reads-broken step most files number buffer new views now from.drive
-      (walks-reaches asker walker files from list.names same (program_found asker files list) volume.0 volume.1)
-      (read (Err (File (fault.Device number))) it) (called-all (Err (File (fault.Device number))) it)
+      let reached : drive_of step ≡ Some from.drive = walks-reaches asker walker files from list.names same (program_found asker files list) volume.0 volume.1 in
+      reads-broken step most files number buffer new views views now from.drive reached
+      (read (Err (File (fault.Device number))) it) (only (Err (File (fault.Device number))) it reached)
   walk-refused (File NoCluster) buffer it = absurd (comes-to (Err (File NoCluster)) it)
   walk-refused (File TooManyRuns) buffer it = absurd (comes-to (Err (File TooManyRuns)) it)
 
@@ -185,6 +189,11 @@ module _ (asker : Asker) (process : Pid) (user : ℕ) (files : Files) (list : Pa
       subst (λ (n : ℕ). ReadsTo step most files (Err n) buffer new views now) (sym is) (walk-refused error buffer it)
 
   -- or one was
+  found-here : (place : FilePlace) (at : Finds walker files from list.names place) → record { place = record { drive = from.drive; number = place.number }; volume = at.found.volume; file = at.found.file } ≡ at.found
+  found-here place at =
+      ap (λ (drive : ℕ). record { place = record { drive = drive; number = place.number }; volume = at.found.volume; file = at.found.file }) (sym at.drive_is)
+      ∙ ap (λ (p : FilePlace). record { place = p; volume = at.found.volume; file = at.found.file }) (sym at.place_is)
+
   pub walk-arrives : (place : FilePlace) → Walks walker from list.names (Ok place) state.disks views new.disks now → Arrives asker files list from place new views now
   walk-arrives place it =
       let at : Finds walker files from list.names place = comes-to (Ok place) it in
@@ -195,7 +204,7 @@ module _ (asker : Asker) (process : Pid) (user : ℕ) (files : Files) (list : Pa
           volume_is = ap (volume_at files) at.drive_is ∙ at.volume_is;
           file_is = at.file_is;
         };
-        read = subst (λ (drive : ℕ). HasRead None drive files new now) (sym at.drive_is) (read (Ok place) it);
+        read = subst (λ (drive : ℕ). HasRead None drive files new views now) (sym at.drive_is) (read (Ok place) it);
         step_is =
             walks-found asker walker files from list.names same (program_found asker files list) place at
             ∙ ap (reaches from.drive) (found-step asker files list at.found)
@@ -204,22 +213,29 @@ module _ (asker : Asker) (process : Pid) (user : ℕ) (files : Files) (list : Pa
         called = called (Ok place) it at.found.volume at.volume_is (file-there state.disks views from has files.volumes at.found.volume stands.mounted at.volume_is);
         most_is =
             most-is at.found.volume at.volume_is
-            ∙ ap (λ (end : WalkEnd). walked at.found.volume + calls_on end (λ n. calls_at_end (at.found.volume.files n))) at.end_is
-            ∙ ap (λ (file : Option DiskFile). walked at.found.volume + calls_at_end file) at.file_is;
+            ∙ ap (λ (end : WalkEnd). walked at.found.volume + calls_on end (λ n. calls_at_end user files (record { drive = from.drive; number = n }) at.found.volume (at.found.volume.files n))) at.end_is
+            ∙ ap (λ (file : Option DiskFile). walked at.found.volume + calls_at_end user files (record { drive = from.drive; number = place.number }) at.found.volume file) at.file_is
+            ∙ ap (λ (found : Found). walked at.found.volume + found_calls user files found) (found-here place at)
+            ∙ ap (λ (u : ℕ). walked at.found.volume + found_calls u files at.found) (sym same);
       }
 
 -- what was read there
-pub arrived-reads : (asker : Asker) (files : Files) (list : PathList) (from place : FilePlace) (mid new : FileState) (before views after : List DriveView) (at : Arrives asker files list from place mid before views) (next user : ℕ) (result : Result ProgramRead ℕ) (buffer : List ℕ) → asker.user ≡ user → next ≡ list.next → ReadsTo (program_there user files next at.found) (found_calls at.found.file) files result buffer new views after → ReadsTo (program_on_way asker files list (along from list.names)) (way_calls asker files (along from list.names)) files result buffer new before after
-arrived-reads asker files list from place mid new before views after at next user result buffer same is it =
-    subst (λ (step : Step ProgramFile). ReadsTo step (way_calls asker files (along from list.names)) files result buffer new before after) there
-    (subst (λ (most : ℕ). ReadsTo (program_there user files next at.found) most files result buffer new before after) (sym at.most_is)
-    (reads-behind (program_there user files next at.found) at.walk_most (found_calls at.found.file) files result buffer new before views after at.called it))
-  where
-    there : program_there user files next at.found ≡ program_on_way asker files list (along from list.names)
-    there =
-        ap (λ (user : ℕ). program_there user files next at.found) (sym same)
-        ∙ ap (λ (next : ℕ). program_there asker.user files next at.found) is
-        ∙ sym at.step_is
+module _ (asker : Asker) (files : Files) (list : PathList) (from place : FilePlace) (mid new : FileState) (before views after : List DriveView) (at : Arrives asker files list from place mid before views) where
+  abbrev whole : Step ProgramFile
+  whole = program_on_way asker files list (along from list.names)
+
+  only-walked : OnlyReads whole at.walk_most before views
+  only-walked =
+      only-read whole at.walk_most None place.drive files mid before views
+      (inl (ap drive_of at.step_is ∙ ap (λ (at : FilePlace). Some at.drive) at.there.place_is)) at.read at.called
+
+  pub arrived-reads : (next user : ℕ) (result : Result ProgramRead ℕ) (buffer : List ℕ) → asker.user ≡ user → next ≡ list.next → ReadsTo (program_there user files next at.found) (found_calls user files at.found) files result buffer new views after → ReadsTo whole (way_calls asker files (along from list.names)) files result buffer new before after
+  arrived-reads next user result buffer same is it =
+      let there : program_there asker.user files next at.found ≡ whole = ap (λ (next : ℕ). program_there asker.user files next at.found) is ∙ sym at.step_is in
+      subst (λ (most : ℕ). ReadsTo whole most files result buffer new before after) (sym at.most_is)
+      (reads-behind whole at.walk_most (found_calls asker.user files at.found) files result buffer new before views after only-walked
+      (subst (λ (step : Step ProgramFile). ReadsTo step (found_calls asker.user files at.found) files result buffer new views after) there
+      (subst (λ (user : ℕ). ReadsTo (program_there user files next at.found) (found_calls user files at.found) files result buffer new views after) (sym same) it)))
 
 -- ---- the route
 

@@ -1,9 +1,9 @@
 -- What a reading of a file of modules comes to, of the kernel's processes and its files.
-use Rattle.std.specs.Prelude.{◌≡◌, ℕ, List, Result, Ok, Err, length, take}
+use Rattle.std.specs.Prelude.{◌≡◌, ◌≢◌, ℕ, Some, List, Result, Ok, Err, length, slice_get, take}
 use Rattle.file_rules.specs.Files.{Files}
 use Rattle.file_rules.specs.ProgramFile.{ProgramFile, ReadsProgram}
-use Rattle.file_rules.specs.Step.{Step}
-use Rattle.file_drives.specs.Drives.{DriveView}
+use Rattle.file_rules.specs.Step.{Step, drive_of}
+use Rattle.file_drives.specs.Drives.{DriveView, media_of}
 use Rattle.file_state.specs.Counted.{CalledAtMost}
 use Rattle.file_state.specs.Tie.{StandsFor}
 use Rattle.file_state.specs.declared.state.FileState.{FileState}
@@ -24,8 +24,8 @@ AnswersReading buffer (Ok file) (Err answer) = ⊥
 AnswersReading buffer (Err number) (Ok read) = ⊥
 AnswersReading buffer (Err number) (Err answer) = answer ≡ number
 
--- this step of a reading was answered so, and leaves the buffer and the kernel's files so; the drives were called at
--- most so often
+-- this step of a reading was answered so, and leaves the buffer and the kernel's files so; its drive was called at most
+-- so often
 pub record ReadsTo (step : Step ProgramFile) (most : ℕ) (was : Files) (result : Result ProgramRead ℕ) (buffer : List ℕ)
     (new : FileState) (before after : List DriveView) : Type 0 where
   pub reading : Result ProgramFile ℕ
@@ -34,6 +34,9 @@ pub record ReadsTo (step : Step ProgramFile) (most : ℕ) (was : Files) (result 
   pub answers : AnswersReading buffer reading result
   pub stands : StandsFor new after left
   pub calls : CalledAtMost most before after
+  -- the media are as they were, and so are the drives that the step does not reach
+  pub media_kept : media_of after ≡ media_of before
+  pub others : (n : ℕ) → drive_of step ≢ Some n → slice_get after n ≡ slice_get before n
 
 -- by how the file of so many bytes was loaded
 abbrev pub read_by : Result (Unit {0}) FileFault → ℕ → ℕ → Result ProgramRead ℕ

@@ -1,8 +1,8 @@
 //! The file of modules to which a call's path list leads.
 
-ghost use Rattle.std.specs.Prelude.{◌≡◌, ◌≤◌, IfOk, None, length, vec_len};
+ghost use Rattle.std.specs.Prelude.{◌≡◌, ◌≤◌, IfOk, List, None, vec_len};
 ghost use Rattle.call_rules.specs.Inner.{Inner, cells_at};
-ghost use Rattle.file_drives.specs.Drives.{drive_views};
+ghost use Rattle.file_drives.specs.Drives.{DriveView, drive_views};
 ghost use Rattle.file_drives.specs.Mounted.{HasFileAt};
 ghost use Rattle.file_rules.specs.Attempts.{asker_of};
 ghost use Rattle.file_rules.specs.Files.{Files};
@@ -19,10 +19,10 @@ ghost use Rattle.os9_base.specs.declared.registers.TimePacket.{TimePacket};
 ghost use Rattle.path_lists.specs.Standing.{NamesFrom};
 ghost use Rattle.proc_rules.specs.Records.{IsLiving};
 ghost use Rattle.proc_state.specs.Tie.{IsSame, Represents};
-ghost use Rattle.program_files.specs.Calls.{found_calls, program_calls, way_calls};
-ghost use Rattle.program_files.specs.Found.{IsFoundAt, program_there};
+ghost use Rattle.program_files.specs.Calls.{found_calls, program_calls, size_calls, way_calls};
+ghost use Rattle.program_files.specs.Found.{IsFoundAt, program_size as program_size_lem, program_there};
 ghost use Rattle.program_files.specs.Reading.{ReadsTo, read_by};
-ghost use Rattle.rbf_access.specs.Reading.{IsFdOf, read_calls};
+ghost use Rattle.rbf_access.specs.Reading.{IsFdOf};
 
 use crate::found::{load_whole, program_size};
 use device_table::devices::Devices;
@@ -157,10 +157,11 @@ fn read_there(
 ) -> Result<ProgramRead, u8>
     requires file { HasFileAt files.old.disks
         (drive_views ⟦<dyn BlockDriver as BlockDriver>⟧ devices.old.drives.items) place }
-    ensures there { (was : Files) (found : Found) → HasRead None place.drive was files.old
+    ensures there { (was : Files) (found : Found) (before : List DriveView)
+        → HasRead None place.drive was files.old before
         (drive_views ⟦<dyn BlockDriver as BlockDriver>⟧ devices.old.drives.items)
         → IsFoundAt was place found → ReadsTo (program_there user was next found)
-        (found_calls found.file) was result s.new.buffer.items files.new
+        (found_calls user was found) was result s.new.buffer.items files.new
         (drive_views ⟦<dyn BlockDriver as BlockDriver>⟧ devices.old.drives.items)
         (drive_views ⟦<dyn BlockDriver as BlockDriver>⟧ devices.new.drives.items) }
     ensures short { IfOk result (λ read. read.size ≤ MOST) }
@@ -189,11 +190,12 @@ fn read_found(
 ) -> Result<ProgramRead, u8>
     requires file { HasFileAt files.old.disks
         (drive_views ⟦<dyn BlockDriver as BlockDriver>⟧ devices.old.drives.items) place }
-    ensures found { (was : Files) (found : Found) → HasRead None place.drive was files.old
+    ensures found { (was : Files) (found : Found) (before : List DriveView)
+        → HasRead None place.drive was files.old before
         (drive_views ⟦<dyn BlockDriver as BlockDriver>⟧ devices.old.drives.items)
         → IsFoundAt was place found → IsFdOf found.file fd.now
         → ReadsTo (program_there user was next found)
-        (read_calls found.file 0 (length found.file.contents)) was result s.new.buffer.items
+        (size_calls found.file (program_size_lem user was found)) was result s.new.buffer.items
         files.new (drive_views ⟦<dyn BlockDriver as BlockDriver>⟧ devices.old.drives.items)
         (drive_views ⟦<dyn BlockDriver as BlockDriver>⟧ devices.new.drives.items) }
     ensures short { IfOk result (λ read. read.size ≤ MOST) }

@@ -10,7 +10,7 @@ use Rattle.file_state.proofs.CountLemmas.{called-more, called-read}
 use Rattle.file_state.proofs.ReachedLemmas.{file-there, has-read}
 use Rattle.file_state.specs.declared.state.FileState.{FileState}
 use Rattle.file_bytes.proofs.OpenedLemmas.{mounted-low}
-use Rattle.file_bytes.proofs.ReadingLemmas.{loaded-few, loaded-fits, read-takes}
+use Rattle.file_bytes.proofs.ReadingLemmas.{loaded-few, loaded-fits, read-ends}
 use Rattle.file_bytes.proofs.TryingLemmas.{regs-tied}
 use Rattle.file_bytes.specs.Reading.{EndsRead, IsLoaded}
 use Rattle.file_bytes.proofs.reads.read_file.Goals as goal
@@ -45,7 +45,7 @@ returns-clause-call g c now m was v file terms tied stands is there =
     let calls = λ (v : DiskVolume) (file : DiskFile). read_calls file at c.args.regs.y in
     let mid : FileState = record c.args.files.now { disks = c.load-loaded.new.disks } in
     let called = called-read c.args.files.now mid _ _ was opened.place v file (file_fault loaded) calls stands is there c.load-loaded.ensures.drive in
-    read-takes c.args.kind m was v file now p opened c.end_read.result c.end_read.new.s mid c.end_read.new.io _ _ terms (read_calls file at (regs_at m p).y)
+    read-ends c.args.kind m was v file now p opened c.end_read.result c.end_read.new.s mid c.end_read.new.io _ _ terms (read_calls file at (regs_at m p).y)
     (called-more (read_calls file at c.args.regs.y) (read_calls file at (regs_at m p).y) _ _ (omega (arith, ap (λ (r : Regs). read_calls file at r.y) same)) called) is
     (subst (λ (r : Regs). r.y ≢ 0) same c.requires.buffer.some) loaded buffer
     (has-read c.args.files.now mid _ _ was opened.place file (file_fault loaded) calls stands (file-there was opened.place v file is there) refl refl c.load-loaded.ensures.drive) c.load-loaded.ensures.device

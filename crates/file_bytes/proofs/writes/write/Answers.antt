@@ -13,7 +13,7 @@ use Rattle.file_rules.specs.declared.path_call.PathCall.TheVariants as Call
 use Rattle.file_state.specs.declared.state.FileState.{FileState}
 use Rattle.file_bytes.proofs.CallLemmas.{known-a, write-step}
 use Rattle.file_bytes.proofs.OpenedLemmas.{may-be-written}
-use Rattle.file_bytes.proofs.TryingLemmas.{attempts-in, regs-tied, takes-needs-none, takes-needs-some, takes-refused}
+use Rattle.file_bytes.proofs.TryingLemmas.{attempts-in, regs-tied, ends-needs-none, ends-needs-some, ends-refused}
 use Rattle.file_bytes.specs.Calls.{writing_attempt_calls}
 use Rattle.file_bytes.specs.Opened.{found_on}
 use Rattle.file_bytes.specs.Writing.{write_opened}
@@ -37,8 +37,8 @@ returns-then-not-read_bytes-clause-call g c terms m was tied stands kinds =
     let absent : user_bytes (cells_at m p) (regs_at m p).x (regs_at m p).y ≡ None = subst (λ (r : Regs). user_bytes (cells_at m p) r.x r.y ≡ None) same none in
     let step = needs (user_bytes (cells_at m p) (regs_at m p).x (regs_at m p).y) E_BPADDR (sends_bytes asker was found) in
     attempts-in m was now p c.refuse.result _ _ terms Call.Write step (write-step asker was found it.found) _ _ refl
-    (takes-needs-none m was now p c.refuse.result s new _ terms (user_bytes (cells_at m p) (regs_at m p).x (regs_at m p).y) E_BPADDR (sends_bytes asker was found) absent
-    (takes-refused m was now p c.refuse.result s c.args.files.now new.io _ terms stands E_BPADDR (record { end_is = c.refuse.ensures.end; tied = c.read_bytes.ensures.same.represents m tied; io_is = c.refuse.ensures.io })))
+    (ends-needs-none m was now p c.refuse.result s new _ terms (user_bytes (cells_at m p) (regs_at m p).x (regs_at m p).y) E_BPADDR (sends_bytes asker was found) absent
+    (ends-refused m was now p c.refuse.result s c.args.files.now new.io _ terms stands E_BPADDR (record { end_is = c.refuse.ensures.end; tied = c.read_bytes.ensures.same.represents m tied; io_is = c.refuse.ensures.io })))
 
 pub returns-clause-call : goal.returns-clause-call
 unfolding write_opened
@@ -58,5 +58,5 @@ returns-clause-call g c terms m was tied stands kinds =
     let few : option_map_or (writing_attempt_calls (regs_at m p).y) (open_file was p (regs_at m p).a) 0 ≡ writing_attempt_calls c.regs-regs.result.y found =
     ap (λ (o : Option OpenFile). option_map_or (writing_attempt_calls (regs_at m p).y) o 0) it.found ∙ ap (λ (r : Regs). writing_attempt_calls r.y found) (sym same) in
     attempts-in m was now p c.send.result _ _ terms Call.Write step (write-step asker was found it.found) (writing_attempt_calls c.regs-regs.result.y found) _ few
-    (takes-needs-some m was now p c.send.result c.send.new.s c.send.new.files _ terms (user_bytes (cells_at m p) (regs_at m p).x (regs_at m p).y) bytes E_BPADDR (sends_bytes asker was found) present
+    (ends-needs-some m was now p c.send.result c.send.new.s c.send.new.files _ terms (user_bytes (cells_at m p) (regs_at m p).x (regs_at m p).y) bytes E_BPADDR (sends_bytes asker was found) present
     (c.send.ensures.call m was it.volume it.file terms (c.read_bytes.ensures.same.represents m tied) stands it.is it.there))

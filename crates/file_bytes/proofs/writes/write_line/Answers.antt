@@ -15,7 +15,7 @@ use Rattle.file_state.specs.declared.state.FileState.{FileState}
 use Rattle.file_bytes.proofs.CallLemmas.{known-a, write_line-step}
 use Rattle.stream_calls.proofs.LineLemmas.{line-same}
 use Rattle.file_bytes.proofs.OpenedLemmas.{may-be-written}
-use Rattle.file_bytes.proofs.TryingLemmas.{attempts-in, regs-tied, takes-needs-none, takes-needs-some, takes-refused}
+use Rattle.file_bytes.proofs.TryingLemmas.{attempts-in, regs-tied, ends-needs-none, ends-needs-some, ends-refused}
 use Rattle.file_bytes.specs.Calls.{line_count, writing_attempt_calls}
 use Rattle.file_bytes.specs.Opened.{found_on}
 use Rattle.file_bytes.specs.Writing.{write_opened}
@@ -37,8 +37,8 @@ returns-in-None-clause-call g c terms m was tied stands kinds =
     let absent : line_at (cells_at m p) (regs_at m p).x (regs_at m p).y ≡ None =
     sym (line-same (cells_at m p) (regs_at m p).x (regs_at m p).y) ∙ subst (λ (r : Regs). User.line_at (cells_at m p) r.x r.y ≡ None) same (c.in-None.ensures.line m tied) in
     attempts-in m was now p c.refuse.result _ _ terms Call.WritLn (needs (line_at (cells_at m p) (regs_at m p).x (regs_at m p).y) E_BPADDR (sends_bytes asker was found)) (write_line-step asker was found it.found) _ _ refl
-    (takes-needs-none m was now p c.refuse.result s new _ terms (line_at (cells_at m p) (regs_at m p).x (regs_at m p).y) E_BPADDR (sends_bytes asker was found) absent
-    (takes-refused m was now p c.refuse.result s c.args.files.now new.io _ terms stands E_BPADDR (record { end_is = c.refuse.ensures.end; tied = c.in-None.ensures.same.represents m tied; io_is = c.refuse.ensures.io })))
+    (ends-needs-none m was now p c.refuse.result s new _ terms (line_at (cells_at m p) (regs_at m p).x (regs_at m p).y) E_BPADDR (sends_bytes asker was found) absent
+    (ends-refused m was now p c.refuse.result s c.args.files.now new.io _ terms stands E_BPADDR (record { end_is = c.refuse.ensures.end; tied = c.in-None.ensures.same.represents m tied; io_is = c.refuse.ensures.io })))
 
 pub returns-in-Some-clause-call : goal.returns-in-Some-clause-call
 unfolding write_opened
@@ -58,5 +58,5 @@ returns-in-Some-clause-call g c terms m was tied stands kinds =
     ap (λ (o : Option OpenFile). option_map_or (writing_attempt_calls (line_count asker)) o 0) it.found
     ∙ ap (λ (o : Option (List ℕ)). writing_attempt_calls (option_map_or (λ (l : List ℕ). length l) o 0) found) present ∙ ap (λ n. writing_attempt_calls n found) long in
     attempts-in m was now p c.send.result _ _ terms Call.WritLn (needs (line_at (cells_at m p) (regs_at m p).x (regs_at m p).y) E_BPADDR (sends_bytes asker was found)) (write_line-step asker was found it.found) (writing_attempt_calls c.in-Some.count found) _ few
-    (takes-needs-some m was now p c.send.result c.send.new.s c.send.new.files _ terms (line_at (cells_at m p) (regs_at m p).x (regs_at m p).y) line E_BPADDR (sends_bytes asker was found) present
+    (ends-needs-some m was now p c.send.result c.send.new.s c.send.new.files _ terms (line_at (cells_at m p) (regs_at m p).x (regs_at m p).y) line E_BPADDR (sends_bytes asker was found) present
     (c.send.ensures.call m was it.volume it.file terms (c.in-Some.ensures.same.represents m tied) stands it.is it.there))

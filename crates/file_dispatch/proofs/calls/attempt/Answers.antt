@@ -1,7 +1,8 @@
-use Rattle.std.proofs.Common.{◌∙◌, sym}
-use Rattle.std.proofs.lemmas.List.{length-map}
-use Rattle.file_dispatch.proofs.Lifting.{tries-of}
+use Rattle.std.proofs.Common.{◌∙◌, sym, vec_len}
+use Rattle.std.proofs.lemmas.List.{length-map, length-replicate}
+use Rattle.file_dispatch.proofs.Lifting.{never-memory, some-terms, tries-of, unused_terminal}
 use Rattle.file_dispatch.proofs.OnCalls.{call-attempts, call-is, call-lacks, may-as}
+use Rattle.file_dispatch.specs.Bounds.{attempt_calls}
 use Rattle.file_dispatch.specs.Calls.{list_call}
 use Rattle.file_dispatch.specs.Numbers.{number_call}
 use Rattle.file_dispatch.specs.declared.calls.CallKind.TheVariants as Kind
@@ -12,24 +13,30 @@ attempt_on_number-requires-clause-may g c =
     may-as c.args.call (number_call c.in-Number.number) c.args.s.now c.args.files.now c.args.p.0 _ (call-is c.kind_of.result (Kind.Number c.in-Number.number) c.args.call c.in-Number.is c.kind_of.ensures) c.requires.may
 
 pub returns-in-Number-clause-call : goal.returns-in-Number-clause-call
-returns-in-Number-clause-call g c m was tied stands kinds differ =
-    call-attempts c.args.call (number_call c.in-Number.number) m was c.args.now c.args.p.0 (call-is c.kind_of.result (Kind.Number c.in-Number.number) c.args.call c.in-Number.is c.kind_of.ensures) c.attempt_on_number.result c.attempt_on_number.new.s c.attempt_on_number.new.files _ _ _
-    (c.attempt_on_number.ensures.call m was tied stands kinds differ)
+returns-in-Number-clause-call g c differ =
+    call-attempts c.args.call (number_call c.in-Number.number) c.args.now c.args.p.0 (call-is c.kind_of.result (Kind.Number c.in-Number.number) c.args.call c.in-Number.is c.kind_of.ensures) c.attempt_on_number.result _ _ c.args.s.now c.attempt_on_number.new.s c.args.files.now c.attempt_on_number.new.files _ _
+    (c.attempt_on_number.ensures.call differ)
 
 pub returns-in-Number-clause-memory : goal.returns-in-Number-clause-memory
 returns-in-Number-clause-memory g c m was tied stands kinds is =
-    call-lacks c.args.call (number_call c.in-Number.number) m was c.args.now c.args.p.0 (call-is c.kind_of.result (Kind.Number c.in-Number.number) c.args.call c.in-Number.is c.kind_of.ensures) _ _
+    call-lacks c.args.call (number_call c.in-Number.number) c.args.now c.args.p.0 (call-is c.kind_of.result (Kind.Number c.in-Number.number) c.args.call c.in-Number.is c.kind_of.ensures) m was _ _
     (c.attempt_on_number.ensures.memory m was tied stands kinds is)
 
 pub returns-in-List-clause-call : goal.returns-in-List-clause-call
-returns-in-List-clause-call g c m was tied stands kinds differ =
+returns-in-List-clause-call g c differ =
     rw c.attempt_on_list.ensures.terms_kept
-    (call-attempts c.args.call (list_call c.in-List.list) m was c.args.now c.args.p.0 (call-is c.kind_of.result (Kind.List c.in-List.list) c.args.call c.in-List.is c.kind_of.ensures) c.attempt_on_list.result c.attempt_on_list.new.s c.attempt_on_list.new.files _ _ _
-    (c.attempt_on_list.ensures.call m was _ tied stands kinds (length-map _ _ ∙ sym c.args.devices.now.terms.ok.0)))
+    (call-attempts c.args.call (list_call c.in-List.list) c.args.now c.args.p.0 (call-is c.kind_of.result (Kind.List c.in-List.list) c.args.call c.in-List.is c.kind_of.ensures) c.attempt_on_list.result _ _ c.args.s.now c.attempt_on_list.new.s c.args.files.now c.attempt_on_list.new.files _ _
+    (c.attempt_on_list.ensures.call _ (length-map _ _ ∙ sym c.args.devices.now.terms.ok.0)))
 
 pub returns-in-List-clause-memory : goal.returns-in-List-clause-memory
 returns-in-List-clause-memory g c m was tied stands kinds is =
     rw c.attempt_on_list.ensures.terms_kept
-    (call-lacks c.args.call (list_call c.in-List.list) m was c.args.now c.args.p.0 (call-is c.kind_of.result (Kind.List c.in-List.list) c.args.call c.in-List.is c.kind_of.ensures) _ _
-    ((tries-of (list_call c.in-List.list) m was c.args.now c.args.p.0 c.attempt_on_list.result c.attempt_on_list.new.s c.attempt_on_list.new.files _ _ _
-    (c.attempt_on_list.ensures.call m was _ tied stands kinds (length-map _ _ ∙ sym c.args.devices.now.terms.ok.0))).memory is))
+    (call-lacks c.args.call (list_call c.in-List.list) c.args.now c.args.p.0 (call-is c.kind_of.result (Kind.List c.in-List.list) c.args.call c.in-List.is c.kind_of.ensures) m was _ _
+    ((tries-of (list_call c.in-List.list) m was c.args.now c.args.p.0 c.attempt_on_list.result _ _ _ _
+    (c.attempt_on_list.ensures.call _ (length-map _ _ ∙ sym c.args.devices.now.terms.ok.0) m was tied stands kinds)).memory is))
+
+pub returns-in-List-clause-drives_kept : goal.returns-in-List-clause-drives_kept
+returns-in-List-clause-drives_kept g c is =
+    let terms = some-terms (vec_len c.args.devices.now.terms) in
+    absurd (never-memory (attempt_calls (list_call c.in-List.list)) (list_call c.in-List.list) c.args.now c.args.p.0 c.attempt_on_list.result terms terms c.args.s.now c.attempt_on_list.new.s c.args.files.now c.attempt_on_list.new.files _ _ c.requires.sound
+    (c.attempt_on_list.ensures.call terms (length-replicate (vec_len c.args.devices.now.terms) unused_terminal)) is)

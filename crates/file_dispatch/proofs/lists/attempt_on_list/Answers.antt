@@ -1,27 +1,29 @@
-use Rattle.file_dispatch.proofs.OnCalls.{list-as}
-use Rattle.file_dispatch.specs.declared.lists.ListCall.TheVariants as Listed
+use Rattle.std.proofs.Common.{ap, sym}
+use Rattle.file_rules.specs.declared.path_call.PathCall.TheVariants as Call
+use Rattle.file_dispatch.proofs.OnCalls.{call-attempts}
+use Rattle.file_dispatch.specs.Calls.{list_call}
 use Rattle.file_dispatch.proofs.lists.attempt_on_list.Goals as goal
 
 pub returns-in-Create-clause-call : goal.returns-in-Create-clause-call
-returns-in-Create-clause-call g c m was terms tied stands kinds long =
-    list-as c.args.call Listed.Create m was c.args.now c.args.p.0 c.in-Create.is c.i_create.result c.i_create.new.s c.i_create.new.files _ terms terms (c.i_create.ensures.call terms long m was tied stands kinds)
+returns-in-Create-clause-call g c terms long =
+    call-attempts (list_call c.args.call) Call.Create c.args.now c.args.p.0 (sym (ap list_call c.in-Create.is)) c.i_create.result terms terms c.args.s.now c.i_create.new.s c.args.files.now c.i_create.new.files _ _ (c.i_create.ensures.call terms long)
 
 pub returns-in-Open-clause-call : goal.returns-in-Open-clause-call
-returns-in-Open-clause-call g c m was terms tied stands kinds long =
-    list-as c.args.call Listed.Open m was c.args.now c.args.p.0 c.in-Open.is c.i_open.result c.i_open.new.s c.i_open.new.files _ terms terms (c.i_open.ensures.call c.args.now terms long m was tied stands kinds)
+returns-in-Open-clause-call g c terms long =
+    call-attempts (list_call c.args.call) Call.Open c.args.now c.args.p.0 (sym (ap list_call c.in-Open.is)) c.i_open.result terms terms c.args.s.now c.i_open.new.s c.args.files.now c.i_open.new.files _ _ (c.i_open.ensures.call c.args.now terms long)
 
 pub returns-in-MakDir-clause-call : goal.returns-in-MakDir-clause-call
-returns-in-MakDir-clause-call g c m was terms tied stands kinds long =
-    list-as c.args.call Listed.MakDir m was c.args.now c.args.p.0 c.in-MakDir.is c.i_makdir.result c.i_makdir.new.s c.i_makdir.new.files _ terms terms (c.i_makdir.ensures.call m was terms tied stands long)
+returns-in-MakDir-clause-call g c terms long =
+    call-attempts (list_call c.args.call) Call.MakDir c.args.now c.args.p.0 (sym (ap list_call c.in-MakDir.is)) c.i_makdir.result terms terms c.args.s.now c.i_makdir.new.s c.args.files.now c.i_makdir.new.files _ _ (c.i_makdir.ensures.call terms long)
 
 pub returns-in-ChgDir-clause-call : goal.returns-in-ChgDir-clause-call
-returns-in-ChgDir-clause-call g c m was terms tied stands kinds long =
-    list-as c.args.call Listed.ChgDir m was c.args.now c.args.p.0 c.in-ChgDir.is c.i_chgdir.result c.i_chgdir.new.s c.i_chgdir.new.files _ terms terms (c.i_chgdir.ensures.call m was c.args.now terms tied stands long)
+returns-in-ChgDir-clause-call g c terms long =
+    call-attempts (list_call c.args.call) Call.ChgDir c.args.now c.args.p.0 (sym (ap list_call c.in-ChgDir.is)) c.i_chgdir.result terms terms c.args.s.now c.i_chgdir.new.s c.args.files.now c.i_chgdir.new.files _ _ (c.i_chgdir.ensures.call c.args.now terms long)
 
 pub returns-in-Delete-clause-call : goal.returns-in-Delete-clause-call
-returns-in-Delete-clause-call g c m was terms tied stands kinds long =
-    list-as c.args.call Listed.Delete m was c.args.now c.args.p.0 c.in-Delete.is c.i_delete.result c.i_delete.new.s c.i_delete.new.files _ terms terms (c.i_delete.ensures.call m was c.args.now terms tied stands long)
+returns-in-Delete-clause-call g c terms long =
+    call-attempts (list_call c.args.call) Call.Delete c.args.now c.args.p.0 (sym (ap list_call c.in-Delete.is)) c.i_delete.result terms terms c.args.s.now c.i_delete.new.s c.args.files.now c.i_delete.new.files _ _ (c.i_delete.ensures.call c.args.now terms long)
 
 pub returns-in-DeletX-clause-call : goal.returns-in-DeletX-clause-call
-returns-in-DeletX-clause-call g c m was terms tied stands kinds long =
-    list-as c.args.call Listed.DeletX m was c.args.now c.args.p.0 c.in-DeletX.is c.i_deletx.result c.i_deletx.new.s c.i_deletx.new.files _ terms terms (c.i_deletx.ensures.call m was c.args.now terms tied stands long)
+returns-in-DeletX-clause-call g c terms long =
+    call-attempts (list_call c.args.call) Call.DeletX c.args.now c.args.p.0 (sym (ap list_call c.in-DeletX.is)) c.i_deletx.result terms terms c.args.s.now c.i_deletx.new.s c.args.files.now c.i_deletx.new.files _ _ (c.i_deletx.ensures.call c.args.now terms long)

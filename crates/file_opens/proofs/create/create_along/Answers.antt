@@ -3,7 +3,7 @@ use Rattle.file_rules.specs.Attempts.{asker_of}
 use Rattle.path_lists.specs.Standing.{NamesFrom}
 use Rattle.call_rules.specs.Inner.{cells_at}
 use Rattle.file_opens.proofs.CreateLemmas.{along-nameless}
-use Rattle.file_opens.proofs.EndLemmas.{refused-ends, refused-there}
+use Rattle.file_opens.proofs.EndLemmas.{refused-at_once}
 use Rattle.file_opens.specs.Steps.{creates_along}
 use Rattle.file_opens.proofs.create.create_along.Goals as goal
 
@@ -12,8 +12,8 @@ returns-in-None-clause-creates g c m was list terms tied stands names next prope
     let p = c.args.p.0 in
     let now = c.args.now in
     let none : list.names ≡ [] = subst (λ (first : Option ℕ). NamesFrom (cells_at m p) first list.names) c.in-None.is names in
-    refused-ends m p c.args.files.now _ c.refuse.result c.args.s.now c.refuse.new.io c.refuse.ensures.io _ c.refuse.ensures.end tied was stands was now terms (creates_along (asker_of m p now) was list c.args.from)
-    (refused-there m was now p terms (creates_along (asker_of m p now) was list c.args.from) _ (along-nameless (asker_of m p now) was list c.args.from none))
+    refused-at_once m p c.args.files.now _ c.refuse.result c.args.s.now c.refuse.new.io c.refuse.ensures.io _ c.refuse.ensures.end tied was now terms _ (creates_along (asker_of m p now) was list c.args.from)
+    (along-nameless (asker_of m p now) was list c.args.from none) stands
 
 pub returns-in-Some-clause-creates : goal.returns-in-Some-clause-creates
 returns-in-Some-clause-creates g c m was list terms tied stands names next proper =

@@ -1,20 +1,15 @@
-use Rattle.std.proofs.Common.{◌∙◌, ℕ, List, refl, ap, sym, subst}
+use Rattle.std.proofs.Common.{◌∙◌, ℕ, List, refl, ap}
 use Rattle.os9_base.specs.declared.call.CallEnd.TheVariants.{Error}
 use Rattle.path_lists.proofs.StandingLemmas.{some-stand}
 use Rattle.file_rules.specs.Attempts.{asker_of}
 use Rattle.file_rules.specs.Create.{creates_in}
-use Rattle.file_rules.specs.Files.{with_drives}
-use Rattle.file_rules.specs.Step.{FileDoes, FileStep, refuses_so}
 use Rattle.file_rules.specs.Way.{before_last}
-use Rattle.file_drives.specs.Drives.{drive_states, drive_views}
+use Rattle.file_drives.specs.Drives.{drive_views}
 use Rattle.file_state.specs.declared.state.FileState.{FileState}
-use Rattle.rbf_walk.specs.Walk.{directory_error}
 use Rattle.file_opens.proofs.CreateLemmas.{along-named, create-walk-stays, last-proper}
-use Rattle.file_opens.proofs.EndLemmas.{refused-ends}
 use Rattle.file_opens.proofs.MakeLemmas.{last-there}
-use Rattle.file_opens.proofs.WalkLemmas.{finds, found-at, goes-there, names-stand, read, read-there, walk-refused, walker-tied}
-use Rattle.file_opens.specs.Ends.{Ends}
-use Rattle.file_opens.specs.Steps.{creates_along}
+use Rattle.file_opens.proofs.WalkLemmas.{finds, found-at, names-stand, read-there, walk-ends, walk-goes, walker-tied}
+use Rattle.file_opens.specs.Calls.{new_file_calls}
 use Rattle.file_opens.proofs.create.create_from.Goals as goal
 
 pub create_in-requires-clause-file : goal.create_in-requires-clause-file
@@ -29,14 +24,13 @@ returns-in-Err-clause-creates g c m was list terms tied stands names next proper
     let asker = asker_of m p now in
     let walker = c.walker_of-walker.result in
     let new : FileState = record c.args.files.now { disks = c.walk_to_last_from.new.disks } in
-    let views = drive_views (λ table. (g.dyn-1.0.entry table).1) c.walk_to_last_from.new.devices.drives.items in
     let who = walker-tied c.args.s.now m c.args.p walker c.walker_of-walker.ensures.process tied c.walker_of-walker.ensures.walker in
     let it = (c.in-Err.ensures.walks list.names (who.stand c.args.first list.names names)).walks in
     let last = last-there list.names (some-stand _ c.args.first list.names names) in
-    let after = read m was now p terms walker c.args.from (before_last list.names) c.args.files.now new _ _ who.user stands c.requires.file refl refl (creates_in asker was list last.0) _ it in
-    refused-ends m p new _ c.refuse.result c.walk_to_last_from.new.s c.refuse.new.io c.refuse.ensures.io _ (c.refuse.ensures.end ∙ ap Error c.number.ensures) (c.walk_to_last_from.ensures.same.represents m tied) _ after.stands was now terms (creates_along asker was list c.args.from)
-    (subst (λ (step : FileStep). FileDoes step asker was (refuses_so (directory_error c.in-Err.error) (with_drives was (drive_states views))) terms terms) (along-named asker was list c.args.from walker.execute last.0 who.execute last.1)
-    (walk-refused m was now p terms walker c.args.from (before_last list.names) c.args.files.now new _ _ who.user stands c.requires.file refl refl (creates_in asker was list last.0) (λ v. create-walk-stays asker was list v walker.execute last.0 c.args.from (before_last list.names)) c.in-Err.error it))
+    along-named m was now p list c.args.from last.0 last.1 c.refuse.result c.walk_to_last_from.new.s _ _ _ terms
+    (walk-ends m was now p terms walker c.args.from (before_last list.names) c.args.files.now new _ _ who.user stands c.requires.file refl refl (creates_in asker was list last.0) (new_file_calls asker last.0) _ who.execute
+    c.refuse.result c.walk_to_last_from.new.s c.in-Err.error it c.refuse.new.io c.refuse.ensures.io (c.refuse.ensures.end ∙ ap Error c.number.ensures) (c.walk_to_last_from.ensures.same.represents m tied)
+    (λ v. create-walk-stays asker was list v walker.execute last.0 c.args.from (before_last list.names)))
 
 pub returns-in-Ok-clause-creates : goal.returns-in-Ok-clause-creates
 returns-in-Ok-clause-creates g c m was list terms tied stands names next proper =
@@ -52,9 +46,10 @@ returns-in-Ok-clause-creates g c m was list terms tied stands names next proper 
     let it = whole.walks in
     let found = (finds m was now p terms walker c.args.from (before_last list.names) c.args.files.now new _ _ who.user stands c.requires.file refl refl (creates_in asker was list name) place it).found in
     let views = drive_views (λ table. (g.dyn-1.0.entry table).1) c.create_in.new.devices.drives.items in
-    subst (λ (step : FileStep). Ends step m was now p c.create_in.result c.create_in.new.s c.create_in.new.files views terms)
-    (sym (goes-there m was now p terms walker c.args.from (before_last list.names) c.args.files.now new _ _ who.user stands c.requires.file refl refl (creates_in asker was list name) place it) ∙ along-named asker was list c.args.from walker.execute name who.execute whole.name)
-    (c.create_in.ensures.creates m was list found terms (c.walk_to_last_from.ensures.same.represents m tied)
+    along-named m was now p list c.args.from name whole.name c.create_in.result c.create_in.new.s c.create_in.new.files _ views terms
+    (walk-goes m was now p terms walker c.args.from (before_last list.names) c.args.files.now new _ _ who.user stands c.requires.file refl refl (creates_in asker was list name) (new_file_calls asker name) _ who.execute
+    c.create_in.result c.create_in.new.s place it c.create_in.new.files views
+    (c.create_in.ensures.creates m was list found _ _ terms (c.walk_to_last_from.ensures.same.represents m tied)
     (read-there m was now p terms walker c.args.from (before_last list.names) c.args.files.now new _ _ who.user stands c.requires.file refl refl (creates_in asker was list name) place it)
     (found-at m was now p terms walker c.args.from (before_last list.names) c.args.files.now new _ _ who.user stands c.requires.file refl refl (creates_in asker was list name) place it) next
-    (last-proper list name proper whole.name))
+    (last-proper list name proper whole.name)))

@@ -1,18 +1,11 @@
-use Rattle.std.proofs.Common.{◌∙◌, Bool, refl, ap, sym, subst}
+use Rattle.std.proofs.Common.{◌∙◌, refl, ap}
 use Rattle.os9_base.specs.declared.call.CallEnd.TheVariants.{Error}
 use Rattle.file_rules.specs.Attempts.{asker_of}
-use Rattle.file_rules.specs.Files.{with_drives}
 use Rattle.file_rules.specs.Open.{opens_found}
-use Rattle.file_rules.specs.Step.{FileDoes, FileStep, refuses_so}
-use Rattle.file_rules.specs.Way.{walks}
-use Rattle.file_drives.specs.Drives.{drive_states, drive_views}
+use Rattle.file_drives.specs.Drives.{drive_views}
 use Rattle.file_state.specs.declared.state.FileState.{FileState}
-use Rattle.rbf_walk.specs.Walk.{directory_error}
-use Rattle.file_opens.proofs.EndLemmas.{refused-ends}
 use Rattle.file_opens.proofs.OpenLemmas.{walk-stays}
-use Rattle.file_opens.proofs.WalkLemmas.{finds, found-at, goes-there, names-there, read, read-there, walk-refused, walker-tied}
-use Rattle.file_opens.specs.Ends.{Ends}
-use Rattle.file_opens.specs.Steps.{opens_along}
+use Rattle.file_opens.proofs.WalkLemmas.{finds, found-at, names-there, read-there, walk-ends, walk-goes, walker-tied}
 use Rattle.file_opens.proofs.open.open_along.Goals as goal
 
 pub open_place-requires-clause-file : goal.open_place-requires-clause-file
@@ -26,13 +19,11 @@ returns-in-Err-clause-opens g c m was now list terms tied stands names next =
     let asker = asker_of m p now in
     let walker = c.walker_of-walker.result in
     let new : FileState = record c.args.files.now { disks = c.walk_from.new.disks } in
-    let views = drive_views (λ table. (g.dyn-1.0.entry table).1) c.walk_from.new.devices.drives.items in
     let who = walker-tied c.args.s.now m c.args.p walker c.walker_of-walker.ensures.process tied c.walker_of-walker.ensures.walker in
     let it = c.in-Err.ensures.walks list.names (who.names c.args.first list.names names) in
-    let after = read m was now p terms walker c.args.from list.names c.args.files.now new _ _ who.user stands c.requires.file refl refl (opens_found asker was list) _ it in
-    refused-ends m p new _ c.refuse.result c.walk_from.new.s c.refuse.new.io c.refuse.ensures.io _ (c.refuse.ensures.end ∙ ap Error c.number.ensures) (c.walk_from.ensures.same.represents m tied) _ after.stands was now terms (opens_along asker was list c.args.from)
-    (subst (λ (execute : Bool). FileDoes (walks asker was execute c.args.from list.names (opens_found asker was list)) asker was (refuses_so (directory_error c.in-Err.error) (with_drives was (drive_states views))) terms terms) who.execute
-    (walk-refused m was now p terms walker c.args.from list.names c.args.files.now new _ _ who.user stands c.requires.file refl refl (opens_found asker was list) (λ v. walk-stays asker was v walker.execute list c.args.from) c.in-Err.error it))
+    walk-ends m was now p terms walker c.args.from list.names c.args.files.now new _ _ who.user stands c.requires.file refl refl (opens_found asker was list) (λ v file. 1) _ who.execute
+    c.refuse.result c.walk_from.new.s c.in-Err.error it c.refuse.new.io c.refuse.ensures.io (c.refuse.ensures.end ∙ ap Error c.number.ensures) (c.walk_from.ensures.same.represents m tied)
+    (λ v. walk-stays asker was v walker.execute list c.args.from)
 
 pub returns-in-Ok-clause-opens : goal.returns-in-Ok-clause-opens
 returns-in-Ok-clause-opens g c m was now list terms tied stands names next =
@@ -45,8 +36,8 @@ returns-in-Ok-clause-opens g c m was now list terms tied stands names next =
     let it = c.in-Ok.ensures.walks list.names (who.names c.args.first list.names names) in
     let found = (finds m was now p terms walker c.args.from list.names c.args.files.now new _ _ who.user stands c.requires.file refl refl (opens_found asker was list) place it).found in
     let views = drive_views (λ table. (g.dyn-1.0.entry table).1) c.open_place.new.devices.drives.items in
-    subst (λ (step : FileStep). Ends step m was now p c.open_place.result c.open_place.new.s c.open_place.new.files views terms)
-    (sym (goes-there m was now p terms walker c.args.from list.names c.args.files.now new _ _ who.user stands c.requires.file refl refl (opens_found asker was list) place it) ∙ ap (λ (execute : Bool). walks asker was execute c.args.from list.names (opens_found asker was list)) who.execute)
-    (c.open_place.ensures.opens m was now list found terms (c.walk_from.ensures.same.represents m tied)
+    walk-goes m was now p terms walker c.args.from list.names c.args.files.now new _ _ who.user stands c.requires.file refl refl (opens_found asker was list) (λ v file. 1) _ who.execute
+    c.open_place.result c.open_place.new.s place it c.open_place.new.files views
+    (c.open_place.ensures.opens m was now list found _ _ terms (c.walk_from.ensures.same.represents m tied)
     (read-there m was now p terms walker c.args.from list.names c.args.files.now new _ _ who.user stands c.requires.file refl refl (opens_found asker was list) place it)
     (found-at m was now p terms walker c.args.from list.names c.args.files.now new _ _ who.user stands c.requires.file refl refl (opens_found asker was list) place it) next)

@@ -1,7 +1,7 @@
 use Rattle.std.proofs.Common.{refl}
 use Rattle.call_rules.specs.Inner.{regs_at}
 use Rattle.proc_rules.specs.Records.{record_at}
-use Rattle.file_status.proofs.AttemptLemmas.{get-attempts, get-calls}
+use Rattle.file_status.proofs.AttemptLemmas.{get-attempt}
 use Rattle.file_status.proofs.OpenLemmas.{file-there}
 use Rattle.file_status.proofs.gets.get_status.Goals as goal
 
@@ -10,11 +10,6 @@ get_status_of-requires-clause-there g c =
     file-there c.args.files.now _ c.args.p.0 (record_at c.args.s.now.table c.args.p.0).regs.a c.args.opened.now c.requires.sound c.requires.named
 
 pub returns-clause-call : goal.returns-clause-call
-returns-clause-call g c now terms m was tied stands kinds = record {
-  attempts =
-      get-attempts m was now c.args.p.0 c.get_status_of.result c.args.s.now c.get_status_of.new.s c.args.files.now c.get_status_of.new.files _ _ c.args.opened.now terms tied stands kinds c.requires.named
-      (λ it open_is. c.get_status_of.ensures.call m was now it tied stands open_is (regs_at m c.args.p.0).b refl);
-  calls =
-      get-calls m was now c.args.p.0 c.get_status_of.result c.args.s.now c.get_status_of.new.s c.args.files.now c.get_status_of.new.files _ _ c.args.opened.now terms tied stands kinds c.requires.named
-      (λ it open_is. c.get_status_of.ensures.call m was now it tied stands open_is (regs_at m c.args.p.0).b refl);
-}
+returns-clause-call g c now terms m was tied stands kinds =
+    get-attempt m was now c.args.p.0 c.get_status_of.result _ _ c.args.opened.now terms tied stands kinds c.requires.named
+    (λ it open_is. c.get_status_of.ensures.call m was now it terms tied stands open_is (regs_at m c.args.p.0).b refl)

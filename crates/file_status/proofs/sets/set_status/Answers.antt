@@ -1,7 +1,7 @@
 use Rattle.std.proofs.Common.{refl}
 use Rattle.call_rules.specs.Inner.{regs_at}
 use Rattle.proc_rules.specs.Records.{record_at}
-use Rattle.file_status.proofs.AttemptLemmas.{set-attempts, set-calls}
+use Rattle.file_status.proofs.AttemptLemmas.{set-attempt}
 use Rattle.file_status.proofs.OpenLemmas.{data-file-there, file-there}
 use Rattle.file_status.proofs.sets.set_status.Goals as goal
 
@@ -14,11 +14,6 @@ set_status_of-requires-clause-written g c may =
     data-file-there c.args.files.now _ c.args.p.0 (record_at c.args.s.now.table c.args.p.0).regs.a c.args.opened.now c.requires.sound c.requires.named may
 
 pub returns-clause-call : goal.returns-clause-call
-returns-clause-call g c terms m was tied stands kinds = record {
-  attempts =
-      set-attempts m was c.args.now c.args.p.0 c.set_status_of.result c.args.s.now c.set_status_of.new.s c.args.files.now c.set_status_of.new.files _ _ c.args.opened.now terms tied stands kinds c.requires.named
-      (λ it open_is. c.set_status_of.ensures.call m was it tied stands open_is (regs_at m c.args.p.0).b refl);
-  calls =
-      set-calls m was c.args.now c.args.p.0 c.set_status_of.result c.args.s.now c.set_status_of.new.s c.args.files.now c.set_status_of.new.files _ _ c.args.opened.now terms tied stands kinds c.requires.named
-      (λ it open_is. c.set_status_of.ensures.call m was it tied stands open_is (regs_at m c.args.p.0).b refl);
-}
+returns-clause-call g c terms m was tied stands kinds =
+    set-attempt m was c.args.now c.args.p.0 c.set_status_of.result _ _ c.args.opened.now terms tied stands kinds c.requires.named
+    (λ it open_is. c.set_status_of.ensures.call m was it terms tied stands open_is (regs_at m c.args.p.0).b refl)

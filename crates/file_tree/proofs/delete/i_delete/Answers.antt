@@ -2,11 +2,17 @@ use Rattle.std.proofs.Common.{ap, length, sym, vec_len}
 use Rattle.file_rules.specs.Attempts.{asker_of}
 use Rattle.file_rules.specs.Delete.{i_delete}
 use Rattle.file_rules.specs.declared.path_call.PathCall.TheVariants as Call
+use Rattle.file_state.proofs.KeepLemmas.{ends-attempt}
+use Rattle.file_tree.specs.Calls.{i_delete_calls}
 use Rattle.file_tree.proofs.TryLemmas.{tries-same}
 use Rattle.file_tree.proofs.delete.i_delete.Goals as goal
 
 pub returns-clause-call : goal.returns-clause-call
-returns-clause-call g c m was now terms tied stands many =
+returns-clause-call g c now terms many m was tied stands kinds =
     let asker = asker_of m c.args.p.0 now in
-    c.end_call.ensures.attempt Call.Delete m was now terms _ (c.delete_named-came.ensures.same.represents m tied)
-    (tries-same (i_delete asker was (vec_len c.args.devices.now.terms)) (i_delete asker was (length terms)) asker was _ _ _ (ap (i_delete asker was) (sym many)) (c.delete_named-came.ensures.tries m was now tied stands))
+    let terminals = vec_len c.args.devices.now.terms in
+    let step = i_delete asker was (length terms) in
+    let most = i_delete_calls asker was (length terms) in
+    ends-attempt most Call.Delete m was now c.args.p.0 c.end_call.result terms _ _
+    (c.end_call.ensures.ends step most m was now terms _ _ (c.delete_named-came.ensures.same.represents m tied)
+    (tries-same (i_delete asker was terminals) step (i_delete_calls asker was terminals) most asker was _ _ _ _ (ap (i_delete asker was) (sym many)) (ap (i_delete_calls asker was) (sym many)) (c.delete_named-came.ensures.tries m was now tied stands)))

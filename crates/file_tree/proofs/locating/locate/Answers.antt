@@ -5,6 +5,7 @@ use Rattle.proc_state.proofs.Living.{IsProcess-living}
 use Rattle.file_rules.specs.Attempts.{asker_of}
 use Rattle.file_ways.specs.Walks.{SomeFrom}
 use Rattle.file_ways.specs.declared.walk.Walker.{Walker}
+use Rattle.file_tree.specs.Calls.{located_calls}
 use Rattle.file_tree.specs.Locating.{IsLocated, locates}
 use Rattle.file_tree.proofs.LocatingLemmas.{along-located, has-along, locates-device, locates-refused, names-along, reached-file, starts-along}
 use Rattle.file_tree.proofs.LookLemmas.{refused-there}
@@ -14,13 +15,15 @@ use Rattle.file_tree.proofs.locating.locate.Goals as goal
 pub returns-in-Err-clause-locates : goal.returns-in-Err-clause-locates
 returns-in-Err-clause-locates g c m was now tied stands =
     let step = locates (asker_of m c.args.p.0 now) was (vec_len c.args.devices.now.terms) c.args.execute c.args.refusal in
-    refused-there (IsLocated step was) step c.in-Err.number was c.args.files.now _ stands
+    let most = located_calls (asker_of m c.args.p.0 now) was (vec_len c.args.devices.now.terms) c.args.execute (λ v file. 0) in
+    refused-there (IsLocated step was) step most c.in-Err.number was c.args.files.now _ stands
     (locates-refused (asker_of m c.args.p.0 now) was (vec_len c.args.devices.now.terms) c.args.execute c.args.refusal c.in-Err.number (c.in-Err.ensures.route m was now tied stands))
 
 pub returns-in-Device-clause-locates : goal.returns-in-Device-clause-locates
 returns-in-Device-clause-locates g c m was now tied stands =
     let step = locates (asker_of m c.args.p.0 now) was (vec_len c.args.devices.now.terms) c.args.execute c.args.refusal in
-    refused-there (IsLocated step was) step 214 was c.args.files.now _ stands
+    let most = located_calls (asker_of m c.args.p.0 now) was (vec_len c.args.devices.now.terms) c.args.execute (λ v file. 0) in
+    refused-there (IsLocated step was) step most 214 was c.args.files.now _ stands
     (locates-device (asker_of m c.args.p.0 now) was (vec_len c.args.devices.now.terms) c.args.execute c.args.refusal (cells_at m c.args.p.0) c.in-Ok.route (c.in-Ok.ensures.route m was now tied stands) c.in-Device.is)
 
 pub returns-in-Along-clause-locates : goal.returns-in-Along-clause-locates

@@ -6,6 +6,7 @@ use Rattle.file_rules.specs.Attempts.{asker_of}
 use Rattle.path_lists.specs.Standing.{NamesFrom, NamesStand}
 use Rattle.file_ways.specs.Walks.{SomeFrom}
 use Rattle.file_ways.specs.declared.walk.Walker.{Walker}
+use Rattle.file_tree.specs.Calls.{named_calls}
 use Rattle.file_tree.specs.Naming.{IsNamed, names_last}
 use Rattle.file_tree.proofs.LocatingLemmas.{has-along, starts-along}
 use Rattle.file_tree.proofs.LookLemmas.{refused-there}
@@ -16,13 +17,15 @@ use Rattle.file_tree.proofs.naming.locate_last.Goals as goal
 pub returns-in-Err-clause-locates : goal.returns-in-Err-clause-locates
 returns-in-Err-clause-locates g c m was now tied stands =
     let step = names_last c.args.purpose (asker_of m c.args.p.0 now) was (vec_len c.args.devices.now.terms) c.args.execute c.args.refusal in
-    refused-there (IsNamed c.args.purpose step was) step c.in-Err.number was c.args.files.now _ stands
+    let most = named_calls c.args.purpose (asker_of m c.args.p.0 now) was (vec_len c.args.devices.now.terms) c.args.execute (λ name v dir. 0) in
+    refused-there (IsNamed c.args.purpose step was) step most c.in-Err.number was c.args.files.now _ stands
     (names-refused c.args.purpose (asker_of m c.args.p.0 now) was (vec_len c.args.devices.now.terms) c.args.execute c.args.refusal c.in-Err.number (c.in-Err.ensures.route m was now tied stands))
 
 pub returns-in-Device-clause-locates : goal.returns-in-Device-clause-locates
 returns-in-Device-clause-locates g c m was now tied stands =
     let step = names_last c.args.purpose (asker_of m c.args.p.0 now) was (vec_len c.args.devices.now.terms) c.args.execute c.args.refusal in
-    refused-there (IsNamed c.args.purpose step was) step 214 was c.args.files.now _ stands
+    let most = named_calls c.args.purpose (asker_of m c.args.p.0 now) was (vec_len c.args.devices.now.terms) c.args.execute (λ name v dir. 0) in
+    refused-there (IsNamed c.args.purpose step was) step most 214 was c.args.files.now _ stands
     (names-device c.args.purpose (asker_of m c.args.p.0 now) was (vec_len c.args.devices.now.terms) c.args.execute c.args.refusal (cells_at m c.args.p.0) c.in-Ok.route (c.in-Ok.ensures.route m was now tied stands) c.in-Device.is)
 
 pub returns-in-None-clause-locates : goal.returns-in-None-clause-locates

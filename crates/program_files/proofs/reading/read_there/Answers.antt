@@ -1,19 +1,19 @@
-use Rattle.std.proofs.Common.{None, length, refl}
+use Rattle.std.proofs.Common.{refl}
 use Rattle.file_state.specs.declared.state.FileState.{FileState}
-use Rattle.rbf_access.specs.Reading.{read_calls}
-use Rattle.program_files.proofs.ReadingLemmas.{fd-broken, fd-called, fd-read, reads-behind}
-use Rattle.program_files.specs.Found.{program_there}
+use Rattle.program_files.proofs.ReadingLemmas.{fd-broken, fd-only, fd-read, reads-behind}
+use Rattle.program_files.specs.Calls.{size_calls}
+use Rattle.program_files.specs.Found.{program_size, program_there}
 use Rattle.program_files.proofs.reading.read_there.Goals as goal
 
 pub returns-in-Err-clause-there : goal.returns-in-Err-clause-there
-returns-in-Err-clause-there g c was found first at =
+returns-in-Err-clause-there g c was found before first at =
     let new : FileState = record c.args.files.now { disks = c.fd.new.self } in
-    fd-broken c.args.user c.args.next was found c.args.place c.args.files.now _ at first new _ refl refl c.in-Err.fault c.number.result c.args.s.now.buffer.items c.number.ensures c.in-Err.ensures.drive c.in-Err.ensures.device
+    fd-broken c.args.user c.args.next was found c.args.place c.args.files.now before _ at first new _ refl refl c.in-Err.fault c.number.result c.args.s.now.buffer.items c.number.ensures c.in-Err.ensures.drive c.in-Err.ensures.device
 
 pub returns-in-Ok-clause-there : goal.returns-in-Ok-clause-there
-returns-in-Ok-clause-there g c was found first at =
+returns-in-Ok-clause-there g c was found before first at =
     let mid : FileState = record c.args.files.now { disks = c.fd.new.self } in
     let fd = c.in-Ok.ensures.ok was.volumes found.volume found.file first.stands.mounted at.volume_is at.file_is in
-    reads-behind (program_there c.args.user was c.args.next found) 1 (read_calls found.file 0 (length found.file.contents)) was c.read_found.result c.read_found.new.s.buffer.items c.read_found.new.files _ _ _
-    (fd-called c.args.user c.args.next was found c.args.place c.args.files.now _ at first mid _ refl refl None c.in-Ok.ensures.drive)
-    (c.read_found.ensures.found was found (fd-read c.args.user c.args.next was found c.args.place c.args.files.now _ at first mid _ refl refl c.in-Ok.ensures.drive) at fd)
+    reads-behind (program_there c.args.user was c.args.next found) 1 (size_calls found.file (program_size c.args.user was found)) was c.read_found.result c.read_found.new.s.buffer.items c.read_found.new.files _ _ _
+    (fd-only c.args.user c.args.next was found c.args.place c.args.files.now before _ at first mid _ refl refl c.in-Ok.ensures.drive)
+    (c.read_found.ensures.found was found before (fd-read c.args.user c.args.next was found c.args.place c.args.files.now before _ at first mid _ refl refl c.in-Ok.ensures.drive) at fd)

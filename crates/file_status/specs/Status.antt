@@ -1,11 +1,6 @@
--- How an attempt of a call on a file ends.
-use Rattle.std.specs.Prelude.{◌≡◌, ℕ, ◌==◌, Some, None, List, if◌then◌else◌}
+-- Calls for the status of a file: the file of a path, how a call leaves the state, and how often it calls the drive.
+use Rattle.std.specs.Prelude.{◌≡◌, ℕ, ◌==◌, Some, None, if◌then◌else◌}
 use Rattle.std.specs.Option.{option_map_or}
-use Rattle.os9_base.specs.declared.call.CallEnd.{CallEnd}
-use Rattle.os9_base.specs.declared.registers.TimePacket.{TimePacket}
-use Rattle.os9_outer.specs.TerminalState.{TerminalState}
-use Rattle.call_rules.specs.Inner.{Inner}
-use Rattle.io_rules.specs.Attempts.{result_of}
 use Rattle.io_rules.specs.Io.{with_call}
 use Rattle.io_rules.specs.Status.{options}
 use Rattle.io_rules.specs.declared.status.TheConstants.{OPTION_BYTES}
@@ -14,18 +9,13 @@ use Rattle.rbf_change.specs.Growth.{clusters_needed}
 use Rattle.rbf_update.specs.Attributes.{attribute_calls}
 use Rattle.rbf_write.specs.Sizes.{size_calls}
 use Rattle.proc_rules.specs.Records.{record_at}
-use Rattle.proc_state.specs.Tie.{Comes}
-use Rattle.proc_state.specs.declared.state.ProcState.{ProcState}
-use Rattle.file_rules.specs.Attempts.{asker_of, files_after, io_effect}
 use Rattle.file_rules.specs.Files.{Asker, Files, OpenFile, open_file, place_of_target, volume_at}
 use Rattle.file_rules.specs.Status.{gets_bytes}
 use Rattle.file_rules.specs.Seek.{long_of}
-use Rattle.file_rules.specs.Step.{FileEffect, FileStep, FileDoes}
+use Rattle.file_rules.specs.Step.{FileStep}
 use Rattle.file_rules.specs.declared.status.TheConstants.{SS_SIZE}
-use Rattle.file_drives.specs.Drives.{DriveView}
 use Rattle.file_laws.specs.Kinds.{AreKinds}
 use Rattle.file_state.specs.Attempt.{Standing}
-use Rattle.file_state.specs.Counted.{CalledAtMost, calls_of}
 use Rattle.file_state.specs.Opened.{IsFileOf}
 use Rattle.file_state.specs.Tie.{StandsFor}
 use Rattle.file_state.specs.declared.state.FileState.{FileState}
@@ -77,13 +67,3 @@ abbrev pub i_setstt_calls : Asker → Files → ℕ → ℕ
 i_setstt_calls asker files terms =
     option_map_or (λ opened. setting_calls asker opened asker.caller.regs.b)
     (open_file files asker.caller.process.0 asker.caller.regs.a) 0
-
--- an attempt of a process, at a time, comes to what a step has, and calls the drives at most so often where it reaches
--- one: so the call ends, and these are the processes, the state and the drives then
-pub record Ends (step : FileStep) (most : ℕ) (m : Inner) (files : Files) (now : TimePacket) (p : ℕ) (end : CallEnd)
-    (processes : ProcState) (new : FileState) (before after : List DriveView) : Type 0 where
-  pub effect : FileEffect
-  pub does : (terms : List TerminalState) → FileDoes step (asker_of m p now) files effect terms terms
-  pub comes : Comes m p (result_of m p (io_effect effect)) end processes
-  pub stands : StandsFor new after (files_after p effect)
-  pub calls : CalledAtMost (calls_of step most) before after

@@ -1,0 +1,82 @@
+-- How often the drives are called at most in the calls on names of files and directories (this project's own): for each
+-- directory of the walk, and for what is done where it ends.
+use Rattle.std.specs.Prelude.{ℕ, ◌+◌, Bool, false, Option, Some, None, List}
+use Rattle.std.specs.Option.{option_map_or}
+use Rattle.rbf_model.specs.File.{DiskFile}
+use Rattle.rbf_model.specs.Volume.{DiskVolume}
+use Rattle.rbf_model.specs.Walk.{look_up}
+use Rattle.rbf_change.specs.Calls.{cluster_size, shape}
+use Rattle.rbf_change.specs.NewFiles.{file_clusters}
+use Rattle.rbf_access.specs.MapMarks.{marking_sectors}
+use Rattle.rbf_append.specs.Entering.{entry_calls}
+use Rattle.rbf_dirs.specs.Deleted.{clusters_of}
+use Rattle.rbf_make.specs.Places.{place_calls}
+use Rattle.rbf_update.specs.Deletions.{deletion_calls}
+use Rattle.file_rules.specs.Files.{Asker, Files, volume_at}
+use Rattle.file_rules.specs.MakDir.{new_directory_size}
+use Rattle.file_rules.specs.Open.{is_for_execution}
+use Rattle.file_rules.specs.Way.{Way, along, to_device, nowhere, before_last, last_of, list_of, way_of}
+use Rattle.file_ways.specs.Calls.{listed_calls, walk_and}
+use Rattle.file_ways.specs.Ways.{way_for}
+use Rattle.file_ways.specs.declared.way.Purpose.{Purpose}
+use Rattle.file_ways.specs.declared.way.Purpose.TheVariants.{Existing, New}
+
+-- ---- to a file
+
+abbrev pub way_calls : Asker → Files → Bool → (DiskVolume → DiskFile → ℕ) → Way → ℕ
+way_calls asker files execute most (along from names) =
+    walk_and asker.user execute from.number names most (volume_at files from.drive)
+way_calls asker files execute most to_device = 0
+way_calls asker files execute most (nowhere number) = 0
+
+-- by the list at X, for execution or not
+abbrev pub located_calls : Asker → Files → ℕ → Bool → (DiskVolume → DiskFile → ℕ) → ℕ
+located_calls asker files terms execute most =
+    listed_calls (list_of asker) (λ list. way_calls asker files execute most (way_of asker files terms execute list))
+
+-- the descriptor of what is found is read
+abbrev pub i_chgdir_calls : Asker → Files → ℕ → ℕ
+i_chgdir_calls asker files terms =
+    located_calls asker files terms (is_for_execution asker.caller.regs.a) (λ v file. 1)
+
+-- ---- to the directory of the last name
+
+-- by that name; of a list without names no drive is called
+abbrev pub last_calls : Asker → Files → Bool → (List ℕ → DiskVolume → DiskFile → ℕ) → Way → Option (List ℕ) → ℕ
+last_calls asker files execute most (along from names) None = 0
+last_calls asker files execute most (along from names) (Some name) =
+    walk_and asker.user execute from.number (before_last names) (most name) (volume_at files from.drive)
+last_calls asker files execute most to_device name = 0
+last_calls asker files execute most (nowhere number) name = 0
+
+-- by the list at X, for execution or not
+abbrev pub named_calls : Purpose → Asker → Files → ℕ → Bool → (List ℕ → DiskVolume → DiskFile → ℕ) → ℕ
+named_calls purpose asker files terms execute most =
+    listed_calls (list_of asker)
+    (λ list. last_calls asker files execute most (way_for purpose asker files terms execute list) (last_of list.names))
+
+-- the place of the new entry is looked for, the directory is made, and it is entered
+abbrev pub making_calls : ℕ → List ℕ → DiskVolume → DiskFile → ℕ
+making_calls user name v dir =
+    place_calls dir name user false + (file_clusters (cluster_size v) new_directory_size + 2 + entry_calls v dir)
+
+abbrev pub i_makdir_calls : Asker → Files → ℕ → ℕ
+i_makdir_calls asker files terms = named_calls New asker files terms false (making_calls asker.user)
+
+-- the entry is looked for; it is made free, and so are the clusters of its file
+abbrev pub deleting_calls : ℕ → Bool → List ℕ → DiskVolume → DiskFile → ℕ
+deleting_calls user execute name v dir =
+    deletion_calls dir name user execute
+    + option_map_or (λ n. 2 + marking_sectors (shape v) (clusters_of (shape v) n (v.files n)))
+    (look_up dir.contents name) 0
+
+-- for execution or not
+abbrev pub deletes_by_calls : Asker → Files → ℕ → Bool → ℕ
+deletes_by_calls asker files terms execute =
+    named_calls Existing asker files terms execute (deleting_calls asker.user execute)
+
+abbrev pub i_delete_calls : Asker → Files → ℕ → ℕ
+i_delete_calls asker files terms = deletes_by_calls asker files terms false
+
+abbrev pub i_deletx_calls : Asker → Files → ℕ → ℕ
+i_deletx_calls asker files terms = deletes_by_calls asker files terms (is_for_execution asker.caller.regs.a)
