@@ -1,0 +1,9 @@
+mod AttemptLemmas
+mod GoingOnLemmas
+mod LinkLemmas
+mod MapLemmas
+mod NamedLemmas
+mod ParameterLemmas
+mod ReadyLemmas
+mod RoomLemmas
+mod StartLemmas

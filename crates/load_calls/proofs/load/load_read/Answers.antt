@@ -1,0 +1,10 @@
+use Rattle.std.proofs.Common.{Err, List, ℕ, subst}
+use Rattle.file_rules.specs.Load.{links_first}
+use Rattle.file_loading.specs.Entering.{TriesFile}
+use Rattle.load_calls.proofs.GoingOnLemmas.{goes-untried}
+use Rattle.load_calls.proofs.load.load_read.Goals as goal
+
+pub returns-in-Err-clause-call : goal.returns-in-Err-clause-call
+returns-in-Err-clause-call c m file tied front =
+    goes-untried m file (links_first m c.args.p.0) c.args.s.now c.in-Err.number
+    (subst (λ (bytes : List ℕ). TriesFile bytes m.memory (Err c.in-Err.number)) front.bytes_are (c.in-Err.ensures.tries m.memory tied.memory)) tied

@@ -1,0 +1,59 @@
+-- What attempts of F$Load, F$Fork and F$Chain come to that may read a file of modules, of the kernel's processes and
+-- its files (System Programmer's Manual, F$Load, F$Fork and F$Chain).
+use Rattle.std.specs.Prelude.{ℕ}
+use Rattle.std.specs.Option.{option_map_or}
+use Rattle.os9_base.specs.declared.call.CallEnd.{CallEnd}
+use Rattle.os9_base.specs.declared.registers.TimePacket.{TimePacket}
+use Rattle.call_rules.specs.CallResult.{CallResult}
+use Rattle.call_rules.specs.Inner.{Inner}
+use Rattle.proc_state.specs.Tie.{Comes}
+use Rattle.file_rules.specs.Attempts.{asker_of}
+use Rattle.file_rules.specs.Files.{Asker, Files}
+use Rattle.file_rules.specs.Load.{LoadAttempts}
+use Rattle.file_rules.specs.Program.{ChainAttempts, ForkAttempts, named_program, tests_program}
+use Rattle.file_rules.specs.ProgramFile.{ProgramFile, program_file}
+use Rattle.file_rules.specs.Step.{Step}
+use Rattle.file_rules.specs.Way.{list_of}
+use Rattle.file_state.specs.Attempt.{OnEach, Standing}
+use Rattle.file_state.specs.Counted.{CalledAtMost, calls_of}
+use Rattle.file_state.specs.Tie.{StandsFor}
+use Rattle.program_files.specs.Calls.{list_calls}
+
+-- an attempt of a process came to this, and the drives were called at most so often
+pub record AttemptsBy (attempt : CallResult → Files → Type 0) (m : Inner) (p : ℕ) (end : CallEnd) (most : ℕ)
+    (before after : Standing) : Type 0 where
+  pub result : CallResult
+  pub left : Files
+  pub attempted : attempt result left
+  pub comes : Comes m p result end after.processes
+  pub stands : StandsFor after.files after.views left
+  pub calls : CalledAtMost most before.views after.views
+
+-- how often a drive is called at most for the file of the path list at X, of a call with this test
+abbrev pub file_calls : Asker → Files → ℕ → (Step ProgramFile → Step ProgramFile) → ℕ
+file_calls asker files terms test =
+    calls_of (program_file asker files terms test) (list_calls asker files terms (list_of asker))
+
+-- and not at all where an entered module is named
+abbrev pub start_calls : Inner → ℕ → TimePacket → Files → ℕ → ℕ
+start_calls m p now files terms =
+    option_map_or (λ named. 0) (named_program m p) (file_calls (asker_of m p now) files terms (tests_program m p))
+
+-- attempts of F$Load, F$Fork and F$Chain, at a time, on a machine with so many terminals
+abbrev pub LoadsFrom : TimePacket → ℕ → CallEnd → ℕ → Standing → Standing → Type 0
+LoadsFrom now p end terms before after =
+    OnEach before
+    (λ m was. AttemptsBy (LoadAttempts m (asker_of m p now) was terms p) m p end
+    (file_calls (asker_of m p now) was terms (λ step. step)) before after)
+
+abbrev pub ForksFrom : TimePacket → ℕ → CallEnd → ℕ → Standing → Standing → Type 0
+ForksFrom now p end terms before after =
+    OnEach before
+    (λ m was. AttemptsBy (ForkAttempts m (asker_of m p now) was terms p) m p end (start_calls m p now was terms)
+    before after)
+
+abbrev pub ChainsFrom : TimePacket → ℕ → CallEnd → ℕ → Standing → Standing → Type 0
+ChainsFrom now p end terms before after =
+    OnEach before
+    (λ m was. AttemptsBy (ChainAttempts m (asker_of m p now) was terms p) m p end (start_calls m p now was terms)
+    before after)

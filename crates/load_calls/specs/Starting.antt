@@ -1,0 +1,31 @@
+-- A program in a file, and the room that it needs (System Programmer's Manual, F$Fork and F$Chain).
+use Rattle.std.specs.Prelude.{◌≡◌, ℕ, ◌+◌, nat_lt, Option, Some, None, take, if◌then◌else◌}
+use Rattle.os9_base.specs.declared.errors.TheConstants.{E_MEMFUL, E_NORAM}
+use Rattle.proc_model.specs.Memory.{MemoryState, free_blocks, map_at}
+use Rattle.call_rules.specs.Inner.{Inner, with_memory}
+use Rattle.call_rules.specs.Program.{blocks_of_pages, most_pages}
+use Rattle.file_rules.specs.Load.{Loaded}
+use Rattle.file_rules.specs.Program.{loaded_program}
+use Rattle.file_rules.specs.ProgramFile.{ProgramFile}
+use Rattle.fork_calls.specs.Naming.{meant}
+use Rattle.fork_calls.specs.declared.program.NamedProgram.{NamedProgram}
+use Rattle.proc_state.specs.Tie.{Represents}
+use Rattle.proc_state.specs.declared.state.ProcState.{ProcState}
+
+-- the number with which a process is refused that starts a program of so many pages, where a file of so many blocks is
+-- loaded before
+abbrev pub start_refusal : MemoryState → ℕ → ℕ → ℕ → Option ℕ
+start_refusal m process group pages =
+    if nat_lt most_pages pages then Some E_MEMFUL
+    else if nat_lt 8 (blocks_of_pages pages + group) then Some E_MEMFUL
+    else if nat_lt (free_blocks m + (map_at m process).low) (blocks_of_pages pages + group) then Some E_NORAM
+    else None
+
+-- the memory of the processes has the file, and this is the program that it is, with its parameters at the front of the
+-- buffer
+pub record IsProgramIn (m : Inner) (p : ℕ) (file : ProgramFile) (loaded : Loaded) (program : NamedProgram)
+    (new : ProcState) : Type 0 where
+  pub number_is : program.id.0 ≡ loaded.first.number
+  pub stands : Represents new (with_memory m loaded.memory)
+  pub is : meant program loaded.first.entry (take program.parameters new.buffer.items)
+      ≡ loaded_program m p file loaded.first

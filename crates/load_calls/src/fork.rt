@@ -1,0 +1,123 @@
+//! F$Fork of a program in a file (System Programmer's Manual, F$Fork).
+
+ghost use Rattle.std.specs.Prelude.{◌≡◌, ◌≤◌, IsSome, Ok, take, vec_len};
+ghost use Rattle.call_rules.specs.Inner.{Inner};
+ghost use Rattle.file_loading.specs.Entering.{TriesFile};
+ghost use Rattle.file_rules.specs.Program.{forks, parameters_of, starts_first};
+ghost use Rattle.file_rules.specs.ProgramFile.{ProgramFile};
+ghost use Rattle.guest_memory.specs.Tie.{Represents as RepresentsMemory};
+ghost use Rattle.file_drives.specs.Drives.{drive_views};
+ghost use Rattle.file_state.specs.Attempt.{standing};
+ghost use Rattle.file_state.specs.Tie.{IsSound};
+ghost use Rattle.load_calls.specs.Attempts.{ForksFrom};
+ghost use Rattle.os9_base.specs.declared.registers.TimePacket.{TimePacket};
+ghost use Rattle.load_calls.specs.Loading.{GoesOn, HasFirst};
+ghost use Rattle.os9_base.specs.declared.limits.TheConstants.{MOST_GROUP_BYTES as MOST};
+ghost use Rattle.proc_model.specs.Memory.{MemoryState};
+ghost use Rattle.proc_rules.specs.Records.{IsLiving};
+ghost use Rattle.proc_state.specs.Tie.{Represents};
+ghost use Rattle.program_files.specs.Reading.{IsInBuffer};
+
+use crate::front::try_front;
+use crate::named::names_program;
+use crate::program::{PROGRAM, enter_program, start_refusal};
+use device_table::devices::Devices;
+use file_loading::trial::blocks_of;
+use file_state::state::FileState;
+use fork_calls::fork::{f_fork as fork_named, start_child};
+use fork_calls::naming::area_pages;
+use os9_base::call::CallEnd;
+use os9_base::errors::{E_NEMOD, E_PRCFUL};
+use os9_base::registers::Pid;
+use os9_outer::drive::BlockDriver;
+use proc_model::module::ModuleInfo;
+use proc_state::outcome::call_end;
+use proc_state::state::ProcState;
+use program_files::reading::{ProgramRead, read_program};
+use program_files::refusal::program_refusal;
+/// F$Fork: starts a process (System Programmer's Manual, F$Fork). Takes the type and language of the
+/// program in A, the pages of its data area in B, its name or its file's path list at X, and the
+/// size and the address of its parameters in Y and U; answers the number of the new process in A,
+/// and X past the name or the list. The paths and directories of the child are given to it beside.
+///
+/// # Errors
+///
+/// Where an entered module is named, those of `fork_named`. Else those of `read_program`, with those
+/// of `program_refusal` where the list was read, and the number of the fault, if the drive fails;
+/// else those of `fork_read`. Nothing has changed then.
+pub fn f_fork(s: &mut ProcState, files: &mut FileState, p: Pid, devices: &mut Devices) -> CallEnd
+    requires lives { IsLiving s.old.table p.0 }
+    requires sound { IsSound files.old
+        (drive_views ⟦<dyn BlockDriver as BlockDriver>⟧ devices.old.drives.items) }
+    ensures call { (now : TimePacket) → ForksFrom now p.0 result (vec_len devices.old.terms)
+        (standing ⟦<dyn BlockDriver as BlockDriver>⟧ s.old files.old devices.old.drives.items)
+        (standing ⟦<dyn BlockDriver as BlockDriver>⟧ s.new files.new devices.new.drives.items) }
+    ensures lives { IsLiving s.new.table p.0 }
+    ensures terms_kept { devices.new.terms ≡ devices.old.terms }
+    ensures io { files.new.io ≡ files.old.io }
+    ensures directories { files.new.directories ≡ files.old.directories }
+{
+    if names_program(s, p) {
+        return fork_named(s, p);
+    }
+    let refusal = program_refusal(s, p);
+    match read_program(s, files, devices, p, refusal) {
+        Err(number) => CallEnd::Error(number),
+        Ok(read) => call_end(fork_read(s, p, read)),
+    }
+}
+
+/// A process gets a child, which starts the program of the file that stands at the front of the
+/// buffer.
+///
+/// # Errors
+///
+/// Those of `try_front`; else E$NEMod exactly if the first module is no program in 6809 code, else
+/// E$PrcFul exactly if there are 31 records, else those of `start_refusal`. Nothing has changed
+/// then.
+pub(crate) fn fork_read(s: &mut ProcState, p: Pid, read: ProgramRead) -> Result<(), u8>
+    requires lives { IsLiving s.old.table p.0 }
+    requires short { read.size ≤ MOST }
+    ensures call { (m : Inner) (file : ProgramFile) → Represents s.old m
+        → IsInBuffer s.old.buffer.items file read → IsSome (parameters_of m p.0)
+        → GoesOn m file (starts_first forks m p.0) result s.new }
+    ensures lives { IsLiving s.new.table p.0 }
+{
+    match try_front(s, read.size) {
+        Err(number) => Err(number),
+        Ok(first) => fork_tried(s, p, read, first),
+    }
+}
+
+/// The same of a file that was tried, and whose first module this is.
+///
+/// # Errors
+///
+/// As `fork_read` behind the trial.
+fn fork_tried(s: &mut ProcState, p: Pid, read: ProgramRead, first: ModuleInfo) -> Result<(), u8>
+    requires lives { IsLiving s.old.table p.0 }
+    requires short { read.size ≤ MOST }
+    requires tried { (m : MemoryState) → RepresentsMemory s.old.memory m
+        → TriesFile (take read.size s.old.buffer.items) m (Ok first) }
+    requires first { HasFirst (take read.size s.old.buffer.items) first }
+    ensures call { (m : Inner) (file : ProgramFile) → Represents s.old m
+        → IsInBuffer s.old.buffer.items file read → IsSome (parameters_of m p.0)
+        → GoesOn m file (starts_first forks m p.0) result s.new }
+    ensures lives { IsLiving s.new.table p.0 }
+{
+    if first.kind != PROGRAM {
+        return Err(E_NEMOD);
+    }
+    let Some(child) = s.table.free() else {
+        return Err(E_PRCFUL);
+    };
+    let regs = s.regs(p);
+    let pages = area_pages(first.storage, regs.b, regs.y);
+    match start_refusal(&s.memory, child, blocks_of(read.size as usize), pages) {
+        Some(number) => Err(number),
+        None => {
+            let program = enter_program(s, p, read, first);
+            start_child(s, p, program)
+        }
+    }
+}

@@ -1,0 +1,49 @@
+//! The file of modules that stands at the front of the buffer.
+
+ghost use Rattle.std.specs.Prelude.{◌≡◌, ℕ, ◌≤◌, IfOk, IsSome, Ok, take};
+ghost use Rattle.call_rules.specs.Inner.{Inner, with_memory};
+ghost use Rattle.file_loading.specs.Entering.{TriesFile};
+ghost use Rattle.file_rules.specs.Load.{Loaded, Loads};
+ghost use Rattle.guest_memory.specs.Tie.{Represents as RepresentsMemory, modules_of};
+ghost use Rattle.load_calls.specs.Loading.{HasFirst, IsEnteredIn};
+ghost use Rattle.os9_base.specs.declared.limits.TheConstants.{MOST_GROUP_BYTES as MOST};
+ghost use Rattle.proc_model.specs.Memory.{MemoryState};
+ghost use Rattle.proc_model.specs.ModuleList.{module_entry_at};
+ghost use Rattle.proc_state.specs.Tie.{Represents};
+
+use file_loading::entering::enter_tried;
+use file_loading::trial::try_file;
+use proc_model::module::{ModId, ModuleInfo};
+use proc_state::state::ProcState;
+
+/// What the header of the first module says of the file of so many bytes at the front of the
+/// buffer, if it can be loaded and its modules entered (System Programmer's Manual, F$Load).
+///
+/// # Errors
+///
+/// Those of `try_file`.
+pub(crate) fn try_front(s: &ProcState, size: u16) -> Result<ModuleInfo, u8>
+    requires short { size ≤ MOST }
+    ensures tries { (m : MemoryState) → RepresentsMemory s.now.memory m
+        → TriesFile (take size s.now.buffer.items) m result }
+    ensures first { IfOk result (HasFirst (take size s.now.buffer.items)) }
+{
+    try_file(&s.memory, &s.buffer[..size as usize])
+}
+
+/// Loads the file of so many bytes at the front of the buffer, which was tried and whose first
+/// module this is, and enters its modules. Answers the number of the first.
+pub(crate) fn enter_front(s: &mut ProcState, size: u16, first: ModuleInfo) -> ModId
+    requires short { size ≤ MOST }
+    requires tried { (m : MemoryState) → RepresentsMemory s.old.memory m
+        → TriesFile (take size s.old.buffer.items) m (Ok first) }
+    requires first { HasFirst (take size s.old.buffer.items) first }
+    ensures loads { (m : Inner) (loaded : Loaded) → Represents s.old m
+        → Loads m.memory (take size s.old.buffer.items) (Ok loaded)
+        → IsEnteredIn m loaded result s.new }
+    ensures entered { IsSome (module_entry_at (modules_of s.new.memory) result.0) }
+    ensures records { s.new.table ≡ s.old.table }
+{
+    let file = &s.buffer[..size as usize];
+    enter_tried(&mut s.memory, file, first)
+}

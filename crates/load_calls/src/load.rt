@@ -1,0 +1,117 @@
+//! F$Load (System Programmer's Manual, F$Load).
+
+ghost use Rattle.std.specs.Prelude.{◌≡◌, ◌<◌, ◌≤◌, Ok, take, vec_len};
+ghost use Rattle.call_rules.specs.Inner.{Inner};
+ghost use Rattle.file_loading.specs.Entering.{TriesFile};
+ghost use Rattle.file_rules.specs.Load.{links_first};
+ghost use Rattle.file_rules.specs.ProgramFile.{ProgramFile};
+ghost use Rattle.guest_memory.specs.Tie.{Represents as RepresentsMemory};
+ghost use Rattle.file_drives.specs.Drives.{drive_views};
+ghost use Rattle.file_state.specs.Attempt.{standing};
+ghost use Rattle.file_state.specs.Tie.{IsSound};
+ghost use Rattle.load_calls.specs.Attempts.{LoadsFrom};
+ghost use Rattle.os9_base.specs.declared.registers.TimePacket.{TimePacket};
+ghost use Rattle.load_calls.specs.Loading.{GoesOn, HasFirst, has_place as has_place_lem};
+ghost use Rattle.os9_base.specs.declared.limits.TheConstants.{MOST_GROUP_BYTES as MOST};
+ghost use Rattle.proc_model.specs.Memory.{MemoryState};
+ghost use Rattle.proc_rules.specs.Records.{IsLiving};
+ghost use Rattle.proc_state.specs.Tie.{Represents};
+ghost use Rattle.program_files.specs.Reading.{IsInBuffer};
+
+use crate::front::{enter_front, try_front};
+use device_table::devices::Devices;
+use file_loading::trial::blocks_of;
+use file_state::state::FileState;
+use module_calls::links::link_module;
+use os9_base::call::CallEnd;
+use os9_base::errors::E_MEMFUL;
+use os9_base::registers::Pid;
+use os9_outer::drive::BlockDriver;
+use proc_model::memory::MOST_LINKS;
+use proc_model::module::ModuleInfo;
+use proc_state::outcome::call_end;
+use proc_state::state::ProcState;
+use program_files::reading::{ProgramRead, read_program};
+
+/// F$Load: loads a file of modules (System Programmer's Manual, F$Load). Takes the path list at X;
+/// answers the first module's type and language in A, its attributes and revision in B, X past the
+/// list, its entry in Y and its header's address in U. All modules of the file are entered as one
+/// group, and the first has a link of the process.
+///
+/// # Errors
+///
+/// Those of `read_program`, and the number of the fault, if the drive fails; else those of
+/// `try_front`; else E$MemFul exactly if too few slots are left in the map, or no links. Nothing
+/// has changed then.
+pub fn f_load(s: &mut ProcState, files: &mut FileState, p: Pid, devices: &mut Devices) -> CallEnd
+    requires lives { IsLiving s.old.table p.0 }
+    requires sound { IsSound files.old
+        (drive_views ⟦<dyn BlockDriver as BlockDriver>⟧ devices.old.drives.items) }
+    ensures call { (now : TimePacket) → LoadsFrom now p.0 result (vec_len devices.old.terms)
+        (standing ⟦<dyn BlockDriver as BlockDriver>⟧ s.old files.old devices.old.drives.items)
+        (standing ⟦<dyn BlockDriver as BlockDriver>⟧ s.new files.new devices.new.drives.items) }
+    ensures lives { IsLiving s.new.table p.0 }
+    ensures terms_kept { devices.new.terms ≡ devices.old.terms }
+    ensures io { files.new.io ≡ files.old.io }
+    ensures directories { files.new.directories ≡ files.old.directories }
+{
+    match read_program(s, files, devices, p, None) {
+        Err(number) => CallEnd::Error(number),
+        Ok(read) => call_end(load_read(s, p, read)),
+    }
+}
+
+/// A process loads the file that stands at the front of the buffer, and links its first module.
+///
+/// # Errors
+///
+/// Those of `try_front`, else E$MemFul exactly if too few slots are left in its map, or no links.
+/// Nothing has changed then.
+pub(crate) fn load_read(s: &mut ProcState, p: Pid, read: ProgramRead) -> Result<(), u8>
+    requires lives { IsLiving s.old.table p.0 }
+    requires short { read.size ≤ MOST }
+    ensures call { (m : Inner) (file : ProgramFile) → Represents s.old m
+        → IsInBuffer s.old.buffer.items file read → GoesOn m file (links_first m p.0) result s.new }
+    ensures lives { IsLiving s.new.table p.0 }
+{
+    match try_front(s, read.size) {
+        Err(number) => Err(number),
+        Ok(first) => load_tried(s, p, read, first),
+    }
+}
+
+/// The same of a file that was tried, and whose first module this is.
+///
+/// # Errors
+///
+/// E$MemFul exactly if too few slots are left in its map, or no links. Nothing has changed then.
+fn load_tried(s: &mut ProcState, p: Pid, read: ProgramRead, first: ModuleInfo) -> Result<(), u8>
+    requires lives { IsLiving s.old.table p.0 }
+    requires short { read.size ≤ MOST }
+    requires tried { (m : MemoryState) → RepresentsMemory s.old.memory m
+        → TriesFile (take read.size s.old.buffer.items) m (Ok first) }
+    requires first { HasFirst (take read.size s.old.buffer.items) first }
+    ensures call { (m : Inner) (file : ProgramFile) → Represents s.old m
+        → IsInBuffer s.old.buffer.items file read → GoesOn m file (links_first m p.0) result s.new }
+    ensures lives { IsLiving s.new.table p.0 }
+{
+    let x = s.regs(p).x;
+    if !has_place(s, p, blocks_of(read.size as usize)) {
+        return Err(E_MEMFUL);
+    }
+    let id = enter_front(s, read.size, first);
+    link_module(s, p, id, read.next.saturating_sub(u32::from(x)))
+}
+
+/// Has the map of a process as many free slots in a row as a group of so many blocks needs, and may
+/// the process have a link more where it would be mapped?
+fn has_place(s: &ProcState, p: Pid, blocks: u8) -> bool
+    requires process { p.0 < 33 }
+    requires some { 1 ≤ blocks }
+    ensures { (m : Inner) → Represents s.now m → result ≡ has_place_lem m p.0 blocks }
+{
+    match s.memory.free_run(p, blocks) {
+        Some(slot) => s.own(p).links[slot as usize] < MOST_LINKS,
+        None => false,
+    }
+}

@@ -1,0 +1,88 @@
+//! A program in a file, and the room that it needs.
+
+ghost use Rattle.std.specs.Prelude.{◌≡◌, ◌≤◌, ◌<◌, IsSome, Ok, take};
+ghost use Rattle.call_rules.specs.Inner.{Inner};
+ghost use Rattle.file_loading.specs.Entering.{TriesFile};
+ghost use Rattle.file_rules.specs.Load.{Loaded, Loads};
+ghost use Rattle.file_rules.specs.Program.{parameters_of};
+ghost use Rattle.file_rules.specs.ProgramFile.{ProgramFile};
+ghost use Rattle.guest_memory.specs.Tie.{Represents as RepresentsMemory, modules_of};
+ghost use Rattle.load_calls.specs.Loading.{HasFirst};
+ghost use Rattle.load_calls.specs.Starting.{IsProgramIn, start_refusal as start_refusal_lem};
+ghost use Rattle.os9_base.specs.declared.limits.TheConstants.{MOST_GROUP_BYTES as MOST};
+ghost use Rattle.proc_model.specs.Memory.{MemoryState};
+ghost use Rattle.proc_model.specs.ModuleList.{module_entry_at};
+ghost use Rattle.proc_rules.specs.Records.{IsLiving};
+ghost use Rattle.proc_state.specs.Tie.{Represents};
+ghost use Rattle.program_files.specs.Reading.{IsInBuffer};
+
+use crate::front::enter_front;
+use fork_calls::naming::area_pages;
+use fork_calls::program::NamedProgram;
+use guest_memory::memory::Memory;
+use module_calls::program::{MOST_PAGES, blocks_of_pages};
+use os9_base::errors::{E_MEMFUL, E_NORAM};
+use os9_base::limits::MAP_SLOTS;
+use os9_base::registers::Pid;
+use proc_model::module::ModuleInfo;
+use proc_state::state::ProcState;
+use program_files::reading::ProgramRead;
+
+/// The type and language of a program in 6809 code (Level Two manual, "Memory modules").
+pub(crate) const PROGRAM: u8 = 0x11;
+
+/// The number with which a process is refused that would start a program with a data area of so
+/// many pages, whose file is loaded into so many blocks before (System Programmer's Manual, F$Fork
+/// and F$Chain): E$MemFul exactly if the data area has more than 57,344 bytes or the slots are too
+/// few, else E$NoRAM exactly if too few blocks are free, where those of its own data area count as
+/// free. None if it has room.
+pub(crate) fn start_refusal(memory: &Memory, p: Pid, group: u8, pages: u16) -> Option<u8>
+    requires process { p.0 < 33 }
+    requires few { group ≤ 7 }
+    ensures { (m : MemoryState) → RepresentsMemory memory.now m
+        → result ≡ start_refusal_lem m p.0 group pages }
+{
+    if pages > MOST_PAGES {
+        return Some(E_MEMFUL);
+    }
+    let wanted = blocks_of_pages(pages) + group;
+    if wanted > MAP_SLOTS {
+        return Some(E_MEMFUL);
+    }
+    if u32::from(memory.free_blocks()) + u32::from(memory.area(p)) < u32::from(wanted) {
+        return Some(E_NORAM);
+    }
+    None
+}
+
+/// The file at the front of the buffer, which was tried and whose first module this is, is loaded
+/// and its modules entered. Answers the program that it is, by the registers of the process that
+/// starts it, whose parameters stand at the front of the buffer then.
+pub(crate) fn enter_program(
+    s: &mut ProcState,
+    p: Pid,
+    read: ProgramRead,
+    first: ModuleInfo,
+) -> NamedProgram
+    requires lives { IsLiving s.old.table p.0 }
+    requires short { read.size ≤ MOST }
+    requires tried { (m : MemoryState) → RepresentsMemory s.old.memory m
+        → TriesFile (take read.size s.old.buffer.items) m (Ok first) }
+    requires first { HasFirst (take read.size s.old.buffer.items) first }
+    ensures enters { (m : Inner) (file : ProgramFile) (loaded : Loaded) → Represents s.old m
+        → IsInBuffer s.old.buffer.items file read → Loads m.memory file.bytes (Ok loaded)
+        → IsSome (parameters_of m p.0) → IsProgramIn m p.0 file loaded result s.new }
+    ensures entered { IsSome (module_entry_at (modules_of s.new.memory) result.id.0) }
+    ensures lives { IsLiving s.new.table p.0 }
+{
+    let regs = s.regs(p);
+    let pages = area_pages(first.storage, regs.b, regs.y);
+    let id = enter_front(s, read.size, first);
+    let _ = s.read_bytes(p, regs.u, regs.y);
+    NamedProgram {
+        id,
+        pages,
+        parameters: regs.y,
+        count: read.next.saturating_sub(u32::from(regs.x)),
+    }
+}
