@@ -92,7 +92,7 @@ none-behind (suc count) zero v at = none-some v at
 none-behind (suc count) (suc d) v at = none-behind count d v at
 
 -- each volume that is mounted is that of an image
-image-of : (images : List (List ℕ)) (volumes : List DiskVolume) (count d : ℕ) (v : DiskVolume) → AllZip Vol images volumes → get_or (map some_volume volumes ++ replicate count None) d None ≡ Some v → (image : List ℕ) × Vol image v
+pub image-of : (images : List (List ℕ)) (volumes : List DiskVolume) (count d : ℕ) (v : DiskVolume) → AllZip Vol images volumes → get_or (map some_volume volumes ++ replicate count None) d None ≡ Some v → (image : List ℕ) × Vol image v
 image-of [] [] count d v mounted at = absurd (none-behind count d v at)
 image-of [] (u ∷ us) count d v mounted at = absurd mounted
 image-of (image ∷ images) [] count d v mounted at = absurd mounted

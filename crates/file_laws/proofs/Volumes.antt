@@ -106,14 +106,14 @@ size-still image v w n size now (cut it) =
 -- ---- new files
 
 -- a free cluster is no file's
-unused : (g : Geometry) (v : DiskVolume) (c n : ℕ) (file : DiskFile) → is_free g v c ≡ true → n < g.total → v.files n ≡ Some file → has_cluster g n file c ≡ false
+pub unused : (g : Geometry) (v : DiskVolume) (c n : ℕ) (file : DiskFile) → is_free g v c ≡ true → n < g.total → v.files n ≡ Some file → has_cluster g n file c ≡ false
 unfolding is_free
 unused g v c n file free below is =
     let parts = three_parts (is_whole g c) (not (v.lost c)) _ free in
     let all = all_at (λ m. not (in_file g m (v.files m) c)) (range_with_len 0 g.total) n parts.2 (has_range 0 g.total n (omega arith) (omega arith)) in
     sym (in_file_at g n (v.files n) file c is) ∙ not-true (in_file g n (v.files n) c) all
 
-free-whole : (g : Geometry) (v : DiskVolume) (c : ℕ) → is_free g v c ≡ true → is_whole g c ≡ true
+pub free-whole : (g : Geometry) (v : DiskVolume) (c : ℕ) → is_free g v c ≡ true → is_whole g c ≡ true
 unfolding is_free
 free-whole g v c free = (three_parts (is_whole g c) (not (v.lost c)) _ free).0
 

@@ -10,11 +10,11 @@ use Rattle.io_rules.specs.Codes.{io_call_of}
 use Rattle.io_rules.specs.declared.io_call.IoCall.{IoCall}
 
 -- the fact holds of each code and its call
-abbrev EachCode : {C : Type 0} → (ℕ → C → Type 0) → List (ℕ × C) → Type 0
+abbrev pub EachCode : {C : Type 0} → (ℕ → C → Type 0) → List (ℕ × C) → Type 0
 EachCode fact [] = Unit {0}
 EachCode fact (coded ∷ rest) = fact coded.0 coded.1 × EachCode fact rest
 
-found-code : {C : Type 0} (fact : ℕ → C → Type 0) (codes : List (ℕ × C)) (code : ℕ) (call : C) → EachCode fact codes → option_map (λ (coded : ℕ × C). coded.1) (find (λ (coded : ℕ × C). coded.0 == code) codes) ≡ Some call → fact code call
+pub found-code : {C : Type 0} (fact : ℕ → C → Type 0) (codes : List (ℕ × C)) (code : ℕ) (call : C) → EachCode fact codes → option_map (λ (coded : ℕ × C). coded.1) (find (λ (coded : ℕ × C). coded.0 == code) codes) ≡ Some call → fact code call
 found-code fact [] code call each is = absurd (none-some call is)
 found-code {C} fact (coded ∷ rest) code call each is = by_test (coded.0 == code) refl (found-code fact rest code call each.1) is
   where

@@ -61,7 +61,7 @@ use Rattle.flow_laws.proofs.KeyWrites.{OnTerminal, StepWrites, step-writes}
 -- ---- one terminal of many
 
 -- the type-ahead stays, and the line too, or it is dropped for a cause
-record TermLeft (Cause : Type 0) (old new : Terminal) : Type 0 where
+pub record TermLeft (Cause : Type 0) (old new : Terminal) : Type 0 where
   pub ahead : new.ahead ≡ old.ahead
   pub line : LineStays old new ⊎ Cause × LineGoes old.line new
 
@@ -71,7 +71,7 @@ term-same Cause old new is = record {
   line = inl (record { line = ap (λ (t : Terminal). t.line) is; reading = ap (λ (t : Terminal). t.reading) is });
 }
 
-term-for : (A B : Type 0) (old new : Terminal) → (A → B) → TermLeft A old new → TermLeft B old new
+pub term-for : (A B : Type 0) (old new : Terminal) → (A → B) → TermLeft A old new → TermLeft B old new
 term-for A B old new causes it = record { ahead = it.ahead; line = by_line it.line }
   where
     by_line : LineStays old new ⊎ A × LineGoes old.line new → LineStays old new ⊎ B × LineGoes old.line new
@@ -79,18 +79,18 @@ term-for A B old new causes it = record { ahead = it.ahead; line = by_line it.li
     by_line (inr (cause, goes)) = inr (causes cause, goes)
 
 -- and the terminals are as many
-record AheadLeft (Cause : Type 0) (n : ℕ) (old new : Io) : Type 0 where
+pub record AheadLeft (Cause : Type 0) (n : ℕ) (old new : Io) : Type 0 where
   pub terminal : TermLeft Cause (terminal_at old n) (terminal_at new n)
   pub places : length new.terminals ≡ length old.terminals
 
-left-same : (Cause : Type 0) (n : ℕ) (old new : Io) → new.terminals ≡ old.terminals → AheadLeft Cause n old new
+pub left-same : (Cause : Type 0) (n : ℕ) (old new : Io) → new.terminals ≡ old.terminals → AheadLeft Cause n old new
 left-same Cause n old new same = record {
   terminal =
       term-same Cause (terminal_at old n) (terminal_at new n) (ap (λ (terminals : List Terminal). slice_index_or terminals n new_terminal) same);
   places = ap (length {A = Terminal}) same;
 }
 
-left-for : (A B : Type 0) (n : ℕ) (old new : Io) → (A → B) → AheadLeft A n old new → AheadLeft B n old new
+pub left-for : (A B : Type 0) (n : ℕ) (old new : Io) → (A → B) → AheadLeft A n old new → AheadLeft B n old new
 left-for A B n old new causes it =
     record { terminal = term-for A B (terminal_at old n) (terminal_at new n) causes it.terminal; places = it.places }
 
@@ -114,7 +114,7 @@ left-set Cause n io m terminal it =
 -- ---- what a process closes and lets go of
 
 -- the unfinished read of a terminal is this process's
-abbrev IsReader : Io → ℕ → ℕ → Type 0
+abbrev pub IsReader : Io → ℕ → ℕ → Type 0
 IsReader io p n = reader (terminal_at io n) ≡ Some (pid p)
 
 released-left : (p : ℕ) (t : Terminal) → TermLeft (reader t ≡ Some (pid p)) t (released (pid p) t)
@@ -143,7 +143,7 @@ forgotten-term p t = by_user (option_map_or (is_process (pid p)) t.user false)
     by_user true = record { ahead = (released-left p t).ahead; line = by_line (released-left p t).line }
     by_user false = released-left p t
 
-closed-terminals : (io : Io) (p k : ℕ) → (after_close io p k).terminals ≡ io.terminals
+pub closed-terminals : (io : Io) (p k : ℕ) → (after_close io p k).terminals ≡ io.terminals
 closed-terminals io p k = by_gone (closed_desc io.paths p k)
   where
     by_target : (target : Target) → (without_target (with_paths io (paths_after_close io.paths p k)) target).terminals ≡ io.terminals
@@ -183,7 +183,7 @@ closed-from n p io closed new same it = record {
   places = it.places ∙ ap (length {A = Terminal}) same;
 }
 
-ended-left : (n : ℕ) (io : Io) (p : ℕ) → AheadLeft (IsReader io p n) n io (io_ended io p)
+pub ended-left : (n : ℕ) (io : Io) (p : ℕ) → AheadLeft (IsReader io p n) n io (io_ended io p)
 ended-left n io p =
     let closed : Io = closed_below io p PROCESS_PATHS in
     let freed : AheadLeft (IsReader closed p n) n closed (without_user closed p) = forgotten-left n closed p in
@@ -204,7 +204,7 @@ forgotten-drops p t is = by_user (option_map_or (is_process (pid p)) t.user fals
     by_user false = released-drops p t is
 
 -- and of one whose call on the terminal is broken off
-interrupted-drops : (n : ℕ) (io : Io) (p : ℕ) → wait_target io p ≡ Some (Term n) → IsReader io p n → (terminal_at (io_interrupted io p) n).reading ≡ None
+pub interrupted-drops : (n : ℕ) (io : Io) (p : ℕ) → wait_target io p ≡ Some (Term n) → IsReader io p n → (terminal_at (io_interrupted io p) n).reading ≡ None
 interrupted-drops n io p waits_on is =
     ap (λ (target : Option Target). (terminal_at (without_unfinished io p target) n).reading) waits_on
     ∙ elim (cases_lt n (length io.terminals)) [
@@ -212,7 +212,7 @@ interrupted-drops n io p waits_on is =
       | inr past ↦ ap (λ (t : Terminal). t.reading) (get_or_past (with_terminal io n (released (pid p) (terminal_at io n))).terminals n new_terminal (rw length-set past))
     ]
 
-ended-drops : (n : ℕ) (io : Io) (p : ℕ) → IsReader io p n → (terminal_at (io_ended io p) n).reading ≡ None
+pub ended-drops : (n : ℕ) (io : Io) (p : ℕ) → IsReader io p n → (terminal_at (io_ended io p) n).reading ≡ None
 ended-drops n io p is =
     elim (cases_lt n (length closed.terminals)) [
       | inl within ↦ ap (λ (t : Terminal). t.reading) (get_or-map (forgotten (pid p)) closed.terminals n new_terminal new_terminal within) ∙ forgotten-drops p (terminal_at closed n) (ap (λ (terminals : List Terminal). reader (slice_index_or terminals n new_terminal)) (all-closed io p PROCESS_PATHS) ∙ is)
@@ -230,14 +230,14 @@ unfinished-left n io p (Some (Term terminal)) =
     left-set (IsReader io p) n io terminal (released (pid p) (terminal_at io terminal)) (released-left p (terminal_at io terminal))
 unfinished-left n io p (Some (Pipe pipe)) = left-same (IsReader io p n) n io io refl
 
-interrupted-left : (n : ℕ) (io : Io) (p : ℕ) → AheadLeft (IsReader io p n) n io (io_interrupted io p)
+pub interrupted-left : (n : ℕ) (io : Io) (p : ℕ) → AheadLeft (IsReader io p n) n io (io_interrupted io p)
 interrupted-left n io p =
     let it = unfinished-left n io p (wait_target io p) in record { terminal = it.terminal; places = it.places }
 
 -- ---- a read
 
 -- how an attempt of a read ends that stores these bytes, where its keys made this of its line
-abbrev Ends : Type 0 → Caller → Typing → Reading → Terminal → List ℕ → IoEnd → Type 0
+abbrev pub Ends : Type 0 → Caller → Typing → Reading → Terminal → List ℕ → IoEnd → Type 0
 Ends Fails caller made request new bytes (answers regs) =
     (made.end ≡ Some Line) × (regs ≡ count_regs caller (length made.line.bytes)) × (bytes ≡ made.line.bytes) × LineGoes made.line new
 Ends Fails caller made request new bytes (fails number) =
@@ -246,7 +246,7 @@ Ends Fails caller made request new bytes (keeps kept) =
     (made.end ≡ None) × (new.line ≡ made.line) × (new.reading ≡ Some request) × (new.ahead ≡ []) × (bytes ≡ [])
 
 -- an attempt of a read uses these keys
-record Uses (Fails : Type 0) (caller : Caller) (request : Reading) (old new : Terminal) (keys bytes : List ℕ) (end : IoEnd) : Type 0 where
+pub record Uses (Fails : Type 0) (caller : Caller) (request : Reading) (old new : Terminal) (keys bytes : List ℕ) (end : IoEnd) : Type 0 where
   pub alone : is_taken request.process old ≡ false
   pub front : old.ahead ≡ keys ++ new.ahead
   pub used : (typed request old.line keys).left ≡ []
@@ -394,21 +394,21 @@ rose-one change m before after (old, new, found, is, changed) rose =
 -- ---- an attempt of a call on paths
 
 -- a terminal of these failed
-abbrev Failed : List TerminalState → List TerminalState → ℕ → Type 0
+abbrev pub Failed : List TerminalState → List TerminalState → ℕ → Type 0
 Failed before after n = Rose (faults_of before n) (faults_of after n)
 
 -- a write on a terminal is refused
-abbrev WriteRefused : IoCall → Caller → Io → IoEnd → List TerminalState → List TerminalState → ℕ → Type 0
+abbrev pub WriteRefused : IoCall → Caller → Io → IoEnd → List TerminalState → List TerminalState → ℕ → Type 0
 WriteRefused call caller io end before after n =
     (direction_of_call call ≡ Some Writing) × OnTerminal call caller io n × (end ≡ fails E_WRITE) × Failed before after n
 
 -- how an attempt ends that is a read of a terminal, and uses no key of it
-abbrev EndsUnused : IoCall → Caller → Io → ℕ → IoEffect → Type 0
+abbrev pub EndsUnused : IoCall → Caller → Io → ℕ → IoEffect → Type 0
 EndsUnused call caller io n effect =
     (kind : ReadKind) → call ≡ read_call kind → ReadsOn caller io n → UsesNone n caller io effect.end × (effect.bytes ≡ [])
 
 -- what an attempt makes of the keys of a terminal
-abbrev Moved : IoCall → Caller → Io → ℕ → List TerminalState → List TerminalState → IoEffect → Type 0
+abbrev pub Moved : IoCall → Caller → Io → ℕ → List TerminalState → List TerminalState → IoEffect → Type 0
 Moved call caller io n before after effect =
     AheadLeft (WriteRefused call caller io effect.end before after n) n io effect.io × EndsUnused call caller io n effect
     ⊎ ((kind : ReadKind) × (call ≡ read_call kind) × ((opened : OpenPath) × (open_path io caller.process.0 caller.regs.a ≡ Some opened) × (opened.desc.target ≡ Term n)) × (length effect.io.terminals ≡ length io.terminals) × (effect.at ≡ caller.regs.x) × ((keys : List ℕ) × Uses (Failed before after n) caller (reading_of kind io caller.process.0 caller.regs) (terminal_at io n) (terminal_at effect.io n) keys effect.bytes effect.end))
@@ -487,7 +487,7 @@ module _ (call : IoCall) (caller : Caller) (io : Io) (n : ℕ) (within : n < len
       )
       by_uses (inr (keys, uses)) = by_place keys uses (cases_eq n read.terminal)
 
-  does-moves : (step : IoStep) (effect : IoEffect) → StepGives call (λ (new : Io). new.terminals ≡ io.terminals) caller io step → StepReads call caller io step → StepWrites call caller io step → Does step caller io effect before after → Moved call caller io n before after effect
+  pub does-moves : (step : IoStep) (effect : IoEffect) → StepGives call (λ (new : Io). new.terminals ≡ io.terminals) caller io step → StepReads call caller io step → StepWrites call caller io step → Does step caller io effect before after → Moved call caller io n before after effect
   does-moves (refused number) effect gives facts on (is, same) = inl (
     left-same (WriteRefused call caller io effect.end before after n) n io effect.io (ap (λ (effect : IoEffect). effect.io.terminals) is),
     λ kind kind_is path. subst (λ (effect : IoEffect). UsesNone n caller io effect.end × (effect.bytes ≡ [])) (sym is) (facts (read-way call kind kind_is), refl),
@@ -505,7 +505,7 @@ module _ (call : IoCall) (caller : Caller) (io : Io) (n : ℕ) (within : n < len
   )
 
   -- no key to come is taken
-  does-come : (step : IoStep) (effect : IoEffect) → Does step caller io effect before after → come_of after n ≡ come_of before n
+  pub does-come : (step : IoStep) (effect : IoEffect) → Does step caller io effect before after → come_of after n ≡ come_of before n
   does-come (refused number) effect (is, same) = ap (λ (terms : List TerminalState). come_of terms n) same
   does-come (comes it) effect (is, same) = ap (λ (terms : List TerminalState). come_of terms n) same
   does-come (reads read) effect it =
@@ -515,16 +515,16 @@ module _ (call : IoCall) (caller : Caller) (io : Io) (n : ℕ) (within : n < len
 
 -- ---- an event
 
-ran-ended : Ran ≡ Ended → ⊥
+pub ran-ended : Ran ≡ Ended → ⊥
 ran-ended is = cc
 
-waits-ended : Waits ≡ Ended → ⊥
+pub waits-ended : Waits ≡ Ended → ⊥
 waits-ended is = cc
 
-attempts-delivers : (code signal : ℕ) → attempts code ≡ delivers signal → ⊥
+pub attempts-delivers : (code signal : ℕ) → attempts code ≡ delivers signal → ⊥
 attempts-delivers code signal is = cc
 
-executes-delivers : (signal : ℕ) → executes ≡ delivers signal → ⊥
+pub executes-delivers : (signal : ℕ) → executes ≡ delivers signal → ⊥
 executes-delivers signal is = cc
 
 module _ (s : State) (p n : ℕ) (chosen : s.chosen ≡ Some p) (has : HasAhead n s) where

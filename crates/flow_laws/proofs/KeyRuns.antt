@@ -99,7 +99,7 @@ module _ (n tick : ℕ) where
       differs same = omega arith
 
   -- what arrives at this one
-  record Polled (old new : Desk) : Type 0 where
+  pub record Polled (old new : Desk) : Type 0 where
     pub keys : List Key
     pub come : come_of old.terms n ≡ keys ++ come_of new.terms n
     pub line : LineStays (terminal_at old.io n) (terminal_at new.io n)
@@ -123,7 +123,7 @@ module _ (n tick : ℕ) where
         places = poll-places n old new here;
       }
 
-  arrivals-polled : (m count : ℕ) (old new : Desk) → n < length old.io.terminals → length (terminal_at old.io n).ahead ≤ TYPE_AHEAD → ArrivesFrom tick m count old new → Polled old new
+  pub arrivals-polled : (m count : ℕ) (old new : Desk) → n < length old.io.terminals → length (terminal_at old.io n).ahead ≤ TYPE_AHEAD → ArrivesFrom tick m count old new → Polled old new
   arrivals-polled m zero old new within few is = record {
     keys = [];
     come = ap (λ (desk : Desk). come_of desk.terms n) (sym is);
@@ -305,7 +305,7 @@ pub slice-keys : (size : ℕ) (s t : State) (states : List State) (end : SliceEn
 slice-keys size s t states end n slice has =
     subst (λ (states : List State). Keeps n s states t) (append-nil states) (slice-keep n size s states end t [] t slice has (λ has. keeps-none n t has))
 
-come-emptied : (terms : List TerminalState) (n : ℕ) → come_of (terminals_emptied terms) n ≡ come_of terms n
+pub come-emptied : (terms : List TerminalState) (n : ℕ) → come_of (terminals_emptied terms) n ≡ come_of terms n
 come-emptied [] n = refl
 come-emptied (x ∷ terms) zero = refl
 come-emptied (x ∷ terms) (suc n) = come-emptied terms n

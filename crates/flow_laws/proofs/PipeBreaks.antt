@@ -27,7 +27,7 @@ use Rattle.flow_laws.specs.Flow.{IsBrokenOff, TellsMoved, pushed_regs, with_y}
 
 module _ (m : Inner) (p signal moved : ℕ) (lives : IsLiving m.records p) where
   -- the processes as the signal finds them
-  abbrev found : Inner
+  abbrev pub found : Inner
   found = with_regs_of m p (record (regs_at m p) { y = moved })
 
   abbrev taken : Inner
@@ -42,7 +42,7 @@ module _ (m : Inner) (p signal moved : ℕ) (lives : IsLiving m.records p) where
   waits-still =
       ap (λ (r : Record). is_waiting r.life) (record-put m.records p (record (record_at m.records p) { regs = record (regs_at m p) { y = moved } }) (living-within m.records p lives))
 
-  abbrev Tells : Result Inner ℕ → Type 0
+  abbrev pub Tells : Result Inner ℕ → Type 0
   Tells result = (delivery_end result ≡ Ended) ⊎ TellsMoved m p signal moved (after_delivery found p result)
 
   -- the frame, by the registers that the process had
@@ -60,7 +60,7 @@ module _ (m : Inner) (p signal moved : ℕ) (lives : IsLiving m.records p) where
       by_room false true is = inr (record { frame = frame-at true is })
       by_room false false is = inr (record { frame = frame-at false is })
 
-  delivery-tells : Tells (delivered found p signal)
+  pub delivery-tells : Tells (delivered found p signal)
   delivery-tells = by_intercept (record_at found.records p).intercept
     where
       answer : Option Intercept → Result Inner ℕ

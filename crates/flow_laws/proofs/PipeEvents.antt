@@ -47,7 +47,7 @@ all-closed n io p (suc k) =
     left-then n io (closed_below io p k) (closed_below io p (suc k)) (all-closed n io p k)
     (closed-if n (closed_below io p k) p k (slot_of (closed_below io p k).paths p k))
 
-ended-left : (n : ℕ) (io : Io) (p : ℕ) → PipeLeft n io (io_ended io p)
+pub ended-left : (n : ℕ) (io : Io) (p : ℕ) → PipeLeft n io (io_ended io p)
 ended-left n io p = all-closed n io p PROCESS_PATHS
 
 unfinished-left : (n : ℕ) (io : Io) (p : ℕ) (target : Option Target) → PipeLeft n io (without_unfinished io p target)
@@ -57,12 +57,12 @@ unfinished-left n io p (Some (Folder drive sector)) = inl refl
 unfinished-left n io p (Some (Term terminal)) = inl refl
 unfinished-left n io p (Some (Pipe pipe)) = inl refl
 
-interrupted-left : (n : ℕ) (io : Io) (p : ℕ) → PipeLeft n io (io_interrupted io p)
+pub interrupted-left : (n : ℕ) (io : Io) (p : ℕ) → PipeLeft n io (io_interrupted io p)
 interrupted-left n io p = unfinished-left n io p (wait_target io p)
 
 -- ---- an attempt of a call on paths
 
-does-moves : (call : IoCall) (caller : Caller) (io : Io) (n : ℕ) (step : IoStep) (effect : IoEffect) (before after : List TerminalState) → StepMoves call caller io n step → Does step caller io effect before after → IsPipe io.pipes n → IsPipe effect.io.pipes n → Moved call caller io n effect
+pub does-moves : (call : IoCall) (caller : Caller) (io : Io) (n : ℕ) (step : IoStep) (effect : IoEffect) (before after : List TerminalState) → StepMoves call caller io n step → Does step caller io effect before after → IsPipe io.pipes n → IsPipe effect.io.pipes n → Moved call caller io n effect
 does-moves call caller io n (refused number) effect before after moves (is, same) lives still =
     inl (subst (λ (effect : IoEffect). Leaves call caller io n effect) (sym is) (record { held = refl; ends = λ way coded on. (tt, refl) }))
 does-moves call caller io n (comes it) effect before after moves (is, same) lives still =
@@ -73,7 +73,7 @@ does-moves call caller io n (writes write) effect before after moves does lives 
     inl (record { held = ap (λ (effect : IoEffect). pipe_bytes effect.io n) does.effect_is; ends = λ way coded on. absurd (moves on) })
 
 -- and a pipe that was not there is empty, if it is there
-does-fresh : (call : IoCall) (caller : Caller) (io : Io) (n : ℕ) (step : IoStep) (effect : IoEffect) (before after : List TerminalState) → StepMoves call caller io n step → Does step caller io effect before after → IsAbsent call caller io n → StaysEmpty n effect.io
+pub does-fresh : (call : IoCall) (caller : Caller) (io : Io) (n : ℕ) (step : IoStep) (effect : IoEffect) (before after : List TerminalState) → StepMoves call caller io n step → Does step caller io effect before after → IsAbsent call caller io n → StaysEmpty n effect.io
 does-fresh call caller io n (refused number) effect before after moves (is, same) absent =
     inl (ap (λ (effect : IoEffect). pipe_of effect.io.pipes n) is ∙ absent.none)
 does-fresh call caller io n (comes it) effect before after moves (is, same) absent =
@@ -84,13 +84,13 @@ does-fresh call caller io n (writes write) effect before after moves does absent
     inl (ap (λ (effect : IoEffect). pipe_of effect.io.pipes n) does.effect_is ∙ absent.none)
 
 -- bytes are stored where the process sees them
-stores-them : (m : Inner) (p : ℕ) (effect : IoEffect) (end : IoEnd) → IsStoring end → (after_attempt m p (result_by end m p effect)).memory ≡ stored m.memory p effect.at effect.bytes
+pub stores-them : (m : Inner) (p : ℕ) (effect : IoEffect) (end : IoEnd) → IsStoring end → (after_attempt m p (result_by end m p effect)).memory ≡ stored m.memory p effect.at effect.bytes
 stores-them m p effect (answers regs) storing = refl
 stores-them m p effect (fails number) storing = absurd storing
 stores-them m p effect (keeps kept) storing = refl
 
 -- none is stored
-stores-none : (m : Inner) (p : ℕ) (effect : IoEffect) (end : IoEnd) → effect.bytes ≡ [] → (after_attempt m p (result_by end m p effect)).memory ≡ m.memory
+pub stores-none : (m : Inner) (p : ℕ) (effect : IoEffect) (end : IoEnd) → effect.bytes ≡ [] → (after_attempt m p (result_by end m p effect)).memory ≡ m.memory
 stores-none m p effect (answers regs) none = ap (stored m.memory p effect.at) none
 stores-none m p effect (fails number) none = refl
 stores-none m p effect (keeps kept) none = ap (stored m.memory p effect.at) none

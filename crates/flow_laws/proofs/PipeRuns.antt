@@ -72,7 +72,7 @@ sent-regs records user to signal q =
     by_fault false false = apart-or (cases_eq q to)
 
 -- what keys that arrive leave
-record DeskRests (old new : Desk) : Type 0 where
+pub record DeskRests (old new : Desk) : Type 0 where
   pub pipes : new.io.pipes ≡ old.io.pipes
   pub paths : new.io.paths ≡ old.io.paths
   pub calls : new.io.calls ≡ old.io.calls
@@ -89,7 +89,7 @@ key-regs inner None signal p = refl
 key-regs inner (Some process) None p = refl
 key-regs inner (Some process) (Some signal) p = sent-regs inner.records every_user process.0 signal p
 
-arrivals-rest : (tick k count : ℕ) (old new : Desk) → ArrivesFrom tick k count old new → DeskRests old new
+pub arrivals-rest : (tick k count : ℕ) (old new : Desk) → ArrivesFrom tick k count old new → DeskRests old new
 arrivals-rest tick k zero old new is = record {
   pipes = ap (λ (desk : Desk). desk.io.pipes) is;
   paths = ap (λ (desk : Desk). desk.io.paths) is;
@@ -174,7 +174,7 @@ pass-event n s m end states t event (Some (Out bytes), takes) rest =
     (rests-same s, rest.linked) ((end, event, takes), rest.each) (pipe_bytes m.io n, takes.front, rest.flow)
 
 -- what passes in one part of a run, and then in another
-flows-then : (first later : List Movement) (held between now : List ℕ) → Flows first held between → Flows later between now → Flows (first ++ later) held now
+pub flows-then : (first later : List Movement) (held between now : List ℕ) → Flows first held between → Flows later between now → Flows (first ++ later) held now
 flows-then [] later held between now one two =
     subst (λ (held : List ℕ). Flows later held now) one two
 flows-then (movement ∷ first) later held between now (middle, moves, one) two =

@@ -36,7 +36,7 @@ use Rattle.isolation_laws.proofs.ForksKept.{attempt-left}
 
 -- ---- an instruction
 
-instruction-left : (m : Inner) (p : ℕ) (outcome : Outcome) → Left m p (instruction_end outcome) (after_instruction m p outcome)
+pub instruction-left : (m : Inner) (p : ℕ) (outcome : Outcome) → Left m p (instruction_end outcome) (after_instruction m p outcome)
 instruction-left m p (Done effect) =
     left-by m p Ran _ (regs-changed m p Ran (written m.memory p effect.writes) effect.regs (record { kept = kept-written m.memory p effect.writes; itself = itself-written m.memory p effect.writes }) refl)
 instruction-left m p (Calls code regs) =
@@ -91,7 +91,7 @@ module _ (m : Inner) (p signal : ℕ) (records : List (Option Record)) (same : (
       by_intercept (Some intercept) = by_zero intercept (signal == 0)
 
 -- the count of a call that is broken off is answered first
-broken-left : (m : Inner) (p signal : ℕ) (count : Option ℕ) → Left m p (delivery_end (delivered (broken_off m p count) p signal)) (after_delivery (broken_off m p count) p (delivered (broken_off m p count) p signal))
+pub broken-left : (m : Inner) (p signal : ℕ) (count : Option ℕ) → Left m p (delivery_end (delivered (broken_off m p count) p signal)) (after_delivery (broken_off m p count) p (delivered (broken_off m p count) p signal))
 broken-left m p signal None = delivery-left m p signal m.records (λ q differ. refl) refl
 broken-left m p signal (Some count) =
     delivery-left m p signal (with_regs m.records p (record (regs_at m p) { y = count })) (λ q differ. record-other m.records p _ q differ) (simp length-set)
@@ -99,7 +99,7 @@ broken-left m p signal (Some count) =
 -- ---- an attempt of a call
 
 -- a call on paths: it stores bytes where the process sees them, and may change the registers
-by-end : (m : Inner) (p : ℕ) (effect : IoEffect) (end : IoEnd) → AttemptLeft m p (result_by end m p effect)
+pub by-end : (m : Inner) (p : ℕ) (effect : IoEffect) (end : IoEnd) → AttemptLeft m p (result_by end m p effect)
 by-end m p effect (answers regs) =
     left-done m p _ (regs-changed m p Ran (stored m.memory p effect.at effect.bytes) regs (record { kept = kept-written m.memory p (writes_from effect.at effect.bytes); itself = itself-written m.memory p (writes_from effect.at effect.bytes) }) refl)
 by-end m p effect (fails number) = left-refused m p number

@@ -34,14 +34,14 @@ use Rattle.isolation_laws.proofs.CallsKept.{AttemptLeft, left-done, of-needs, of
 
 module _ (m : Inner) (p : ℕ) where
   -- the parameters of a program have room at the end of its data area, and its maker gives them
-  record HasRoom (program : Program) : Type 0 where
+  pub record HasRoom (program : Program) : Type 0 where
     pub fits : length program.parameters ≤ 256 * program.pages
     pub given : (k byte : ℕ) → slice_get program.parameters k ≡ Some byte → IsParameter m p byte
 
-  room-of : (entry : ModuleEntry) (pages count : ℕ) → count ≤ 256 * area_pages entry pages count
+  pub room-of : (entry : ModuleEntry) (pages count : ℕ) → count ≤ 256 * area_pages entry pages count
   room-of entry pages count = omega arith
 
-  within-area : (pages count : ℕ) → count ≤ 256 * pages → 256 * pages - count + count ≤ 8192 * blocks_of_pages pages
+  pub within-area : (pages count : ℕ) → count ≤ 256 * pages → 256 * pages - count + count ≤ 8192 * blocks_of_pages pages
   within-area pages count room = omega arith
 
   abbrev program-of : Entered → List ℕ → ℕ → Program
@@ -80,7 +80,7 @@ module _ (m : Inner) (p : ℕ) where
       started-kept m.memory (IsParameter m p) p c program.entered.number (blocks_of_pages program.pages) memory (parameters_at program) program.parameters room.given is (within-area program.pages (length program.parameters) room.fits)
 
   -- a process begins anew, and gives up the link of its primary module
-  chain-done : AttemptsCall m p Call.Chain → (program : Program) (memory : MemoryState) → HasRoom program → started m.memory p program.entered.number (blocks_of_pages program.pages) ≡ Ok memory → AttemptLeft m p (done (without_primary_link (begun_anew (with_program m p program memory) p program) (own_at m p)))
+  pub chain-done : AttemptsCall m p Call.Chain → (program : Program) (memory : MemoryState) → HasRoom program → started m.memory p program.entered.number (blocks_of_pages program.pages) ≡ Ok memory → AttemptLeft m p (done (without_primary_link (begun_anew (with_program m p program memory) p program) (own_at m p)))
   chain-done did program memory room is = left-done m p _ (by_primary (own_at m p).primary refl)
     where
       begins : Begun m.memory (IsParameter m p) p p (with_parameters (linked memory program.entered.number) p program)
@@ -183,7 +183,7 @@ module _ (m : Inner) (p : ℕ) where
               (record-same m p Ran q (record_of m.records q)))
         ]
 
-    fork-done : AttemptLeft m p (done made)
+    pub fork-done : AttemptLeft m p (done made)
     fork-done = record {
       leaves = record {
         objects = begins.kept.objects;

@@ -111,22 +111,22 @@ module _ (s : State) (p code : ℕ) (call : IoCall) (result : CallResult) (io : 
 -- ---- a child is given the standard paths
 
 -- the result of F$Fork names the child
-abbrev NamesChild : Inner → ℕ → CallResult → Type 0
+abbrev pub NamesChild : Inner → ℕ → CallResult → Type 0
 NamesChild m p (done t) = free_process m.records ≡ Some (regs_at t p).a
 NamesChild m p (refused number) = Unit {0}
 NamesChild m p (waits t) = Unit {0}
 NamesChild m p (ends status) = Unit {0}
 
 module _ (m : Inner) (p : ℕ) where
-  of-needs : {A : Type 0} (some : Option A) (number : ℕ) (next : A → CallResult) → ((a : A) → some ≡ Some a → NamesChild m p (next a)) → NamesChild m p (needs some number next)
+  pub of-needs : {A : Type 0} (some : Option A) (number : ℕ) (next : A → CallResult) → ((a : A) → some ≡ Some a → NamesChild m p (next a)) → NamesChild m p (needs some number next)
   of-needs None number next names = tt
   of-needs (Some a) number next names = names a refl
 
-  of-refuses : (test : Bool) (number : ℕ) (next : CallResult) → NamesChild m p next → NamesChild m p (refuses test number next)
+  pub of-refuses : (test : Bool) (number : ℕ) (next : CallResult) → NamesChild m p next → NamesChild m p (refuses test number next)
   of-refuses true number next names = tt
   of-refuses false number next names = names
 
-  of-changes : (change : Result MemoryState MemoryFault) (next : MemoryState → CallResult) → ((memory : MemoryState) → NamesChild m p (next memory)) → NamesChild m p (changes change next)
+  pub of-changes : (change : Result MemoryState MemoryFault) (next : MemoryState → CallResult) → ((memory : MemoryState) → NamesChild m p (next memory)) → NamesChild m p (changes change next)
   of-changes (Ok memory) next names = names memory
   of-changes (Err fault) next names = tt
 
@@ -161,7 +161,7 @@ module _ (m : Inner) (p : ℕ) where
         (λ found found_is. of-refuses (not (found.entry.info.kind == program_kind)) E_NEMOD (next (program-of found parameters (length name)))
         (names (program-of found parameters (length name))))))))
 
-  child-named : (program : Program) (child : ℕ) (memory : MemoryState) → IsLiving m.records p → free_process m.records ≡ Some child → (regs_at (with_regs_of (with_child m p child program memory) p (forked_regs (regs_at m p) child program)) p).a ≡ child
+  pub child-named : (program : Program) (child : ℕ) (memory : MemoryState) → IsLiving m.records p → free_process m.records ≡ Some child → (regs_at (with_regs_of (with_child m p child program memory) p (forked_regs (regs_at m p) child program)) p).a ≡ child
   child-named program child memory lives free =
       ap (λ (r : Record). r.regs.a) (record-put (with_child_record m.records p child program) p (record (record_at (with_child_record m.records p child program) p) { regs = forked_regs (regs_at m p) child program }) within)
     where
@@ -181,7 +181,7 @@ module _ (m : Inner) (p : ℕ) where
   forking program =
       needs (free_process m.records) E_PRCFUL (λ child. refuses (nat_lt most_pages program.pages) E_MEMFUL (making program child))
 
-  fork-names : IsLiving m.records p → NamesChild m p (f_fork m p)
+  pub fork-names : IsLiving m.records p → NamesChild m p (f_fork m p)
   fork-names lives =
       program-names forking
       (λ program. of-needs (free_process m.records) E_PRCFUL (λ child. refuses (nat_lt most_pages program.pages) E_MEMFUL (making program child))

@@ -366,7 +366,7 @@ module _ (m : MemoryState) (c count : ℕ) (group : List ℕ) (fits : count + le
       ]
 
   -- bytes that are stored in its data area leave the old objects
-  old-kept : (number address : ℕ) (bytes : List ℕ) → address + length bytes ≤ 8192 * count → (object : ℕ) → object < length m.objects → slice_get (stored (linked begun number) c address bytes).objects object ≡ slice_get m.objects object
+  pub old-kept : (number address : ℕ) (bytes : List ℕ) → address + length bytes ≤ 8192 * count → (object : ℕ) → object < length m.objects → slice_get (stored (linked begun number) c address bytes).objects object ≡ slice_get m.objects object
   old-kept number address bytes within object there =
       stores-kept (map_at begun c).places object count (λ slot number below is same. let late = area-new slot number below is in absurd (omega arith)) (m.objects ++ replicate count zero_object) address bytes within
       ∙ slice_get-left m.objects (replicate count zero_object) object there

@@ -137,20 +137,20 @@ some-read-end caller read Progress.NoMemory plain = absurd plain
 -- ---- an attempt has an end
 
 -- what an attempt of a call on paths comes to, without a failure of a terminal
-record SomeEffect (step : IoStep) (caller : Caller) (io : Io) (before : List TerminalState) : Type 0 where
+pub record SomeEffect (step : IoStep) (caller : Caller) (io : Io) (before : List TerminalState) : Type 0 where
   pub effect : IoEffect
   pub after : List TerminalState
   pub does : Does step caller io effect before after
   pub counts : fault_counts after ≡ fault_counts before
 
 -- what an attempt reads or writes is there
-abbrev IsThere : ℕ → IoStep → Type 0
+abbrev pub IsThere : ℕ → IoStep → Type 0
 IsThere terms (refused number) = Unit {0}
 IsThere terms (comes effect) = Unit {0}
 IsThere terms (reads read) = read.terminal < terms
 IsThere terms (writes write) = write.terminal < terms
 
-some-effect : (step : IoStep) (caller : Caller) (io : Io) (before : List TerminalState) → IsThere (length before) step → SomeEffect step caller io before
+pub some-effect : (step : IoStep) (caller : Caller) (io : Io) (before : List TerminalState) → IsThere (length before) step → SomeEffect step caller io before
 some-effect (refused number) caller io before there =
     record { effect = leaves (fails number) io; after = before; does = (refl, refl); counts = refl }
 some-effect (comes it) caller io before there = record { effect = it; after = before; does = (refl, refl); counts = refl }
@@ -226,7 +226,7 @@ path-there : (terms : ℕ) (caller : Caller) (io : Io) (terminal : ℕ) → AreO
 path-there terms caller io terminal on (number, opened, is, target) =
     on opened.path.0 terminal opened.desc (open-desc io caller.process.0 number opened is) target
 
-call-there : (call : IoCall) (caller : Caller) (io : Io) (terms : ℕ) (step : IoStep) → AreOnTerminals terms io.paths → StepGives call (λ (new : Io). Unit {0}) caller io step → IsThere terms step
+pub call-there : (call : IoCall) (caller : Caller) (io : Io) (terms : ℕ) (step : IoStep) → AreOnTerminals terms io.paths → StepGives call (λ (new : Io). Unit {0}) caller io step → IsThere terms step
 call-there call caller io terms (refused number) on gives = tt
 call-there call caller io terms (comes effect) on gives = tt
 call-there call caller io terms (reads read) on gives = path-there terms caller io read.terminal on gives.1
@@ -310,11 +310,11 @@ pub record GoesOn (s : State) (p : ℕ) (t : State) : Type 0 where
   pub lives : IsLiving t.inner.records p
   pub nearer : (act_of s.inner p ≡ executes) ⊎ (rank (act_of t.inner p) < rank (act_of s.inner p))
 
-after-call-lives : (n : Inner) (p : ℕ) (regs : Regs) → p < length (goes_on n p regs).records → IsLiving (goes_on n p regs).records p
+pub after-call-lives : (n : Inner) (p : ℕ) (regs : Regs) → p < length (goes_on n p regs).records → IsLiving (goes_on n p regs).records p
 after-call-lives n p regs within =
     put-lives (with_regs n.records p regs) p _ (simp length-set (simp length-set at within)) refl
 
-after-call-acts : (n : Inner) (p : ℕ) (regs : Regs) → rank (act_of (goes_on n p regs) p) ≤ 1
+pub after-call-acts : (n : Inner) (p : ℕ) (regs : Regs) → rank (act_of (goes_on n p regs) p) ≤ 1
 after-call-acts n p regs =
     let none : (own_at (goes_on n p regs) p).call ≡ None = no-call (with_records n (goes_on n p regs).records) p _ refl in
     subst (λ call. rank (next_act call (is_waiting (record_at (goes_on n p regs).records p).life) (record_at (goes_on n p regs).records p).signal) ≤ 1) (sym none)
@@ -580,7 +580,7 @@ steps-end (suc most) (suc left) s p less chosen lives there =
     (λ (goes : GoesOn s p next.last). steps-end most (suc left - cost s) next.last p (let nearer = nearer-end (suc left) s p next.last chosen (omega arith) goes in omega arith) (next.chosen ∙ chosen) goes.lives on)
 
 -- who is chosen lives
-chosen-lives : (io : ℕ → Bool) (m : Inner) (pid : Pid) → (choice_of io m).chosen ≡ Some pid → IsLiving m.records pid.0
+pub chosen-lives : (io : ℕ → Bool) (m : Inner) (pid : Pid) → (choice_of io m).chosen ≡ Some pid → IsLiving m.records pid.0
 chosen-lives io m pid is =
     let choice : IsToChoose (is_ready io m) m.order pid = subst (λ chosen. IfSome chosen (IsToChoose (is_ready io m) m.order)) is (chosen_if (is_ready io m) m.order) in
     first-true (is_living m.records pid.0) _ choice.ready
@@ -698,12 +698,12 @@ some-arrivals tick n (suc count) old few =
     }
 
 -- a tick, in which no terminal fails
-record SomeTick (s : State) : Type 0 where
+pub record SomeTick (s : State) : Type 0 where
   pub last : State
   pub tick : Tick s last
   pub counts : SameCounts s last
 
-some-tick : (s : State) → SomeTick s
+pub some-tick : (s : State) → SomeTick s
 some-tick s =
     let it : SomeArrivals (s.inner.tick + 1) 0 (length s.terms) (desk_of s) = some-arrivals (s.inner.tick + 1) 0 (length s.terms) (desk_of s) (omega arith) in
     record {
@@ -765,7 +765,7 @@ slice-end n s on = (some-slice n s on).slice
 
 -- ---- a run has an end
 
-counts-emptied : (terms : List TerminalState) → fault_counts (terminals_emptied terms) ≡ fault_counts terms
+pub counts-emptied : (terms : List TerminalState) → fault_counts (terminals_emptied terms) ≡ fault_counts terms
 counts-emptied [] = refl
 counts-emptied (x ∷ terms) = ap (λ (counts : List ℕ). x.faults ∷ counts) (counts-emptied terms)
 

@@ -21,7 +21,7 @@ use Rattle.isolation_laws.proofs.OthersKept.{living-record}
 use Rattle.isolation_laws.proofs.EventsKept.{event-leaves}
 
 -- objects never go
-longer : (m n : MemoryState) → KeepsSizes m n → length m.objects ≤ length n.objects
+pub longer : (m n : MemoryState) → KeepsSizes m n → length m.objects ≤ length n.objects
 longer m n sizes =
     elim (cases_lt (length n.objects) (length m.objects)) [
       | inl less ↦

@@ -144,11 +144,11 @@ steps-chosen left s (m ∷ ms) t (some, end, event, steps) =
     rest true later steps = later steps
     rest false later (over, is) = ap (λ (t : State). t.chosen) is
 
-own-then : (m n o : Inner) (p object : ℕ) → KeepsOwnObject m p object n → KeepsOwnObject n p object o → KeepsOwnObject m p object o
+pub own-then : (m n o : Inner) (p object : ℕ) → KeepsOwnObject m p object n → KeepsOwnObject n p object o → KeepsOwnObject m p object o
 own-then m n o p object first next =
     record { lives = next.lives; own = next.own; bytes = next.bytes ∙ first.bytes }
 
-own-same : (m : Inner) (p object : ℕ) → IsLiving m.records p → IsOwn m p object → KeepsOwnObject m p object m
+pub own-same : (m : Inner) (p object : ℕ) → IsLiving m.records p → IsOwn m p object → KeepsOwnObject m p object m
 own-same m p object lives own = record { lives = lives; own = own; bytes = refl }
 
 own-steps : (left : ℕ) (s : State) (states : List State) (t : State) (q p object : ℕ) → s.chosen ≡ Some q → p ≢ q → Steps left s states t → IsLiving s.inner.records p → IsOwn s.inner p object → KeepsOwnObject s.inner p object t.inner
@@ -164,7 +164,7 @@ own-steps left s (m ∷ ms) t q p object chosen differ (some, end, event, steps)
         subst (λ (t : State). KeepsOwnObject m.inner p object t.inner) (sym is) (own-same m.inner p object first.lives first.own)
 
 -- keys that arrive change no memory, and make no record
-own-tick : (s t : State) (p object : ℕ) → Tick s t → IsLiving s.inner.records p → IsOwn s.inner p object → KeepsOwnObject s.inner p object t.inner
+pub own-tick : (s t : State) (p object : ℕ) → Tick s t → IsLiving s.inner.records p → IsOwn s.inner p object → KeepsOwnObject s.inner p object t.inner
 own-tick s t p object ticks lives own =
     let left : SignalsLeave s.inner t.inner = tick-leaves s t ticks in
     record {

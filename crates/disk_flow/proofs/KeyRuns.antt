@@ -1,0 +1,205 @@
+-- What becomes of the keys of a terminal in a tick, in a slice and in a run.
+use Rattle.std.proofs.Common.{◌≡◌, ℕ, ◌+◌, ◌-◌, ◌<◌, ◌≤◌, Bool, true, false, Option, Some, None, List, [], ◌∷◌, ◌++◌, length, take, refl, sym, ap, ◌∙◌, subst, inl, inr, arith, append_assoc, append-nil}
+use Rattle.std.specs.Prelude.{MatchBool, MatchOption}
+use Rattle.std.specs.List.{AllByRecursion, filter_map, flat_map}
+use Rattle.std.proofs.lemmas.List.{get_or-replicate, length-append, length-take}
+use Rattle.os9_outer.specs.TerminalState.{TerminalState}
+use Rattle.os9_outer.specs.declared.terminal.Key.{Key}
+use Rattle.proc_rules.specs.declared.turn.Turn.{Turn}
+use Rattle.call_rules.specs.Inner.{Inner}
+use Rattle.io_model.specs.Pipe.{Flows}
+use Rattle.io_model.proofs.PipeLemmas.{flows-in_order}
+use Rattle.io_model.specs.Terminal.{Terminal, key_bytes, new_terminal, typed_bytes}
+use Rattle.io_model.specs.declared.terminal.TheConstants.{TYPE_AHEAD}
+use Rattle.io_rules.specs.Io.{Io, first_io, terminal_at}
+use Rattle.file_rules.specs.Files.{Files}
+use Rattle.machine_model.specs.declared.ends.EventEnd.{EventEnd}
+use Rattle.machine_model.specs.declared.ends.SliceEnd.{SliceEnd}
+use Rattle.machine_model.specs.declared.ends.SliceEnd.TheVariants.{Idle, Ran}
+use Rattle.machine_model.specs.Console.{console_bytes, terminals_emptied}
+use Rattle.flow_laws.specs.Keys.{KeyMove, arrive, arrived_by, stay, use_up}
+use Rattle.flow_laws.proofs.KeyEvents.{come_of}
+use Rattle.flow_laws.proofs.KeyRuns.{Polled, arrivals-polled, come-emptied}
+use Rattle.disk_machine.specs.Event.{Event, cost}
+use Rattle.disk_machine.specs.Run.{Choose, Run, Slice, Steps, Tick, desk_of, is_going}
+use Rattle.disk_machine.specs.Start.{Boot, Starts}
+use Rattle.disk_machine.specs.State.{State, has_living}
+use Rattle.disk_flow.specs.Keys.{EventKeys, FollowOn, HasAhead, IsKeyStep, KeyStep, KeysArrive, KeysPass, Stands, after_event, ahead_at, ahead_moves, keys_to_come}
+use Rattle.disk_flow.proofs.KeyEvents.{event-keys}
+
+-- ---- a tick
+
+pub tick-keys : (s t : State) (n : ℕ) → Tick s t → HasAhead n s → (keys : List Key) × KeysArrive n s keys t × HasAhead n t
+tick-keys s t n (desk, arrives, is) has =
+    let it : Polled n (s.inner.tick + 1) (desk_of s) desk = arrivals-polled n (s.inner.tick + 1) 0 (length s.terms) (desk_of s) desk has.within has.few arrives in (
+      it.keys,
+      record {
+        come =
+            it.come ∙ ap (λ (terms : List TerminalState). it.keys ++ come_of terms n) (sym (ap (λ (t : State). t.terms) is));
+        kept = ap (λ (t : State). ahead_at t n) is ∙ it.ahead;
+        line = record {
+          line = ap (λ (t : State). (terminal_at t.files.io n).line) is ∙ it.line.line;
+          reading = ap (λ (t : State). (terminal_at t.files.io n).reading) is ∙ it.line.reading;
+        };
+      },
+      record {
+        within =
+            subst (λ (k : ℕ). n < k) (sym (ap (λ (t : State). length t.files.io.terminals) is ∙ it.places)) has.within;
+        few = subst (λ (ahead : List ℕ). length ahead ≤ TYPE_AHEAD) (sym (ap (λ (t : State). ahead_at t n) is ∙ it.ahead)) (few-then (ahead_at s n) (typed_bytes (key_bytes it.keys)) has.few);
+      },
+    )
+  where
+    few-then : (ahead typed : List ℕ) → length ahead ≤ TYPE_AHEAD → length (ahead ++ take (TYPE_AHEAD - length ahead) typed) ≤ TYPE_AHEAD
+    few-then ahead typed few =
+        omega (arith, length-append ahead (take (TYPE_AHEAD - length ahead) typed), length-take (TYPE_AHEAD - length ahead) typed)
+
+-- ---- what stays from one step to the next
+
+stands-same : (s : State) → Stands s s
+stands-same s = record { io = refl; come = λ n. refl; inner = refl }
+
+stands-then : (s m t : State) → Stands s m → Stands m t → Stands s t
+stands-then s m t one two = record {
+  io = two.io ∙ one.io;
+  come = λ n. two.come n ∙ one.come n;
+  inner = two.inner ∙ ap (λ (inner : Inner). let next : Inner = record inner { order = t.inner.order } in next) one.inner;
+}
+
+stands-choice : (s t : State) → Choose s t → Stands s t
+stands-choice s t is = record {
+  io = ap (λ (t : State). t.files.io) is;
+  come = λ n. ap (λ (t : State). keys_to_come t n) is;
+  inner = by_choice t is;
+}
+  where
+    by_choice : (t : State) → Choose s t → t.inner ≡ record s.inner { order = t.inner.order }
+    by_choice t is = ap (λ (t : State). t.inner) is ∙ ap (λ (order : List Turn). let next : Inner = record s.inner { order = order } in next) (sym (ap (λ (t : State). t.inner.order) is))
+
+follow-from : (s m : State) (steps : List KeyStep) (t : State) → Stands s m → FollowOn m steps t → FollowOn s steps t
+follow-from s m [] t stands linked = stands-then s m t stands linked
+follow-from s m (it ∷ steps) t stands linked = (stands-then s m it.before stands linked.0, linked.1)
+
+-- ---- what passes, by its parts
+
+passes : (n : ℕ) (s : State) (states : List State) (t : State) (steps : List KeyStep) → filter_map (λ (it : KeyStep). after_event it.move it.after) steps ≡ states → FollowOn s steps t → AllByRecursion (IsKeyStep n) steps → keys_to_come s n ≡ flat_map (λ (it : KeyStep). arrived_by it.move) steps ++ keys_to_come t n → Flows (ahead_moves n steps) (ahead_at s n) (ahead_at t n) → KeysPass n s states t
+passes n s states t steps are linked each come flow = record {
+  steps = steps;
+  through = are;
+  linked = linked;
+  each = each;
+  come = come;
+  flow = flow;
+  in_order = flows-in_order (ahead_moves n steps) (ahead_at s n) (ahead_at t n) flow;
+}
+
+-- the keys pass, and the terminal is there at the end
+abbrev Keeps : ℕ → State → List State → State → Type 0
+Keeps n s states t = KeysPass n s states t × HasAhead n t
+
+keeps-none : (n : ℕ) (s : State) → HasAhead n s → Keeps n s [] s
+keeps-none n s has = (passes n s [] s [] refl (stands-same s) tt refl refl, has)
+
+-- a state with the same keys
+keeps-from : (n : ℕ) (s m : State) (states : List State) (t : State) → Stands s m → Keeps n m states t → Keeps n s states t
+keeps-from n s m states t stands (it, has) = (
+  passes n s states t it.steps it.through (follow-from s m it.steps t stands it.linked) it.each (sym (stands.come n) ∙ it.come)
+      (subst (λ (held : List ℕ). Flows (ahead_moves n it.steps) held (ahead_at t n)) (ap (λ (io : Io). (terminal_at io n).ahead) stands.io) it.flow),
+  has,
+)
+
+keeps-tick : (n : ℕ) (s m : State) (states : List State) (t : State) (keys : List Key) → Tick s m → KeysArrive n s keys m → Keeps n m states t → Keeps n s states t
+keeps-tick n s m states t keys ticks arrives (it, has) = (
+  passes n s states t (record { before = s; move = arrive keys; after = m } ∷ it.steps) it.through (stands-same s, it.linked) (inl (keys, refl, ticks, arrives), it.each)
+      (arrives.come ∙ ap (λ (rest : List Key). keys ++ rest) it.come ∙ sym (append_assoc keys (flat_map (λ (it : KeyStep). arrived_by it.move) it.steps) (keys_to_come t n))) (ahead_at m n, arrives.kept, it.flow),
+  has,
+)
+
+keeps-event : (n : ℕ) (s m : State) (states : List State) (t : State) (end : EventEnd) (move : KeyMove) → Event s end m → EventKeys n s end move m → Keeps n m states t → Keeps n s (m ∷ states) t
+keeps-event n s m states t end (arrive keys) event moved (it, has) = absurd moved
+keeps-event n s m states t end (use_up keys) event uses (it, has) = (
+  passes n s (m ∷ states) t (record { before = s; move = use_up keys; after = m } ∷ it.steps) (ap (λ (states : List State). m ∷ states) it.through) (stands-same s, it.linked)
+      (inr (end, event, uses), it.each) (sym uses.come ∙ it.come) (ahead_at m n, uses.front, it.flow),
+  has,
+)
+keeps-event n s m states t end stay event stays (it, has) = (
+  passes n s (m ∷ states) t (record { before = s; move = stay; after = m } ∷ it.steps) (ap (λ (states : List State). m ∷ states) it.through) (stands-same s, it.linked)
+      (inr (end, event, stays), it.each) (sym stays.come ∙ it.come)
+      (subst (λ (held : List ℕ). Flows (ahead_moves n it.steps) held (ahead_at t n)) stays.ahead it.flow),
+  has,
+)
+
+-- ---- slices and runs
+
+-- what follows a state
+abbrev Follows : ℕ → State → List State → State → Type 0
+Follows n m later t = HasAhead n m → Keeps n m later t
+
+steps-keep : (n left : ℕ) (s : State) (states : List State) (m : State) (later : List State) (t : State) → Steps left s states m → HasAhead n s → Follows n m later t → Keeps n s (states ++ later) t
+steps-keep n left s [] m later t (none, is) has rest = subst (λ (m : State). Follows n m later t) is rest has
+steps-keep n left s (u ∷ us) m later t (some, end, event, steps) has rest =
+    let first = event-keys s u end n event has in
+    keeps-event n s u (us ++ later) t end first.0 event first.1 (by_going (is_going end) (λ steps. steps-keep n (left - cost s) u us m later t steps first.2 rest) first.2 steps)
+  where
+    by_going : (going : Bool) → (Steps (left - cost s) u us m → Keeps n u (us ++ later) t) → HasAhead n u → MatchBool going (Steps (left - cost s) u us m) ((us ≡ []) × (m ≡ u)) → Keeps n u (us ++ later) t
+    by_going true others there steps = others steps
+    by_going false others there (none, is) =
+        subst (λ (us : List State). Keeps n u (us ++ later) t) (sym none) (subst (λ (m : State). Follows n m later t) is rest there)
+
+chosen-keep : (n size : ℕ) (chosen : State) (states : List State) (end : SliceEnd) (m : State) (later : List State) (t : State) (who : Option ℕ) → MatchOption who ((end ≡ Idle) × (states ≡ []) × (m ≡ chosen)) (λ p. (end ≡ Ran) × Steps size chosen states m) → HasAhead n chosen → Follows n m later t → Keeps n chosen (states ++ later) t
+chosen-keep n size chosen states end m later t None (idle, none, is) has rest =
+    subst (λ (states : List State). Keeps n chosen (states ++ later) t) (sym none) (subst (λ (m : State). Follows n m later t) is rest has)
+chosen-keep n size chosen states end m later t (Some p) (ran, steps) has rest = steps-keep n size chosen states m later t steps has rest
+
+slice-keep : (n size : ℕ) (s : State) (states : List State) (end : SliceEnd) (m : State) (later : List State) (t : State) → Slice size s states end m → HasAhead n s → Follows n m later t → Keeps n s (states ++ later) t
+slice-keep n size s states end m later t (ticked, chosen, ticks, chooses, events) has rest =
+    let first = tick-keys s ticked n ticks has in
+    let ahead : ahead_at chosen n ≡ ahead_at ticked n = ap (λ (t : State). ahead_at t n) chooses in
+    let there : HasAhead n chosen = record {
+      within =
+          subst (λ (k : ℕ). n < k) (sym (ap (λ (t : State). length t.files.io.terminals) chooses)) first.2.within;
+      few = subst (λ (ahead : List ℕ). length ahead ≤ TYPE_AHEAD) (sym ahead) first.2.few;
+    } in
+    keeps-tick n s ticked (states ++ later) t first.0 ticks first.1
+    (keeps-from n ticked chosen (states ++ later) t (stands-choice ticked chosen chooses) (chosen-keep n size chosen states end m later t chosen.chosen events there rest))
+
+pub slice-keys : (size : ℕ) (s t : State) (states : List State) (end : SliceEnd) (n : ℕ) → Slice size s states end t → HasAhead n s → KeysPass n s states t × HasAhead n t
+slice-keys size s t states end n slice has =
+    subst (λ (states : List State). Keeps n s states t) (append-nil states) (slice-keep n size s states end t [] t slice has (λ has. keeps-none n t has))
+
+stands-emptied : (m : State) → Stands m (record m { terms = terminals_emptied m.terms })
+stands-emptied m = record { io = refl; come = λ n. come-emptied m.terms n; inner = refl }
+
+-- a run that is over
+stopped : (n : ℕ) (s : State) (states : List State) (t : State) → states ≡ [] → t ≡ s → HasAhead n s → Keeps n s states t
+stopped n s states t none is has =
+    subst (λ (states : List State). Keeps n s states t) (sym none) (subst (λ (t : State). Keeps n s [] t) (sym is) (keeps-none n s has))
+
+pub run-keys : (slices written : List ℕ) (s t : State) (states : List State) (n : ℕ) → Run slices s states written t → HasAhead n s → KeysPass n s states t × HasAhead n t
+run-keys [] written s t states n (none, nothing, is) has = stopped n s states t none is has
+run-keys (size ∷ sizes) written s t states n run has =
+    by_living (has_living s) (λ rest m later after there. run-keys sizes rest m t later n after there) run
+  where
+    by_living : (living : Bool) → ((rest : List ℕ) (m : State) (later : List State) → Run sizes m later rest t → HasAhead n m → Keeps n m later t) → MatchBool living ((end : SliceEnd) × (m : State) × (first later : List State) × (rest : List ℕ) × Slice size s first end m × (states ≡ first ++ later) × (written ≡ console_bytes m.terms ++ rest) × Run sizes (record m { terms = terminals_emptied m.terms }) later rest t) ((states ≡ []) × (written ≡ []) × (t ≡ s)) → Keeps n s states t
+    by_living false others (none, nothing, is) = stopped n s states t none is has
+    by_living true others (end, m, first, later, rest, slice, whole, bytes, after) =
+        subst (λ (states : List State). Keeps n s states t) (sym whole) (slice-keep n size s first end m later t slice has
+        (λ there. keeps-from n m (record m { terms = terminals_emptied m.terms }) later t (stands-emptied m) (others rest (record m { terms = terminals_emptied m.terms }) later after (record { within = there.within; few = there.few }))))
+
+-- ---- the start
+
+-- the kernel has four terminals, and no key has arrived
+pub start-ahead : (boot : Boot) (s : State) (n : ℕ) → Starts boot s → n < 4 → HasAhead n s × (ahead_at s n ≡ [])
+start-ahead boot s n starts within =
+    let same : terminal_at s.files.io n ≡ new_terminal = ap (λ (io : Io). terminal_at io n) first ∙ none in (
+      record {
+        within = subst (λ (io : Io). n < length io.terminals) (sym first) within;
+        few = subst (λ (t : Terminal). length t.ahead ≤ TYPE_AHEAD) (sym same) (omega arith);
+      },
+      ap (λ (t : Terminal). t.ahead) same,
+    )
+  where
+    none : terminal_at first_io n ≡ new_terminal
+    none = get_or-replicate 4 n new_terminal new_terminal within
+
+    first : s.files.io ≡ first_io
+    first = ap (λ (s : State). s.files.io) starts.is ∙ ap (λ (files : Files). files.io) starts.mounted.is

@@ -1,0 +1,79 @@
+-- What each event leaves of the others: an instruction, an attempt of a call, the delivery of a signal.
+use Rattle.std.proofs.Common.{◌≡◌, ℕ, Some, refl, sym, ◌∙◌, subst, inl}
+use Rattle.std.proofs.lemmas.Option.{same_Some}
+use Rattle.os9_base.specs.declared.errors.TheConstants.{E_UNKSVC}
+use Rattle.os9_base.specs.declared.registers.TimePacket.{TimePacket}
+use Rattle.proc_model.specs.MemoryChanges.{stored, writes_from}
+use Rattle.proc_rules.specs.Records.{IsLiving}
+use Rattle.call_rules.specs.Attempts.{attempted}
+use Rattle.call_rules.specs.CallResult.{CallResult, refused}
+use Rattle.call_rules.specs.Delivery.{delivered}
+use Rattle.call_rules.specs.Inner.{Inner, with_memory}
+use Rattle.call_rules.specs.Ready.{Act, attempts, delivers, executes, act_of}
+use Rattle.call_rules.specs.declared.proc_call.ProcCall.TheVariants as Call
+use Rattle.io_rules.specs.Waiting.{interrupted_count}
+use Rattle.file_rules.specs.Attempts.{io_effect}
+use Rattle.time_rules.specs.Attempts.{result_of, time_step}
+use Rattle.time_rules.specs.Packet.{packet_bytes}
+use Rattle.time_rules.specs.Step.{TimeStep, sets, tells}
+use Rattle.time_rules.specs.Step as time
+use Rattle.machine_model.specs.Event.{call_event_end, delivery_end, instruction_end, next_instruction}
+use Rattle.machine_model.specs.declared.ends.EventEnd.{EventEnd}
+use Rattle.machine_model.specs.declared.ends.EventEnd.TheVariants.{Ran}
+use Rattle.isolation_laws.proofs.CallsKept.{AttemptLeft, changed-same, left-done, left-refused}
+use Rattle.isolation_laws.proofs.EventsKept.{broken-left, by-end, instruction-left}
+use Rattle.isolation_laws.proofs.ForksKept.{attempt-left}
+use Rattle.isolation_laws.proofs.MemoryKept.{itself-written, kept-written}
+use Rattle.isolation_laws.proofs.OthersKept.{changed-self}
+use Rattle.disk_machine.specs.Event.{Acts, Event, before_delivery}
+use Rattle.disk_machine.specs.Services.{Serves, Service, loads, no_call, on_paths, on_processes, on_time, service_of}
+use Rattle.disk_machine.specs.State.{Rest, State}
+use Rattle.disk_isolation.specs.Isolation.{LeavesOthers}
+use Rattle.disk_isolation.proofs.Asked.{Asks, asks}
+use Rattle.disk_isolation.proofs.Programs.{AttemptLeaves, as-before, as-left, chain-leaves-others, fork-leaves-others, load-leaves-others}
+
+-- ---- an attempt of a call
+
+-- a call on the time stores a packet at most
+pub time-left : (m : Inner) (p : ℕ) (step : TimeStep) → AttemptLeft m p (result_of m p step)
+time-left m p (time.refused number) = left-refused m p number
+time-left m p (tells at packet) =
+    left-done m p (with_memory m (stored m.memory p at (packet_bytes packet)))
+    (changed-self m p Ran (stored m.memory p at (packet_bytes packet)) m.records m.own (kept-written m.memory p (writes_from at (packet_bytes packet))) (itself-written m.memory p (writes_from at (packet_bytes packet))) (inl refl) (λ q differ. refl) (λ q differ. refl) refl)
+time-left m p (sets clock) = left-done m p m (changed-same m p Ran)
+
+module _ (s : State) (p code : ℕ) (next : act_of s.inner p ≡ attempts code) (lives : IsLiving s.inner.records p) (now : TimePacket) (rest : Rest) where
+  serves-leave : (service : Service) (result : CallResult) → Asks code service → Serves service s now p result rest → AttemptLeaves s p rest result
+  serves-leave loads result asked (files, it, is) =
+      load-leaves-others s p now rest result files (subst (λ (code : ℕ). act_of s.inner p ≡ attempts code) asked next) it
+  serves-leave (on_processes Call.Fork) result asked (files, it, is) =
+      fork-leaves-others s p now rest result files lives (code, next, asked) it
+  serves-leave (on_processes Call.Chain) result asked (files, it, is) =
+      chain-leaves-others s p now rest result files lives (code, next, asked) it
+  serves-leave (on_processes call) result asked it =
+      subst (AttemptLeaves s p rest) (sym it.0) (as-left s p rest (attempted call s.inner p) (attempt-left s.inner p call lives (code, next, asked)))
+  serves-leave (on_time call) result asked (clock, it, is) =
+      subst (AttemptLeaves s p rest) (sym it.result_is) (as-left s p rest (result_of s.inner p (time_step call s.inner now p)) (time-left s.inner p (time_step call s.inner now p)))
+  serves-leave (on_paths call) result asked (it, same) =
+      subst (AttemptLeaves s p rest) (sym it.result_is) (as-left s p rest _ (by-end s.inner p (io_effect it.effect) it.effect.end))
+  serves-leave no_call result asked (result_is, is) =
+      subst (AttemptLeaves s p rest) (sym result_is) (as-left s p rest (refused E_UNKSVC) (left-refused s.inner p E_UNKSVC))
+
+-- ---- one event
+
+acts-leave : (act : Act) (s : State) (p : ℕ) (end : EventEnd) (t : State) → IsLiving s.inner.records p → act_of s.inner p ≡ act → Acts act s p end t → LeavesOthers s p end t
+acts-leave executes s p end t lives next (ends, is) =
+    subst (λ (end : EventEnd). LeavesOthers s p end t) (sym ends)
+    (subst (LeavesOthers s p (instruction_end (next_instruction s.inner p))) (sym is) (as-before s p (instruction_end (next_instruction s.inner p)) _ (instruction-left s.inner p (next_instruction s.inner p)).leaves))
+acts-leave (delivers signal) s p end t lives next (ends, is) =
+    subst (λ (end : EventEnd). LeavesOthers s p end t) (sym ends)
+    (subst (LeavesOthers s p (delivery_end (delivered (before_delivery s p) p signal))) (sym is) (as-before s p (delivery_end (delivered (before_delivery s p) p signal)) _ (broken-left s.inner p signal (interrupted_count s.files.io p)).leaves))
+acts-leave (attempts code) s p end t lives next (result, rest, (now, is_now, it), ends, is) =
+    subst (λ (end : EventEnd). LeavesOthers s p end t) (sym ends)
+    (subst (LeavesOthers s p (call_event_end result)) (sym is) (serves-leave s p code next lives now rest (service_of code) result (asks code) it))
+
+-- the process of an event is the one that was chosen
+pub event-leaves : (s t : State) (end : EventEnd) (p : ℕ) → s.chosen ≡ Some p → Event s end t → LeavesOthers s p end t
+event-leaves s t end p chosen (q, chosen_too, lives, acts) =
+    let same : q ≡ p = same_Some q p (sym chosen_too ∙ chosen) in
+    subst (λ (p : ℕ). LeavesOthers s p end t) same (acts-leave (act_of s.inner q) s q end t lives refl acts)

@@ -1,0 +1,244 @@
+-- What each event leaves of the input and output of the others.
+use Rattle.std.proofs.Common.{◌≡◌, ◌≢◌, ◌⊎◌, ℕ, ◌<◌, ◌≤◌, Option, Some, None, Result, Ok, Err, List, [], length, refl, sym, ap, ◌∙◌, subst, inl, inr}
+use Rattle.std.specs.Prelude.{option_and_then, option_map, slice_index_or}
+use Rattle.std.proofs.lemmas.Bool.{cases_eq, cases_lt}
+use Rattle.std.proofs.lemmas.List.{get_or-set_same, get_or-set_other, get_or_past, length-set}
+use Rattle.std.proofs.lemmas.Option.{none-some, same_Some}
+use Rattle.os9_base.specs.declared.registers.TimePacket.{TimePacket}
+use Rattle.cpu_model.specs.Step.{Outcome, Done, Calls, Aborts}
+use Rattle.proc_rules.specs.Records.{IsLiving, free_process, record_at, record_of}
+use Rattle.call_rules.specs.Attempts.{after_attempt}
+use Rattle.call_rules.specs.CallResult.{CallResult, done, refused, waits, ends}
+use Rattle.call_rules.specs.Delivery.{delivered}
+use Rattle.call_rules.specs.Inner.{Inner, regs_at}
+use Rattle.call_rules.specs.Ready.{Act, attempts, delivers, executes, act_of}
+use Rattle.call_rules.specs.declared.proc_call.ProcCall.TheVariants as Call
+use Rattle.io_model.specs.Path.{desc_of, inherited_numbers, numbers_of, paths_after_inherit, slot_of}
+use Rattle.io_model.specs.Terminal.{Terminal, new_terminal, used_by, without_reading}
+use Rattle.io_model.specs.declared.path.Desc.{Desc}
+use Rattle.io_model.specs.declared.path.SysPath.{SysPath}
+use Rattle.io_rules.specs.Attempts.{IoAttempts, caller_of, kept_in, step_of}
+use Rattle.io_rules.specs.Codes.{direction_of, direction_of_call, io_call_of}
+use Rattle.io_rules.specs.Io.{Io, OpenPath, kept_at, open_path, terminal_at}
+use Rattle.io_rules.specs.Processes.{io_started}
+use Rattle.io_rules.specs.Waiting.{pid}
+use Rattle.io_rules.specs.declared.io_call.Direction.TheVariants.{Writing}
+use Rattle.io_rules.specs.declared.io_call.IoCall.{IoCall}
+use Rattle.file_rules.specs.Attempts.{asker_of}
+use Rattle.file_rules.specs.Files.{Files}
+use Rattle.machine_model.specs.Event.{next_instruction}
+use Rattle.machine_model.specs.declared.ends.EventEnd.{EventEnd}
+use Rattle.isolation_laws.specs.InputOutput.{KeepsReading}
+use Rattle.isolation_laws.specs.Others.{AttemptsCall}
+use Rattle.isolation_laws.proofs.IoEvents.{NamesChild, open-stays}
+use Rattle.isolation_laws.proofs.IoKept.{EffectLeft, FailsOn, does-left, step-left}
+use Rattle.isolation_laws.proofs.OthersKept.{free-is, living-record}
+use Rattle.isolation_laws.proofs.PathsKept.{IoLeft, PathsLeft, io-ended, io-interrupted, io-same, left-numbers}
+use Rattle.touch_laws.specs.Devices.{IsDevice, IsOnDevice}
+use Rattle.touch_laws.specs.Touch.{IsSamePath, KeepsIo, LeavesDevices}
+use Rattle.touch_laws.proofs.Attempts.{attempt-comes}
+use Rattle.touch_laws.proofs.Codes.{code-there}
+use Rattle.touch_laws.proofs.Keeps.{io-kept}
+use Rattle.touch_laws.proofs.Loads.{chain-leaves, fork-leaves, load-leaves}
+use Rattle.disk_machine.specs.Event.{Acts, Event, before_delivery, files_after_delivery, files_after_instruction}
+use Rattle.disk_machine.specs.Services.{Serves, Service, files_after_call, files_after_fork, loads, no_call, on_paths, on_processes, on_time, service_of, with_files}
+use Rattle.disk_machine.specs.State.{Rest, State, with_rest}
+use Rattle.disk_isolation.specs.InputOutput.{FailsInWrite, IsGivenPaths, LeavesIo, StaysOpen}
+use Rattle.disk_isolation.proofs.Asked.{Asks, asks}
+use Rattle.disk_isolation.proofs.Children.{fork-attempt-names}
+
+-- ---- open paths
+
+-- a path that a number names is there
+path-there : (io : Io) (q n : ℕ) (opened : OpenPath) → open_path io q n ≡ Some opened → desc_of io.paths opened.path.0 ≡ Some opened.desc
+path-there io q n opened is = by_slot (slot_of io.paths q n) is
+  where
+    with_place : SysPath → Option Desc → Option OpenPath
+    with_place s place = option_map (λ (desc : Desc). let r : OpenPath = record { path = s; desc = desc } in r) place
+
+    by_desc : (s : SysPath) (place : Option Desc) → desc_of io.paths s.0 ≡ place → with_place s place ≡ Some opened → desc_of io.paths opened.path.0 ≡ Some opened.desc
+    by_desc s None at is = absurd (none-some opened is)
+    by_desc s (Some d) at is =
+        subst (λ (opened : OpenPath). desc_of io.paths opened.path.0 ≡ Some opened.desc) (same_Some (record { path = s; desc = d }) opened is) at
+
+    by_slot : (place : Option SysPath) → option_and_then (λ (s : SysPath). with_place s (desc_of io.paths s.0)) place ≡ Some opened → desc_of io.paths opened.path.0 ≡ Some opened.desc
+    by_slot None is = absurd (none-some opened is)
+    by_slot (Some s) is = by_desc s (desc_of io.paths s.0) refl is
+
+stays-open : (s t : State) (q n : ℕ) (opened : OpenPath) → open_path t.files.io q n ≡ Some opened → StaysOpen s t q n opened
+stays-open s t q n opened is = record {
+  now = opened;
+  is = is;
+  same = record { path = refl; desc = refl };
+  device = λ device. refl;
+}
+
+-- where input and output stay but for paths on files
+module _ (s t : State) (p : ℕ) (kept : KeepsIo p s.files.io t.files.io) where
+  stays-on-device : (q n : ℕ) (opened now : OpenPath) → open_path s.files.io q n ≡ Some opened → open_path t.files.io q n ≡ Some now → IsSamePath opened now → IsDevice opened.desc.target → now ≡ opened
+  stays-on-device q n opened now was is same device =
+      let stays : desc_of t.files.io.paths opened.path.0 ≡ Some opened.desc = kept.paths.devices opened.path.0 opened.desc (path-there s.files.io q n opened was) device in
+      let there : desc_of t.files.io.paths now.path.0 ≡ Some now.desc = path-there t.files.io q n now is in
+      let descs : now.desc ≡ opened.desc = same_Some now.desc opened.desc (sym there ∙ ap (λ (path : SysPath). desc_of t.files.io.paths path.0) same.path ∙ stays) in
+      λ i. record { path = same.path i; desc = descs i }
+
+  leaves-by-kept : LeavesIo s p t
+  leaves-by-kept = record {
+    numbers = λ q differ. inl (kept.paths.numbers q differ);
+    paths = λ q n opened differ lives was.
+        let (now, is, same) = kept.paths.paths q n opened was in
+        record { now = now; is = is; same = same; device = stays-on-device q n opened now was is same };
+    calls = kept.calls.others;
+    readings = λ n q differ is.
+        inl (subst (KeepsReading (terminal_at s.files.io n)) (ap (λ (terminals : List Terminal). slice_index_or terminals n new_terminal) (sym kept.terminals)) refl);
+  }
+
+-- ---- what a change of input and output leaves
+
+leaves-by : (s : State) (p : ℕ) (t : State) → IoLeft p s.files.io t.files.io → LeavesIo s p t
+leaves-by s p t left = record {
+  numbers = λ q differ. inl (left.paths.numbers q differ);
+  paths =
+      λ q n opened differ lives is. stays-open s t q n opened (open-stays s.files.io t.files.io q n opened (left.paths.numbers q differ) (λ path d named there. left.paths.descs q n path d named differ there) is);
+  calls = left.calls;
+  readings = λ n q differ is. inl (left.readings n q differ is);
+}
+
+leaves-same : (s : State) (p : ℕ) (t : State) → t.files.io ≡ s.files.io → LeavesIo s p t
+leaves-same s p t same = leaves-by s p t (subst (IoLeft p s.files.io) (sym same) (io-same p s.files.io))
+
+-- a call on a terminal or a pipe
+module _ (s : State) (p code : ℕ) (call : IoCall) (next : act_of s.inner p ≡ attempts code) (coded : io_call_of code ≡ Some call) (drives : ℕ) (result : CallResult) (t : State) (attempt : IoAttempts call s.inner s.files.io drives p result t.files.io s.terms t.terms) where
+  direction : direction_of_call call ≡ Some Writing → direction_of code ≡ Some Writing
+  direction is = ap (option_and_then direction_of_call) coded ∙ is
+
+  left : EffectLeft call p s.files.io attempt.effect.io s.terms t.terms
+  left =
+      does-left call (caller_of s.inner p) s.files.io s.terms t.terms (step_of call s.inner p s.files.io drives s.terms) attempt.effect (step-left call (caller_of s.inner p) s.files.io drives (length s.terms)) attempt.does
+
+  same-terminal : (n : ℕ) → terminal_at t.files.io n ≡ terminal_at attempt.effect.io n
+  same-terminal n = ap (λ (io : Io). terminal_at io n) attempt.state
+
+  by-reading : (n q : ℕ) → KeepsReading (terminal_at s.files.io n) (terminal_at attempt.effect.io n) ⊎ (direction_of_call call ≡ Some Writing) × FailsOn n s.terms t.terms × (terminal_at attempt.effect.io n ≡ without_reading (used_by (pid p) (terminal_at s.files.io n))) → KeepsReading (terminal_at s.files.io n) (terminal_at t.files.io n) ⊎ FailsInWrite s p n t × (terminal_at t.files.io n ≡ without_reading (used_by (pid p) (terminal_at s.files.io n)))
+  by-reading n q (inl stays) = inl (subst (KeepsReading (terminal_at s.files.io n)) (sym (same-terminal n)) stays)
+  by-reading n q (inr (way, failed, gone)) =
+      inr (record { writes = (code, next, direction way); failed = failed }, same-terminal n ∙ gone)
+
+  device-leaves : LeavesIo s p t
+  device-leaves = record {
+    numbers = λ q differ. inl (ap (λ (io : Io). numbers_of io.paths q) attempt.state ∙ left.paths.numbers q differ);
+    paths =
+        λ q n opened differ lives is. stays-open s t q n opened (ap (λ (io : Io). open_path io q n) attempt.state ∙ open-stays s.files.io attempt.effect.io q n opened (left.paths.numbers q differ) (λ path d named there. left.paths.descs q n path d named differ there) is);
+    calls =
+        λ q differ. ap (λ (io : Io). kept_at io q) attempt.state ∙ get_or-set_other attempt.effect.io.calls p q (kept_in attempt.effect.end) None differ ∙ left.calls q differ;
+    readings = λ n q differ is. by-reading n q (left.readings n q differ is);
+  }
+
+-- ---- a child is given the standard paths
+
+module _ (s : State) (p : ℕ) (call : AttemptsCall s.inner p Call.Fork) (child : ℕ) (free : free_process s.inner.records ≡ Some child) where
+  abbrev begun : Io
+  begun = io_started s.files.io p child
+
+  begun-left : PathsLeft child s.files.io.paths (paths_after_inherit s.files.io.paths p child)
+  begun-left = left-numbers child s.files.io.paths (inherited_numbers (numbers_of s.files.io.paths p))
+
+  not-child : (q : ℕ) → IsLiving s.inner.records q → q ≢ child
+  not-child q lives same =
+      none-some (record_at s.inner.records q) (sym (free-is s.inner.records child free).none ∙ ap (record_of s.inner.records) (sym same) ∙ living-record s.inner.records q lives)
+
+  abbrev NumbersCome : ℕ → Io → Type 0
+  NumbersCome q io = (numbers_of io.paths q ≡ numbers_of s.files.io.paths q) ⊎ IsGivenPaths s p q (numbers_of io.paths q)
+
+  at-child : (child < length s.files.io.paths.own) ⊎ (length s.files.io.paths.own ≤ child) → NumbersCome child begun
+  at-child (inl within) =
+      inr (subst (IsGivenPaths s p child) (sym (get_or-set_same s.files.io.paths.own child (inherited_numbers (numbers_of s.files.io.paths p)) [] within)) (record { call = call; number = free; given = refl }))
+  at-child (inr past) =
+      inl (get_or_past begun.paths.own child [] (rw length-set past) ∙ sym (get_or_past s.files.io.paths.own child [] past))
+
+  by-child : (q : ℕ) → (q ≡ child) ⊎ (q ≢ child) → NumbersCome q begun
+  by-child q (inl same) =
+      subst (λ (q : ℕ). NumbersCome q begun) (sym same) (at-child (cases_lt child (length s.files.io.paths.own)))
+  by-child q (inr differ) = inl (begun-left.numbers q differ)
+
+  started-leaves : (t : State) → t.files.io ≡ begun → LeavesIo s p t
+  started-leaves t is = record {
+    numbers = λ q differ. subst (NumbersCome q) (sym is) (by-child q (cases_eq q child));
+    paths =
+        λ q n opened differ lives was. stays-open s t q n opened (ap (λ (io : Io). open_path io q n) is ∙ open-stays s.files.io begun q n opened (begun-left.numbers q (not-child q lives)) (λ path d named there. there) was);
+    calls = λ q differ. ap (λ (io : Io). kept_at io q) is;
+    readings = λ n q differ reads.
+        inl (subst (KeepsReading (terminal_at s.files.io n)) (ap (λ (io : Io). terminal_at io n) (sym is)) refl);
+  }
+
+-- ---- an attempt of a call
+
+module _ (s : State) (p code : ℕ) (next : act_of s.inner p ≡ attempts code) (lives : IsLiving s.inner.records p) (now : TimePacket) (rest : Rest) (inner : Inner) where
+  abbrev then : State
+  then = with_rest s inner rest
+
+  fork-leaves-io : AttemptsCall s.inner p Call.Fork → (files : Files) (result : CallResult) → NamesChild s.inner p result → files.io ≡ s.files.io → rest ≡ with_files s (files_after_fork files p result) → LeavesIo s p then
+  fork-leaves-io call files (done t) names same is =
+      started-leaves s p call (regs_at t p).a names then
+      (ap (λ (rest : Rest). rest.files.io) is ∙ ap (λ (io : Io). io_started io p (regs_at t p).a) same)
+  fork-leaves-io call files (refused number) names same is =
+      leaves-same s p then (ap (λ (rest : Rest). rest.files.io) is ∙ same)
+  fork-leaves-io call files (waits t) names same is =
+      leaves-same s p then (ap (λ (rest : Rest). rest.files.io) is ∙ same)
+  fork-leaves-io call files (ends status) names same is =
+      leaves-same s p then (ap (λ (rest : Rest). rest.files.io) is ∙ same)
+
+  call-leaves-io : (result : CallResult) → rest ≡ with_files s (files_after_call s.files p result) → LeavesIo s p then
+  call-leaves-io (done t) is = leaves-same s p then (ap (λ (rest : Rest). rest.files.io) is)
+  call-leaves-io (refused number) is = leaves-same s p then (ap (λ (rest : Rest). rest.files.io) is)
+  call-leaves-io (waits t) is = leaves-same s p then (ap (λ (rest : Rest). rest.files.io) is)
+  call-leaves-io (ends status) is =
+      leaves-by s p then
+      (subst (IoLeft p s.files.io) (ap (λ (rest : Rest). rest.files.io) (sym is)) (io-ended p s.files.io))
+
+  serves-io : (service : Service) (result : CallResult) → Asks code service → Serves service s now p result rest → LeavesIo s p then
+  serves-io loads result asked (files, it, is) =
+      let left = load-leaves s.inner (asker_of s.inner p now) s.files (length s.terms) p result files it in
+      leaves-same s p then (ap (λ (rest : Rest). rest.files.io) is ∙ left.io)
+  serves-io (on_processes Call.Fork) result asked (files, it, is) =
+      let left = fork-leaves s.inner (asker_of s.inner p now) s.files (length s.terms) p result files it in
+      fork-leaves-io (code, next, asked) files result (fork-attempt-names s.inner p lives (asker_of s.inner p now) s.files (length s.terms) result files it) left.io is
+  serves-io (on_processes Call.Chain) result asked (files, it, is) =
+      let left = chain-leaves s.inner (asker_of s.inner p now) s.files (length s.terms) p result files it in
+      leaves-same s p then (ap (λ (rest : Rest). rest.files.io) is ∙ left.io)
+  serves-io (on_processes call) result asked it = call-leaves-io result it.1
+  serves-io (on_time call) result asked (clock, it, is) = leaves-same s p then (ap (λ (rest : Rest). rest.files.io) is)
+  serves-io (on_paths call) result asked (it, same) =
+      by_device (attempt-comes call s.inner s.files now p result rest.files s.terms rest.terms it)
+    where
+      by_device : IsOnDevice call s.inner s.files p result rest.files s.terms rest.terms ⊎ LeavesDevices call s.inner s.files now p result rest.files s.terms rest.terms → LeavesIo s p then
+      by_device (inl on) =
+          device-leaves s p code on.device next (code-there code call asked ∙ on.device_is) (length s.files.drives) result then on.attempted
+      by_device (inr none) =
+          leaves-by-kept s then p (io-kept s.inner s.files p result rest.files s.terms rest.terms none)
+  serves-io no_call result asked (result_is, is) = leaves-same s p then (ap (λ (rest : Rest). rest.files.io) is)
+
+-- ---- each event
+
+after-instruction : (s : State) (p : ℕ) (outcome : Outcome) → IoLeft p s.files.io (files_after_instruction s.files p outcome).io
+after-instruction s p (Done effect) = io-same p s.files.io
+after-instruction s p (Calls code regs) = io-same p s.files.io
+after-instruction s p (Aborts status) = io-ended p s.files.io
+
+after-delivery : (s : State) (p : ℕ) (result : Result Inner ℕ) → IoLeft p s.files.io (files_after_delivery s.files p result).io
+after-delivery s p (Ok t) = io-interrupted p s.files.io
+after-delivery s p (Err status) = io-ended p s.files.io
+
+acts-leave-io : (act : Act) (s : State) (p : ℕ) (end : EventEnd) (t : State) → IsLiving s.inner.records p → act_of s.inner p ≡ act → Acts act s p end t → LeavesIo s p t
+acts-leave-io executes s p end t lives next (over, is) =
+    subst (LeavesIo s p) (sym is) (leaves-by s p _ (after-instruction s p (next_instruction s.inner p)))
+acts-leave-io (delivers signal) s p end t lives next (over, is) =
+    subst (LeavesIo s p) (sym is) (leaves-by s p _ (after-delivery s p (delivered (before_delivery s p) p signal)))
+acts-leave-io (attempts code) s p end t lives next (result, rest, (now, is_now, it), over, is) =
+    subst (LeavesIo s p) (sym is) (serves-io s p code next lives now rest (after_attempt s.inner p result) (service_of code) result (asks code) it)
+
+-- the process of an event is the one that was chosen
+pub event-leaves-io : (s t : State) (end : EventEnd) (p : ℕ) → s.chosen ≡ Some p → Event s end t → LeavesIo s p t
+event-leaves-io s t end p chosen (q, chosen_too, lives, acts) =
+    let same : q ≡ p = same_Some q p (sym chosen_too ∙ chosen) in
+    subst (λ (p : ℕ). LeavesIo s p t) same (acts-leave-io (act_of s.inner q) s q end t lives refl acts)

@@ -1,0 +1,9 @@
+pub mod Asked
+pub mod Children
+pub mod EventsKept
+pub mod FileKept
+pub mod FileRead
+pub mod IoEvents
+pub mod Loaded
+pub mod Programs
+pub mod VolumeEvents

@@ -1,0 +1,33 @@
+//! Isolation: what an event of a process leaves to the others.
+
+ghost use Rattle.std.specs.Prelude.{◌≡◌, ℕ, Some};
+ghost use Rattle.machine_model.specs.declared.ends.EventEnd.{EventEnd};
+ghost use Rattle.disk_isolation.specs.InputOutput.{LeavesIo};
+ghost use Rattle.disk_isolation.specs.Isolation.{LeavesOthers};
+ghost use Rattle.disk_isolation.specs.Volumes.{LeavesVolumes};
+ghost use Rattle.disk_machine.specs.Event.{Event};
+ghost use Rattle.disk_machine.specs.State.{State};
+
+/// An event of a process, whether an instruction, an attempt of a call or the delivery of a signal,
+/// leaves the bytes of each object that the map of the process does not name. Its map comes to name
+/// new objects and those of entered modules alone; new ones hold zeros, parameters that the process
+/// gives a program, and the bytes of a file of modules that it loads and may execute. Every other
+/// process keeps its map, its registers and all else, but for what F$Send and F$SPrior change of
+/// the process that they name, the end of its parent, and a module that leaves; an ended child goes
+/// by F$Wait. Modules are entered by a file that is loaded, and leave with their last link alone.
+pub fn an_event_leaves_what_it_does_not_name()
+    ensures { (s t : State) (end : EventEnd) (p : ℕ) → s.chosen ≡ Some p → Event s end t
+        → LeavesOthers s p end t }
+{}
+
+/// Of input and output every other process keeps its path numbers, the paths that they name, but
+/// for the position of one on a file, and its call that waits; a child is given the standard paths
+/// and the directories of its parent by F$Fork. A terminal keeps the unfinished read of another
+/// process, but where a write to it fails. One volume at most changes, by a call on paths, files
+/// and directories; and the clock is set by F$STime alone.
+pub fn an_event_leaves_the_input_and_output_of_the_others()
+    ensures io { (s t : State) (end : EventEnd) (p : ℕ) → s.chosen ≡ Some p → Event s end t
+        → LeavesIo s p t }
+    ensures volumes { (s t : State) (end : EventEnd) (p : ℕ) → s.chosen ≡ Some p → Event s end t
+        → LeavesVolumes s p t }
+{}

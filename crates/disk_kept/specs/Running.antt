@@ -1,0 +1,25 @@
+-- What holds of every state of a run.
+use Rattle.std.specs.Prelude.{◌<◌, ◌≤◌, List, length}
+use Rattle.std.specs.List.{AllByRecursion}
+use Rattle.file_laws.specs.Kinds.{AreKinds}
+use Rattle.kept_laws.specs.Kept.{AreInCalls, AreKept}
+use Rattle.kept_laws.specs.Running.{AreOnTerminals}
+use Rattle.time_rules.specs.Clock.{IsClock}
+use Rattle.disk_machine.specs.State.{State}
+
+-- what holds of a state of a run
+pub record IsRunning (s : State) : Type 0 where
+  pub kept : AreKept s.inner s.files.io
+  pub in_calls : AreInCalls s.inner s.files.io
+  -- each process has a place for what is kept of its call
+  pub places : length s.inner.records ≤ length s.files.io.calls
+  pub on : AreOnTerminals (length s.terms) s.files.io.paths
+  pub some : 0 < length s.terms
+  pub few : length s.terms ≤ 4
+  pub kinds : AreKinds s.files  -- paths and directories of processes are on what is there
+  pub clock : IsClock s.clock s.inner.tick
+
+-- it holds of these states, and of the last one
+pub record AllRunning (states : List State) (t : State) : Type 0 where
+  pub through : AllByRecursion IsRunning states
+  pub last : IsRunning t

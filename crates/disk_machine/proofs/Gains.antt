@@ -1,0 +1,270 @@
+-- The devices of the machine only gain: event by event, slice by slice, in a whole run. What an attempt on a terminal
+-- or a pipe leaves of the terminals, the machine without disks leaves too.
+use Rattle.std.proofs.Common.{◌≡◌, ◌⊎◌, ℕ, ◌+◌, ◌-◌, Bool, true, false, Option, Some, None, Result, Ok, Err, List, [], ◌∷◌, ◌++◌, length, refl, sym, ◌∙◌, inl, inr, subst}
+use Rattle.std.specs.Prelude.{MatchBool, MatchOption, if◌then◌else◌, ◌==◌}
+use Rattle.std.specs.Option.{option_map_or}
+use Rattle.os9_base.specs.declared.calls.TheConstants.{F_LOAD}
+use Rattle.os9_base.specs.declared.errors.TheConstants.{E_UNKSVC}
+use Rattle.os9_base.specs.declared.registers.TimePacket.{TimePacket}
+use Rattle.os9_outer.specs.TerminalState.{TerminalState}
+use Rattle.cpu_model.specs.Step.{Outcome, Done, Calls, Aborts}
+use Rattle.proc_rules.specs.Records.{IsLiving}
+use Rattle.call_rules.specs.declared.proc_call.ProcCall.{ProcCall}
+use Rattle.call_rules.specs.declared.proc_call.ProcCall.TheVariants as Call
+use Rattle.call_rules.specs.Attempts.{after_attempt, attempted}
+use Rattle.call_rules.specs.CallResult.{CallResult, done, refused, waits, ends}
+use Rattle.call_rules.specs.Codes.{call_of}
+use Rattle.call_rules.specs.Delivery.{delivered}
+use Rattle.call_rules.specs.Inner.{Inner}
+use Rattle.call_rules.specs.Ready.{Act, attempts, delivers, executes, act_of}
+use Rattle.io_rules.specs.declared.io_call.IoCall.{IoCall}
+use Rattle.io_rules.specs.Attempts.{IoAttempts}
+use Rattle.io_rules.specs.Codes.{io_call_of}
+use Rattle.io_rules.specs.Io.{Io}
+use Rattle.file_rules.specs.declared.path_call.PathCall.{PathCall}
+use Rattle.file_rules.specs.Attempts.{asker_of}
+use Rattle.file_rules.specs.Codes.{path_call_of}
+use Rattle.file_rules.specs.Files.{Files}
+use Rattle.time_rules.specs.declared.time_call.TimeCall.{TimeCall}
+use Rattle.time_rules.specs.Codes.{time_call_of}
+use Rattle.touch_laws.specs.Devices.{IsOnDevice, device_call}
+use Rattle.touch_laws.specs.Touch.{LeavesDevices, LeavesFiles}
+use Rattle.touch_laws.proofs.Attempts.{attempt-comes}
+use Rattle.touch_laws.proofs.Codes.{code-there}
+use Rattle.touch_laws.proofs.Loads.{chain-leaves, fork-leaves, load-leaves}
+use Rattle.machine_model.specs.declared.ends.EventEnd.{EventEnd}
+use Rattle.machine_model.specs.declared.ends.EventEnd.TheVariants.{Ran}
+use Rattle.machine_model.specs.declared.ends.SliceEnd.{SliceEnd}
+use Rattle.machine_model.specs.declared.ends.SliceEnd.TheVariants.{Idle, Ran as SliceRan}
+use Rattle.machine_model.specs.Console.{console_bytes, terminals_emptied}
+use Rattle.machine_model.specs.Event.{Acts as ActsWithout, Attempts as AttemptsWithout, call_event_end, io_after_call, next_instruction}
+use Rattle.machine_model.specs.State.{State as WithoutDisks}
+use Rattle.machine_model.specs.Terminals.{TerminalsOnlyGain}
+use Rattle.machine_model.proofs.TerminalLaws.{gain-arrivals, gain-broken, gain-emptied, gain-same, gain-then, gains-event}
+use Rattle.disk_machine.specs.Devices.{DrivesOnlyGain, OnlyGain}
+use Rattle.disk_machine.specs.Event.{Acts, Event, before_delivery, cost, files_after_delivery, files_after_instruction}
+use Rattle.disk_machine.specs.Run.{BeginsSlice, BreaksTick, Choose, FirstSteps, Run, Slice, Steps, Tick, desk_of, is_going}
+use Rattle.disk_machine.specs.Services.{Service, Serves, files_after_call, files_after_fork, loads, no_call, on_paths, on_processes, on_time, service_of, with_files}
+use Rattle.disk_machine.specs.State.{Rest, State, has_living}
+use Rattle.disk_machine.proofs.Drives.{drives-same, drives-then, loads-gain, none-gains, volumes-gain}
+
+-- ---- two states
+
+gains-same : (s t : State) → t ≡ s → OnlyGain s t
+gains-same s t is =
+    subst (OnlyGain s) (sym is) (record { terminals = gain-same s.terms; drives = drives-same s.files.drives })
+
+gains-then : (a b c : State) → OnlyGain a b → OnlyGain b c → OnlyGain a c
+gains-then a b c first next = record {
+  terminals = gain-then a.terms b.terms c.terms first.terminals next.terminals;
+  drives = drives-then a.files.drives b.files.drives c.files.drives first.drives next.drives;
+}
+
+-- the state of the machine without disks in which this process was chosen
+abbrev without : State → ℕ → WithoutDisks
+without s p = record {
+  inner = s.inner;
+  io = s.files.io;
+  chosen = Some p;
+  drives = length s.files.drives;
+  terms = s.terms;
+}
+
+-- ---- a tick
+
+pub tick-gains : (s t : State) → Tick s t → OnlyGain s t
+tick-gains s t (desk, arrives, is) = subst (OnlyGain s) (sym is) (record {
+  terminals = gain-arrivals (s.inner.tick + 1) 0 (length s.terms) (desk_of s) desk arrives;
+  drives = drives-same s.files.drives;
+})
+
+pub broken-gains : (s : State) (terms : List TerminalState) → BreaksTick s terms → TerminalsOnlyGain s.terms terms
+broken-gains s terms broken = gain-broken (without s 0) terms (record {
+  count = broken.count;
+  desk = broken.desk;
+  arrivals = broken.arrivals;
+  answer = broken.answer;
+  terminal = broken.terminal;
+  memory = broken.memory;
+  device = broken.device;
+})
+
+-- ---- an attempt on a terminal or a pipe
+
+-- the code of a call on paths is that of no call on processes
+module _ (call : PathCall) where
+  by_codes : (loading : Bool) (process : Option ProcCall) (clock : Option TimeCall) (path : Option PathCall) → (if loading then loads else option_map_or on_processes process (option_map_or on_time clock (option_map_or on_paths path no_call))) ≡ on_paths call → (process ≡ None) × (path ≡ Some call)
+  by_codes true process clock path is = let never : ⊥ = cc in absurd never
+  by_codes false (Some process) clock path is = let never : ⊥ = cc in absurd never
+  by_codes false None (Some clock) path is = let never : ⊥ = cc in absurd never
+  by_codes false None None None is = let never : ⊥ = cc in absurd never
+  by_codes false None None (Some path) is = (refl, cc)
+
+  code-of-path : (code : ℕ) → service_of code ≡ on_paths call → (call_of code ≡ None) × (path_call_of code ≡ Some call)
+  code-of-path code is = by_codes (code == F_LOAD) (call_of code) (time_call_of code) (path_call_of code) is
+
+-- an attempt of the process by a call on paths only lets the terminals gain where it is one on a terminal or a pipe
+abbrev DevicesGain : Service → State → ℕ → Type 0
+DevicesGain service s p =
+    (call : PathCall) (device : IoCall) (result : CallResult) (io : Io) (terms : List TerminalState) → service ≡ on_paths call → device_call call ≡ Some device → IoAttempts device s.inner s.files.io (length s.files.drives) p result io s.terms terms → TerminalsOnlyGain s.terms terms
+
+module _ (s : State) (p : ℕ) (code : ℕ) (result : CallResult) (io : Io) (terms : List TerminalState) where
+  abbrev OnPath : Option IoCall → Type 0
+  OnPath call =
+      MatchOption call ((result ≡ refused E_UNKSVC) × (io ≡ s.files.io) × (terms ≡ s.terms))
+      (λ call. IoAttempts call s.inner s.files.io (length s.files.drives) p result io s.terms terms)
+
+  abbrev OnCall : Option ProcCall → Type 0
+  OnCall call =
+      MatchOption call (OnPath (io_call_of code))
+      (λ call. (result ≡ attempted call s.inner p) × (io ≡ io_after_call code s.files.io p result) × (terms ≡ s.terms))
+
+  attempt-without : (device : IoCall) → call_of code ≡ None → io_call_of code ≡ Some device → IoAttempts device s.inner s.files.io (length s.files.drives) p result io s.terms terms → AttemptsWithout code (without s p) p result io terms
+  attempt-without device none there it = subst OnCall (sym none) (subst OnPath (sym there) it)
+
+  event-without : act_of s.inner p ≡ attempts code → IsLiving s.inner.records p → AttemptsWithout code (without s p) p result io terms → TerminalsOnlyGain s.terms terms
+  event-without next lives it =
+      let after : WithoutDisks = record (without s p) { inner = after_attempt s.inner p result; io = io; terms = terms } in
+      gains-event (without s p) after (call_event_end result)
+      (p, refl, lives, subst (λ (act : Act). ActsWithout act (without s p) p (call_event_end result) after) (sym next) (result, io, terms, it, refl, refl))
+
+devices-gain : (s : State) (p code : ℕ) → act_of s.inner p ≡ attempts code → IsLiving s.inner.records p → DevicesGain (service_of code) s p
+devices-gain s p code next lives call device result io terms is on it =
+    let codes : (call_of code ≡ None) × (path_call_of code ≡ Some call) = code-of-path call code is in
+    event-without s p code result io terms next lives
+    (attempt-without s p code result io terms device codes.0 (code-there code call codes.1 ∙ on) it)
+
+-- ---- an attempt
+
+-- what an attempt leaves beside the processes
+record RestGains (s : State) (rest : Rest) : Type 0 where
+  pub terminals : TerminalsOnlyGain s.terms rest.terms
+  pub drives : DrivesOnlyGain s.files.drives rest.files.drives
+
+call-drives : (files : Files) (p : ℕ) (result : CallResult) → (files_after_call files p result).drives ≡ files.drives
+call-drives files p (done t) = refl
+call-drives files p (refused number) = refl
+call-drives files p (waits t) = refl
+call-drives files p (ends status) = refl
+
+fork-drives : (files : Files) (p : ℕ) (result : CallResult) → (files_after_fork files p result).drives ≡ files.drives
+fork-drives files p (done t) = refl
+fork-drives files p (refused number) = refl
+fork-drives files p (waits t) = refl
+fork-drives files p (ends status) = refl
+
+module _ (s : State) (now : TimePacket) (p : ℕ) (result : CallResult) (rest : Rest) where
+  -- the files are others, and the drives have gained
+  others-gain : (files : Files) → DrivesOnlyGain s.files.drives files.drives → rest ≡ with_files s files → RestGains s rest
+  others-gain files drives is =
+      subst (RestGains s) (sym is) (record { terminals = gain-same s.terms; drives = drives })
+
+  loaded-gain : {reached : Option ℕ} (files after : Files) → LeavesFiles reached s.files result files → after.drives ≡ files.drives → rest ≡ with_files s after → RestGains s rest
+  loaded-gain files after left same is =
+      others-gain after (subst (DrivesOnlyGain s.files.drives) (sym same) (loads-gain s.files result files left.drives)) is
+
+  path-gains : (call : PathCall) → DevicesGain (on_paths call) s p → IsOnDevice call s.inner s.files p result rest.files s.terms rest.terms ⊎ LeavesDevices call s.inner s.files now p result rest.files s.terms rest.terms → RestGains s rest
+  path-gains call devices (inl on) = record {
+    terminals = devices call on.device result rest.files.io rest.terms refl on.device_is on.attempted;
+    drives = none-gains s.files.drives rest.files.drives on.none_failed;
+  }
+  path-gains call devices (inr left) = record {
+    terminals = subst (TerminalsOnlyGain s.terms) (sym left.terminals) (gain-same s.terms);
+    drives = volumes-gain s.files result rest.files left.volumes;
+  }
+
+  serves-gain : (service : Service) → DevicesGain service s p → Serves service s now p result rest → RestGains s rest
+  serves-gain loads devices (files, it, is) =
+      loaded-gain files files (load-leaves s.inner (asker_of s.inner p now) s.files (length s.terms) p result files it) refl is
+  serves-gain (on_processes Call.Fork) devices (files, it, is) =
+      loaded-gain files (files_after_fork files p result) (fork-leaves s.inner (asker_of s.inner p now) s.files (length s.terms) p result files it) (fork-drives files p result) is
+  serves-gain (on_processes Call.Chain) devices (files, it, is) =
+      loaded-gain files files (chain-leaves s.inner (asker_of s.inner p now) s.files (length s.terms) p result files it) refl is
+  serves-gain (on_processes call) devices it =
+      others-gain (files_after_call s.files p result) (subst (DrivesOnlyGain s.files.drives) (sym (call-drives s.files p result)) (drives-same s.files.drives)) it.1
+  serves-gain (on_time call) devices (clock, it, is) =
+      subst (RestGains s) (sym is) (record { terminals = gain-same s.terms; drives = drives-same s.files.drives })
+  serves-gain (on_paths call) devices (it, clock) =
+      path-gains call devices (attempt-comes call s.inner s.files now p result rest.files s.terms rest.terms it)
+  serves-gain no_call devices (refusal, is) =
+      subst (RestGains s) (sym is) (record { terminals = gain-same s.terms; drives = drives-same s.files.drives })
+
+-- ---- one event
+
+instruction-gains : (files : Files) (p : ℕ) (outcome : Outcome) → DrivesOnlyGain files.drives (files_after_instruction files p outcome).drives
+instruction-gains files p (Done effect) = drives-same files.drives
+instruction-gains files p (Calls code regs) = drives-same files.drives
+instruction-gains files p (Aborts status) = drives-same files.drives
+
+delivery-gains : (files : Files) (p : ℕ) (outcome : Result Inner ℕ) → DrivesOnlyGain files.drives (files_after_delivery files p outcome).drives
+delivery-gains files p (Ok t) = drives-same files.drives
+delivery-gains files p (Err status) = drives-same files.drives
+
+acts-gain : (act : Act) (s : State) (p : ℕ) (end : EventEnd) (t : State) → act_of s.inner p ≡ act → IsLiving s.inner.records p → Acts act s p end t → OnlyGain s t
+acts-gain executes s p end t next lives (ending, is) = subst (OnlyGain s) (sym is) (record {
+  terminals = gain-same s.terms;
+  drives = instruction-gains s.files p (next_instruction s.inner p);
+})
+acts-gain (delivers signal) s p end t next lives (ending, is) = subst (OnlyGain s) (sym is) (record {
+  terminals = gain-same s.terms;
+  drives = delivery-gains s.files p (delivered (before_delivery s p) p signal);
+})
+acts-gain (attempts code) s p end t next lives (result, rest, (now, is_now, serves), ending, is) =
+    let gained : RestGains s rest = serves-gain s now p result rest (service_of code) (devices-gain s p code next lives) serves in
+    subst (OnlyGain s) (sym is) (record { terminals = gained.terminals; drives = gained.drives })
+
+pub event-gains : (s t : State) (end : EventEnd) → Event s end t → OnlyGain s t
+event-gains s t end (p, chosen, lives, acts) = acts-gain (act_of s.inner p) s p end t refl lives acts
+
+-- ---- slices and runs
+
+choice-gains : (s t : State) → Choose s t → OnlyGain s t
+choice-gains s t is =
+    subst (OnlyGain s) (sym is) (record { terminals = gain-same s.terms; drives = drives-same s.files.drives })
+
+steps-gain : (left : ℕ) (s : State) (states : List State) (t : State) → Steps left s states t → OnlyGain s t
+steps-gain left s [] t (over, is) = gains-same s t is
+steps-gain left s (m ∷ ms) t (some, end, event, steps) =
+    gains-then s m t (event-gains s m end event) (rest (is_going end) (steps-gain (left - cost s) m ms t) steps)
+  where
+    rest : (going : Bool) → (Steps (left - cost s) m ms t → OnlyGain m t) → MatchBool going (Steps (left - cost s) m ms t) ((ms ≡ []) × (t ≡ m)) → OnlyGain m t
+    rest true gains steps = gains steps
+    rest false gains (over, is) = gains-same m t is
+
+first-gain : (left : ℕ) (s : State) (states : List State) (t : State) → FirstSteps left s states t → OnlyGain s t
+first-gain left s [] t (some, is) = gains-same s t is
+first-gain left s (m ∷ ms) t (some, event, steps) =
+    gains-then s m t (event-gains s m Ran event) (first-gain (left - cost s) m ms t steps)
+
+chosen-gains : (n : ℕ) (s : State) (states : List State) (end : SliceEnd) (t : State) (who : Option ℕ) → MatchOption who ((end ≡ Idle) × (states ≡ []) × (t ≡ s)) (λ p. (end ≡ SliceRan) × Steps n s states t) → OnlyGain s t
+chosen-gains n s states end t None (idle, none, is) = gains-same s t is
+chosen-gains n s states end t (Some p) (ran, steps) = steps-gain n s states t steps
+
+begins-gain : (s ticked chosen t : State) → Tick s ticked → Choose ticked chosen → OnlyGain chosen t → OnlyGain s t
+begins-gain s ticked chosen t ticks chooses later =
+    gains-then s ticked t (tick-gains s ticked ticks)
+    (gains-then ticked chosen t (choice-gains ticked chosen chooses) later)
+
+pub slice-gains : (n : ℕ) (s t : State) (states : List State) (end : SliceEnd) → Slice n s states end t → OnlyGain s t
+slice-gains n s t states end (ticked, chosen, ticks, chooses, rest) =
+    begins-gain s ticked chosen t ticks chooses (chosen-gains n chosen states end t chosen.chosen rest)
+
+pub begun-gains : (n : ℕ) (s t : State) (states : List State) → BeginsSlice n s states t → OnlyGain s t
+begun-gains n s t states (ticked, chosen, ticks, chooses, steps) =
+    begins-gain s ticked chosen t ticks chooses (first-gain n chosen states t steps)
+
+-- the state whose terminals were emptied
+emptied-gains : (m : State) → OnlyGain m (record m { terms = terminals_emptied m.terms })
+emptied-gains m = record { terminals = gain-emptied m.terms; drives = drives-same m.files.drives }
+
+pub run-gains : (slices written : List ℕ) (s t : State) (states : List State) → Run slices s states written t → OnlyGain s t
+run-gains [] written s t states (none, nothing, is) = gains-same s t is
+run-gains (n ∷ ns) written s t states run =
+    by_living (has_living s) (λ rest m later after. run-gains ns rest m t later after) run
+  where
+    by_living : (living : Bool) → ((rest : List ℕ) (m : State) (later : List State) → Run ns m later rest t → OnlyGain m t) → MatchBool living ((end : SliceEnd) × (m : State) × (first later : List State) × (rest : List ℕ) × Slice n s first end m × (states ≡ first ++ later) × (written ≡ console_bytes m.terms ++ rest) × Run ns (record m { terms = terminals_emptied m.terms }) later rest t) ((states ≡ []) × (written ≡ []) × (t ≡ s)) → OnlyGain s t
+    by_living false others (none, nothing, is) = gains-same s t is
+    by_living true others (end, m, first, later, rest, slice, all, bytes, after) =
+        let now : State = record m { terms = terminals_emptied m.terms } in
+        gains-then s m t (slice-gains n s m first end slice)
+        (gains-then m now t (emptied-gains m) (others rest now later after))

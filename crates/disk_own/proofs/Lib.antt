@@ -1,0 +1,5 @@
+pub mod Beginning
+pub mod Groups
+pub mod Modules
+pub mod Owning
+pub mod Slices

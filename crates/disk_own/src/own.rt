@@ -1,0 +1,52 @@
+//! Blocks that are a process's own: what they are, and that they stay so.
+
+ghost use Rattle.std.specs.Prelude.{◌≡◌, ◌≢◌, ◌⊎◌, ℕ, Some, List};
+ghost use Rattle.proc_model.specs.Memory.{map_at};
+ghost use Rattle.proc_model.specs.Slots.{NamesBlock};
+ghost use Rattle.proc_rules.specs.Records.{IsLiving};
+ghost use Rattle.isolation_laws.specs.Objects.{Appears, IsOfModule};
+ghost use Rattle.isolation_laws.specs.Others.{HasRecord};
+ghost use Rattle.own_laws.specs.Own.{IsOfArea, IsOwn, KeepsOwnObject, NameAppeared};
+ghost use Rattle.machine_model.specs.declared.ends.EventEnd.{EventEnd};
+ghost use Rattle.machine_model.specs.declared.ends.SliceEnd.{SliceEnd};
+ghost use Rattle.disk_machine.specs.Event.{Event};
+ghost use Rattle.disk_machine.specs.Run.{Slice};
+ghost use Rattle.disk_machine.specs.Start.{Boot, Starts};
+ghost use Rattle.disk_machine.specs.State.{State};
+
+/// From the start on maps and groups name none but objects that have appeared, and an object that
+/// appears in the map of a process is its own at once, or of the group of a module, as those of a
+/// file that F$Load enters: so the blocks that F$Fork, F$Chain and F$Mem give a process are its own
+/// until it gives them up.
+pub fn what_appears_is_its_own()
+    ensures own { (s t : State) (end : EventEnd) (p object : ℕ) → Event s end t
+        → NameAppeared s.inner → HasRecord t.inner p → NamesBlock (map_at t.inner.memory p) object
+        → Appears s.inner.memory t.inner.memory object
+        → IsOwn t.inner p object ⊎ IsOfModule t.inner.memory object }
+    ensures appeared { (s t : State) (end : EventEnd) → Event s end t → NameAppeared s.inner
+        → NameAppeared t.inner }
+    ensures start { (boot : Boot) (s : State) → Starts boot s → NameAppeared s.inner }
+{}
+
+/// What is a process's own, as a block of its data area, stays its own with the same bytes in each
+/// slice in which it is not chosen, whatever the others do: no other map comes to name it. Its own
+/// events leave it so too, while its map names it.
+pub fn what_is_its_own_is_left_to_a_process()
+    ensures event { (s t : State) (end : EventEnd) (q p object : ℕ) → s.chosen ≡ Some q → p ≢ q
+        → Event s end t → IsLiving s.inner.records p → IsOwn s.inner p object
+        → KeepsOwnObject s.inner p object t.inner }
+    ensures acting { (s t : State) (end : EventEnd) (p object : ℕ) → s.chosen ≡ Some p
+        → Event s end t → IsOwn s.inner p object → NamesBlock (map_at t.inner.memory p) object
+        → IsOwn t.inner p object }
+    ensures slice { (n : ℕ) (s : State) (states : List State) (end : SliceEnd) (t : State)
+        (p object : ℕ) → Slice n s states end t → t.chosen ≢ Some p
+        → IsLiving s.inner.records p → IsOwn s.inner p object
+        → KeepsOwnObject s.inner p object t.inner }
+{}
+
+/// The blocks of data areas are their processes' own: other processes, of any number, do not name
+/// them, nor does a module. That holds of the first process from the start on.
+pub fn data_areas_are_own()
+    ensures { (boot : Boot) (s : State) → Starts boot s → (object : ℕ) → IsOfArea s.inner 2 object
+        → IsOwn s.inner 2 object }
+{}

@@ -1,0 +1,160 @@
+-- What an event leaves that is an attempt of a call which is refused, and why it is refused.
+use Rattle.std.specs.Prelude.{◌≡◌, ◌⊎◌, ℕ, Bool, true, false, IsSome, Some, None, List, length}
+use Rattle.os9_base.specs.declared.errors.TheConstants.{E_BADTIME, E_BPADDR, E_EOF, E_UNKSVC, E_WRITE}
+use Rattle.os9_base.specs.declared.registers.TimePacket.{TimePacket}
+use Rattle.proc_rules.specs.Records.{IsLiving}
+use Rattle.call_rules.specs.Attempts.{after_attempt, attempted}
+use Rattle.call_rules.specs.CallResult.{refused}
+use Rattle.call_rules.specs.Inner.{Inner, cells_at, regs_at}
+use Rattle.call_rules.specs.Ready.{attempts, act_of}
+use Rattle.call_rules.specs.UserBytes.{user_bytes}
+use Rattle.call_rules.specs.declared.proc_call.ProcCall.{ProcCall}
+use Rattle.call_rules.specs.declared.proc_call.ProcCall.TheVariants as Call
+use Rattle.civil_time.specs.CivilTime.{is_time_packet}
+use Rattle.io_rules.specs.Attempts.{caller_of}
+use Rattle.io_rules.specs.Io.{with_call}
+use Rattle.io_rules.specs.declared.io_call.IoCall.{IoCall}
+use Rattle.file_rules.specs.Attempts.{asker_of}
+use Rattle.file_rules.specs.Files.{NoneFailed}
+use Rattle.file_rules.specs.Program.{named_program, tests_program}
+use Rattle.file_rules.specs.ProgramFile.{ProgramFile, program_file}
+use Rattle.file_rules.specs.Step.{Step, drive_of}
+use Rattle.file_rules.specs.declared.path_call.PathCall.{PathCall}
+use Rattle.time_rules.specs.Clock.{IsNow}
+use Rattle.time_rules.specs.Packet.{packet_of}
+use Rattle.time_rules.specs.declared.clock.TheConstants.{PACKET_BYTES}
+use Rattle.time_rules.specs.declared.time_call.TimeCall.{TimeCall}
+use Rattle.time_rules.specs.declared.time_call.TimeCall.TheVariants as Time
+use Rattle.refusal_laws.specs.Causes.{StatedCause}
+use Rattle.refusal_laws.specs.Refusals.{ChangesNothing, LeavesProcesses, LeftAtEnd, LeftAtFault}
+use Rattle.touch_laws.specs.Causes.{FileCause, Made}
+use Rattle.touch_laws.specs.Devices.{IsOnNoFile, device_call}
+use Rattle.touch_laws.specs.LoadCauses.{ChainCause, ForkCause, LoadCause}
+use Rattle.touch_laws.specs.Touch.{FaultAnswers, NoVolumeChanges, OneDriveFails, drive_reached}
+use Rattle.disk_machine.specs.Services.{Attempts, loads, no_call, on_paths, on_processes, on_time, service_of}
+use Rattle.disk_machine.specs.State.{State, rest_of, with_rest}
+
+-- the chosen process attempts the call of this code, which is refused with this number, and this is the state then
+pub record IsRefused (s : State) (code number : ℕ) (t : State) : Type 0 where
+  pub process : ℕ
+  pub chosen : s.chosen ≡ Some process
+  pub lives : IsLiving s.inner.records process
+  pub attempted : act_of s.inner process ≡ attempts code
+  pub attempt : Attempts code s process (refused number) (rest_of t)
+  pub now : t ≡ with_rest s (after_attempt s.inner process (refused number)) (rest_of t)
+
+-- ---- a call on a terminal or a pipe
+
+-- what is left of terminals, pipes and paths
+pub data LeftOnDevice (s : State) (p : ℕ) (call : IoCall) (number : ℕ) (t : State) : Type 0 where
+  -- all but what is kept of the call, which goes
+  but_the_call : StatedCause call (caller_of s.inner p) s.files.io (length s.files.drives) (length s.terms) number
+      → ChangesNothing p s.files.io t.files.io s.terms t.terms → LeftOnDevice s p call number t
+  end_of_file : number ≡ E_EOF → LeftAtEnd call (caller_of s.inner p) s.files.io t.files.io s.terms t.terms
+      → LeftOnDevice s p call number t
+  write_error : number ≡ E_WRITE → LeftAtFault call (caller_of s.inner p) s.files.io t.files.io s.terms t.terms
+      → LeftOnDevice s p call number t
+
+-- the call is one on terminals and pipes, and on no file: all else stays, and no drive fails
+pub record RefusedOnDevice (s : State) (p : ℕ) (now : TimePacket) (call : PathCall) (number : ℕ) (t : State)
+    : Type 0 where
+  pub device : IoCall
+  pub device_is : device_call call ≡ Some device
+  pub on : IsOnNoFile call (asker_of s.inner p now) s.files (length s.terms)
+  pub left : LeftOnDevice s p device number t
+  pub directories : t.files.directories ≡ s.files.directories
+  pub volumes : t.files.volumes ≡ s.files.volumes
+  pub none_failed : NoneFailed s.files.drives t.files.drives
+  pub clock : t.clock ≡ s.clock
+
+-- ---- a call on a file or a directory
+
+-- the call that is made
+abbrev pub made_by : State → ℕ → TimePacket → PathCall → Made
+made_by s p now call = record {
+  call = call;
+  asker = asker_of s.inner p now;
+  files = s.files;
+  terms = length s.terms;
+}
+
+-- the call is on a file or a directory, or on nothing: all stays but what is kept of a call, which goes. Where the
+-- drive that it reached has failed, its number is that of the fault, and the volume of that drive may be another one;
+-- else the volumes stay too, and the number has its cause
+pub record RefusedOnFile (s : State) (p : ℕ) (now : TimePacket) (call : PathCall) (number : ℕ) (t : State)
+    : Type 0 where
+  pub io : t.files.io ≡ with_call s.files.io p None
+  pub directories : t.files.directories ≡ s.files.directories
+  pub terminals : t.terms ≡ s.terms
+  pub clock : t.clock ≡ s.clock
+  pub why : OneDriveFails (drive_reached call (asker_of s.inner p now) s.files (length s.terms)) s.files
+      (refused number) t.files
+      ⊎ NoVolumeChanges s.files t.files × FileCause (made_by s p now call) number
+
+-- ---- a load
+
+-- a file of modules was asked for, and read or not: all stays but what the drive that was reached counts. Where that
+-- drive has failed, the number is that of the fault; else it has its cause
+pub record RefusedLoad (s : State) (p : ℕ) (now : TimePacket) (test : Step ProgramFile → Step ProgramFile)
+    (Cause : Type 0) (number : ℕ) (t : State) : Type 0 where
+  pub io : t.files.io ≡ s.files.io
+  pub directories : t.files.directories ≡ s.files.directories
+  pub volumes : t.files.volumes ≡ s.files.volumes
+  pub terminals : t.terms ≡ s.terms
+  pub clock : t.clock ≡ s.clock
+  pub why : FaultAnswers (drive_of (program_file (asker_of s.inner p now) s.files (length s.terms) test)) s.files
+      (refused number) t.files
+      ⊎ NoneFailed s.files.drives t.files.drives × Cause
+
+-- ---- any other call
+
+-- F$Fork and F$Chain, which may be of a file
+abbrev pub starts_program : ProcCall → Bool
+starts_program Call.Fork = true
+starts_program Call.Chain = true
+starts_program call = false
+
+-- why a call on the time is refused
+pub data TimeCause (m : Inner) (p : ℕ) (call : TimeCall) (number : ℕ) : Type 0 where
+  no_packet : number ≡ E_BPADDR → user_bytes (cells_at m p) (regs_at m p).x PACKET_BYTES ≡ None
+      → TimeCause m p call number
+  no_time : (bytes : List ℕ) → number ≡ E_BADTIME → call ≡ Time.STime
+      → user_bytes (cells_at m p) (regs_at m p).x PACKET_BYTES ≡ Some bytes
+      → is_time_packet (packet_of bytes) ≡ false → TimeCause m p call number
+
+-- what a call leaves beside memory and the processes, at the time that it is, and why it is refused
+pub data LeavesRest (s : State) (p : ℕ) (now : TimePacket) (code number : ℕ) (t : State) : Type 0 where
+  -- a call on processes and modules, also F$Fork and F$Chain of a module that is entered: all
+  of_processes : (call : ProcCall) → service_of code ≡ on_processes call
+      → (starts_program call ≡ true → IsSome (named_program s.inner p))
+      → attempted call s.inner p ≡ refused number → rest_of t ≡ rest_of s → LeavesRest s p now code number t
+  of_time : (call : TimeCall) → service_of code ≡ on_time call → TimeCause s.inner p call number
+      → rest_of t ≡ rest_of s → LeavesRest s p now code number t
+  -- a code that is no call's: all
+  of_no_call : service_of code ≡ no_call → number ≡ E_UNKSVC → rest_of t ≡ rest_of s → LeavesRest s p now code number t
+  -- F$Load, and F$Fork and F$Chain of a file
+  of_load : service_of code ≡ loads
+      → RefusedLoad s p now (λ step. step)
+      (LoadCause s.inner (asker_of s.inner p now) s.files (length s.terms) p number) number t
+      → LeavesRest s p now code number t
+  of_fork : service_of code ≡ on_processes Call.Fork → named_program s.inner p ≡ None
+      → RefusedLoad s p now (tests_program s.inner p)
+      (ForkCause s.inner (asker_of s.inner p now) s.files (length s.terms) p number) number t
+      → LeavesRest s p now code number t
+  of_chain : service_of code ≡ on_processes Call.Chain → named_program s.inner p ≡ None
+      → RefusedLoad s p now (tests_program s.inner p)
+      (ChainCause s.inner (asker_of s.inner p now) s.files (length s.terms) p number) number t
+      → LeavesRest s p now code number t
+  -- a call on paths, files and directories
+  on_device : (call : PathCall) → service_of code ≡ on_paths call → RefusedOnDevice s p now call number t
+      → LeavesRest s p now code number t
+  on_files : (call : PathCall) → service_of code ≡ on_paths call → RefusedOnFile s p now call number t
+      → LeavesRest s p now code number t
+
+-- what it leaves of the machine
+pub record LeavesMachine (s : State) (p code number : ℕ) (t : State) : Type 0 where
+  pub processes : LeavesProcesses s.inner p number t.inner
+  pub now : TimePacket
+  pub is_now : IsNow s.clock s.inner.tick now
+  pub rest : LeavesRest s p now code number t
+  pub chosen : t.chosen ≡ s.chosen

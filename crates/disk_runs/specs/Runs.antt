@@ -1,0 +1,46 @@
+-- Events, slices and runs that there are.
+use Rattle.std.specs.Prelude.{◌≡◌, ◌⊎◌, ℕ, Some, List}
+use Rattle.os9_outer.specs.TerminalState.{fault_counts}
+use Rattle.call_rules.specs.Ready.{attempts, act_of}
+use Rattle.file_rules.specs.Codes.{path_call_of}
+use Rattle.file_rules.specs.Files.{NoneFailed}
+use Rattle.file_rules.specs.declared.path_call.PathCall.TheVariants as Call
+use Rattle.machine_model.specs.declared.ends.EventEnd.{EventEnd}
+use Rattle.machine_model.specs.declared.ends.SliceEnd.{SliceEnd}
+use Rattle.disk_machine.specs.Event.{Event}
+use Rattle.disk_machine.specs.Run.{Run, Slice}
+use Rattle.disk_machine.specs.State.{State}
+
+-- the count of faults of each terminal is the same in two states
+abbrev pub SameCounts : State → State → Type 0
+SameCounts s t = fault_counts t.terms ≡ fault_counts s.terms
+
+-- the chosen process attempts I$Create or I$MakDir
+abbrev pub MakesFile : State → Type 0
+MakesFile s =
+    (p code : ℕ) × (s.chosen ≡ Some p) × (act_of s.inner p ≡ attempts code)
+    × ((path_call_of code ≡ Some Call.Create) ⊎ (path_call_of code ≡ Some Call.MakDir))
+
+-- a state has an event in which no terminal fails, and no drive but where a file or a directory is made
+pub record HasEvent (s : State) : Type 0 where
+  pub end : EventEnd
+  pub last : State
+  pub event : Event s end last
+  pub counts : SameCounts s last
+  pub drives : NoneFailed s.files.drives last.files.drives ⊎ MakesFile s
+
+-- a slice of so many instructions comes to an end without a terminal's failure
+pub record HasSlice (n : ℕ) (s : State) : Type 0 where
+  pub states : List State
+  pub end : SliceEnd
+  pub last : State
+  pub slice : Slice n s states end last
+  pub counts : SameCounts s last
+
+-- there is a run over these slices in which no terminal fails
+pub record HasRun (slices : List ℕ) (s : State) : Type 0 where
+  pub states : List State
+  pub written : List ℕ
+  pub last : State
+  pub run : Run slices s states written last
+  pub counts : SameCounts s last
