@@ -1,0 +1,21 @@
+mod Acting
+mod Asking
+mod Calling
+mod Choosing
+mod Columns
+mod Delivering
+mod Ending
+mod Executing
+mod Loading
+mod PathCalls
+mod Pending
+pub mod Represented
+mod Running
+mod Serving
+mod Standing
+mod Starting
+mod Ticking
+mod Timing
+mod Turning
+mod Turns
+mod Waiting

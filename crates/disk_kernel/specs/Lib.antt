@@ -1,0 +1,12 @@
+pub mod Breaks
+pub mod Calls
+pub mod Causes
+pub mod Ends
+pub mod Loads
+pub mod Next
+pub mod Outside
+pub mod Paths
+pub mod Services
+pub mod Slice
+pub mod Starting
+pub mod Tie
