@@ -20,13 +20,13 @@ WantsMemory old before after = (s : State) → Represents old before s → Break
 -- a tick
 pub record HasTick (old new : Kernel) (before after : Outside) (result : Result (Unit {0}) OutOfMemory) : Type 0
   where
-  -- it is one of the machine
-  pub step : IsOk result → (s : State) → Represents old before s
-      → (t : State) × Tick s t × Represents new after t
-  -- memory is out: it is broken off
-  pub broken : IsErr result → (s : State) → Represents old before s → BreaksTick s after.terms
-  pub drives : after.drives ≡ before.drives
-  pub count : ticks new ≡ ticks old + 1
+    -- it is one of the machine
+    pub step : IsOk result → (s : State) → Represents old before s
+        → (t : State) × Tick s t × Represents new after t
+    -- memory is out: it is broken off
+    pub broken : IsErr result → (s : State) → Represents old before s → BreaksTick s after.terms
+    pub drives : after.drives ≡ before.drives
+    pub count : ticks new ≡ ticks old + 1
 
 -- an event
 pub record HasEvent (old new : Kernel) (before after : Outside) (end : EventEnd) : Type 0

@@ -52,14 +52,7 @@ impl Kernel {
         ensures drives { vec_len devices.new.drives ≡ vec_len devices.old.drives }
     {
         let time = now(&self.clock, self.processes.tick);
-        let end = attempt(
-            &mut self.processes,
-            &mut self.files,
-            p,
-            call,
-            time,
-            devices,
-        );
+        let end = attempt(&mut self.processes, &mut self.files, p, call, time, devices);
         self.tell_end(p, end);
         event_end(end)
     }

@@ -75,8 +75,8 @@ returns-in-Ended-clause-event c devices =
           let before = found_is here devices s tied in
           let left = files_after_delivery s.files p.0 (delivered (before_delivery s p.0) p.0 c.args.signal) in
           let stands : StandsFor c.end.new.self devices.drives left = subst (λ (files : Files). StandsFor c.end.new.self devices.drives files)
-              (ended-so s.files p.0 ∙ files-ended-so d c.deliver.result end c.in-Ended.is s.files p.0 ∙ ap (λ (m : Inner). files_after_delivery s.files p.0 (delivered m p.0 c.args.signal)) before)
-              (c.end.ensures devices.drives (with_io s.files (io_interrupted s.files.io p.0)) (c.break_off.ensures.files devices.drives s.files tied.files)) in
+          (ended-so s.files p.0 ∙ files-ended-so d c.deliver.result end c.in-Ended.is s.files p.0 ∙ ap (λ (m : Inner). files_after_delivery s.files p.0 (delivered m p.0 c.args.signal)) before)
+          (c.end.ensures devices.drives (with_io s.files (io_interrupted s.files.io p.0)) (c.break_off.ensures.files devices.drives s.files tied.files)) in
           event-here old p act next devices s tied new _ (after_delivery m p.0 d) left c.break_off.ensures.chosen c.break_off.ensures.clock (c.deliver.ensures.tied m c.args.signal (tied_found here s.inner tied.inner) (signal_found here s.inner tied.inner)) stands
           (ends-so d c.deliver.result end c.in-Ended.is ∙ ap (λ (m : Inner). delivery_end (delivered m p.0 c.args.signal)) before, (λ i. record s { inner = after_delivery (before i) p.0 (delivered (before i) p.0 c.args.signal); files = left }));
       memory = λ is. cc;
@@ -103,8 +103,8 @@ returns-in_default c =
             let before = found_is here devices s tied in
             let left = files_after_delivery s.files p.0 (delivered (before_delivery s p.0) p.0 c.args.signal) in
             let stands : StandsFor c.break_off.new.self.files devices.drives left = subst (λ (files : Files). StandsFor c.break_off.new.self.files devices.drives files)
-                (files-goes-so d c.deliver.result end c.in_default.not-Ended s.files p.0 ∙ ap (λ (m : Inner). files_after_delivery s.files p.0 (delivered m p.0 c.args.signal)) before)
-                (c.break_off.ensures.files devices.drives s.files tied.files) in
+            (files-goes-so d c.deliver.result end c.in_default.not-Ended s.files p.0 ∙ ap (λ (m : Inner). files_after_delivery s.files p.0 (delivered m p.0 c.args.signal)) before)
+            (c.break_off.ensures.files devices.drives s.files tied.files) in
             event-here old p act next devices s tied new _ (after_delivery m p.0 d) left c.break_off.ensures.chosen c.break_off.ensures.clock (c.deliver.ensures.tied m c.args.signal (tied_found here s.inner tied.inner) (signal_found here s.inner tied.inner)) stands
             (goes-so d c.deliver.result end c.in_default.not-Ended ∙ ap (λ (m : Inner). delivery_end (delivered m p.0 c.args.signal)) before, (λ i. record s { inner = after_delivery (before i) p.0 (delivered (before i) p.0 c.args.signal); files = left }));
         memory = λ is. cc;
