@@ -1,0 +1,5 @@
+pub mod Volumes
+pub mod Attempts
+pub mod Runs
+pub mod Starts
+pub mod Images
