@@ -5,12 +5,13 @@ use Rattle.os9_base.specs.declared.errors.TheConstants.{E_UNKSVC}
 use Rattle.os9_base.specs.declared.registers.TimePacket.{TimePacket}
 use Rattle.proc_model.specs.MemoryChanges.{stored, writes_from}
 use Rattle.proc_rules.specs.Records.{IsLiving}
-use Rattle.call_rules.specs.Attempts.{attempted}
-use Rattle.call_rules.specs.CallResult.{CallResult, refused}
+use Rattle.call_rules.specs.CallResult.{CallResult}
 use Rattle.call_rules.specs.Delivery.{delivered}
 use Rattle.call_rules.specs.Inner.{Inner, with_memory}
 use Rattle.call_rules.specs.Ready.{Act, attempts, delivers, executes, act_of}
 use Rattle.call_rules.specs.declared.proc_call.ProcCall.TheVariants as Call
+use Rattle.io_rules.specs.Attempts.{result_by}
+use Rattle.io_rules.specs.Step.{IoEffect, IoEnd, answers, fails, keeps}
 use Rattle.io_rules.specs.Waiting.{interrupted_count}
 use Rattle.file_rules.specs.Attempts.{io_effect}
 use Rattle.time_rules.specs.Attempts.{result_of, time_step}
@@ -22,7 +23,6 @@ use Rattle.machine_model.specs.declared.ends.EventEnd.{EventEnd}
 use Rattle.machine_model.specs.declared.ends.EventEnd.TheVariants.{Ran}
 use Rattle.isolation_laws.proofs.CallsKept.{AttemptLeft, changed-same, left-done, left-refused}
 use Rattle.isolation_laws.proofs.EventsKept.{broken-left, by-end, instruction-left}
-use Rattle.isolation_laws.proofs.ForksKept.{attempt-left}
 use Rattle.isolation_laws.proofs.MemoryKept.{itself-written, kept-written}
 use Rattle.isolation_laws.proofs.OthersKept.{changed-self}
 use Rattle.disk_machine.specs.Event.{Acts, Event, before_delivery}
@@ -30,7 +30,8 @@ use Rattle.disk_machine.specs.Services.{Serves, Service, loads, no_call, on_path
 use Rattle.disk_machine.specs.State.{Rest, State}
 use Rattle.disk_isolation.specs.Isolation.{LeavesOthers}
 use Rattle.disk_isolation.proofs.Asked.{Asks, asks}
-use Rattle.disk_isolation.proofs.Programs.{AttemptLeaves, as-before, as-left, chain-leaves-others, fork-leaves-others, load-leaves-others}
+use Rattle.disk_isolation.proofs.Linking.{ResultLinks, other-links}
+use Rattle.disk_isolation.proofs.Programs.{AttemptLeaves, as-before, as-left, call-leaves, refused-leaves, chain-leaves-others, fork-leaves-others, load-leaves-others}
 
 -- ---- an attempt of a call
 
@@ -42,6 +43,17 @@ time-left m p (tells at packet) =
     (changed-self m p Ran (stored m.memory p at (packet_bytes packet)) m.records m.own (kept-written m.memory p (writes_from at (packet_bytes packet))) (itself-written m.memory p (writes_from at (packet_bytes packet))) (inl refl) (λ q differ. refl) (λ q differ. refl) refl)
 time-left m p (sets clock) = left-done m p m (changed-same m p Ran)
 
+-- and no link changes
+time-links : (m : Inner) (p : ℕ) (step : TimeStep) → ResultLinks m p (result_of m p step)
+time-links m p (time.refused number) = inl refl
+time-links m p (tells at packet) = inl refl
+time-links m p (sets clock) = inl refl
+
+path-links : (m : Inner) (p : ℕ) (effect : IoEffect) (end : IoEnd) → ResultLinks m p (result_by end m p effect)
+path-links m p effect (answers regs) = inl refl
+path-links m p effect (fails number) = inl refl
+path-links m p effect (keeps kept) = inl refl
+
 module _ (s : State) (p code : ℕ) (next : act_of s.inner p ≡ attempts code) (lives : IsLiving s.inner.records p) (now : TimePacket) (rest : Rest) where
   serves-leave : (service : Service) (result : CallResult) → Asks code service → Serves service s now p result rest → AttemptLeaves s p rest result
   serves-leave loads result asked (files, it, is) =
@@ -51,23 +63,25 @@ module _ (s : State) (p code : ℕ) (next : act_of s.inner p ≡ attempts code) 
   serves-leave (on_processes Call.Chain) result asked (files, it, is) =
       chain-leaves-others s p now rest result files lives (code, next, asked) it
   serves-leave (on_processes call) result asked it =
-      subst (AttemptLeaves s p rest) (sym it.0) (as-left s p rest (attempted call s.inner p) (attempt-left s.inner p call lives (code, next, asked)))
+      subst (AttemptLeaves s p rest) (sym it.0) (call-leaves s p rest call lives (code, next, asked))
   serves-leave (on_time call) result asked (clock, it, is) =
-      subst (AttemptLeaves s p rest) (sym it.result_is) (as-left s p rest (result_of s.inner p (time_step call s.inner now p)) (time-left s.inner p (time_step call s.inner now p)))
+      subst (AttemptLeaves s p rest) (sym it.result_is) (as-left s p rest (result_of s.inner p (time_step call s.inner now p)) (time-left s.inner p (time_step call s.inner now p)) (time-links s.inner p (time_step call s.inner now p)))
   serves-leave (on_paths call) result asked (it, same) =
-      subst (AttemptLeaves s p rest) (sym it.result_is) (as-left s p rest _ (by-end s.inner p (io_effect it.effect) it.effect.end))
+      subst (AttemptLeaves s p rest) (sym it.result_is) (as-left s p rest _ (by-end s.inner p (io_effect it.effect) it.effect.end) (path-links s.inner p (io_effect it.effect) it.effect.end))
   serves-leave no_call result asked (result_is, is) =
-      subst (AttemptLeaves s p rest) (sym result_is) (as-left s p rest (refused E_UNKSVC) (left-refused s.inner p E_UNKSVC))
+      subst (AttemptLeaves s p rest) (sym result_is) (refused-leaves s p rest E_UNKSVC)
 
 -- ---- one event
 
 acts-leave : (act : Act) (s : State) (p : ℕ) (end : EventEnd) (t : State) → IsLiving s.inner.records p → act_of s.inner p ≡ act → Acts act s p end t → LeavesOthers s p end t
 acts-leave executes s p end t lives next (ends, is) =
+    let left = (instruction-left s.inner p (next_instruction s.inner p)).leaves in
     subst (λ (end : EventEnd). LeavesOthers s p end t) (sym ends)
-    (subst (LeavesOthers s p (instruction_end (next_instruction s.inner p))) (sym is) (as-before s p (instruction_end (next_instruction s.inner p)) _ (instruction-left s.inner p (next_instruction s.inner p)).leaves))
+    (subst (LeavesOthers s p (instruction_end (next_instruction s.inner p))) (sym is) (as-before s p (instruction_end (next_instruction s.inner p)) _ left (other-links s.inner p (instruction_end (next_instruction s.inner p)) _ (λ call on (code, attempts_it, coded). cc) left.links)))
 acts-leave (delivers signal) s p end t lives next (ends, is) =
+    let left = (broken-left s.inner p signal (interrupted_count s.files.io p)).leaves in
     subst (λ (end : EventEnd). LeavesOthers s p end t) (sym ends)
-    (subst (LeavesOthers s p (delivery_end (delivered (before_delivery s p) p signal))) (sym is) (as-before s p (delivery_end (delivered (before_delivery s p) p signal)) _ (broken-left s.inner p signal (interrupted_count s.files.io p)).leaves))
+    (subst (LeavesOthers s p (delivery_end (delivered (before_delivery s p) p signal))) (sym is) (as-before s p (delivery_end (delivered (before_delivery s p) p signal)) _ left (other-links s.inner p (delivery_end (delivered (before_delivery s p) p signal)) _ (λ call on (code, attempts_it, coded). cc) left.links)))
 acts-leave (attempts code) s p end t lives next (result, rest, (now, is_now, it), ends, is) =
     subst (λ (end : EventEnd). LeavesOthers s p end t) (sym ends)
     (subst (LeavesOthers s p (call_event_end result)) (sym is) (serves-leave s p code next lives now rest (service_of code) result (asks code) it))

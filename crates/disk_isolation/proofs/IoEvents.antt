@@ -1,6 +1,7 @@
 -- What each event leaves of the input and output of the others.
 use Rattle.std.proofs.Common.{◌≡◌, ◌≢◌, ◌⊎◌, ℕ, ◌<◌, ◌≤◌, Option, Some, None, Result, Ok, Err, List, [], length, refl, sym, ap, ◌∙◌, subst, inl, inr}
 use Rattle.std.specs.Prelude.{option_and_then, option_map, slice_index_or}
+use Rattle.std.specs.Option.{option_map_or}
 use Rattle.std.proofs.lemmas.Bool.{cases_eq, cases_lt}
 use Rattle.std.proofs.lemmas.List.{get_or-set_same, get_or-set_other, get_or_past, length-set}
 use Rattle.std.proofs.lemmas.Option.{none-some, same_Some}
@@ -13,7 +14,7 @@ use Rattle.call_rules.specs.Delivery.{delivered}
 use Rattle.call_rules.specs.Inner.{Inner, regs_at}
 use Rattle.call_rules.specs.Ready.{Act, attempts, delivers, executes, act_of}
 use Rattle.call_rules.specs.declared.proc_call.ProcCall.TheVariants as Call
-use Rattle.io_model.specs.Path.{desc_of, inherited_numbers, numbers_of, paths_after_inherit, slot_of}
+use Rattle.io_model.specs.Path.{PathTable, desc_of, free_number, free_path, inherited_numbers, numbers_of, paths_after_begin, paths_after_inherit, slot_of, with_path}
 use Rattle.io_model.specs.Terminal.{Terminal, new_terminal, used_by, without_reading}
 use Rattle.io_model.specs.declared.path.Desc.{Desc}
 use Rattle.io_model.specs.declared.path.SysPath.{SysPath}
@@ -25,7 +26,9 @@ use Rattle.io_rules.specs.Waiting.{pid}
 use Rattle.io_rules.specs.declared.io_call.Direction.TheVariants.{Writing}
 use Rattle.io_rules.specs.declared.io_call.IoCall.{IoCall}
 use Rattle.file_rules.specs.Attempts.{asker_of}
-use Rattle.file_rules.specs.Files.{Files}
+use Rattle.file_rules.specs.Files.{Asker, Files, open_file}
+use Rattle.file_rules.specs.declared.path_call.PathCall.{PathCall}
+use Rattle.file_rules.specs.declared.path_call.PathCall.TheVariants as OnPath
 use Rattle.machine_model.specs.Event.{next_instruction}
 use Rattle.machine_model.specs.declared.ends.EventEnd.{EventEnd}
 use Rattle.isolation_laws.specs.InputOutput.{KeepsReading}
@@ -34,16 +37,17 @@ use Rattle.isolation_laws.proofs.IoEvents.{NamesChild, open-stays}
 use Rattle.isolation_laws.proofs.IoKept.{EffectLeft, FailsOn, does-left, step-left}
 use Rattle.isolation_laws.proofs.OthersKept.{free-is, living-record}
 use Rattle.isolation_laws.proofs.PathsKept.{IoLeft, PathsLeft, io-ended, io-interrupted, io-same, left-numbers}
-use Rattle.touch_laws.specs.Devices.{IsDevice, IsOnDevice}
-use Rattle.touch_laws.specs.Touch.{IsSamePath, KeepsIo, LeavesDevices}
+use Rattle.touch_laws.specs.Devices.{IsOnDevice, number_in}
+use Rattle.touch_laws.specs.Touch.{IsSamePath, KeepsIo, LeavesDevices, MovesPosition, PathsMove}
 use Rattle.touch_laws.proofs.Attempts.{attempt-comes}
 use Rattle.touch_laws.proofs.Codes.{code-there}
-use Rattle.touch_laws.proofs.Keeps.{io-kept}
+use Rattle.touch_laws.proofs.Keeps.{IsNamed, file-named, free-desc, io-kept}
 use Rattle.touch_laws.proofs.Loads.{chain-leaves, fork-leaves, load-leaves}
 use Rattle.disk_machine.specs.Event.{Acts, Event, before_delivery, files_after_delivery, files_after_instruction}
 use Rattle.disk_machine.specs.Services.{Serves, Service, files_after_call, files_after_fork, loads, no_call, on_paths, on_processes, on_time, service_of, with_files}
 use Rattle.disk_machine.specs.State.{Rest, State, with_rest}
-use Rattle.disk_isolation.specs.InputOutput.{FailsInWrite, IsGivenPaths, LeavesIo, StaysOpen}
+use Rattle.disk_isolation.specs.Drives.{AttemptsService}
+use Rattle.disk_isolation.specs.InputOutput.{FailsInWrite, IsGivenPaths, LeavesIo, MovesPath, StaysOpen}
 use Rattle.disk_isolation.proofs.Asked.{Asks, asks}
 use Rattle.disk_isolation.proofs.Children.{fork-attempt-names}
 
@@ -65,33 +69,104 @@ path-there io q n opened is = by_slot (slot_of io.paths q n) is
     by_slot None is = absurd (none-some opened is)
     by_slot (Some s) is = by_desc s (desc_of io.paths s.0) refl is
 
-stays-open : (s t : State) (q n : ℕ) (opened : OpenPath) → open_path t.files.io q n ≡ Some opened → StaysOpen s t q n opened
-stays-open s t q n opened is = record {
+stays-open : (s : State) (p : ℕ) (t : State) (q n : ℕ) (opened : OpenPath) → open_path t.files.io q n ≡ Some opened → StaysOpen s p t q n opened
+stays-open s p t q n opened is = record {
   now = opened;
   is = is;
   same = record { path = refl; desc = refl };
+  position = inl refl;
   device = λ device. refl;
 }
 
--- where input and output stay but for paths on files
-module _ (s t : State) (p : ℕ) (kept : KeepsIo p s.files.io t.files.io) where
-  stays-on-device : (q n : ℕ) (opened now : OpenPath) → open_path s.files.io q n ≡ Some opened → open_path t.files.io q n ≡ Some now → IsSamePath opened now → IsDevice opened.desc.target → now ≡ opened
-  stays-on-device q n opened now was is same device =
-      let stays : desc_of t.files.io.paths opened.path.0 ≡ Some opened.desc = kept.paths.devices opened.path.0 opened.desc (path-there s.files.io q n opened was) device in
-      let there : desc_of t.files.io.paths now.path.0 ≡ Some now.desc = path-there t.files.io q n now is in
-      let descs : now.desc ≡ opened.desc = same_Some now.desc opened.desc (sym there ∙ ap (λ (path : SysPath). desc_of t.files.io.paths path.0) same.path ∙ stays) in
-      λ i. record { path = same.path i; desc = descs i }
+-- ---- what a call on paths does with the paths that are there
 
-  leaves-by-kept : LeavesIo s p t
-  leaves-by-kept = record {
-    numbers = λ q differ. inl (kept.paths.numbers q differ);
-    paths = λ q n opened differ lives was.
-        let (now, is, same) = kept.paths.paths q n opened was in
-        record { now = now; is = is; same = same; device = stays-on-device q n opened now was is same };
-    calls = kept.calls.others;
-    readings = λ n q differ is.
-        inl (subst (KeepsReading (terminal_at s.files.io n)) (ap (λ (terminals : List Terminal). slice_index_or terminals n new_terminal) (sym kept.terminals)) refl);
-  }
+-- a path that begins is none that is there
+begun-desc : (paths : PathTable) (p : ℕ) (new : Desc) (path : ℕ) (desc : Desc) → desc_of paths path ≡ Some desc → desc_of (paths_after_begin paths p new) path ≡ Some desc
+begun-desc paths p new path desc was = by_places (free_number paths p) (free_path paths) refl
+  where
+    apart : (free : ℕ) → free_path paths ≡ Some free → path ≢ free
+    apart free at same =
+        none-some desc (sym (free-desc paths free at) ∙ ap (desc_of paths) (sym same) ∙ was)
+
+    by_places : (number place : Option ℕ) → free_path paths ≡ place → desc_of (option_map_or (λ (n : ℕ). option_map_or (with_path paths p new n) place paths) number paths) path ≡ Some desc
+    by_places None place at = was
+    by_places (Some n) None at = was
+    by_places (Some n) (Some free) at =
+        get_or-set_other paths.descs free path (Some new) None (apart free at) ∙ was
+
+-- the number of a path that a call takes is the same at all times
+number-same : (call : PathCall) (m : Inner) (p : ℕ) (now other : TimePacket) → number_in call (asker_of m p now) ≡ number_in call (asker_of m p other)
+number-same OnPath.PErr m p now other = refl
+number-same call m p now other = refl
+
+module _ (s : State) (p : ℕ) (call : PathCall) (attempted : AttemptsService s p (on_paths call)) (now : TimePacket) where
+  abbrev asker : Asker
+  asker = asker_of s.inner p now
+
+  -- its descriptor stays, or the call moves its position
+  abbrev DescComes : PathTable → OpenPath → Type 0
+  DescComes paths opened = (desc_of paths opened.path.0 ≡ Some opened.desc) ⊎ MovesPath s p opened
+
+  module _ (opened : OpenPath) (was : desc_of s.files.io.paths opened.path.0 ≡ Some opened.desc) where
+    desc-moved : (paths : PathTable) → MovesPosition call asker s.files paths → DescComes paths opened
+    desc-moved paths moved = by_path (cases_eq opened.path.0 moved.found.opened.path.0)
+      where
+        there : IsNamed s.files p (number_in call asker) moved.found
+        there = file-named s.files p (number_in call asker) moved.found moved.named
+
+        by_path : (opened.path.0 ≡ moved.found.opened.path.0) ⊎ (opened.path.0 ≢ moved.found.opened.path.0) → DescComes paths opened
+        by_path (inl same) =
+            let path : moved.found.opened.path ≡ opened.path = λ i. record { 0 = sym same i } in
+            let desc : moved.found.opened.desc ≡ opened.desc = same_Some moved.found.opened.desc opened.desc (sym there.desc ∙ ap (desc_of s.files.io.paths) (sym same) ∙ was) in
+            inr (record {
+              call = call;
+              attempted = attempted;
+              moves = moved.moves;
+              found = moved.found;
+              named = ap (open_file s.files p) (number-same call s.inner p s.clock.from now) ∙ moved.named;
+              same = λ i. record { path = path i; desc = desc i };
+            })
+        by_path (inr differ) =
+            inl (ap (λ (paths : PathTable). desc_of paths opened.path.0) moved.is ∙ get_or-set_other s.files.io.paths.descs moved.found.opened.path.0 opened.path.0 _ None differ ∙ was)
+
+    desc-comes : (paths : PathTable) → PathsMove call asker s.files paths → DescComes paths opened
+    desc-comes paths (inl same) = inl (ap (λ (paths : PathTable). desc_of paths opened.path.0) same ∙ was)
+    desc-comes paths (inr (inl moved)) = desc-moved paths moved
+    desc-comes paths (inr (inr begins)) =
+        inl (ap (λ (paths : PathTable). desc_of paths opened.path.0) begins.is ∙ begun-desc s.files.io.paths p _ opened.path.0 opened.desc was)
+
+  -- where input and output stay but for paths on files
+  module _ (t : State) (move : PathsMove call asker s.files t.files.io.paths) (kept : KeepsIo p s.files.io t.files.io) where
+    stays-by : (q n : ℕ) (opened now : OpenPath) → open_path t.files.io q n ≡ Some now → IsSamePath opened now → desc_of t.files.io.paths opened.path.0 ≡ Some opened.desc → now ≡ opened
+    stays-by q n opened now is same stays =
+        let there : desc_of t.files.io.paths now.path.0 ≡ Some now.desc = path-there t.files.io q n now is in
+        let descs : now.desc ≡ opened.desc = same_Some now.desc opened.desc (sym there ∙ ap (λ (path : SysPath). desc_of t.files.io.paths path.0) same.path ∙ stays) in
+        λ i. record { path = same.path i; desc = descs i }
+
+    path-comes : (q n : ℕ) (opened now : OpenPath) → open_path t.files.io q n ≡ Some now → IsSamePath opened now → DescComes t.files.io.paths opened → (now ≡ opened) ⊎ MovesPath s p opened
+    path-comes q n opened now is same (inl stays) = inl (stays-by q n opened now is same stays)
+    path-comes q n opened now is same (inr moves) = inr moves
+
+    path-stays : (q n : ℕ) (opened : OpenPath) → open_path s.files.io q n ≡ Some opened → StaysOpen s p t q n opened
+    path-stays q n opened is =
+        let was : desc_of s.files.io.paths opened.path.0 ≡ Some opened.desc = path-there s.files.io q n opened is in
+        let (now, is_now, same) = kept.paths.paths q n opened is in
+        record {
+          now = now;
+          is = is_now;
+          same = same;
+          position = path-comes q n opened now is_now same (desc-comes opened was t.files.io.paths move);
+          device = λ device. stays-by q n opened now is_now same (kept.paths.devices opened.path.0 opened.desc was device);
+        }
+
+    leaves-by-kept : LeavesIo s p t
+    leaves-by-kept = record {
+      numbers = λ q differ. inl (kept.paths.numbers q differ);
+      paths = λ q n opened differ lives was. path-stays q n opened was;
+      calls = kept.calls.others;
+      readings = λ n q differ is.
+          inl (subst (KeepsReading (terminal_at s.files.io n)) (ap (λ (terminals : List Terminal). slice_index_or terminals n new_terminal) (sym kept.terminals)) refl);
+    }
 
 -- ---- what a change of input and output leaves
 
@@ -99,7 +174,7 @@ leaves-by : (s : State) (p : ℕ) (t : State) → IoLeft p s.files.io t.files.io
 leaves-by s p t left = record {
   numbers = λ q differ. inl (left.paths.numbers q differ);
   paths =
-      λ q n opened differ lives is. stays-open s t q n opened (open-stays s.files.io t.files.io q n opened (left.paths.numbers q differ) (λ path d named there. left.paths.descs q n path d named differ there) is);
+      λ q n opened differ lives is. stays-open s p t q n opened (open-stays s.files.io t.files.io q n opened (left.paths.numbers q differ) (λ path d named there. left.paths.descs q n path d named differ there) is);
   calls = left.calls;
   readings = λ n q differ is. inl (left.readings n q differ is);
 }
@@ -128,7 +203,7 @@ module _ (s : State) (p code : ℕ) (call : IoCall) (next : act_of s.inner p ≡
   device-leaves = record {
     numbers = λ q differ. inl (ap (λ (io : Io). numbers_of io.paths q) attempt.state ∙ left.paths.numbers q differ);
     paths =
-        λ q n opened differ lives is. stays-open s t q n opened (ap (λ (io : Io). open_path io q n) attempt.state ∙ open-stays s.files.io attempt.effect.io q n opened (left.paths.numbers q differ) (λ path d named there. left.paths.descs q n path d named differ there) is);
+        λ q n opened differ lives is. stays-open s p t q n opened (ap (λ (io : Io). open_path io q n) attempt.state ∙ open-stays s.files.io attempt.effect.io q n opened (left.paths.numbers q differ) (λ path d named there. left.paths.descs q n path d named differ there) is);
     calls =
         λ q differ. ap (λ (io : Io). kept_at io q) attempt.state ∙ get_or-set_other attempt.effect.io.calls p q (kept_in attempt.effect.end) None differ ∙ left.calls q differ;
     readings = λ n q differ is. by-reading n q (left.readings n q differ is);
@@ -165,7 +240,7 @@ module _ (s : State) (p : ℕ) (call : AttemptsCall s.inner p Call.Fork) (child 
   started-leaves t is = record {
     numbers = λ q differ. subst (NumbersCome q) (sym is) (by-child q (cases_eq q child));
     paths =
-        λ q n opened differ lives was. stays-open s t q n opened (ap (λ (io : Io). open_path io q n) is ∙ open-stays s.files.io begun q n opened (begun-left.numbers q (not-child q lives)) (λ path d named there. there) was);
+        λ q n opened differ lives was. stays-open s p t q n opened (ap (λ (io : Io). open_path io q n) is ∙ open-stays s.files.io begun q n opened (begun-left.numbers q (not-child q lives)) (λ path d named there. there) was);
     calls = λ q differ. ap (λ (io : Io). kept_at io q) is;
     readings = λ n q differ reads.
         inl (subst (KeepsReading (terminal_at s.files.io n)) (ap (λ (io : Io). terminal_at io n) (sym is)) refl);
@@ -196,27 +271,27 @@ module _ (s : State) (p code : ℕ) (next : act_of s.inner p ≡ attempts code) 
       leaves-by s p then
       (subst (IoLeft p s.files.io) (ap (λ (rest : Rest). rest.files.io) (sym is)) (io-ended p s.files.io))
 
-  serves-io : (service : Service) (result : CallResult) → Asks code service → Serves service s now p result rest → LeavesIo s p then
-  serves-io loads result asked (files, it, is) =
+  serves-io : (service : Service) (result : CallResult) → service_of code ≡ service → Asks code service → Serves service s now p result rest → LeavesIo s p then
+  serves-io loads result serves asked (files, it, is) =
       let left = load-leaves s.inner (asker_of s.inner p now) s.files (length s.terms) p result files it in
       leaves-same s p then (ap (λ (rest : Rest). rest.files.io) is ∙ left.io)
-  serves-io (on_processes Call.Fork) result asked (files, it, is) =
+  serves-io (on_processes Call.Fork) result serves asked (files, it, is) =
       let left = fork-leaves s.inner (asker_of s.inner p now) s.files (length s.terms) p result files it in
       fork-leaves-io (code, next, asked) files result (fork-attempt-names s.inner p lives (asker_of s.inner p now) s.files (length s.terms) result files it) left.io is
-  serves-io (on_processes Call.Chain) result asked (files, it, is) =
+  serves-io (on_processes Call.Chain) result serves asked (files, it, is) =
       let left = chain-leaves s.inner (asker_of s.inner p now) s.files (length s.terms) p result files it in
       leaves-same s p then (ap (λ (rest : Rest). rest.files.io) is ∙ left.io)
-  serves-io (on_processes call) result asked it = call-leaves-io result it.1
-  serves-io (on_time call) result asked (clock, it, is) = leaves-same s p then (ap (λ (rest : Rest). rest.files.io) is)
-  serves-io (on_paths call) result asked (it, same) =
+  serves-io (on_processes call) result serves asked it = call-leaves-io result it.1
+  serves-io (on_time call) result serves asked (clock, it, is) = leaves-same s p then (ap (λ (rest : Rest). rest.files.io) is)
+  serves-io (on_paths call) result serves asked (it, same) =
       by_device (attempt-comes call s.inner s.files now p result rest.files s.terms rest.terms it)
     where
       by_device : IsOnDevice call s.inner s.files p result rest.files s.terms rest.terms ⊎ LeavesDevices call s.inner s.files now p result rest.files s.terms rest.terms → LeavesIo s p then
       by_device (inl on) =
           device-leaves s p code on.device next (code-there code call asked ∙ on.device_is) (length s.files.drives) result then on.attempted
       by_device (inr none) =
-          leaves-by-kept s then p (io-kept s.inner s.files p result rest.files s.terms rest.terms none)
-  serves-io no_call result asked (result_is, is) = leaves-same s p then (ap (λ (rest : Rest). rest.files.io) is)
+          leaves-by-kept s p call (code, next, serves) now then none.paths (io-kept s.inner s.files p result rest.files s.terms rest.terms none)
+  serves-io no_call result serves asked (result_is, is) = leaves-same s p then (ap (λ (rest : Rest). rest.files.io) is)
 
 -- ---- each event
 
@@ -235,7 +310,7 @@ acts-leave-io executes s p end t lives next (over, is) =
 acts-leave-io (delivers signal) s p end t lives next (over, is) =
     subst (LeavesIo s p) (sym is) (leaves-by s p _ (after-delivery s p (delivered (before_delivery s p) p signal)))
 acts-leave-io (attempts code) s p end t lives next (result, rest, (now, is_now, it), over, is) =
-    subst (LeavesIo s p) (sym is) (serves-io s p code next lives now rest (after_attempt s.inner p result) (service_of code) result (asks code) it)
+    subst (LeavesIo s p) (sym is) (serves-io s p code next lives now rest (after_attempt s.inner p result) (service_of code) result refl (asks code) it)
 
 -- the process of an event is the one that was chosen
 pub event-leaves-io : (s t : State) (end : EventEnd) (p : ℕ) → s.chosen ≡ Some p → Event s end t → LeavesIo s p t

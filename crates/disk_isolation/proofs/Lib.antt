@@ -4,6 +4,7 @@ pub mod EventsKept
 pub mod FileKept
 pub mod FileRead
 pub mod IoEvents
+pub mod Linking
 pub mod Loaded
 pub mod Programs
 pub mod VolumeEvents

@@ -13,7 +13,7 @@ use Rattle.proc_model.specs.declared.memory.MemoryFault.{MemoryFault}
 use Rattle.proc_model.specs.declared.memory.TheConstants.{MOST_LINKS}
 use Rattle.proc_model.specs.declared.module.ModId.{ModId}
 use Rattle.proc_rules.specs.Records.{IsLiving, free_process, record_of}
-use Rattle.call_rules.specs.Attempts.{after_attempt, done_regs, goes_on}
+use Rattle.call_rules.specs.Attempts.{after_attempt, attempted, done_regs, goes_on}
 use Rattle.call_rules.specs.CallResult.{CallResult, done, refused, needs, refuses, changes}
 use Rattle.call_rules.specs.Chain.{begun_anew, f_chain, with_program}
 use Rattle.call_rules.specs.Fork.{f_fork, forked_regs, with_child}
@@ -23,6 +23,7 @@ use Rattle.call_rules.specs.ModuleLinks.{Entered, without_module_link, without_p
 use Rattle.call_rules.specs.Program.{Program, blocks_of_pages, most_pages, parameters_at, program_kind, with_parameters}
 use Rattle.call_rules.specs.Ready.{attempts, act_of}
 use Rattle.call_rules.specs.UserBytes.{user_bytes}
+use Rattle.call_rules.specs.declared.proc_call.ProcCall.{ProcCall}
 use Rattle.call_rules.specs.declared.proc_call.ProcCall.TheVariants as Call
 use Rattle.os9_base.specs.declared.calls.TheConstants.{F_LOAD}
 use Rattle.file_rules.specs.Attempts.{asker_of}
@@ -44,11 +45,12 @@ use Rattle.isolation_laws.proofs.ModulesKept.{HaveMore, linked-modules, more-lin
 use Rattle.isolation_laws.proofs.OthersKept.{comes-of, own-other, own-same, record-other, record-same}
 use Rattle.disk_machine.specs.State.{Rest, State, with_rest}
 use Rattle.disk_isolation.specs.Isolation.{LeavesOthers}
-use Rattle.disk_isolation.specs.Links.{ChangesLinks}
+use Rattle.disk_isolation.specs.Links.{ChangesEntered, ChangesLinks}
 use Rattle.disk_isolation.specs.Loading.{LoadsFile, StartsFileBy}
 use Rattle.disk_isolation.specs.Modules.{ModuleComesOf}
 use Rattle.disk_isolation.proofs.FileKept.{ComesLoaded, FileLeft, file-leaves, is-loaded, loaded-chained, loaded-more, with-file}
 use Rattle.disk_isolation.proofs.FileRead.{HasRead, file-found, program-found}
+use Rattle.disk_isolation.proofs.Linking.{ResultLinks, attempt-links}
 use Rattle.disk_isolation.proofs.Loaded.{cell-same, first-there, user-length, user-more}
 
 -- ---- what is left as before
@@ -60,8 +62,8 @@ module _ (s : State) (p : ℕ) where
   module-as-before number None (Some new) comes = absurd comes
   module-as-before number None None comes = tt
 
-  pub as-before : (end : EventEnd) (t : State) → LeavesOthersAsBefore s.inner p end t.inner → LeavesOthers s p end t
-  as-before end t left = record {
+  pub as-before : (end : EventEnd) (t : State) → LeavesOthersAsBefore s.inner p end t.inner → ChangesEntered s.inner p end t.inner.memory → LeavesOthers s p end t
+  as-before end t left links = record {
     sizes = left.sizes;
     objects = left.objects;
     new_objects = λ object bytes late at k byte here.
@@ -74,7 +76,7 @@ module _ (s : State) (p : ℕ) where
     turns = left.turns;
     modules =
         λ number. module-as-before number (module_entry_at s.inner.memory.modules number) (module_entry_at t.inner.memory.modules number) (left.modules number);
-    links = inl left.links;
+    links = inl links;
   }
 
 -- what an attempt that comes to this leaves
@@ -83,12 +85,16 @@ AttemptLeaves s p rest result =
     LeavesOthers s p (call_event_end result) (with_rest s (after_attempt s.inner p result) rest)
 
 module _ (s : State) (p : ℕ) (rest : Rest) where
-  pub as-left : (result : CallResult) → AttemptLeft s.inner p result → AttemptLeaves s p rest result
-  as-left result left =
-      as-before s p (call_event_end result) (with_rest s (after_attempt s.inner p result) rest) left.leaves
+  pub as-left : (result : CallResult) → AttemptLeft s.inner p result → ResultLinks s.inner p result → AttemptLeaves s p rest result
+  as-left result left links =
+      as-before s p (call_event_end result) (with_rest s (after_attempt s.inner p result) rest) left.leaves links
 
   pub refused-leaves : (number : ℕ) → AttemptLeaves s p rest (refused number)
-  refused-leaves number = as-left (refused number) (left-refused s.inner p number)
+  refused-leaves number = as-left (refused number) (left-refused s.inner p number) (inl refl)
+
+  pub call-leaves : (call : ProcCall) → IsLiving s.inner.records p → AttemptsCall s.inner p call → AttemptLeaves s p rest (attempted call s.inner p)
+  call-leaves call lives did =
+      as-left (attempted call s.inner p) (attempt-left s.inner p call lives did) (attempt-links s.inner p call did (attempt-left s.inner p call lives did))
 
   of-needs : {A : Type 0} (some : Option A) (number : ℕ) (next : A → CallResult) → ((a : A) → some ≡ Some a → AttemptLeaves s p rest (next a)) → AttemptLeaves s p rest (needs some number next)
   of-needs None number next leaves = refused-leaves number
@@ -118,7 +124,7 @@ module _ (s : State) (p : ℕ) (file : ProgramFile) (loaded : Loaded) (loads : L
   abbrev before : Inner
   before = with-file s p file loaded loads
 
-  module _ (mapped : Mapped) (is : mapped_group loaded.memory p loaded.first.entry.group ≡ Some mapped) (count : ℕ) where
+  module _ (mapped : Mapped) (is : mapped_group loaded.memory p loaded.first.entry.group ≡ Some mapped) (count : ℕ) (next : act_of s.inner p ≡ attempts F_LOAD) where
     abbrev linked-then : Inner
     linked-then = after_link s.inner p loaded.first mapped count
 
@@ -158,6 +164,7 @@ module _ (s : State) (p : ℕ) (file : ProgramFile) (loaded : Loaded) (loads : L
       modules =
           λ number. loaded-more s p file loaded loads (module_entry_at loaded.memory.modules number) (module_entry_at after.memory.modules number) (more number);
       links = inr (inl (record {
+        call = inl next;
         file = file;
         loaded = loaded;
         loads = loads;
@@ -165,11 +172,11 @@ module _ (s : State) (p : ℕ) (file : ProgramFile) (loaded : Loaded) (loads : L
       }));
     }
 
-  link-leaves : (rest : Rest) → AttemptLeaves s p rest (links_first s.inner p file loaded)
-  link-leaves rest =
+  link-leaves : act_of s.inner p ≡ attempts F_LOAD → (rest : Rest) → AttemptLeaves s p rest (links_first s.inner p file loaded)
+  link-leaves next rest =
       of-needs s p rest (mapped_group loaded.memory p loaded.first.entry.group) E_MEMFUL (λ mapped. refuses (nat_le MOST_LINKS (links_at (own_at s.inner p) mapped.slot)) E_MEMFUL (done (after_link s.inner p loaded.first mapped count)))
       (λ mapped is. of-refuses s p rest (nat_le MOST_LINKS (links_at (own_at s.inner p) mapped.slot)) E_MEMFUL (done (after_link s.inner p loaded.first mapped count))
-      (file-leaves s p file loaded loads (with_rest s (after mapped is count) rest) (linked-left mapped is count)))
+      (file-leaves s p file loaded loads (with_rest s (after mapped is count next) rest) (linked-left mapped is count next)))
     where
       count : ℕ
       count = file.next - (regs_at s.inner p).x
@@ -262,7 +269,7 @@ module _ (s : State) (p : ℕ) (file : ProgramFile) (loaded : Loaded) (loads : L
           file-leaves s p file loaded loads (with_rest s (goes_on made p (done_regs (regs_at made p))) rest)
           (from-left (goes_on made p (done_regs (regs_at made p))) (fork-done before p lives call program child memory room free is) (begun-objects child memory is)
           (λ number. loaded-more s p file loaded loads (module_entry_at loaded.memory.modules number) (module_entry_at (begun child memory is).modules number) (begun-more child memory is number))
-          (inr (inl (record { file = file; loaded = loaded; loads = loads; linked_then = begun-modules child memory is }))))
+          (inr (inl (record { call = inr call; file = file; loaded = loaded; loads = loads; linked_then = begun-modules child memory is }))))
 
     forks-leave : IsLiving s.inner.records p → AttemptsCall s.inner p Call.Fork → (rest : Rest) → AttemptLeaves s p rest (starts_first forks s.inner p file loaded)
     forks-leave lives call rest =
@@ -329,7 +336,7 @@ module _ (s : State) (p : ℕ) (now : TimePacket) (rest : Rest) (result : CallRe
       subst (AttemptLeaves s p rest) (sym is) (refused-leaves s p rest number)
   loads-leave next (Ok file) reads (Ok loaded, loads, is) =
       subst (AttemptLeaves s p rest) (sym is)
-      (link-leaves s p file loaded (record { call = inl next; found = file-found s p now file new reads; loads = loads }) rest)
+      (link-leaves s p file loaded (record { call = inl next; found = file-found s p now file new reads; loads = loads }) next rest)
 
   pub load-leaves-others : act_of s.inner p ≡ attempts F_LOAD → LoadAttempts s.inner (asker_of s.inner p now) s.files (length s.terms) p result new → AttemptLeaves s p rest result
   load-leaves-others next it = loads-leave next it.reading it.reads it.comes
@@ -353,7 +360,7 @@ module _ (s : State) (p : ℕ) (now : TimePacket) (rest : Rest) (result : CallRe
       by_named None unnamed it =
           forks-file lives (record { attempted = call; unnamed = unnamed }) it.reading it.reads it.comes
       by_named (Some entered) named (is, same) =
-          subst (AttemptLeaves s p rest) (sym is) (as-left s p rest (f_fork s.inner p) (attempt-left s.inner p Call.Fork lives call))
+          subst (AttemptLeaves s p rest) (sym is) (call-leaves s p rest Call.Fork lives call)
 
   chains-file : StartsFileBy s.inner p Call.Chain → (reading : Result ProgramFile ℕ) → ReadsProgram (program_file (asker_of s.inner p now) s.files (length s.terms) (tests_program s.inner p)) reading s.files new → GoesOnLoaded s.inner reading (starts_first chains s.inner p) result → AttemptLeaves s p rest result
   chains-file by (Err number) reads is =
@@ -372,4 +379,4 @@ module _ (s : State) (p : ℕ) (now : TimePacket) (rest : Rest) (result : CallRe
       by_named None unnamed it =
           chains-file (record { attempted = call; unnamed = unnamed }) it.reading it.reads it.comes
       by_named (Some entered) named (is, same) =
-          subst (AttemptLeaves s p rest) (sym is) (as-left s p rest (f_chain s.inner p) (attempt-left s.inner p Call.Chain lives call))
+          subst (AttemptLeaves s p rest) (sym is) (call-leaves s p rest Call.Chain lives call)

@@ -1,6 +1,6 @@
 -- What an event of a process leaves of the input and output of the others (Level Two manual, "I/O system"; System
 -- Programmer's Manual, F$Fork).
-use Rattle.std.specs.Prelude.{◌≡◌, ◌≢◌, ◌⊎◌, ℕ, Option, Some, List}
+use Rattle.std.specs.Prelude.{◌≡◌, ◌≢◌, ◌⊎◌, ℕ, true, Option, Some, List}
 use Rattle.os9_base.specs.Count.{Rose}
 use Rattle.os9_outer.specs.TerminalState.{ChangesOneTerminal}
 use Rattle.proc_rules.specs.Records.{IsLiving, free_process}
@@ -13,10 +13,15 @@ use Rattle.io_rules.specs.Codes.{direction_of}
 use Rattle.io_rules.specs.Io.{OpenPath, terminal_at, kept_at, open_path}
 use Rattle.io_rules.specs.Waiting.{pid}
 use Rattle.io_rules.specs.declared.io_call.Direction.TheVariants.{Writing}
+use Rattle.file_rules.specs.Attempts.{asker_of}
+use Rattle.file_rules.specs.Files.{OpenFile, open_file}
+use Rattle.file_rules.specs.declared.path_call.PathCall.{PathCall}
 use Rattle.isolation_laws.specs.InputOutput.{KeepsReading}
 use Rattle.isolation_laws.specs.Others.{AttemptsCall}
-use Rattle.touch_laws.specs.Devices.{IsDevice}
-use Rattle.touch_laws.specs.Touch.{IsSamePath}
+use Rattle.touch_laws.specs.Devices.{IsDevice, number_in}
+use Rattle.touch_laws.specs.Touch.{IsSamePath, moves_position}
+use Rattle.disk_isolation.specs.Drives.{AttemptsService}
+use Rattle.disk_machine.specs.Services.{on_paths}
 use Rattle.disk_machine.specs.State.{State}
 
 -- F$Fork makes a process, and gives it the standard paths of its parent
@@ -30,12 +35,26 @@ pub record FailsInWrite (s : State) (p n : ℕ) (t : State) : Type 0 where
   pub writes : (code : ℕ) × (act_of s.inner p ≡ attempts code) × (direction_of code ≡ Some Writing)
   pub failed : ChangesOneTerminal (λ before now. Rose before.faults now.faults) n s.terms t.terms
 
--- a path of another process stays: the same path, opened on the same with the same mode. Where it is on a terminal or a
--- pipe nothing of it changes; on a file its position may, since F$Fork and I$Dup give one path to several numbers
-pub record StaysOpen (s t : State) (q n : ℕ) (opened : OpenPath) : Type 0 where
+-- the number of a path that a call of a process takes; the time is not asked for
+abbrev pub number_of_call : State → ℕ → PathCall → ℕ
+number_of_call s p call = number_in call (asker_of s.inner p s.clock.from)
+
+-- a process attempts a call that moves the position of the path on a file which its number names: this path
+pub record MovesPath (s : State) (p : ℕ) (opened : OpenPath) : Type 0 where
+  pub call : PathCall
+  pub attempted : AttemptsService s p (on_paths call)
+  pub moves : moves_position call ≡ true
+  pub found : OpenFile
+  pub named : open_file s.files p (number_of_call s p call) ≡ Some found
+  pub same : found.opened ≡ opened
+
+-- a path of another process stays: the same path, opened on the same with the same mode. Nothing of it changes but its
+-- position on a file, by a call on the same path, which F$Fork and I$Dup give to several numbers
+pub record StaysOpen (s : State) (p : ℕ) (t : State) (q n : ℕ) (opened : OpenPath) : Type 0 where
   pub now : OpenPath
   pub is : open_path t.files.io q n ≡ Some now
   pub same : IsSamePath opened now
+  pub position : (now ≡ opened) ⊎ MovesPath s p opened
   pub device : IsDevice opened.desc.target → now ≡ opened
 
 -- an event of a process leaves the input and output of the others
@@ -45,7 +64,7 @@ pub record LeavesIo (s : State) (p : ℕ) (t : State) : Type 0 where
       ⊎ IsGivenPaths s p q (numbers_of t.files.io.paths q)
   -- a path of another process that lives stays
   pub paths : (q n : ℕ) (opened : OpenPath) → q ≢ p → IsLiving s.inner.records q
-      → open_path s.files.io q n ≡ Some opened → StaysOpen s t q n opened
+      → open_path s.files.io q n ≡ Some opened → StaysOpen s p t q n opened
   -- the call of another process that waits stays
   pub calls : (q : ℕ) → q ≢ p → kept_at t.files.io q ≡ kept_at s.files.io q
   -- a terminal stays while a read of another process is unfinished there, but where a write fails, which drops it

@@ -1,3 +1,4 @@
+pub mod Drives
 pub mod InputOutput
 pub mod Isolation
 pub mod Links

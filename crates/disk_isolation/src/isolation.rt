@@ -14,17 +14,21 @@ ghost use Rattle.disk_machine.specs.State.{State};
 /// gives a program, and the bytes of a file of modules that it loads and may execute. Every other
 /// process keeps its map, its registers and all else, but for what F$Send and F$SPrior change of
 /// the process that they name, the end of its parent, and a module that leaves; an ended child goes
-/// by F$Wait. Modules are entered by a file that is loaded, and leave with their last link alone.
+/// by F$Wait. Modules are entered by a file that is loaded, and leave with their last link alone; the
+/// links that change are those of the module that the call names, of the first module of the file
+/// that is loaded, and of the primary module that F$Chain or the end of the process gives up.
 pub fn an_event_leaves_what_it_does_not_name()
     ensures { (s t : State) (end : EventEnd) (p : ℕ) → s.chosen ≡ Some p → Event s end t
         → LeavesOthers s p end t }
 {}
 
-/// Of input and output every other process keeps its path numbers, the paths that they name, but
-/// for the position of one on a file, and its call that waits; a child is given the standard paths
-/// and the directories of its parent by F$Fork. A terminal keeps the unfinished read of another
-/// process, but where a write to it fails. One volume at most changes, by a call on paths, files
-/// and directories; and the clock is set by F$STime alone.
+/// Of input and output every other process keeps its path numbers, the paths that they name, and its
+/// call that waits; a child is given the standard paths and the directories of its parent by F$Fork.
+/// The position of a path on a file moves by a call of a process on the same path alone. A terminal
+/// keeps the unfinished read of another process, but where a write to it fails. The volume of one
+/// drive at most changes, by a call that changes volumes and reaches that drive; no drive fails but
+/// the one that the process reaches in an attempt of its call, so none in an instruction; and the
+/// clock is set by F$STime alone.
 pub fn an_event_leaves_the_input_and_output_of_the_others()
     ensures io { (s t : State) (end : EventEnd) (p : ℕ) → s.chosen ≡ Some p → Event s end t
         → LeavesIo s p t }

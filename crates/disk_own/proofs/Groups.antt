@@ -148,19 +148,18 @@ module _ (s : State) (p : ℕ) (file : ProgramFile) (loaded : Loaded) (it : Load
 
 -- ---- attempts
 
--- a call that goes on with a file in memory
-goes-groups : (m : Inner) (p : ℕ) (reading : Result ProgramFile ℕ) (next : ProgramFile → Loaded → CallResult) (result : CallResult) → ((file : ProgramFile) (loaded : Loaded) → reading ≡ Ok file → Loads m.memory file.bytes (Ok loaded) → AttemptGroups m p (next file loaded)) → GoesOnLoaded m reading next result → AttemptGroups m p result
-goes-groups m p (Err number) next result groups is =
-    subst (AttemptGroups m p) (sym is) (refused-groups m p number)
-goes-groups m p (Ok file) next result groups (Err number, loading, is) =
-    subst (AttemptGroups m p) (sym is) (refused-groups m p number)
-goes-groups m p (Ok file) next result groups (Ok loaded, loading, is) =
-    subst (AttemptGroups m p) (sym is) (groups file loaded refl loading)
+-- a call that goes on with a file in memory, or is refused
+pub goes-on : (m : Inner) (Holds : CallResult → Type 0) → ((number : ℕ) → Holds (refused number)) → (reading : Result ProgramFile ℕ) (next : ProgramFile → Loaded → CallResult) (result : CallResult) → ((file : ProgramFile) (loaded : Loaded) → reading ≡ Ok file → Loads m.memory file.bytes (Ok loaded) → Holds (next file loaded)) → GoesOnLoaded m reading next result → Holds result
+goes-on m Holds refuses_so (Err number) next result holds is = subst Holds (sym is) (refuses_so number)
+goes-on m Holds refuses_so (Ok file) next result holds (Err number, loading, is) =
+    subst Holds (sym is) (refuses_so number)
+goes-on m Holds refuses_so (Ok file) next result holds (Ok loaded, loading, is) =
+    subst Holds (sym is) (holds file loaded refl loading)
 
 module _ (s : State) (p : ℕ) (now : TimePacket) (result : CallResult) (new : Files) where
   load-groups : act_of s.inner p ≡ attempts F_LOAD → LoadAttempts s.inner (asker_of s.inner p now) s.files (length s.terms) p result new → AttemptGroups s.inner p result
   load-groups next it =
-      goes-groups s.inner p it.reading (links_first s.inner p) result
+      goes-on s.inner (AttemptGroups s.inner p) (refused-groups s.inner p) it.reading (links_first s.inner p) result
       (λ file loaded is loading. link-groups s p file loaded (record {
         call = inl next;
         found =
@@ -170,7 +169,7 @@ module _ (s : State) (p : ℕ) (now : TimePacket) (result : CallResult) (new : F
       it.comes
 
   -- what was read of the program that a process starts
-  has-read : (file : ProgramFile) (reading : Result ProgramFile ℕ) → reading ≡ Ok file → ReadsProgram (program_file (asker_of s.inner p now) s.files (length s.terms) (tests_program s.inner p)) reading s.files new → HasRead s.inner p file (program_file (asker_of s.inner p now) s.files (length s.terms) (λ step. step))
+  pub has-read : (file : ProgramFile) (reading : Result ProgramFile ℕ) → reading ≡ Ok file → ReadsProgram (program_file (asker_of s.inner p now) s.files (length s.terms) (tests_program s.inner p)) reading s.files new → HasRead s.inner p file (program_file (asker_of s.inner p now) s.files (length s.terms) (λ step. step))
   has-read file reading is reads =
       program-found s p now file new (subst (λ (reading : Result ProgramFile ℕ). ReadsProgram (program_file (asker_of s.inner p now) s.files (length s.terms) (tests_program s.inner p)) reading s.files new) is reads)
 
@@ -179,7 +178,7 @@ module _ (s : State) (p : ℕ) (now : TimePacket) (result : CallResult) (new : F
     where
       by_named : (named : Option Entered) → named_program s.inner p ≡ named → MatchOption named (StartsFile forks s.inner (asker_of s.inner p now) s.files (length s.terms) p result new) (λ named. (result ≡ f_fork s.inner p) × (new ≡ s.files)) → AttemptGroups s.inner p result
       by_named None unnamed it =
-          goes-groups s.inner p it.reading (starts_first forks s.inner p) result
+          goes-on s.inner (AttemptGroups s.inner p) (refused-groups s.inner p) it.reading (starts_first forks s.inner p) result
           (λ file loaded is loading. (
           let read = has-read file it.reading is it.reads in
           let found : LoadsFile s p file loaded = record { call = inr (inl (record { attempted = call; unnamed = unnamed })); found = read.found; loads = loading } in
@@ -193,7 +192,7 @@ module _ (s : State) (p : ℕ) (now : TimePacket) (result : CallResult) (new : F
     where
       by_named : (named : Option Entered) → named_program s.inner p ≡ named → MatchOption named (StartsFile chains s.inner (asker_of s.inner p now) s.files (length s.terms) p result new) (λ named. (result ≡ f_chain s.inner p) × (new ≡ s.files)) → AttemptGroups s.inner p result
       by_named None unnamed it =
-          goes-groups s.inner p it.reading (starts_first chains s.inner p) result
+          goes-on s.inner (AttemptGroups s.inner p) (refused-groups s.inner p) it.reading (starts_first chains s.inner p) result
           (λ file loaded is loading. (
           let read = has-read file it.reading is it.reads in
           let found : LoadsFile s p file loaded = record { call = inr (inr (record { attempted = call; unnamed = unnamed })); found = read.found; loads = loading } in

@@ -1,3 +1,4 @@
+pub mod Areas
 pub mod Beginning
 pub mod Groups
 pub mod Modules

@@ -2,22 +2,25 @@
 use Rattle.std.proofs.Common.{◌≡◌, ◌≢◌, ◌⊎◌, ℕ, ◌<◌, ◌≤◌, Option, Some, None, length, refl, sym, ap, ◌∙◌, subst, inl, inr, arith}
 use Rattle.std.proofs.lemmas.Bool.{cases_eq, false≢true}
 use Rattle.std.proofs.lemmas.Option.{same_Some}
+use Rattle.os9_base.specs.declared.calls.TheConstants.{F_LOAD}
 use Rattle.proc_model.specs.Memory.{map_at}
 use Rattle.proc_model.specs.Slots.{NamesBlock, Slots}
 use Rattle.proc_rules.specs.declared.record.Record.{Record}
 use Rattle.proc_rules.specs.Records.{IsLiving, has_ended, record_at, record_of}
 use Rattle.call_rules.specs.Inner.{Inner}
+use Rattle.call_rules.specs.Ready.{act_of, attempts}
 use Rattle.machine_model.specs.declared.ends.EventEnd.{EventEnd}
 use Rattle.isolation_laws.specs.Objects.{Appears, IsNewOrShared, IsOfModule, KeepsObjects, KeepsSizes, KeepsToItself}
 use Rattle.isolation_laws.specs.Others.{Begins, ComesOf, HasRecord, Stays}
 use Rattle.isolation_laws.proofs.OthersKept.{living-record}
 use Rattle.kept_laws.proofs.KeptEvents.{lives-runs, there-lives}
-use Rattle.own_laws.specs.Own.{IsOwn, KeepsOwnObject, NameAppeared}
+use Rattle.own_laws.specs.Own.{IsOfArea, IsOwn, KeepsOwnObject, NameAppeared}
 use Rattle.own_laws.proofs.Appearing.{longer}
 use Rattle.disk_machine.specs.Event.{Event}
 use Rattle.disk_machine.specs.State.{State}
 use Rattle.disk_isolation.specs.Isolation.{LeavesOthers}
 use Rattle.disk_isolation.proofs.EventsKept.{event-leaves}
+use Rattle.disk_own.proofs.Areas.{AreasApart, MayGain, acts-apart}
 use Rattle.disk_own.proofs.Groups.{KeepsGroups, event-groups}
 use Rattle.disk_own.proofs.Modules.{of-module}
 
@@ -138,6 +141,30 @@ module _ (m n : Inner) (q : ℕ) (end : EventEnd) (left : Leaves m q end n) wher
           by_module (inr none) =
               inl (record { appeared = appears.1; named = named; alone = alone-then; in_no_module = none })
 
+      -- in a data area
+      may-gain : MayGain m q p
+      may-gain = by_which (cases_eq p q)
+        where
+          by_which : (p ≡ q) ⊎ (p ≢ q) → MayGain m q p
+          by_which (inl same) = inl same
+          by_which (inr differ) =
+              let (new, begins) = begins-then p differ has named in inr (begins.call, begins.number)
+
+      in-no-module : IsOfArea n p object → AreasApart m q n → IsOfModule n.memory object → ⊥
+      in-no-module area apart grouped = by_place (apart p object may-gain area appears)
+        where
+          by_place : NamesBlock (map_at m.memory q) object ⊎ (IsOfModule n.memory object → ⊥) → ⊥
+          by_place (inl before) = not-before q acts before
+          by_place (inr none) = none grouped
+
+      area-then : IsOfArea n p object → AreasApart m q n → IsOwn n p object
+      area-then area apart = record {
+        appeared = appears.1;
+        named = named;
+        alone = alone-then;
+        in_no_module = in-no-module area apart;
+      }
+
   -- ---- an object that is a process's own
 
   module _ (p object : ℕ) (own : IsOwn m p object) where
@@ -182,6 +209,11 @@ module _ (m n : Inner) (q : ℕ) (end : EventEnd) (left : Leaves m q end n) wher
 pub own-at_once : (s t : State) (end : EventEnd) (p object : ℕ) → Event s end t → NameAppeared s.inner → HasRecord t.inner p → NamesBlock (map_at t.inner.memory p) object → Appears s.inner.memory t.inner.memory object → IsOwn t.inner p object ⊎ IsOfModule t.inner.memory object
 own-at_once s t end p object (q, chosen, lives, acts) names has named appears =
     own-then s.inner t.inner q end (left-so s t end q chosen (q, chosen, lives, acts)) names p object has named appears
+
+pub own-area : (s t : State) (end : EventEnd) (p object : ℕ) → Event s end t → NameAppeared s.inner → ((q : ℕ) → s.chosen ≡ Some q → act_of s.inner q ≢ attempts F_LOAD) → HasRecord t.inner p → IsOfArea t.inner p object → Appears s.inner.memory t.inner.memory object → IsOwn t.inner p object
+own-area s t end p object (q, chosen, lives, acts) names other has (slot, below, at) appears =
+    area-then s.inner t.inner q end (left-so s t end q chosen (q, chosen, lives, acts)) names p object has (slot, at) appears (slot, below, at)
+    (acts-apart (act_of s.inner q) s q end t names lives refl (other q chosen) acts)
 
 pub still-appeared : (s t : State) (end : EventEnd) → Event s end t → NameAppeared s.inner → NameAppeared t.inner
 still-appeared s t end (q, chosen, lives, acts) names =

@@ -1,9 +1,11 @@
 //! Blocks that are a process's own: what they are, and that they stay so.
 
 ghost use Rattle.std.specs.Prelude.{◌≡◌, ◌≢◌, ◌⊎◌, ℕ, Some, List};
+ghost use Rattle.os9_base.specs.declared.calls.TheConstants.{F_LOAD};
 ghost use Rattle.proc_model.specs.Memory.{map_at};
 ghost use Rattle.proc_model.specs.Slots.{NamesBlock};
 ghost use Rattle.proc_rules.specs.Records.{IsLiving};
+ghost use Rattle.call_rules.specs.Ready.{act_of, attempts};
 ghost use Rattle.isolation_laws.specs.Objects.{Appears, IsOfModule};
 ghost use Rattle.isolation_laws.specs.Others.{HasRecord};
 ghost use Rattle.own_laws.specs.Own.{IsOfArea, IsOwn, KeepsOwnObject, NameAppeared};
@@ -16,13 +18,18 @@ ghost use Rattle.disk_machine.specs.State.{State};
 
 /// From the start on maps and groups name none but objects that have appeared, and an object that
 /// appears in the map of a process is its own at once, or of the group of a module, as those of a
-/// file that F$Load enters: so the blocks that F$Fork, F$Chain and F$Mem give a process are its own
-/// until it gives them up.
+/// file that is loaded. One that appears in its data area is its own, in every event but F$Load,
+/// which maps a group and gives no area: so the blocks that F$Fork, F$Chain and F$Mem give a process
+/// are its own until it gives them up.
 pub fn what_appears_is_its_own()
     ensures own { (s t : State) (end : EventEnd) (p object : ℕ) → Event s end t
         → NameAppeared s.inner → HasRecord t.inner p → NamesBlock (map_at t.inner.memory p) object
         → Appears s.inner.memory t.inner.memory object
         → IsOwn t.inner p object ⊎ IsOfModule t.inner.memory object }
+    ensures area { (s t : State) (end : EventEnd) (p object : ℕ) → Event s end t
+        → NameAppeared s.inner → ((q : ℕ) → s.chosen ≡ Some q → act_of s.inner q ≢ attempts F_LOAD)
+        → HasRecord t.inner p → IsOfArea t.inner p object
+        → Appears s.inner.memory t.inner.memory object → IsOwn t.inner p object }
     ensures appeared { (s t : State) (end : EventEnd) → Event s end t → NameAppeared s.inner
         → NameAppeared t.inner }
     ensures start { (boot : Boot) (s : State) → Starts boot s → NameAppeared s.inner }
