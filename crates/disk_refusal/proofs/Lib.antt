@@ -1,1 +1,4 @@
+pub mod Devices
+pub mod OnFiles
+pub mod Processes
 pub mod RefusedEvents

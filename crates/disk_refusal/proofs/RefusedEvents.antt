@@ -16,7 +16,6 @@ use Rattle.call_rules.specs.declared.proc_call.ProcCall.{ProcCall}
 use Rattle.call_rules.specs.declared.proc_call.ProcCall.TheVariants as Call
 use Rattle.civil_time.specs.CivilTime.{is_time_packet}
 use Rattle.io_rules.specs.Attempts.{caller_of}
-use Rattle.io_rules.specs.declared.io_call.IoCall.{IoCall}
 use Rattle.file_rules.specs.Attempts.{FileAttempts, asker_of}
 use Rattle.file_rules.specs.Files.{Asker, Files, NoneFailed}
 use Rattle.file_rules.specs.Program.{ChainAttempts, ForkAttempts, StartsFile, chains, forks, named_program, tests_program}
@@ -38,16 +37,19 @@ use Rattle.refusal_laws.proofs.Refusing.{Comes, refusal, same-refusal}
 use Rattle.touch_laws.specs.Causes.{FileCause}
 use Rattle.touch_laws.specs.Devices.{IsOnDevice, IsOnNoFile}
 use Rattle.touch_laws.specs.LoadCauses.{ChainCause, ForkCause, LoadCause}
-use Rattle.touch_laws.specs.Touch.{FaultAnswers, LeavesDevices, LeavesFiles, NoVolumeChanges, OneDriveFails, RefusalLeaves, drive_reached}
+use Rattle.touch_laws.specs.Touch.{FaultAnswers, LeavesDevices, LeavesFiles, NoVolumeChanges}
 use Rattle.touch_laws.proofs.Attempts.{attempt-splits}
 use Rattle.touch_laws.proofs.Caused.{is_nothing}
-use Rattle.touch_laws.proofs.CausedAttempts.{refusal-caused}
 use Rattle.touch_laws.proofs.CausedLoads.{chain-caused, fork-caused, load-caused}
 use Rattle.touch_laws.proofs.Loads.{chain-leaves, fork-leaves, load-leaves}
 use Rattle.disk_machine.specs.Event.{Acts, Event}
 use Rattle.disk_machine.specs.Services.{Service, Serves, loads, no_call, on_paths, on_processes, on_time, service_of, with_files}
 use Rattle.disk_machine.specs.State.{Rest, State, rest_of}
-use Rattle.disk_refusal.specs.RefusedEvents.{IsRefused, LeavesMachine, LeavesRest, LeftOnDevice, RefusedLoad, RefusedOnDevice, RefusedOnFile, TimeCause, but_the_call, end_of_file, made_by, no_packet, no_time, of_chain, of_fork, of_load, of_no_call, of_processes, of_time, on_device, on_files, write_error}
+use Rattle.disk_refusal.specs.Causes.{TimeCause, no_packet, no_time}
+use Rattle.disk_refusal.specs.RefusedEvents.{FailsOnDrive, IsRefused, LeavesMachine, LeavesRest, LeftOnDevice, RefusedLoad, RefusedOnDevice, RefusedOnFile, but_the_call, end_of_file, made_by, of_chain, of_fork, of_load, of_no_call, of_processes, of_time, on_device, on_files, write_error}
+use Rattle.disk_refusal.proofs.Devices.{device-caused}
+use Rattle.disk_refusal.proofs.OnFiles.{file-refused}
+use Rattle.disk_refusal.proofs.Processes.{proc-caused}
 
 -- a call on the time that is refused leaves the clock
 time-left : (m : Inner) (clock : Clock) (p number : ℕ) (step : TimeStep) → refused number ≡ result_of m p step → clock_after clock step ≡ clock
@@ -120,7 +122,7 @@ module _ (s t : State) (code number : ℕ) where
 
     entered-left : (call : ProcCall) → service_of code ≡ on_processes call → IsSome (named_program s.inner p) → (files : Files) → refused number ≡ attempted call s.inner p → files ≡ s.files → rest_of t ≡ with_files s files → LeavesRest s p now code number t
     entered-left call asked named files answer same is =
-        of_processes call asked (λ starts. named) (sym answer) (is ∙ ap (with_files s) same)
+        of_processes call asked (λ starts. named) (sym answer) (proc-caused s.inner p number call (λ starts. named) (sym answer)) (is ∙ ap (with_files s) same)
 
     fork-left : service_of code ≡ on_processes Call.Fork → (files : Files) → ForkAttempts s.inner asking s.files terminals p (refused number) files → rest_of t ≡ with_files s files → (named : Option Entered) → named_program s.inner p ≡ named → LeavesRest s p now code number t
     fork-left asked files it is None none =
@@ -138,24 +140,13 @@ module _ (s t : State) (code number : ℕ) where
 
     -- ---- calls on paths
 
-    on-device : (device : IoCall) → Comes device (caller_of s.inner p) s.files.io (length s.files.drives) number t.files.io s.terms t.terms → LeftOnDevice s p device number t
-    on-device device (inl (cause, nothing)) = but_the_call cause nothing
-    on-device device (inr (inl (number_is, left))) = end_of_file number_is left
-    on-device device (inr (inr (number_is, left))) = write_error number_is left
-
     module _ (call : PathCall) (it : FileAttempts call s.inner s.files now p (refused number) t.files s.terms t.terms) (clock : t.clock ≡ s.clock) where
-      abbrev reached : Option ℕ
-      reached = drive_reached call (asker_of s.inner p now) s.files (length s.terms)
-
       abbrev OnDevice : Type 0
       OnDevice =
           IsOnDevice call s.inner s.files p (refused number) t.files s.terms t.terms × IsOnNoFile call (asker_of s.inner p now) s.files (length s.terms)
 
-      abbrev Fails : Type 0
-      Fails = OneDriveFails reached s.files (refused number) t.files
-
       abbrev Why : Type 0
-      Why = FileCause (made_by s p now call) number
+      Why = FailsOnDrive s p now call number t ⊎ NoVolumeChanges s.files t.files × FileCause (made_by s p now call) number
 
       abbrev Comes-so : Type 0
       Comes-so = RefusedOnDevice s p now call number t ⊎ RefusedOnFile s p now call number t
@@ -166,35 +157,40 @@ module _ (s t : State) (code number : ℕ) where
         device_is = on.device_is;
         on = none;
         left =
-            on-device on.device (refusal on.device s.inner s.files.io t.files.io (length s.files.drives) p number s.terms t.terms on.attempted);
+            by_answer (refusal on.device s.inner s.files.io t.files.io (length s.files.drives) p number s.terms t.terms on.attempted);
         directories = on.directories;
         volumes = on.volumes;
         none_failed = on.none_failed;
         clock = clock;
       }
-
-      file-left : t.terms ≡ s.terms → RefusalLeaves reached s.files p (refused number) t.files → Fails ⊎ NoVolumeChanges s.files t.files × Why → RefusedOnFile s p now call number t
-      file-left same left why =
-          record { io = left.io; directories = left.directories; terminals = same; clock = clock; why = why }
-
-      by-cause : LeavesDevices call s.inner s.files now p (refused number) t.files s.terms t.terms → OnDevice ⊎ Fails ⊎ Why → Comes-so
-      by-cause left (inl on) = inl (device-left on)
-      by-cause left (inr (inl fails)) = inr (file-left left.terminals (left.refusal number refl) (inl fails))
-      by-cause left (inr (inr why)) =
-          inr (file-left left.terminals (left.refusal number refl) (by_volumes (left.refusal number refl).volumes))
         where
-          by_volumes : NoVolumeChanges s.files t.files ⊎ Fails → Fails ⊎ NoVolumeChanges s.files t.files × Why
-          by_volumes (inl stay) = inr (stay, why)
-          by_volumes (inr fails) = inl fails
+          by_answer : Comes on.device (caller_of s.inner p) s.files.io (length s.files.drives) number t.files.io s.terms t.terms → LeftOnDevice s p on.device number t
+          by_answer (inl (cause, nothing)) =
+              but_the_call (device-caused call on.device on.device_is (asker_of s.inner p now) s.files (length s.terms) number none cause) nothing
+          by_answer (inr (inl (number_is, left))) = end_of_file number_is left
+          by_answer (inr (inr (number_is, left))) = write_error number_is left
+
+      file-left : LeavesDevices call s.inner s.files now p (refused number) t.files s.terms t.terms → Why → RefusedOnFile s p now call number t
+      file-left left why = record {
+        io = (left.refusal number refl).io;
+        directories = (left.refusal number refl).directories;
+        terminals = left.terminals;
+        clock = clock;
+        still = left.still;
+        why = why;
+      }
 
       path-left : Comes-so
       path-left =
           by_touch (attempt-splits call s.inner s.files now p (refused number) t.files s.terms t.terms it)
         where
+          by_cause : LeavesDevices call s.inner s.files now p (refused number) t.files s.terms t.terms → OnDevice ⊎ Why → Comes-so
+          by_cause left (inl on) = inl (device-left on)
+          by_cause left (inr why) = inr (file-left left why)
+
           by_touch : OnDevice ⊎ LeavesDevices call s.inner s.files now p (refused number) t.files s.terms t.terms → Comes-so
           by_touch (inl on) = inl (device-left on)
-          by_touch (inr left) =
-              by-cause left (refusal-caused call s.inner s.files now p s.terms t.terms number (refused number) t.files it refl)
+          by_touch (inr left) = by_cause left (file-refused s t p now call number it)
 
     -- ---- any call
 
@@ -206,7 +202,7 @@ module _ (s t : State) (code number : ℕ) where
     serves-left (on_processes Call.Chain) asked (files, it, is) =
         chain-left asked files it is (named_program s.inner p) refl
     serves-left (on_processes call) asked it =
-        of_processes call asked (λ starts. absurd (false≢true starts)) (sym it.0) it.1
+        of_processes call asked (λ starts. absurd (false≢true starts)) (sym it.0) (proc-caused s.inner p number call (λ starts. absurd (false≢true starts)) (sym it.0)) it.1
     serves-left (on_time call) asked (clock, it, is) =
         of_time call asked (time-caused s.inner now p number call it.result_is)
         (is ∙ ap (λ (clock : Clock). record (rest_of s) { clock = clock }) (it.clock_is ∙ time-left s.inner s.clock p number (time_step call s.inner now p) it.result_is))

@@ -1,38 +1,33 @@
 -- What an event leaves that is an attempt of a call which is refused, and why it is refused.
-use Rattle.std.specs.Prelude.{◌≡◌, ◌⊎◌, ℕ, Bool, true, false, IsSome, Some, None, List, length}
-use Rattle.os9_base.specs.declared.errors.TheConstants.{E_BADTIME, E_BPADDR, E_EOF, E_UNKSVC, E_WRITE}
+use Rattle.std.specs.Prelude.{◌≡◌, ◌≢◌, ◌⊎◌, ℕ, true, false, IsSome, Some, None, length}
+use Rattle.os9_base.specs.declared.errors.TheConstants.{E_EOF, E_UNKSVC, E_WRITE}
 use Rattle.os9_base.specs.declared.registers.TimePacket.{TimePacket}
 use Rattle.proc_rules.specs.Records.{IsLiving}
 use Rattle.call_rules.specs.Attempts.{after_attempt, attempted}
 use Rattle.call_rules.specs.CallResult.{refused}
-use Rattle.call_rules.specs.Inner.{Inner, cells_at, regs_at}
 use Rattle.call_rules.specs.Ready.{attempts, act_of}
-use Rattle.call_rules.specs.UserBytes.{user_bytes}
 use Rattle.call_rules.specs.declared.proc_call.ProcCall.{ProcCall}
 use Rattle.call_rules.specs.declared.proc_call.ProcCall.TheVariants as Call
-use Rattle.civil_time.specs.CivilTime.{is_time_packet}
 use Rattle.io_rules.specs.Attempts.{caller_of}
 use Rattle.io_rules.specs.Io.{with_call}
 use Rattle.io_rules.specs.declared.io_call.IoCall.{IoCall}
-use Rattle.file_rules.specs.Attempts.{asker_of}
-use Rattle.file_rules.specs.Files.{NoneFailed}
+use Rattle.rbf_model.specs.Volume.{DiskVolume}
+use Rattle.file_rules.specs.Attempts.{asker_of, file_step}
+use Rattle.file_rules.specs.Files.{NoneFailed, OneFailed, volume_at, with_volume}
 use Rattle.file_rules.specs.Program.{named_program, tests_program}
 use Rattle.file_rules.specs.ProgramFile.{ProgramFile, program_file}
-use Rattle.file_rules.specs.Step.{Step, drive_of}
+use Rattle.file_rules.specs.Step.{FileStep, MayBeLeft, Step, deed_of, drive_of}
 use Rattle.file_rules.specs.declared.path_call.PathCall.{PathCall}
 use Rattle.time_rules.specs.Clock.{IsNow}
-use Rattle.time_rules.specs.Packet.{packet_of}
-use Rattle.time_rules.specs.declared.clock.TheConstants.{PACKET_BYTES}
 use Rattle.time_rules.specs.declared.time_call.TimeCall.{TimeCall}
-use Rattle.time_rules.specs.declared.time_call.TimeCall.TheVariants as Time
-use Rattle.refusal_laws.specs.Causes.{StatedCause}
 use Rattle.refusal_laws.specs.Refusals.{ChangesNothing, LeavesProcesses, LeftAtEnd, LeftAtFault}
 use Rattle.touch_laws.specs.Causes.{FileCause, Made}
 use Rattle.touch_laws.specs.Devices.{IsOnNoFile, device_call}
 use Rattle.touch_laws.specs.LoadCauses.{ChainCause, ForkCause, LoadCause}
-use Rattle.touch_laws.specs.Touch.{FaultAnswers, NoVolumeChanges, OneDriveFails, drive_reached}
+use Rattle.touch_laws.specs.Touch.{FaultAnswers, NoVolumeChanges, may_change_volume}
 use Rattle.disk_machine.specs.Services.{Attempts, loads, no_call, on_paths, on_processes, on_time, service_of}
 use Rattle.disk_machine.specs.State.{State, rest_of, with_rest}
+use Rattle.disk_refusal.specs.Causes.{DeviceCause, ProcCause, TimeCause, starts_program}
 
 -- the chosen process attempts the call of this code, which is refused with this number, and this is the state then
 pub record IsRefused (s : State) (code number : ℕ) (t : State) : Type 0 where
@@ -48,7 +43,7 @@ pub record IsRefused (s : State) (code number : ℕ) (t : State) : Type 0 where
 -- what is left of terminals, pipes and paths
 pub data LeftOnDevice (s : State) (p : ℕ) (call : IoCall) (number : ℕ) (t : State) : Type 0 where
   -- all but what is kept of the call, which goes
-  but_the_call : StatedCause call (caller_of s.inner p) s.files.io (length s.files.drives) (length s.terms) number
+  but_the_call : DeviceCause call (caller_of s.inner p) s.files (length s.terms) number
       → ChangesNothing p s.files.io t.files.io s.terms t.terms → LeftOnDevice s p call number t
   end_of_file : number ≡ E_EOF → LeftAtEnd call (caller_of s.inner p) s.files.io t.files.io s.terms t.terms
       → LeftOnDevice s p call number t
@@ -78,17 +73,36 @@ made_by s p now call = record {
   terms = length s.terms;
 }
 
--- the call is on a file or a directory, or on nothing: all stays but what is kept of a call, which goes. Where the
--- drive that it reached has failed, its number is that of the fault, and the volume of that drive may be another one;
--- else the volumes stay too, and the number has its cause
+-- what an attempt of it does
+abbrev pub step_of : State → ℕ → TimePacket → PathCall → FileStep
+step_of s p now call = file_step call (asker_of s.inner p now) s.files (length s.terms)
+
+-- the drive that the call reached has failed, and no other one, and the number is that of its fault. Of the volume that
+-- was in it that is left which the definition of the call lets a fault leave; the other volumes are as they were
+pub record FailsOnDrive (s : State) (p : ℕ) (now : TimePacket) (call : PathCall) (number : ℕ) (t : State)
+    : Type 0 where
+  pub drive : ℕ
+  pub reaches : drive_of (step_of s p now call) ≡ Some drive
+  pub failed : OneFailed drive number s.files.drives t.files.drives
+  pub old : DiskVolume
+  pub was : volume_at s.files drive ≡ Some old
+  pub left : DiskVolume
+  pub may_be : MayBeLeft (deed_of (step_of s p now call) s.files) (asker_of s.inner p now) old left
+  pub volumes : t.files.volumes ≡ (with_volume s.files drive left).volumes
+  pub mounted : volume_at t.files drive ≡ Some left
+  pub others : (other : ℕ) → other ≢ drive → volume_at t.files other ≡ volume_at s.files other
+
+-- the call is on a file or a directory, or on nothing: all stays but what is kept of a call, which goes. The volumes
+-- stay, and the number has its cause; or the drive that it reached has failed. A call that changes no volume leaves
+-- them also then
 pub record RefusedOnFile (s : State) (p : ℕ) (now : TimePacket) (call : PathCall) (number : ℕ) (t : State)
     : Type 0 where
   pub io : t.files.io ≡ with_call s.files.io p None
   pub directories : t.files.directories ≡ s.files.directories
   pub terminals : t.terms ≡ s.terms
   pub clock : t.clock ≡ s.clock
-  pub why : OneDriveFails (drive_reached call (asker_of s.inner p now) s.files (length s.terms)) s.files
-      (refused number) t.files
+  pub still : may_change_volume call ≡ false → t.files.volumes ≡ s.files.volumes
+  pub why : FailsOnDrive s p now call number t
       ⊎ NoVolumeChanges s.files t.files × FileCause (made_by s p now call) number
 
 -- ---- a load
@@ -108,26 +122,13 @@ pub record RefusedLoad (s : State) (p : ℕ) (now : TimePacket) (test : Step Pro
 
 -- ---- any other call
 
--- F$Fork and F$Chain, which may be of a file
-abbrev pub starts_program : ProcCall → Bool
-starts_program Call.Fork = true
-starts_program Call.Chain = true
-starts_program call = false
-
--- why a call on the time is refused
-pub data TimeCause (m : Inner) (p : ℕ) (call : TimeCall) (number : ℕ) : Type 0 where
-  no_packet : number ≡ E_BPADDR → user_bytes (cells_at m p) (regs_at m p).x PACKET_BYTES ≡ None
-      → TimeCause m p call number
-  no_time : (bytes : List ℕ) → number ≡ E_BADTIME → call ≡ Time.STime
-      → user_bytes (cells_at m p) (regs_at m p).x PACKET_BYTES ≡ Some bytes
-      → is_time_packet (packet_of bytes) ≡ false → TimeCause m p call number
-
 -- what a call leaves beside memory and the processes, at the time that it is, and why it is refused
 pub data LeavesRest (s : State) (p : ℕ) (now : TimePacket) (code number : ℕ) (t : State) : Type 0 where
   -- a call on processes and modules, also F$Fork and F$Chain of a module that is entered: all
   of_processes : (call : ProcCall) → service_of code ≡ on_processes call
       → (starts_program call ≡ true → IsSome (named_program s.inner p))
-      → attempted call s.inner p ≡ refused number → rest_of t ≡ rest_of s → LeavesRest s p now code number t
+      → attempted call s.inner p ≡ refused number → ProcCause s.inner p call number → rest_of t ≡ rest_of s
+      → LeavesRest s p now code number t
   of_time : (call : TimeCall) → service_of code ≡ on_time call → TimeCause s.inner p call number
       → rest_of t ≡ rest_of s → LeavesRest s p now code number t
   -- a code that is no call's: all

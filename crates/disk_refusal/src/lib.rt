@@ -2,4 +2,5 @@
 //! call which is refused, and why it is refused.
 #![tactic(auto)]
 
+pub mod codes;
 pub mod refusals;
