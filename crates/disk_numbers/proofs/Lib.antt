@@ -1,0 +1,4 @@
+pub mod Mounts
+pub mod Objects
+pub mod Seen
+pub mod States
