@@ -3,6 +3,7 @@ mod Asking
 mod Calling
 mod Choosing
 mod Columns
+mod Counting
 mod Delivering
 mod Ending
 mod Executing

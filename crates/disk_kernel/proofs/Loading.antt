@@ -1,9 +1,9 @@
 -- Attempts of calls that may load a file.
-use Rattle.std.proofs.Common.{◌≡◌, ◌≢◌, ◌<◌, ◌∙◌, ℕ, Bool, true, false, Option, Some, None, Result, Ok, Err, List, length, refl, sym, ap, subst, arith}
+use Rattle.std.proofs.Common.{◌≡◌, ◌≢◌, ◌∙◌, ℕ, Option, Some, None, Result, Ok, Err, length, refl, sym, ap, subst, arith}
 use Rattle.std.proofs.lemmas.Option.{none-some}
 use Rattle.std.specs.Prelude.{IfSome, nat_le, slice_index_or}
 use Rattle.os9_base.specs.declared.call.CallEnd.{CallEnd}
-use Rattle.os9_base.specs.declared.call.CallEnd.TheVariants.{Done, Error, Wait, Ended, NoMemory}
+use Rattle.os9_base.specs.declared.call.CallEnd.TheVariants.{Done, Error, Wait}
 use Rattle.os9_base.specs.declared.errors.TheConstants.{E_MEMFUL}
 use Rattle.os9_base.specs.declared.registers.TimePacket.{TimePacket}
 use Rattle.proc_model.specs.declared.memory.TheConstants.{MOST_LINKS}
@@ -11,13 +11,13 @@ use Rattle.proc_rules.specs.Records.{IsLiving, free_process, record_at}
 use Rattle.proc_state.specs.Tie.{Comes, Represents}
 use Rattle.proc_state.specs.declared.state.ProcState.{ProcState}
 use Rattle.call_rules.specs.Attempts.{after_attempt}
-use Rattle.call_rules.specs.CallResult.{CallResult, done, refused, waits, ends, refuses}
+use Rattle.call_rules.specs.CallResult.{CallResult, done, refused, waits, ends}
 use Rattle.call_dispatch.specs.Waits.{waits_for}
 use Rattle.call_rules.specs.Codes.{call_of}
 use Rattle.call_rules.specs.Inner.{Inner, no_own, own_at, regs_at}
 use Rattle.call_rules.specs.declared.proc_call.ProcCall.{ProcCall}
 use Rattle.call_rules.specs.declared.proc_call.ProcCall.TheVariants as Call
-use Rattle.call_rules.specs.Link.{after_link, links_at, mapped_group}
+use Rattle.call_rules.specs.Link.{links_at, mapped_group}
 use Rattle.io_model.specs.declared.kept.Kept.{Kept}
 use Rattle.io_rules.specs.Io.{Io, kept_at}
 use Rattle.io_rules.specs.Waiting.{io_waits_for}
@@ -25,23 +25,17 @@ use Rattle.os9_sched.specs.Members.{member_of, wait_at}
 use Rattle.os9_sched.specs.declared.member.Wait.{Wait as Waiting}
 use Rattle.isolation_laws.proofs.OthersKept.{free-is, living-record}
 use Rattle.kept_laws.specs.Kept.{AreKept}
-use Rattle.file_laws.proofs.Attempts.{chain-many, fork-many, load-many}
-use Rattle.file_laws.specs.Mounted.{AreAsMany}
 use Rattle.file_rules.specs.Attempts.{asker_of}
 use Rattle.file_rules.specs.Files.{Asker, Files}
 use Rattle.file_rules.specs.Load.{GoesOnLoaded, Loaded, LoadAttempts, links_first}
 use Rattle.file_rules.specs.Processes.{files_started}
 use Rattle.file_rules.specs.ProgramFile.{ProgramFile}
-use Rattle.file_drives.specs.Drives.{DriveView}
 use Rattle.file_state.specs.Attempt.{Standing}
-use Rattle.file_state.specs.Tie.{StandsFor}
-use Rattle.file_state.specs.declared.state.FileState.{FileState}
-use Rattle.load_calls.specs.Attempts.{AttemptsBy}
 use Rattle.touch_laws.proofs.Loads.{fork-leaves}
 use Rattle.disk_machine.specs.Services.{Serves, files_after_fork, service_of, with_files}
 use Rattle.disk_machine.specs.State.{State}
 use Rattle.disk_kept.proofs.Loads.{Child, chain-over, fork-over, load-over}
-use Rattle.disk_kept.proofs.Over.{IsOver, Over, of-needs, of-refuses, over-by}
+use Rattle.disk_kept.proofs.Over.{IsOver, of-needs, of-refuses, over-by}
 use Rattle.disk_kernel.specs.Causes.{wait_by, wait_for}
 use Rattle.disk_kernel.specs.Loads.{AttemptsLoad, LoadsSo}
 use Rattle.disk_kernel.specs.Paths.{MayBegin, files_begun, number_in_a}
@@ -50,7 +44,6 @@ use Rattle.disk_kernel.specs.declared.service.LoadCall.{LoadCall}
 use Rattle.disk_kernel.specs.declared.service.LoadCall.TheVariants.{Load, Fork, Chain}
 use Rattle.disk_kernel.specs.declared.kernel.Kernel.{Kernel}
 use Rattle.disk_kernel.proofs.Serving.{process-served}
-use Rattle.disk_kernel.proofs.Standing.{drives-long}
 
 -- ---- what it comes to
 
@@ -73,10 +66,9 @@ load-tick Fork m asker old terms p result new lives it =
 load-tick Chain m asker old terms p result new lives it = (chain-over m asker old terms p result new it).tick
 
 -- an attempt of the call that this one is
-pub loads-as : (call one : LoadCall) (m : Inner) (was : Files) (now : TimePacket) (terms p : ℕ) (end : CallEnd) (most : ℕ) (before after : Standing) → call ≡ one → AttemptsBy (AttemptsLoad one m (asker_of m p now) was terms p) m p end most before after → LoadsSo call m was now terms p end after.processes after.files after.views
-loads-as call one m was now terms p end most before after is it =
-    let so : LoadsSo one m was now terms p end after.processes after.files after.views = record { result = it.result; left = it.left; attempt = it.attempted; comes = it.comes; stands = it.stands } in
-    subst (λ (call : LoadCall). LoadsSo call m was now terms p end after.processes after.files after.views) (sym is) so
+pub loads-as : (call one : LoadCall) (m : Inner) (was : Files) (now : TimePacket) (terms p : ℕ) (end : CallEnd) (before after : Standing) → call ≡ one → LoadsSo one m was now terms p end before after → LoadsSo call m was now terms p end before after
+loads-as call one m was now terms p end before after is it =
+    subst (λ (call : LoadCall). LoadsSo call m was now terms p end before after) (sym is) it
 
 -- ---- F$Load waits for nothing
 
@@ -128,12 +120,12 @@ module _ (m : Inner) (io : Io) (p : ℕ) (processes : ProcState) (kept : AreKept
   child-by (ends status) child told = absurd child
 
 -- it may begin
-pub child-begins : (call : LoadCall) (m : Inner) (was : Files) (now : TimePacket) (terms p : ℕ) (processes : ProcState) (new : FileState) (views : List DriveView) → AreKept m was.io → length m.records ≡ 33 → IsLiving m.records p → call ≡ Fork → LoadsSo call m was now terms p Done processes new views → MayBegin new.io (number_in_a processes.table p)
-child-begins Load m was now terms p processes new views kept long lives is it = cc
-child-begins Fork m was now terms p processes new views kept long lives is it =
-    let same : was.io ≡ new.io = sym (fork-leaves m (asker_of m p now) was terms p it.result it.left it.attempt).io ∙ it.stands.io in
-    subst (λ (io : Io). MayBegin io (number_in_a processes.table p)) same (child-by m was.io p processes kept long it.result (fork-over m (asker_of m p now) was terms p it.result it.left lives it.attempt) it.comes)
-child-begins Chain m was now terms p processes new views kept long lives is it = cc
+pub child-begins : (call : LoadCall) (m : Inner) (was : Files) (now : TimePacket) (terms p : ℕ) (before after : Standing) → AreKept m was.io → length m.records ≡ 33 → IsLiving m.records p → call ≡ Fork → LoadsSo call m was now terms p Done before after → MayBegin after.files.io (number_in_a after.processes.table p)
+child-begins Load m was now terms p before after kept long lives is it = cc
+child-begins Fork m was now terms p before after kept long lives is it =
+    let same : was.io ≡ after.files.io = sym (fork-leaves m (asker_of m p now) was terms p it.result it.left it.attempted).io ∙ it.stands.io in
+    subst (λ (io : Io). MayBegin io (number_in_a after.processes.table p)) same (child-by m was.io p after.processes kept long it.result (fork-over m (asker_of m p now) was terms p it.result it.left lives it.attempted) it.comes)
+child-begins Chain m was now terms p before after kept long lives is it = cc
 
 -- the files then are those of the machine
 fork-tied : (m : Inner) (p : ℕ) (left : Files) (processes : ProcState) (result : CallResult) (end : CallEnd) → Comes m p result end processes → files_begun Fork end left p (number_in_a processes.table p) ≡ files_after_fork left p result
@@ -152,27 +144,14 @@ begun-tied Load m p left processes result end told = refl
 begun-tied Fork m p left processes result end told = fork-tied m p left processes result end told
 begun-tied Chain m p left processes result end told = refl
 
--- ---- and how many drives there are
-
-many-loaded : (call : LoadCall) (m : Inner) (asker : Asker) (old : Files) (terms p : ℕ) (result : CallResult) (new : Files) → AttemptsLoad call m asker old terms p result new → AreAsMany old new
-many-loaded Load m asker old terms p result new it = load-many m asker old terms p result new it
-many-loaded Fork m asker old terms p result new it = fork-many m asker old terms p result new it
-many-loaded Chain m asker old terms p result new it = chain-many m asker old terms p result new it
-
-pub load-drives : (call : LoadCall) (m : Inner) (was : Files) (now : TimePacket) (terms p : ℕ) (end : CallEnd) (processes : ProcState) (state new : FileState) (views later : List DriveView) → StandsFor state views was → LoadsSo call m was now terms p end processes new later → length later ≡ length views
-load-drives call m was now terms p end processes state new views later stands it =
-    sym (drives-long new later it.left it.stands)
-    ∙ (many-loaded call m (asker_of m p now) was terms p it.result it.left it.attempt).drives
-    ∙ drives-long state views was stands
-
 -- ---- what it waits for
 
 -- the calls that start a program wait for nothing that the scheduler has to know
-pub loads-rest : (call : LoadCall) (m : Inner) (was : Files) (now : TimePacket) (terms p : ℕ) (processes : ProcState) (new : FileState) (views : List DriveView) → LoadsSo call m was now terms p Wait processes new views → call ≢ Load
-loads-rest Load m was now terms p processes new views it is =
-    load-answers m (asker_of m p now) was terms p it.result it.left processes it.attempt it.comes
-loads-rest Fork m was now terms p processes new views it is = cc
-loads-rest Chain m was now terms p processes new views it is = cc
+pub loads-rest : (call : LoadCall) (m : Inner) (was : Files) (now : TimePacket) (terms p : ℕ) (before after : Standing) → LoadsSo call m was now terms p Wait before after → call ≢ Load
+loads-rest Load m was now terms p before after it is =
+    load-answers m (asker_of m p now) was terms p it.result it.left after.processes it.attempted it.comes
+loads-rest Fork m was now terms p before after it is = cc
+loads-rest Chain m was now terms p before after it is = cc
 
 rests-by : (kernel : Kernel) (code p : ℕ) (call : ProcCall) → call_of code ≡ Some call → waits_for call (slice_index_or kernel.processes.own.items p no_own) ≡ None → IfSome (wait_for kernel code p) (λ wait. wait_at (member_of kernel.processes.sched.members p) ≡ Some wait)
 rests-by kernel code p call coded none =

@@ -1,5 +1,5 @@
 -- Attempts of calls on paths, files and directories.
-use Rattle.std.proofs.Common.{◌≡◌, ◌≢◌, ◌⊎◌, ◌∙◌, ℕ, Option, Some, List, length, refl, sym, ap, subst, inl, inr}
+use Rattle.std.proofs.Common.{◌≡◌, ◌≢◌, ◌⊎◌, ◌∙◌, ℕ, Option, List, refl, sym, ap, subst, inl, inr}
 use Rattle.os9_base.specs.declared.call.CallEnd.{CallEnd}
 use Rattle.os9_base.specs.declared.call.CallEnd.TheVariants.{Done, Error, Wait, Ended, NoMemory}
 use Rattle.os9_base.specs.declared.registers.TimePacket.{TimePacket}
@@ -13,16 +13,10 @@ use Rattle.call_rules.specs.Inner.{Inner}
 use Rattle.io_rules.specs.Attempts.{result_by, result_of}
 use Rattle.io_rules.specs.Step.{IoEffect, IoEnd, answers, fails, keeps}
 use Rattle.machine_model.specs.declared.ends.EventEnd.TheVariants as Event
-use Rattle.file_laws.proofs.Attempts.{attempt-stands}
-use Rattle.file_laws.specs.Kinds.{AreKinds}
 use Rattle.file_rules.specs.Attempts.{FileAttempts, io_effect}
 use Rattle.file_rules.specs.Files.{Files}
 use Rattle.file_rules.specs.declared.path_call.PathCall.{PathCall}
-use Rattle.file_drives.specs.Drives.{DriveView}
-use Rattle.file_state.specs.Attempt.{Attempts}
-use Rattle.file_state.specs.Tie.{IsSound, StandsFor}
-use Rattle.file_state.specs.declared.state.FileState.{FileState}
-use Rattle.proc_state.specs.declared.state.ProcState.{ProcState}
+use Rattle.file_state.specs.Tie.{IsSound}
 use Rattle.civil_time.proofs.Next.{later-packet}
 use Rattle.time_rules.specs.Clock.{IsClock, IsNow, seconds_since}
 use Rattle.time_rules.specs.declared.clock.Clock.{Clock}
@@ -31,7 +25,6 @@ use Rattle.disk_kernel.specs.declared.kernel.Kernel.{Kernel}
 use Rattle.disk_kernel.specs.Ends.{event_end_of}
 use Rattle.disk_kernel.specs.Outside.{Outside}
 use Rattle.disk_kernel.specs.Tie.{Represents}
-use Rattle.disk_kernel.proofs.Standing.{drives-long}
 
 -- ---- what an attempt asks for
 
@@ -93,10 +86,3 @@ effect-tick m p effect = by_end effect.end
 pub attempt-tick : (call : PathCall) (m : Inner) (files : Files) (now : TimePacket) (p : ℕ) (result : CallResult) (new : Files) (before after : List TerminalState) → FileAttempts call m files now p result new before after → (after_attempt m p result).tick ≡ m.tick
 attempt-tick call m files now p result new before after it =
     ap (λ (result : CallResult). (after_attempt m p result).tick) it.result_is ∙ effect-tick m p (io_effect it.effect)
-
--- and how many drives there are
-pub attempt-drives : (call : PathCall) (m : Inner) (files : Files) (now : TimePacket) (p : ℕ) (end : CallEnd) (processes : ProcState) (state new : FileState) (views later : List DriveView) (before after : List TerminalState) → StandsFor state views files → AreKinds files → Attempts call m files now p end processes new later before after → length later ≡ length views
-attempt-drives call m files now p end processes state new views later before after stands kinds it =
-    sym (drives-long new later it.left it.stands)
-    ∙ (attempt-stands call m files now p it.result it.left before after it.attempt kinds).many.drives
-    ∙ drives-long state views files stands

@@ -1,11 +1,10 @@
 -- The files of the kernel stand for those of the machine where a call is broken off and where a process ends.
-use Rattle.std.proofs.Common.{◌≡◌, ℕ, List, length, sym, ap, ◌∙◌}
-use Rattle.std.proofs.lemmas.List.{length-map}
+use Rattle.std.proofs.Common.{◌≡◌, ℕ, List, sym, ap, ◌∙◌}
 use Rattle.io_rules.specs.Io.{Io}
 use Rattle.io_rules.specs.Waiting.{io_interrupted}
-use Rattle.file_rules.specs.Files.{Files, DriveState, no_directories, with_directories_of, with_io}
+use Rattle.file_rules.specs.Files.{Files, no_directories, with_directories_of, with_io}
 use Rattle.file_rules.specs.Processes.{files_ended}
-use Rattle.file_drives.specs.Drives.{DriveView, drive_state, drive_states}
+use Rattle.file_drives.specs.Drives.{DriveView}
 use Rattle.file_state.proofs.StateLemmas.{stands-with_io}
 use Rattle.file_state.specs.Tie.{StandsFor}
 use Rattle.file_state.specs.declared.state.FileState.{FileState}
@@ -20,8 +19,3 @@ stands-interrupted state views files p new is stands =
 pub ended-so : (files : Files) (p : ℕ) → files_ended (with_io files (io_interrupted files.io p)) p ≡ files_ended files p
 ended-so files p =
     ap (λ (io : Io). with_directories_of (with_io files io) p no_directories) (ended-interrupted files.io p)
-
--- there are as many drives
-pub drives-long : (state : FileState) (views : List DriveView) (files : Files) → StandsFor state views files → length files.drives ≡ length views
-drives-long state views files stands =
-    ap (λ (drives : List DriveState). length drives) stands.drives ∙ length-map views drive_state

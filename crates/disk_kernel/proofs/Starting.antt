@@ -1,12 +1,11 @@
 -- The start of a kernel is one of the machine.
-use Rattle.std.proofs.Common.{◌≡◌, ℕ, ◌+◌, ◌<◌, ◌≤◌, true, Result, Ok, Err, Option, None, option_map, List, length, refl, sym, ap, subst, arith}
+use Rattle.std.proofs.Common.{◌≡◌, ℕ, ◌<◌, ◌≤◌, true, Ok, Err, None, option_map, List, length, refl, sym, ap, subst, arith}
 use Rattle.os9_base.specs.declared.registers.Pid.{Pid}
 use Rattle.os9_outer.specs.TerminalState.{TerminalState}
 use Rattle.call_rules.specs.Inner.{Inner}
 use Rattle.civil_time.specs.CivilTime.{is_time_packet}
 use Rattle.file_drives.specs.Drives.{DriveView}
 use Rattle.file_start.specs.Start.{StartedOn, StartsDrives}
-use Rattle.file_start.specs.declared.fault.StartFault.{StartFault}
 use Rattle.file_start.specs.declared.fault.StartFault.TheVariants.{OutOfMemory, Drive}
 use Rattle.file_state.specs.declared.state.FileState.{FileState}
 use Rattle.machine_model.specs.Start.{Starts as StartsWithoutFiles, first_start, only_process}

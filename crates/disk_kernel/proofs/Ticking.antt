@@ -1,6 +1,5 @@
 -- A tick of the kernel is one of the machine.
-use Rattle.std.proofs.Common.{◌≡◌, ℕ, ◌+◌, option_map, List, refl, sym, ap, ◌∙◌, subst, arith}
-use Rattle.os9_base.specs.declared.registers.Pid.{Pid}
+use Rattle.std.proofs.Common.{◌≡◌, ℕ, ◌+◌, List, refl, sym, ap, subst, arith}
 use Rattle.os9_outer.specs.TerminalState.{TerminalState}
 use Rattle.call_rules.specs.Inner.{Inner}
 use Rattle.io_rules.specs.Arrivals.{Arrivals, ArrivesFrom, Desk}

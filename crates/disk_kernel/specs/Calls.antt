@@ -10,6 +10,7 @@ use Rattle.disk_machine.specs.State.{State}
 use Rattle.disk_kernel.specs.declared.kernel.Kernel.{Kernel}
 use Rattle.disk_kernel.specs.Breaks.{BreaksEvent}
 use Rattle.disk_kernel.specs.Causes.{WaitsInCall}
+use Rattle.disk_kernel.specs.DriverCalls.{CallsWithin}
 use Rattle.disk_kernel.specs.Outside.{Outside}
 use Rattle.disk_kernel.specs.Tie.{Represents, IsGoing, ticks}
 
@@ -39,6 +40,8 @@ pub record HasEvent (old new : Kernel) (before after : Outside) (end : EventEnd)
     pub going : end ≡ EventEnd.Ran → IsGoing new
     pub waits : end ≡ EventEnd.Waits → WaitsInCall old new
     pub count : end ≢ EventEnd.NoMemory → ticks new ≡ ticks old
+    -- it calls the drives so often, also where memory is out
+    pub calls : CallsWithin old before after
 
 -- Memory is out in a slice of so many instructions: its tick is broken off, or the event behind its first ones. The
 -- drives are as that state has them.

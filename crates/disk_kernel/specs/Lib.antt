@@ -1,6 +1,7 @@
 pub mod Breaks
 pub mod Calls
 pub mod Causes
+pub mod DriverCalls
 pub mod Ends
 pub mod Loads
 pub mod Next

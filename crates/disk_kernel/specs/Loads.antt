@@ -1,18 +1,17 @@
 -- What an attempt of a call that may load a file comes to, of the kernel's processes and its files.
-use Rattle.std.specs.Prelude.{ℕ, List}
+use Rattle.std.specs.Prelude.{ℕ}
 use Rattle.os9_base.specs.declared.call.CallEnd.{CallEnd}
 use Rattle.os9_base.specs.declared.registers.TimePacket.{TimePacket}
 use Rattle.call_rules.specs.CallResult.{CallResult}
 use Rattle.call_rules.specs.Inner.{Inner}
-use Rattle.proc_state.specs.Tie.{Comes}
-use Rattle.proc_state.specs.declared.state.ProcState.{ProcState}
-use Rattle.file_drives.specs.Drives.{DriveView}
 use Rattle.file_rules.specs.Attempts.{asker_of}
 use Rattle.file_rules.specs.Files.{Asker, Files}
 use Rattle.file_rules.specs.Load.{LoadAttempts}
 use Rattle.file_rules.specs.Program.{ChainAttempts, ForkAttempts}
-use Rattle.file_state.specs.Tie.{StandsFor}
-use Rattle.file_state.specs.declared.state.FileState.{FileState}
+use Rattle.file_state.specs.Attempt.{OnEach, Standing}
+use Rattle.load_calls.specs.Attempts.{AttemptsBy}
+use Rattle.disk_kernel.specs.DriverCalls.{service_calls}
+use Rattle.disk_kernel.specs.Services.{load_in_machine}
 use Rattle.disk_kernel.specs.declared.service.LoadCall.{LoadCall}
 use Rattle.disk_kernel.specs.declared.service.LoadCall.TheVariants.{Load, Fork, Chain}
 
@@ -22,12 +21,14 @@ AttemptsLoad Load m asker old terms p result new = LoadAttempts m asker old term
 AttemptsLoad Fork m asker old terms p result new = ForkAttempts m asker old terms p result new
 AttemptsLoad Chain m asker old terms p result new = ChainAttempts m asker old terms p result new
 
--- an attempt of a call by a process, at a time, on a machine with so many terminals: how it ends, and the processes and
--- the files then; its process is not told yet
-pub record LoadsSo (call : LoadCall) (m : Inner) (files : Files) (now : TimePacket) (terms p : ℕ) (end : CallEnd)
-    (processes : ProcState) (new : FileState) (views : List DriveView) : Type 0 where
-  pub result : CallResult
-  pub left : Files
-  pub attempt : AttemptsLoad call m (asker_of m p now) files terms p result left
-  pub comes : Comes m p result end processes
-  pub stands : StandsFor new views left
+-- an attempt of a call by a process, at a time, on a machine with so many terminals: how it ends, the processes, the
+-- files and the drives then, and how often these are called; its process is not told yet
+abbrev pub LoadsSo : LoadCall → Inner → Files → TimePacket → ℕ → ℕ → CallEnd → Standing → Standing → Type 0
+LoadsSo call m files now terms p end before after =
+    AttemptsBy (AttemptsLoad call m (asker_of m p now) files terms p) m p end
+    (service_calls (load_in_machine call) m p now files terms) before after
+
+-- from each state of the machine
+abbrev pub LoadsOnEach : LoadCall → TimePacket → ℕ → ℕ → CallEnd → Standing → Standing → Type 0
+LoadsOnEach call now terms p end before after =
+    OnEach before (λ m was. LoadsSo call m was now terms p end before after)

@@ -8,7 +8,7 @@ use Rattle.io_rules.specs.Io.{Io, kept_at}
 use Rattle.file_rules.specs.Files.{Files}
 use Rattle.file_rules.specs.Processes.{files_ended, files_started}
 use Rattle.disk_kernel.specs.declared.service.LoadCall.{LoadCall}
-use Rattle.disk_kernel.specs.declared.service.LoadCall.TheVariants.{Load, Fork, Chain}
+use Rattle.disk_kernel.specs.declared.service.LoadCall.TheVariants.{Fork}
 
 -- the number that a process finds in A
 abbrev pub number_in_a : List (Option Record) → ℕ → ℕ

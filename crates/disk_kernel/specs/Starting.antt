@@ -1,5 +1,5 @@
 -- The start of a kernel.
-use Rattle.std.specs.Prelude.{◌≡◌, ◌≢◌, ℕ, ⊤, Result, Ok, Err, List, IsErr}
+use Rattle.std.specs.Prelude.{◌≢◌, ℕ, ⊤, Result, Ok, Err, List}
 use Rattle.machine_model.specs.Start.{Refuses}
 use Rattle.machine_model.specs.declared.ends.BootFault.{BootFault}
 use Rattle.machine_model.specs.declared.ends.BootFault.TheVariants.{OutOfMemory}

@@ -39,6 +39,15 @@ impl Kernel {
         self.processes.living()
     }
 
+    /// How many slices were begun.
+    pub fn ticks(&self) -> u32
+        ensures machine { (devices : Outside) (s : State) → Represents self.now devices s
+            → result ≡ s.inner.tick }
+        ensures count { result ≡ ticks self.now }
+    {
+        self.processes.tick
+    }
+
     /// Begins a slice: the tick rises by 1, and the keys that are due arrive. It is below
     /// 4,294,000,000 before.
     ///
@@ -77,7 +86,8 @@ impl Kernel {
 
     /// One event of the process that was chosen, which has to live: the first attempt of its call,
     /// the delivery of a pending signal, a further attempt, or an instruction. The process goes on
-    /// where the answer is `Ran`. At `NoMemory` the kernel is used no more.
+    /// where the answer is `Ran`. Each drive is called at most as often as that attempt may call it,
+    /// and never in another event. At `NoMemory` the kernel is used no more.
     pub fn event(&mut self, devices: &mut Devices) -> EventEnd
         requires going { IsGoing self.old }
         requires stands { Stands self.old

@@ -2,17 +2,15 @@
 
 ghost use Rattle.std.specs.Prelude.{◌≡◌, ◌<◌, List, vec_len};
 ghost use Rattle.os9_base.specs.declared.registers.TimePacket.{TimePacket};
-ghost use Rattle.call_rules.specs.Inner.{Inner};
 ghost use Rattle.proc_calls.specs.Telling.{LivesOn};
 ghost use Rattle.proc_rules.specs.Records.{IsLiving};
-ghost use Rattle.proc_state.specs.Tie.{Represents};
 ghost use Rattle.file_drives.specs.Drives.{DriveView, drive_views};
-ghost use Rattle.file_laws.specs.Kinds.{AreKinds};
 ghost use Rattle.file_rules.specs.Files.{Files};
+ghost use Rattle.file_state.specs.Attempt.{standing};
 ghost use Rattle.file_state.specs.Tie.{IsSound, StandsFor};
 ghost use Rattle.disk_machine.specs.Services.{service_of};
 ghost use Rattle.disk_kernel.specs.Calls.{HasEvent};
-ghost use Rattle.disk_kernel.specs.Loads.{LoadsSo};
+ghost use Rattle.disk_kernel.specs.Loads.{LoadsOnEach};
 ghost use Rattle.disk_kernel.specs.Next.{DoesNext};
 ghost use Rattle.disk_kernel.specs.Outside.{outside};
 ghost use Rattle.disk_kernel.specs.Paths.{MayBegin, files_begun, number_in_a};
@@ -68,12 +66,12 @@ impl Kernel {
         requires lives { IsLiving self.old.processes.table p.0 }
         requires sound { IsSound self.old.files
             (drive_views ⟦<dyn BlockDriver as BlockDriver>⟧ devices.old.drives.items) }
-        ensures call { (m : Inner) (was : Files) (now : TimePacket)
-            → Represents self.old.processes m → StandsFor self.old.files
-            (drive_views ⟦<dyn BlockDriver as BlockDriver>⟧ devices.old.drives.items) was
-            → AreKinds was → LoadsSo call m was now (vec_len devices.old.terms) p.0 result
-            self.new.processes self.new.files
-            (drive_views ⟦<dyn BlockDriver as BlockDriver>⟧ devices.new.drives.items) }
+        ensures call { (now : TimePacket)
+            → LoadsOnEach call now (vec_len devices.old.terms) p.0 result
+            (standing ⟦<dyn BlockDriver as BlockDriver>⟧ self.old.processes self.old.files
+            devices.old.drives.items)
+            (standing ⟦<dyn BlockDriver as BlockDriver>⟧ self.new.processes self.new.files
+            devices.new.drives.items) }
         ensures lives { LivesOn result self.new.processes.table p.0 }
         ensures clock { self.new.clock ≡ self.old.clock }
         ensures chosen { self.new.chosen ≡ self.old.chosen }

@@ -21,6 +21,7 @@ use Rattle.disk_kernel.specs.Outside.{Outside}
 use Rattle.disk_kernel.specs.Tie.{Represents}
 use Rattle.disk_kernel.proofs.Acting.{event-here}
 use Rattle.disk_kernel.proofs.Columns.{living-within}
+use Rattle.disk_kernel.proofs.Counting.{leaves-drives}
 use Rattle.disk_kernel.proofs.Delivering.{broken-own, broken-record, broken-tick, call-is, delivered-quiet, delivery-tick, done-so, ends-so, files-ended-so, files-goes-so, goes-so, signal-is}
 use Rattle.disk_kernel.proofs.Pending.{delivery-pending, nothing-pending, pending-is}
 use Rattle.disk_kernel.proofs.Represented.{some-machine, tick-kept}
@@ -83,6 +84,7 @@ returns-in-Ended-clause-event c devices =
       waits = λ is. cc;
       going = λ is. cc;
       count = λ _. ticks here;
+      calls = leaves-drives old devices devices refl;
     }
 
 pub returns-in_default : goal.returns-in_default
@@ -111,6 +113,7 @@ returns-in_default c =
         waits = λ is. cc;
         going = λ _. (p, c.break_off.ensures.chosen ∙ next.chosen, c.deliver.ensures.lives is_done);
         count = λ _. ticks here;
+        calls = leaves-drives old devices devices refl;
       };
       progress = λ _.
           let count = interrupted_count old.files.io p.0 in

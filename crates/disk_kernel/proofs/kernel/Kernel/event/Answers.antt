@@ -1,6 +1,8 @@
 use Rattle.std.proofs.Common.{refl}
 use Rattle.disk_kernel.specs.declared.act.Act.TheVariants.{Instruction}
+use Rattle.disk_kernel.specs.Outside.{Outside, outside}
 use Rattle.disk_kernel.proofs.Acting.{cost-is, does-next}
+use Rattle.disk_kernel.proofs.Counting.{leaves-drives}
 use Rattle.disk_kernel.proofs.Turns.{single}
 use Rattle.disk_kernel.proofs.kernel.Kernel.event.Goals as goal
 
@@ -11,6 +13,7 @@ pub returns-in-Instruction-clause-event : goal.returns-in-Instruction-clause-eve
 returns-in-Instruction-clause-event g c =
     let old = c.args.self.now in
     let p = c.unwrap-p.result in
+    let before : Outside = outside (λ table. (g.dyn-1.0.entry table).1) c.args.devices.now.drives.items (λ table. (g.dyn-2.0.entry table).1) c.args.devices.now.terms.items in
     let next = does-next old p Instruction c.unwrap-p.ensures c.in-Instruction.ensures.process c.requires.going c.in-Instruction.ensures.next in
     let turn = c.instructions.ensures.turn _ in record {
       step = λ other s tied.
@@ -20,4 +23,5 @@ returns-in-Instruction-clause-event g c =
       going = turn.going;
       waits = λ is. absurd (c.instructions.ensures.goes_on is);
       count = turn.count;
+      calls = leaves-drives old before before refl;
     }

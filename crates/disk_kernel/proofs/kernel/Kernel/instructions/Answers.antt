@@ -1,4 +1,4 @@
-use Rattle.std.proofs.Common.{◌≡◌, ◌≤◌, ◌<◌, ◌+◌, ◌-◌, ◌*◌, ℕ, Option, Some, List, refl, sym, ap, ◌∙◌, subst, arith}
+use Rattle.std.proofs.Common.{◌≡◌, ◌≤◌, ◌<◌, ◌+◌, ◌-◌, ◌*◌, ℕ, Option, Some, List, refl, sym, ◌∙◌, subst, arith}
 use Rattle.os9_base.specs.declared.registers.Regs.{Regs}
 use Rattle.cpu_model.specs.declared.stop.Stop.{Stop}
 use Rattle.cpu_model.specs.declared.stop.Stop.TheVariants.{Next, Call, Abort}

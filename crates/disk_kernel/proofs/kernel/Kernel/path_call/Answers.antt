@@ -21,7 +21,7 @@ use Rattle.machine_model.specs.declared.ends.EventEnd.{EventEnd}
 use Rattle.proc_rules.specs.declared.record.Record.{Record}
 use Rattle.proc_rules.specs.Records.{is_waiting, record_at}
 use Rattle.proc_state.specs.Tie.{Comes, Represents as RepresentsProcesses}
-use Rattle.disk_machine.specs.Services.{Serves, Service}
+use Rattle.disk_machine.specs.Services.{Serves, Service, on_paths}
 use Rattle.disk_machine.specs.State.{Rest}
 use Rattle.disk_kernel.specs.declared.act.Act.TheVariants.{Attempt}
 use Rattle.disk_kernel.specs.Causes.{wait_by}
@@ -30,7 +30,8 @@ use Rattle.disk_kernel.specs.Outside.{Outside, outside}
 use Rattle.disk_kernel.proofs.Acting.{acts-so, chosen-is, clock-is, event-then, lives-there, terms-are}
 use Rattle.disk_kernel.proofs.Asking.{may-attempt-here}
 use Rattle.disk_kernel.proofs.Calling.{end-tied, goes-on, lives-so}
-use Rattle.disk_kernel.proofs.PathCalls.{attempt-drives, attempt-tick, cases-memory, is-clock, is-sound, lives-on, now-here, wants-so}
+use Rattle.disk_kernel.proofs.Counting.{attempt-within-at, leaves-drives}
+use Rattle.disk_kernel.proofs.PathCalls.{attempt-tick, cases-memory, is-clock, is-sound, lives-on, now-here, wants-so}
 use Rattle.disk_kernel.proofs.Pending.{attempt-lowers}
 use Rattle.disk_kernel.proofs.Represented.{no-call}
 use Rattle.disk_kernel.proofs.Serving.{path-served}
@@ -125,6 +126,13 @@ returns-clause-event g c =
           sym (ap (λ (m : Inner). m.tick) there.is)
           ∙ attempt-tick c.args.call s0.inner s0.files time p.0 it.result it.left before.terms after.terms it.attempt
           ∙ ap (λ (m : Inner). m.tick) tied0.inner.is;
+      calls = λ s now tied is.
+          elim (cases-memory c.attempt-end.result) [
+            | inl out ↦
+                leaves-drives old before after (ap (λ drives. drive_views (λ table. (g.dyn-1.0.entry table).1) drives.items) (c.attempt-end.ensures.drives_kept out)) s now tied is
+            | inr there ↦
+                attempt-within-at old p c.args.code next before s tied (on_paths c.args.call) c.requires.serves time now after (now-here old before s tied time c.now-time.ensures) is (c.attempt-end.ensures.call there s.inner s.files tied.inner tied.files tied.running.kinds).calls
+          ];
     }
 
 pub returns-clause-progress : goal.returns-clause-progress
@@ -150,6 +158,6 @@ returns-clause-drives g c =
       | inl out ↦ ap (λ drives. vec_len drives) (c.attempt-end.ensures.drives_kept out)
       | inr other ↦
           now.ok.0 ∙ sym (length-map now.items view)
-          ∙ attempt-drives c.args.call s.inner s.files c.now-time.result c.args.p.0 c.attempt-end.result c.attempt-end.new.s c.args.self.now.files c.attempt-end.new.files _ _ _ _ tied.files tied.running.kinds ((c.attempt-end.ensures.call other s.inner s.files tied.inner tied.files tied.running.kinds).attempts)
+          ∙ (c.attempt-end.ensures.call other s.inner s.files tied.inner tied.files tied.running.kinds).calls.as_many
           ∙ length-map was.items view ∙ sym was.ok.0
     ]

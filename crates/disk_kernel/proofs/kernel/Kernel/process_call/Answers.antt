@@ -20,6 +20,7 @@ use Rattle.disk_kernel.specs.Ends.{event_end_of}
 use Rattle.disk_kernel.specs.Paths.{files_then}
 use Rattle.disk_kernel.proofs.Acting.{event-here}
 use Rattle.disk_kernel.proofs.Calling.{end-tied, files-tied, goes-on, lives-so, never-wants}
+use Rattle.disk_kernel.proofs.Counting.{leaves-drives}
 use Rattle.disk_kernel.proofs.PathCalls.{some-time}
 use Rattle.disk_kernel.proofs.Pending.{attempt-lowers}
 use Rattle.disk_kernel.proofs.Represented.{some-machine, tick-kept, no-call}
@@ -60,6 +61,7 @@ returns-clause-event c devices =
                 (rests-so (waits_for c.args.call (slice_index_or c.attempt-end.new.s.own.items p.0 no_own)) old.processes c.attempt-end.new.s p.0 next.lives fresh (c.attempt-end.ensures.waits waiting)));
           };
       count = λ _. ap (λ (processes : ProcState). processes.tick) c.follow.ensures.processes ∙ tick-kept old.processes c.attempt-end.new.s (λ (m : Inner). after_attempt m p.0 (attempted c.args.call m p.0)) (λ m there. (c.attempt-end.ensures.call m there).0) (λ m. attempt-tick m p.0 c.args.call);
+      calls = leaves-drives old devices devices refl;
     }
 
 pub returns-clause-progress : goal.returns-clause-progress

@@ -7,6 +7,7 @@ use Rattle.disk_machine.specs.Services.{Serves, Service}
 use Rattle.disk_machine.specs.State.{rest_of}
 use Rattle.disk_kernel.specs.declared.act.Act.TheVariants.{Attempt}
 use Rattle.disk_kernel.proofs.Acting.{event-here}
+use Rattle.disk_kernel.proofs.Counting.{leaves-drives}
 use Rattle.disk_kernel.proofs.PathCalls.{some-time}
 use Rattle.disk_kernel.proofs.Pending.{attempt-lowers}
 use Rattle.disk_kernel.proofs.Represented.{some-machine, tick-kept, no-call}
@@ -27,6 +28,7 @@ returns-clause-event c devices =
       waits = λ is. cc;
       going = λ _. (p, next.chosen, c.refuse.ensures.lives);
       count = λ _. tick-kept old.processes c.refuse.new.self (λ (m : Inner). goes_on m p.0 (refused_regs (regs_at m p.0) E_UNKSVC)) c.refuse.ensures.tied (λ m. refl);
+      calls = leaves-drives old devices devices refl;
     }
 
 pub returns-clause-progress : goal.returns-clause-progress

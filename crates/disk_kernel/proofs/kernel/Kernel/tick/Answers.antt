@@ -1,6 +1,5 @@
 use Rattle.std.proofs.Common.{ap}
 use Rattle.file_drives.specs.Drives.{drive_views}
-use Rattle.os9_outer.specs.TerminalState.{terminal_states}
 use Rattle.disk_kernel.specs.Outside.{outside}
 use Rattle.disk_kernel.proofs.Ticking.{raised, raised-is, tick-breaks, tick-then}
 use Rattle.disk_kernel.proofs.kernel.Kernel.tick.Goals as goal

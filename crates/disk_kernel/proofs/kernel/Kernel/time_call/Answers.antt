@@ -1,4 +1,4 @@
-use Rattle.std.proofs.Common.{◌≡◌, refl, sym, ap, ◌∙◌, subst}
+use Rattle.std.proofs.Common.{refl, sym, ap, ◌∙◌, subst}
 use Rattle.call_rules.specs.Attempts.{after_attempt}
 use Rattle.call_rules.specs.Inner.{Inner}
 use Rattle.file_state.specs.Tie.{StandsFor}
@@ -13,6 +13,7 @@ use Rattle.disk_kernel.specs.declared.act.Act.TheVariants.{Attempt}
 use Rattle.disk_kernel.specs.Ends.{event_end_of}
 use Rattle.disk_kernel.proofs.Acting.{clock-is, event-then, terms-are}
 use Rattle.disk_kernel.proofs.Calling.{end-tied, goes-on, lives-so, never-wants}
+use Rattle.disk_kernel.proofs.Counting.{leaves-drives}
 use Rattle.disk_kernel.proofs.PathCalls.{is-clock, lives-on}
 use Rattle.disk_kernel.proofs.Pending.{attempt-lowers}
 use Rattle.disk_kernel.proofs.Represented.{no-call}
@@ -55,6 +56,7 @@ returns-clause-event c devices =
       waits = λ is. absurd (time-answers s0.inner p.0 c.args.call old.clock first.now first.attempts.result clock first.attempts.attempt (ended ∙ is));
       going = λ ran. (p, c.tell_end.ensures.chosen ∙ next.chosen, lives-so c.attempt-end.result new.processes.table p.0 (sym c.event_end.ensures ∙ ran) c.tell_end.ensures.lives);
       count = λ _. sym (ap (λ (m : Inner). m.tick) there0.is) ∙ time-tick s0.inner p.0 c.args.call old.clock first.now first.attempts.result clock first.attempts.attempt ∙ ap (λ (m : Inner). m.tick) tied0.inner.is;
+      calls = leaves-drives old devices devices refl;
     }
 
 pub returns-clause-progress : goal.returns-clause-progress
