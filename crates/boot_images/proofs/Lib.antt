@@ -1,0 +1,4 @@
+pub mod BootFileLemmas
+pub mod DriveLemmas
+pub mod ImageLemmas
+pub mod RunLemmas

@@ -1,0 +1,247 @@
+-- What a run with images in the drives says where they are out again.
+use Rattle.std.proofs.Common.{◌≡◌, ◌⊎◌, ◌≤◌, ℕ, zero, suc, Bool, true, false, Option, Some, List, [], ◌∷◌, length, map, slice_get, refl, sym, ap, subst, ◌∙◌, All, inl, inr}
+use Rattle.std.proofs.lemmas.List.{length-map}
+use Rattle.std.proofs.lemmas.List.Elements.{All-head, All-tail}
+use Rattle.std.proofs.lemmas.Option.{none-some, same_Some}
+use Rattle.rbf_model.specs.Volume.{DiskVolume, Vol}
+use Rattle.file_rules.specs.Files.{DriveState, NoneFailed, OneFailed}
+use Rattle.file_drives.specs.Drives.{DriveView, drive_states, media_of}
+use Rattle.file_drives.specs.Mounted.{DriveHolds}
+use Rattle.file_drives.proofs.DriveLemmas.{media-there}
+use Rattle.file_start.specs.Start.{HaveImages, HaveVolumes}
+use Rattle.disk_machine.specs.State.{State}
+use Rattle.disk_ends.proofs.Images.{images-keep-ends}
+use Rattle.disk_ends.proofs.Runs.{run-keeps-ends}
+use Rattle.disk_ends.proofs.Starts.{start-has-images}
+use Rattle.disk_kernel.specs.Breaks.{BreaksEvent}
+use Rattle.disk_kernel.specs.Calls.{StopsSlice}
+use Rattle.disk_kernel.specs.Outside.{Outside}
+use Rattle.os9_outer.specs.Stream.{stream_with}
+use Rattle.os9_outer.specs.TerminalState.{TerminalState}
+use Rattle.boot_run.specs.Machine.{ComesTo, FailsToMount, IsUnrun, LeavesUnrun, MachineCall, RunsFirst, RunsTo, RunsWhole, Setup, StartsLoaded}
+use Rattle.boot_run.specs.Slices.{BreaksOutput, RunsPartly}
+use Rattle.boot_run.specs.World.{World, HasNoFault}
+use Rattle.boot_run.specs.declared.machine.RunEnd.{RunEnd}
+use Rattle.boot_run.specs.declared.machine.RunEnd.TheVariants.{Ended, Living, Refused, DriveFailed, OutputFailed, NoMemory}
+use Rattle.boot_images.specs.BootFile.{IsVolume}
+use Rattle.boot_images.specs.Drives.{HaveRoom, IsEmpty, TakesImages, holding, without_media}
+use Rattle.boot_images.specs.Outcome.{EndsWithImages, HasOutcome, IsImageOf, RunGives, RunsImages}
+use Rattle.boot_images.specs.Ready.{AreEmptyAgain}
+use Rattle.boot_images.proofs.DriveLemmas.{counts-holding, counts-without, empty-without, given-back, holding-at, holding-view, media-without}
+
+-- ---- images that were put in
+
+-- the volumes of images, in their order
+record VolumesOf (images : List (List ℕ)) : Type 0 where
+  volumes : List DiskVolume
+  as_many : length volumes ≡ length images
+  each : (n : ℕ) (v : DiskVolume) → slice_get volumes n ≡ Some v → (image : List ℕ) × (slice_get images n ≡ Some image) × Vol image v
+
+volumes-of : (images : List (List ℕ)) → All IsVolume images → VolumesOf images
+volumes-of [] all = record { volumes = []; as_many = refl; each = λ n v at. absurd (none-some v at) }
+volumes-of (first ∷ images) all =
+    let (v, vol) = All-head IsVolume first images all in
+    let rest = volumes-of images (All-tail IsVolume first images all) in
+    record { volumes = v ∷ rest.volumes; as_many = ap suc rest.as_many; each = each v vol rest }
+  where
+    each : (v : DiskVolume) → Vol first v → (rest : VolumesOf images) → (n : ℕ) (w : DiskVolume) → slice_get (v ∷ rest.volumes) n ≡ Some w → (image : List ℕ) × (slice_get (first ∷ images) n ≡ Some image) × Vol image w
+    each v vol rest zero w at = (first, refl, subst (Vol first) (same_Some v w at) vol)
+    each v vol rest (suc n) w at = rest.each n w at
+
+pub have-volumes : (images : List (List ℕ)) (drives : List DriveView) → length images ≤ length drives → All IsVolume images → HaveVolumes (length images) (holding images drives)
+have-volumes images drives enough all =
+    let of = volumes-of images all in
+    record { volumes = of.volumes; as_many = of.as_many; hold = record { each = each of } }
+  where
+    each : (of : VolumesOf images) (n : ℕ) (v : DiskVolume) → slice_get of.volumes n ≡ Some v → DriveHolds (holding images drives) n v
+    each of n v at =
+        let (image, there, vol) = of.each n v at in
+        let (view, is, held) = holding-view images drives enough n image there in
+        record { view = view; is = is; on = record { image = image; is = held; vol = vol } }
+
+pub have-images : (images : List (List ℕ)) (drives : List DriveView) → length images ≤ length drives → HaveImages (length images) images (holding images drives)
+have-images images drives enough = record { as_many = refl; each = holding-at images drives enough }
+
+-- ---- a world with other drives
+
+abbrev pub with_drives : World → List DriveView → World
+with_drives world drives = record world { devices = record { drives = drives; terms = world.devices.terms } }
+
+-- as the world is with these images in its drives
+abbrev pub with_images_in : List (List ℕ) → World → World
+with_images_in images world = with_drives world (holding images world.devices.drives)
+
+module _ (setup : Setup) (before ran : World) (new : List (List ℕ)) (drives : List DriveView) (room : HaveRoom (length setup.images) before.devices.drives) (as_many : length new ≡ length setup.images) (many : length ran.devices.drives ≡ length before.devices.drives) (taken : TakesImages new ran.devices.drives drives) where
+  -- the world with the images in the drives, and the one where they are out again
+  abbrev held : World
+  held = with_images_in setup.images before
+
+  abbrev after : World
+  after = with_drives ran drives
+
+  -- the drives are counted alike
+  before-counted : drive_states held.devices.drives ≡ drive_states before.devices.drives
+  before-counted = counts-holding setup.images before.devices.drives
+
+  after-counted : drive_states drives ≡ drive_states ran.devices.drives
+  after-counted = ap drive_states taken.left ∙ counts-without ran.devices.drives
+
+  -- ---- the start and parts of a run
+
+  starts-before : (s : State) → StartsLoaded setup held s → StartsLoaded setup before s
+  starts-before s it = record {
+    drives = it.drives;
+    none_failed = subst (λ (states : List DriveState). NoneFailed states it.drives) before-counted it.none_failed;
+    starts = it.starts;
+  }
+
+  breaks-after : (s : State) → BreaksEvent s ran.devices → BreaksEvent s after.devices
+  breaks-after s it = record {
+    p = it.p;
+    chosen = it.chosen;
+    lives = it.lives;
+    code = it.code;
+    act = it.act;
+    call = it.call;
+    is_call = it.is_call;
+    now = it.now;
+    is_now = it.is_now;
+    lacks = it.lacks;
+    drives = it.drives ∙ sym after-counted;
+  }
+
+  stops-after : (n : ℕ) (s : State) → StopsSlice n s ran.devices → StopsSlice n s after.devices
+  stops-after n s (inl (breaks, counted)) = inl (breaks, counted ∙ sym after-counted)
+  stops-after n s (inr (states, t, begins, breaks)) = inr (states, t, begins, breaks-after t breaks)
+
+  output-after : (n : ℕ) (s : State) (out : Option (List ℕ)) → BreaksOutput n s out ran → BreaksOutput n s out after
+  output-after n s out it = record {
+    states = it.states;
+    end = it.end;
+    t = it.t;
+    slice = it.slice;
+    output = it.output;
+    taken = it.taken;
+    terminals = it.terminals;
+    drives = it.drives ∙ sym after-counted;
+  }
+
+  partly-after : (s : State) → RunsPartly setup.slices s held ran → RunsPartly setup.slices s before after
+  partly-after s it = record {
+    count = it.count;
+    states = it.states;
+    written = it.written;
+    reached = it.reached;
+    run = it.run;
+    n = it.n;
+    next = it.next;
+    lives = it.lives;
+    stopped = by it.stopped;
+  }
+    where
+      by : (StopsSlice it.n it.reached ran.devices × (ran.out ≡ stream_with before.out it.written) × HasNoFault held ran) ⊎ BreaksOutput it.n it.reached (stream_with before.out it.written) ran → (StopsSlice it.n it.reached after.devices × (after.out ≡ stream_with before.out it.written) × HasNoFault before after) ⊎ BreaksOutput it.n it.reached (stream_with before.out it.written) after
+      by (inl (stops, gained, kept)) = inl (stops-after it.n it.reached stops, gained, kept)
+      by (inr breaks) = inr (output-after it.n it.reached (stream_with before.out it.written) breaks)
+
+  runs-first : RunsFirst setup held ran → RunsFirst setup before after
+  runs-first it = record { s = it.s; starts = starts-before it.s it.starts; partly = partly-after it.s it.partly }
+
+  unrun-after : IsUnrun held ran → IsUnrun before after
+  unrun-after it = record {
+    out = it.out;
+    terminals = it.terminals;
+    none_failed = subst (λ (states : List DriveState). NoneFailed states (drive_states drives)) before-counted (subst (NoneFailed (drive_states held.devices.drives)) (sym after-counted) it.none_failed);
+  }
+
+  -- ---- a whole run
+
+  module _ (s t : State) (starts : StartsLoaded setup held s) (runs : RunsTo setup s t held ran) where
+    image-of : (drive : ℕ) (was now : List ℕ) → slice_get setup.images drive ≡ Some was → slice_get new drive ≡ Some now → IsImageOf t drive was now
+    image-of drive was now at there =
+        let (v, first, vol) = start-has-images _ s starts.starts drive was at in
+        let (w, last, kept) = (run-keeps-ends setup.slices runs.written s t runs.states runs.run).kept drive v first in
+        let holds = runs.drives.volumes drive w last in
+        let is : now ≡ holds.on.image = taken.each drive now holds.on.image there (media-there ran.devices.drives drive holds.view holds.is ∙ holds.on.is) in
+        record {
+          volume = w;
+          is = last;
+          back = images-keep-ends _ setup.slices runs.written s t runs.states starts.starts runs.run drive was now w at last (subst (λ (image : List ℕ). Vol image w) (sym is) holds.on.vol);
+        }
+
+    has-outcome : HasOutcome setup t runs.written new before after
+    has-outcome = record {
+      s = s;
+      starts = starts-before s starts;
+      states = runs.states;
+      run = runs.run;
+      terminals = runs.terminals;
+      drives = after-counted ∙ sym runs.drives.counts;
+      volumes = record { as_many = as_many; each = image-of };
+    }
+
+  ends-with : (lives : Bool) (begun : ℕ) → RunsWhole setup lives begun held ran → EndsWithImages setup lives begun new before after
+  ends-with lives begun it = record {
+    t = it.t;
+    written = it.runs.written;
+    outcome = has-outcome it.s it.t it.starts it.runs;
+    living = it.living;
+    ticks = it.ticks;
+    output = it.runs.output;
+  }
+
+  -- ---- by the end of the run
+
+  run-gives : (end : RunEnd) → ComesTo setup held ran end → RunGives setup new before after end
+  run-gives (Ended begun) it = ends-with false begun it
+  run-gives (Living begun) it = ends-with true begun it
+  run-gives (Refused fault) it = it
+  run-gives (DriveFailed drive number) it = it
+  run-gives OutputFailed it = runs-first it
+  run-gives NoMemory (inl unrun) = inl (unrun-after unrun)
+  run-gives NoMemory (inr first) = inr (runs-first first)
+
+  same-again : ran ≡ held → after ≡ before
+  same-again is =
+      ap (λ (world : World). with_drives world drives) is
+      ∙ ap (with_drives before) (taken.left ∙ ap (λ (world : World). map without_media world.devices.drives) is ∙ given-back setup.images before.devices.drives room.empty)
+
+  mount-failed : (drive number : ℕ) → FailsToMount drive number held ran → FailsToMount drive number before after
+  mount-failed drive number it = record {
+    failed = subst (λ (states : List DriveState). OneFailed drive number states (drive_states drives)) before-counted (subst (OneFailed drive number (drive_states held.devices.drives)) (sym after-counted) it.failed);
+    media_kept = ap media_of taken.left ∙ media-without before.devices.drives ran.devices.drives room.empty many;
+    terms_kept = it.terms_kept;
+    out_kept = it.out_kept;
+  }
+
+  leaves-unrun : (end : RunEnd) → LeavesUnrun held ran end → LeavesUnrun before after end
+  leaves-unrun (Ended begun) it = tt
+  leaves-unrun (Living begun) it = tt
+  leaves-unrun (Refused fault) it = same-again it
+  leaves-unrun (DriveFailed drive number) it = mount-failed drive number it
+  leaves-unrun OutputFailed it = tt
+  leaves-unrun NoMemory it = tt
+
+  runs-images : (end : RunEnd) → MachineCall setup held ran end → RunsImages setup new before after end
+  runs-images end call = record {
+    gives = λ told. run-gives end (call.comes told);
+    unrun = leaves-unrun end call.unrun;
+    output_fault = call.output_fault;
+    no_fault = call.no_fault;
+    files_kept = call.files_kept;
+  }
+
+-- ---- a call with the devices as they are before, between and after
+
+module _ (setup given : Setup) (before ran : World) (inside left : Outside) (new : List (List ℕ)) (room : HaveRoom (length setup.images) before.devices.drives) (as_many : length new ≡ length setup.images) (many : length ran.devices.drives ≡ length before.devices.drives) (taken : TakesImages new ran.devices.drives left.drives) where
+  pub runs-between : (end : RunEnd) → given ≡ setup → inside.drives ≡ holding setup.images before.devices.drives → inside.terms ≡ before.devices.terms → left.terms ≡ ran.devices.terms → MachineCall given (record before { devices = inside }) ran end → RunsImages setup new before (record ran { devices = left }) end
+  runs-between end same put terms_put terms_left call =
+      let same_devices : inside ≡ record { drives = holding setup.images before.devices.drives; terms = before.devices.terms } = λ i. record { drives = put i; terms = terms_put i } in
+      let held_call = subst (λ (devices : Outside). MachineCall given (record before { devices = devices }) ran end) same_devices call in
+      let set_up = subst (λ (by : Setup). MachineCall by (with_images_in setup.images before) ran end) same held_call in
+      subst (λ (terms : List TerminalState). RunsImages setup new before (record ran { devices = record { drives = left.drives; terms = terms } }) end) (sym terms_left) (runs-images setup before ran new left.drives room as_many many taken end set_up)
+
+pub empty-again : (new : List (List ℕ)) (before ran left : List DriveView) → length ran ≡ length before → TakesImages new ran left → AreEmptyAgain before left
+empty-again new before ran left many taken = record {
+  as_many = ap length taken.left ∙ length-map ran without_media ∙ many;
+  empty = subst (All IsEmpty) (sym taken.left) (empty-without ran);
+}

@@ -1,0 +1,28 @@
+-- What is left when images were written under their names.
+use Rattle.std.specs.Prelude.{◌≡◌, ℕ, Some, Result, List, slice_get, OnOk, IfErr}
+use Rattle.os9_outer.specs.Host.{IfObserved}
+use Rattle.boot_run.specs.World.{World, FailsToWriteFile, HasNoFault}
+use Rattle.boot_images.specs.Images.{WritesAll, WritesUpTo}
+use Rattle.boot_images.specs.declared.write.WriteFault.{WriteFault}
+use Rattle.boot_images.specs.declared.write.WriteFault.TheVariants.{Image, OutOfMemory}
+
+-- the host failed, and last at the write of the image of this number
+abbrev pub FailsAt : ℕ → List (List ℕ) → World → World → Type 0
+FailsAt number names before after =
+    (name : List ℕ) × (slice_get names number ≡ Some name) × FailsToWriteFile name before after
+
+-- the images were written up to one that was not: the host failed there, or memory was out
+abbrev pub StopsWrite : List (List ℕ) → List (List ℕ) → World → World → WriteFault → Type 0
+StopsWrite names images before after (Image number) =
+    IfObserved (WritesUpTo number names images) before.files after.files × FailsAt number names before after
+StopsWrite names images before after OutOfMemory =
+    ((number : ℕ) × IfObserved (WritesUpTo number names images) before.files after.files) × HasNoFault before after
+
+-- all images were written, or those up to one; the output and the devices stay
+pub record WritesImages {Value : Type 0} (names images : List (List ℕ)) (answer : Result Value WriteFault)
+    (before after : World) : Type 0 where
+  pub written : OnOk answer (IfObserved (WritesAll names images) before.files after.files)
+  pub no_fault : OnOk answer (HasNoFault before after)
+  pub stopped : IfErr answer (StopsWrite names images before after)
+  pub out_kept : after.out ≡ before.out
+  pub devices_kept : after.devices ≡ before.devices

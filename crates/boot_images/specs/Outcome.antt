@@ -1,0 +1,85 @@
+-- The outcome of a run: what the machine wrote, its last state, and the images that hold the volumes of that state
+-- (this project's own).
+use Rattle.std.specs.Prelude.{◌≡◌, ◌≢◌, ◌⊎◌, ℕ, Bool, true, false, Some, List, length, slice_get, All}
+use Rattle.os9_outer.specs.Stream.{stream_with}
+use Rattle.machine_model.specs.Start.{Refuses}
+use Rattle.machine_model.specs.declared.ends.BootFault.{BootFault}
+use Rattle.rbf_model.specs.Volume.{DiskVolume}
+use Rattle.file_drives.specs.Drives.{drive_states}
+use Rattle.file_rules.specs.Files.{volume_at}
+use Rattle.disk_machine.specs.Run.{Run}
+use Rattle.disk_machine.specs.State.{State, has_living}
+use Rattle.disk_ends.specs.Images.{IsWrittenBack}
+use Rattle.boot_run.specs.Console.{IsObserved}
+use Rattle.boot_run.specs.Machine.{IsUnrun, LeavesUnrun, RunsFirst, Setup, StartsLoaded}
+use Rattle.boot_run.specs.World.{World, FailsToWrite, HasNoFault}
+use Rattle.boot_run.specs.declared.machine.RunEnd.{RunEnd}
+use Rattle.boot_run.specs.declared.machine.RunEnd.TheVariants.{Ended, Living, Refused, DriveFailed, OutputFailed, NoMemory}
+use Rattle.boot_images.specs.declared.machine.Start.{Start}
+
+-- an image holds the volume of a drive: it is as long as the one that was put in, with its first sector and the bytes
+-- behind its volume
+pub record IsImageOf (t : State) (drive : ℕ) (old new : List ℕ) : Type 0 where
+  pub volume : DiskVolume
+  pub is : volume_at t.files drive ≡ Some volume
+  pub back : IsWrittenBack old new volume
+
+-- the images hold the volumes of a state, those of D0, D1, D2 and D3 in this order
+pub record AreImagesOf (t : State) (old new : List (List ℕ)) : Type 0 where
+  pub as_many : length new ≡ length old
+  pub each : (drive : ℕ) (before after : List ℕ) → slice_get old drive ≡ Some before
+      → slice_get new drive ≡ Some after → IsImageOf t drive before after
+
+-- The machine that is set up so ran over all its slices: from the state in which it starts, with the devices of the
+-- call, through the states of a run to this one. Its terminals and the counts of its drives are those that are there
+-- now.
+pub record HasOutcome (setup : Setup) (t : State) (written : List ℕ) (images : List (List ℕ)) (before after : World)
+    : Type 0 where
+  pub s : State
+  pub starts : StartsLoaded setup before s
+  pub states : List State
+  pub run : Run setup.slices s states written t
+  pub terminals : after.devices.terms ≡ t.terms
+  pub drives : drive_states after.devices.drives ≡ t.files.drives
+  pub volumes : AreImagesOf t setup.images images
+
+-- it ran to its end: a process lives then or none does, so many slices were begun, each of which is a tick, and the
+-- output has gained what it wrote
+pub record EndsWithImages (setup : Setup) (lives : Bool) (begun : ℕ) (images : List (List ℕ)) (before after : World)
+    : Type 0 where
+  pub t : State
+  pub written : List ℕ
+  pub outcome : HasOutcome setup t written images before after
+  pub living : has_living t ≡ lives
+  pub ticks : begun ≡ t.inner.tick
+  pub output : after.out ≡ stream_with before.out written
+
+-- what comes of it, by how its run ended
+abbrev pub RunGives : Setup → List (List ℕ) → World → World → RunEnd → Type 0
+RunGives setup images before after (Ended begun) = EndsWithImages setup false begun images before after
+RunGives setup images before after (Living begun) = EndsWithImages setup true begun images before after
+RunGives setup images before after (Refused fault) = Refuses setup.file setup.blocks fault
+RunGives setup images before after (DriveFailed drive number) =
+    (fault : BootFault) → ¬ Refuses setup.file setup.blocks fault
+RunGives setup images before after OutputFailed = RunsFirst setup before after
+RunGives setup images before after NoMemory = IsUnrun before after ⊎ RunsFirst setup before after
+
+-- A machine was started with the images in its drives, run over its slices, and these images were taken out again.
+pub record RunsImages (setup : Setup) (images : List (List ℕ)) (before after : World) (end : RunEnd) : Type 0 where
+  pub gives : All IsObserved before.devices.terms → RunGives setup images before after end
+  pub unrun : LeavesUnrun before after end
+  -- the host failed, and last at a write to the output; at every other end it did not fail
+  pub output_fault : end ≡ OutputFailed → FailsToWrite before after
+  pub no_fault : end ≢ OutputFailed → HasNoFault before after
+  pub files_kept : after.files ≡ before.files
+
+-- what a machine is set up with, with these images
+abbrev pub setup_of : Start → List (List ℕ) → Setup
+setup_of start images = record {
+  file = start.file.items;
+  blocks = start.blocks;
+  time = start.time;
+  images = images;
+  keys = start.keys.items;
+  slices = start.slices.items;
+}

@@ -1,0 +1,80 @@
+//! A machine that runs with images in its drives.
+
+ghost use Rattle.std.specs.Prelude.{◌≡◌, All, length, vec_len};
+ghost use Rattle.boot_images.specs.BootFile.{IsVolume};
+ghost use Rattle.boot_images.specs.Outcome.{RunsImages, setup_of};
+ghost use Rattle.boot_images.specs.Ready.{AreEmptyAgain, AreFree, CanStart};
+ghost use Rattle.boot_run.specs.World.{world_of};
+ghost use Rattle.disk_kernel.specs.Outside.{outside};
+ghost use Rattle.file_drives.specs.Drives.{drive_views};
+
+use crate::drives::{eject_images, insert_images};
+use crate::images::Images;
+use boot_run::{RunEnd, run_machine};
+use device_table::devices::Devices;
+use disk_kernel::Config;
+use os9_base::registers::TimePacket;
+use os9_outer::drive::BlockDriver;
+use os9_outer::host::Host;
+use os9_outer::terminal::CharDriver;
+use script_text::script::ScriptKey;
+use std::alloc::Global;
+
+/// What a machine is started with beside its images, and what drives its run.
+#[derive(Drop)]
+pub struct Start {
+    /// How many blocks of 8,192 bytes its memory has, from 8 to 256.
+    pub blocks: u16,
+    /// The date and time at its start.
+    pub time: TimePacket,
+    /// The boot file.
+    pub file: Vec<u8>,
+    /// The keys of the terminals, in their order.
+    pub keys: Vec<ScriptKey>,
+    /// The slices, each a number of instructions.
+    pub slices: Vec<u32>,
+}
+
+/// Puts the images into the drives, the first into D0, starts a machine and runs it over its slices,
+/// and takes the images out again, as the drives hold them then.
+pub fn run_images<H: Host>(
+    alloc: Global,
+    start: &Start,
+    images: &mut Images,
+    host: &mut H,
+    devices: &mut Devices,
+) -> RunEnd
+    requires devices { AreFree (length images.old) (outside ⟦<dyn BlockDriver as BlockDriver>⟧
+        devices.old.drives.items ⟦<dyn CharDriver as CharDriver>⟧ devices.old.terms.items) }
+    requires start { CanStart start.now }
+    requires volumes { All IsVolume images.old }
+    ensures run { RunsImages (setup_of start.now images.old) images.new
+        (world_of H.Host host.old (outside ⟦<dyn BlockDriver as BlockDriver>⟧
+        devices.old.drives.items ⟦<dyn CharDriver as CharDriver>⟧ devices.old.terms.items))
+        (world_of H.Host host.new (outside ⟦<dyn BlockDriver as BlockDriver>⟧
+        devices.new.drives.items ⟦<dyn CharDriver as CharDriver>⟧ devices.new.terms.items)) result }
+    ensures count { length images.new ≡ length images.old }
+    ensures err_kept { H.bytes_err host.new ≡ H.bytes_err host.old }
+    ensures drives { AreEmptyAgain
+        (drive_views ⟦<dyn BlockDriver as BlockDriver>⟧ devices.old.drives.items)
+        (drive_views ⟦<dyn BlockDriver as BlockDriver>⟧ devices.new.drives.items) }
+    ensures terminals { vec_len devices.new.terms ≡ vec_len devices.old.terms }
+{
+    insert_images(alloc, images, devices);
+    let config = Config {
+        blocks: start.blocks,
+        images: images.len(),
+        time: start.time,
+    };
+    let end = run_machine(
+        alloc,
+        config,
+        start.file.as_slice(),
+        start.keys.as_slice(),
+        start.slices.as_slice(),
+        host,
+        devices,
+    );
+    eject_images(alloc, images, devices);
+    end
+}

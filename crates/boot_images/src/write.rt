@@ -1,0 +1,45 @@
+//! Images that are written under their names.
+
+ghost use Rattle.std.specs.Prelude.{◌≡◌, length};
+ghost use Rattle.disk_kernel.specs.Outside.{Outside};
+ghost use Rattle.boot_images.specs.ImageWrites.{WritesImages};
+ghost use Rattle.boot_run.specs.World.{world_of};
+
+use crate::images::Images;
+use os9_outer::host::{Host, HostFault};
+use os9_words::word::Words;
+use thiserror::Error;
+
+/// Why images were not written.
+#[derive(Clone, Copy, Debug, PartialEq, Eq, Error)]
+pub enum WriteFault {
+    /// The image of this place, from 0, could not be written. Of its bytes the first ones may be in
+    /// its file.
+    #[error("image {0}")]
+    Image(u8),
+    /// Out of memory.
+    #[error("no memory")]
+    OutOfMemory,
+}
+
+/// Writes the images under these names, in order.
+///
+/// # Errors
+///
+/// `Image` for the first that could not be written; those before it are written.
+pub fn write_images<H: Host>(names: &Words, images: &Images, host: &mut H) -> Result<(), WriteFault>
+    requires { length images.now ≡ length names.now }
+    ensures wrote { (devices : Outside) → WritesImages names.now images.now result
+        (world_of H.Host host.old devices) (world_of H.Host host.new devices) }
+    ensures err_kept { H.bytes_err host.new ≡ H.bytes_err host.old }
+{
+    for number in 0..images.len() {
+        let name = names.word(u32::from(number));
+        match host.write_file(name.text(), images.image(number)) {
+            Ok(()) => {}
+            Err(HostFault::Failed) => return Err(WriteFault::Image(number)),
+            Err(HostFault::OutOfMemory) => return Err(WriteFault::OutOfMemory),
+        }
+    }
+    Ok(())
+}

@@ -1,0 +1,3 @@
+pub mod ConsoleLemmas
+pub mod RunLemmas
+pub mod MachineLemmas

@@ -1,0 +1,25 @@
+use Rattle.std.proofs.Common.{◌≡◌, ◌+◌, ◌-◌, ◌<◌, take, length, All}
+use Rattle.std.specs.Vec.{vec_len}
+use Rattle.disk_machine.specs.State.{State}
+use Rattle.disk_kernel.specs.Outside.{outside}
+use Rattle.disk_kernel.specs.Tie.{Represents, Stands, ticks}
+use Rattle.boot_run.specs.Console.{IsObserved}
+use Rattle.boot_run.specs.World.{HasNoFault, world_of}
+use Rattle.boot_run.proofs.ConsoleLemmas.{nowhere}
+use Rattle.boot_run.proofs.RunLemmas.{Reaches}
+use Rattle.boot_run.proofs.run.run_slices.Given as goal
+
+abbrev pub invariant-loop-n : goal.invariant-loop-n
+invariant-loop-n g l =
+    let before = outside (λ table. (g.dyn-1.0.entry table).1) l.initial.devices.drives.items (λ table. (g.dyn-2.0.entry table).1) l.initial.devices.terms.items in
+    let now = outside (λ table. (g.dyn-1.0.entry table).1) l.devices.drives.items (λ table. (g.dyn-2.0.entry table).1) l.devices.terms.items in
+    record {
+      few : ticks l.kernel + (length l.slices - l.n-index) < 4294000000;
+      stands : Stands l.kernel now;
+      reaches : (s : State) → All IsObserved before.terms → Represents l.initial.kernel before s → Reaches (g.H.Host.bytes_out l.initial.host) (take l.n-index l.slices) s l.kernel now (g.H.Host.bytes_out l.host);
+      count : HasNoFault (world_of g.H.Host l.initial.host nowhere) (world_of g.H.Host l.host nowhere);
+      files : g.H.Host.file_map l.host ≡ g.H.Host.file_map l.initial.host;
+      err : g.H.Host.bytes_err l.host ≡ g.H.Host.bytes_err l.initial.host;
+      terminals : vec_len l.devices.terms ≡ vec_len l.initial.devices.terms;
+      drives : vec_len l.devices.drives ≡ vec_len l.initial.devices.drives;
+    }

@@ -1,0 +1,7 @@
+pub mod Console
+pub mod Machine
+pub mod PassedBytes
+pub mod RunEnd
+pub mod RunFault
+pub mod Slices
+pub mod World

@@ -1,0 +1,124 @@
+-- A run of a machine from its start on.
+use Rattle.std.specs.Prelude.{◌≡◌, ◌≢◌, ◌⊎◌, ⊤, ℕ, Bool, true, false, Some, List, All}
+use Rattle.os9_base.specs.declared.registers.TimePacket.{TimePacket}
+use Rattle.os9_outer.specs.Stream.{stream_with}
+use Rattle.file_drives.specs.Drives.{drive_states, media_of}
+use Rattle.file_drives.specs.Mounted.{DriveHolds}
+use Rattle.file_rules.specs.Files.{DriveState, NoneFailed, OneFailed, volume_at}
+use Rattle.key_loading.specs.Loaded.{loaded}
+use Rattle.machine_model.specs.Start.{Refuses}
+use Rattle.machine_model.specs.declared.ends.BootFault.{BootFault}
+use Rattle.rbf_model.specs.Volume.{DiskVolume}
+use Rattle.script_text.specs.declared.script.ScriptKey.{ScriptKey}
+use Rattle.disk_machine.specs.Run.{Run}
+use Rattle.disk_machine.specs.Start.{Starts}
+use Rattle.disk_machine.specs.State.{State, has_living}
+use Rattle.disk_kernel.specs.declared.new.Config.{Config}
+use Rattle.boot_run.specs.Console.{IsObserved}
+use Rattle.boot_run.specs.Slices.{RunsPartly}
+use Rattle.boot_run.specs.World.{World, HasNoFault, FailsToWrite}
+use Rattle.boot_run.specs.declared.machine.RunEnd.{RunEnd}
+use Rattle.boot_run.specs.declared.machine.RunEnd.TheVariants.{Ended, Living, Refused, DriveFailed, OutputFailed, NoMemory}
+
+-- what a machine is started with beside its devices, and what drives its run
+pub record Setup : Type 0 where
+  pub file : List ℕ  -- the boot file
+  pub blocks : ℕ  -- of its memory
+  pub time : TimePacket
+  pub images : List (List ℕ)  -- those in the first drives
+  pub keys : List ScriptKey
+  pub slices : List ℕ
+
+-- so with this configuration
+abbrev pub setup_with : Config → List ℕ → List (List ℕ) → List ScriptKey → List ℕ → Setup
+setup_with config file images keys slices = record {
+  file = file;
+  blocks = config.blocks;
+  time = config.time;
+  images = images;
+  keys = keys;
+  slices = slices;
+}
+
+-- the machine starts in this state: no drive has failed when the images are mounted, and then each terminal is loaded
+-- with its keys
+pub record StartsLoaded (setup : Setup) (before : World) (s : State) : Type 0 where
+  pub drives : List DriveState
+  pub none_failed : NoneFailed (drive_states before.devices.drives) drives
+  pub starts : Starts (record {
+    file = setup.file;
+    blocks = setup.blocks;
+    time = setup.time;
+    images = setup.images;
+    drives = drives;
+    terms = loaded setup.keys before.devices.terms;
+  }) s
+
+-- the volumes of a state are in the drives
+pub record HoldsVolumes (s : State) (after : World) : Type 0 where
+  pub counts : s.files.drives ≡ drive_states after.devices.drives
+  pub volumes : (drive : ℕ) (v : DiskVolume) → volume_at s.files drive ≡ Some v
+      → DriveHolds after.devices.drives drive v
+
+-- the machine was run over its slices to this state: the output gained what it wrote, the terminals are those at its
+-- end, and the drives hold its volumes
+pub record RunsTo (setup : Setup) (s t : State) (before after : World) : Type 0 where
+  pub states : List State
+  pub written : List ℕ
+  pub run : Run setup.slices s states written t
+  pub output : after.out ≡ stream_with before.out written
+  pub terminals : after.devices.terms ≡ t.terms
+  pub drives : HoldsVolumes t after
+
+-- the machine was started and run to its end: a process lives then or none does, and so many slices were begun, each of
+-- which is a tick
+pub record RunsWhole (setup : Setup) (lives : Bool) (begun : ℕ) (before after : World) : Type 0 where
+  pub s : State
+  pub t : State
+  pub starts : StartsLoaded setup before s
+  pub runs : RunsTo setup s t before after
+  pub living : has_living t ≡ lives
+  pub ticks : begun ≡ t.inner.tick
+
+-- the machine was started and run over the first of its slices
+pub record RunsFirst (setup : Setup) (before after : World) : Type 0 where
+  pub s : State
+  pub starts : StartsLoaded setup before s
+  pub partly : RunsPartly setup.slices s before after
+
+-- nothing was run: the output and the terminals are as they were, and no drive has failed
+pub record IsUnrun (before after : World) : Type 0 where
+  pub out : after.out ≡ before.out
+  pub terminals : after.devices.terms ≡ before.devices.terms
+  pub none_failed : NoneFailed (drive_states before.devices.drives) (drive_states after.devices.drives)
+
+-- what comes of a machine, by how its run ended, if the bytes of all terminals are observed
+abbrev pub ComesTo : Setup → World → World → RunEnd → Type 0
+ComesTo setup before after (Ended begun) = RunsWhole setup false begun before after
+ComesTo setup before after (Living begun) = RunsWhole setup true begun before after
+ComesTo setup before after (Refused fault) = Refuses setup.file setup.blocks fault
+ComesTo setup before after (DriveFailed drive number) = (fault : BootFault) → ¬ Refuses setup.file setup.blocks fault
+ComesTo setup before after OutputFailed = RunsFirst setup before after
+ComesTo setup before after NoMemory = IsUnrun before after ⊎ RunsFirst setup before after
+
+-- A drive failed when its image was mounted, and no other one; the media, the terminals and the output are as they
+-- were.
+pub record FailsToMount (drive number : ℕ) (before after : World) : Type 0 where
+  pub failed : OneFailed drive number (drive_states before.devices.drives) (drive_states after.devices.drives)
+  pub media_kept : media_of after.devices.drives ≡ media_of before.devices.drives
+  pub terms_kept : after.devices.terms ≡ before.devices.terms
+  pub out_kept : after.out ≡ before.out
+
+-- what is left of the devices and the output where no machine runs, observed or not
+abbrev pub LeavesUnrun : World → World → RunEnd → Type 0
+LeavesUnrun before after (Refused fault) = after ≡ before
+LeavesUnrun before after (DriveFailed drive number) = FailsToMount drive number before after
+LeavesUnrun before after end = ⊤
+
+pub record MachineCall (setup : Setup) (before after : World) (end : RunEnd) : Type 0 where
+  pub comes : All IsObserved before.devices.terms → ComesTo setup before after end
+  pub unrun : LeavesUnrun before after end
+  -- the host failed, and last at a write to the output; at every other end it did not fail
+  pub output_fault : end ≡ OutputFailed → FailsToWrite before after
+  pub no_fault : end ≢ OutputFailed → HasNoFault before after
+  pub files_kept : after.files ≡ before.files

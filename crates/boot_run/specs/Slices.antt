@@ -1,0 +1,58 @@
+-- What is left when slices were run.
+use Rattle.std.specs.Prelude.{◌≡◌, ◌⊎◌, ℕ, true, Option, Some, Result, List, take, slice_get, OnOk, OnErr, All}
+use Rattle.os9_outer.specs.Stream.{stream_with, GainsPrefix}
+use Rattle.file_drives.specs.Drives.{drive_states}
+use Rattle.machine_model.specs.Console.{console_bytes}
+use Rattle.machine_model.specs.declared.ends.SliceEnd.{SliceEnd}
+use Rattle.disk_machine.specs.Run.{Run, Slice}
+use Rattle.disk_machine.specs.State.{State, has_living}
+use Rattle.disk_kernel.specs.Calls.{StopsSlice}
+use Rattle.disk_kernel.specs.Tie.{Represents}
+use Rattle.disk_kernel.specs.declared.kernel.Kernel.{Kernel}
+use Rattle.boot_run.specs.Console.{IsObserved, emptied_front}
+use Rattle.boot_run.specs.RunFault.{OnOutputFault, UnlessOutputFault}
+use Rattle.boot_run.specs.World.{World, HasNoFault, FailsToWrite}
+use Rattle.boot_run.specs.declared.run.RunFault.{RunFault}
+
+-- A slice was run from this state, and the output did not take all that it wrote: what was out before is followed by
+-- the beginning of that. The bytes of so many terminals were taken, and all else of the devices is as the slice left
+-- it.
+pub record BreaksOutput (n : ℕ) (s : State) (out : Option (List ℕ)) (after : World) : Type 0 where
+  pub states : List State
+  pub end : SliceEnd
+  pub t : State
+  pub slice : Slice n s states end t
+  pub output : GainsPrefix out (console_bytes t.terms) after.out
+  pub taken : ℕ
+  pub terminals : after.devices.terms ≡ emptied_front taken t.terms
+  pub drives : t.files.drives ≡ drive_states after.devices.drives
+
+-- The machine went on from this state over the first of these slices, and stopped.
+pub record RunsPartly (slices : List ℕ) (s : State) (before after : World) : Type 0 where
+  pub count : ℕ  -- so many slices were run, and the output took what they wrote
+  pub states : List State  -- the states after their events
+  pub written : List ℕ  -- what they wrote
+  pub reached : State  -- the state that they came to
+  pub run : Run (take count slices) s states written reached
+  pub n : ℕ  -- the instructions of the next slice
+  pub next : slice_get slices count ≡ Some n
+  pub lives : has_living reached ≡ true
+  -- memory was out within it, and the host did not fail; or the output did not take all that it wrote
+  pub stopped : (StopsSlice n reached after.devices × (after.out ≡ stream_with before.out written)
+      × HasNoFault before after)
+      ⊎ BreaksOutput n reached (stream_with before.out written) after
+
+pub record RunsSlices {Value : Type 0} (slices : List ℕ) (old new : Kernel) (answer : Result Value RunFault)
+    (before after : World) : Type 0 where
+  -- Ok: from each state that was represented there is a run over the slices to one that is represented
+  -- now, and the output gained what it writes
+  pub run : OnOk answer ((s : State) → All IsObserved before.devices.terms → Represents old before.devices s
+      → (states : List State) × (written : List ℕ) × (t : State) × Run slices s states written t
+      × Represents new after.devices t × (after.out ≡ stream_with before.out written))
+  -- else there is a run over the first of them
+  pub partial : OnErr answer ((s : State) → All IsObserved before.devices.terms
+      → Represents old before.devices s → RunsPartly slices s before after)
+  -- the host failed last at the output, or not at all
+  pub output_fault : OnOutputFault answer (FailsToWrite before after)
+  pub no_fault : UnlessOutputFault answer (HasNoFault before after)
+  pub files_kept : after.files ≡ before.files

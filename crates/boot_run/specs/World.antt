@@ -1,0 +1,46 @@
+-- The world around a run of a machine, as far as it can be observed: the host and the devices.
+use Rattle.std.specs.Prelude.{◌≡◌, ℕ, true, false, Bool, Some, None, Option, List}
+use Rattle.os9_base.specs.Count.{Rose}
+use Rattle.os9_outer.specs.Host.{Files}
+use Rattle.os9_outer.specs.declared.host.Host.{Ghosts}
+use Rattle.disk_kernel.specs.Outside.{Outside}
+
+pub record World : Type 0 where
+  pub files : Option Files  -- what the files hold
+  pub out : Option (List ℕ)  -- the bytes of the output stream
+  pub faults : ℕ  -- how often a file or the output stream failed
+  pub failed_name : Option (List ℕ)  -- the file of the last failure, none if the output stream failed
+  pub failed_in_read : Bool  -- the last failure was that of a read
+  pub devices : Outside  -- the drives and the terminals
+
+-- the world of a host and of these devices, as `world_of H.Host host.now (outside ..)`
+abbrev pub world_of : {Host : Type 0} → Ghosts Host → Host → Outside → World
+world_of members host devices = record {
+  files = members.file_map host;
+  out = members.bytes_out host;
+  faults = members.host_faults host;
+  failed_name = members.failed_name host;
+  failed_in_read = members.failed_in_read host;
+  devices = devices;
+}
+
+-- the host did not fail
+abbrev pub HasNoFault : World → World → Type 0
+HasNoFault before after =
+    (after.faults ≡ before.faults) × (after.failed_name ≡ before.failed_name)
+    × (after.failed_in_read ≡ before.failed_in_read)
+
+-- the host failed, and last at a write to the output stream
+abbrev pub FailsToWrite : World → World → Type 0
+FailsToWrite before after =
+    Rose before.faults after.faults × (after.failed_name ≡ None) × (after.failed_in_read ≡ false)
+
+-- the host failed, and last at the read of the file of this name
+abbrev pub FailsToReadFile : List ℕ → World → World → Type 0
+FailsToReadFile name before after =
+    Rose before.faults after.faults × (after.failed_name ≡ Some name) × (after.failed_in_read ≡ true)
+
+-- the host failed, and last at the write of the file of this name
+abbrev pub FailsToWriteFile : List ℕ → World → World → Type 0
+FailsToWriteFile name before after =
+    Rose before.faults after.faults × (after.failed_name ≡ Some name) × (after.failed_in_read ≡ false)

@@ -1,0 +1,110 @@
+//! A machine is started and run.
+
+ghost use Rattle.std.specs.Prelude.{◌≡◌, ◌≢◌, ◌<◌, ◌≤◌, ℕ, List, length, true, vec_len};
+ghost use Rattle.civil_time.specs.CivilTime.{is_time_packet};
+ghost use Rattle.disk_kernel.specs.Outside.{outside};
+ghost use Rattle.file_drives.specs.Drives.{drive_views};
+ghost use Rattle.file_start.specs.Start.{HaveImages, HaveVolumes};
+ghost use Rattle.key_loading.specs.Loaded.{AreUnloaded};
+ghost use Rattle.os9_outer.specs.TerminalState.{terminal_states};
+ghost use Rattle.boot_run.specs.Machine.{MachineCall, setup_with};
+ghost use Rattle.boot_run.specs.RunEnd.{start_end};
+ghost use Rattle.boot_run.specs.World.{world_of};
+
+use crate::run::{RunFault, run_slices};
+use device_table::devices::Devices;
+use disk_kernel::{BootFault, Config, Kernel, StartError};
+use key_loading::load_keys;
+use os9_base::limits::LAST_TICK;
+use os9_outer::drive::BlockDriver;
+use os9_outer::host::Host;
+use os9_outer::terminal::CharDriver;
+use script_text::script::ScriptKey;
+use std::alloc::Global;
+
+/// How a run of a machine ended.
+#[derive(Clone, Copy, Debug, PartialEq, Eq)]
+pub enum RunEnd {
+    /// No process lives; so many slices were begun.
+    Ended(u32),
+    /// The slices are used up, and a process lives; so many slices were begun.
+    Living(u32),
+    /// The boot file is refused.
+    Refused(BootFault),
+    /// A drive failed when its image was mounted: its number, and that of its fault.
+    DriveFailed(u8, u8),
+    /// The output stream could not be written.
+    OutputFailed,
+    /// Out of memory.
+    NoMemory,
+}
+
+/// Starts a machine with a boot file and the images in its first drives, and runs it over the
+/// slices. What the terminals are given goes to the output stream after each slice. The terminals are
+/// loaded with their keys once the kernel stands.
+pub fn run_machine<H: Host>(
+    alloc: Global,
+    config: Config,
+    file: &[u8],
+    keys: &[ScriptKey],
+    slices: &[u32],
+    host: &mut H,
+    devices: &mut Devices,
+) -> RunEnd
+    requires terminals { AreUnloaded
+        (terminal_states ⟦<dyn CharDriver as CharDriver>⟧ devices.old.terms.items) }
+    requires blocks { (8 ≤ config.blocks) × (config.blocks ≤ 256) }
+    requires time { is_time_packet config.time ≡ true }
+    requires drives { (config.images ≤ vec_len devices.old.drives)
+        × (vec_len devices.old.drives ≤ 4) }
+    requires volumes { HaveVolumes config.images
+        (drive_views ⟦<dyn BlockDriver as BlockDriver>⟧ devices.old.drives.items) }
+    requires few { length slices.now < LAST_TICK }
+    ensures call { (images : List (List ℕ)) → HaveImages config.images images
+        (drive_views ⟦<dyn BlockDriver as BlockDriver>⟧ devices.old.drives.items)
+        → MachineCall (setup_with config file.now images keys.now slices.now)
+        (world_of H.Host host.old (outside ⟦<dyn BlockDriver as BlockDriver>⟧
+        devices.old.drives.items ⟦<dyn CharDriver as CharDriver>⟧ devices.old.terms.items))
+        (world_of H.Host host.new (outside ⟦<dyn BlockDriver as BlockDriver>⟧
+        devices.new.drives.items ⟦<dyn CharDriver as CharDriver>⟧ devices.new.terms.items)) result }
+    ensures err_kept { H.bytes_err host.new ≡ H.bytes_err host.old }
+    ensures terminals { vec_len devices.new.terms ≡ vec_len devices.old.terms }
+    ensures drives { vec_len devices.new.drives ≡ vec_len devices.old.drives }
+{
+    let mut kernel = match Kernel::new(alloc, config, file, devices) {
+        Ok(kernel) => kernel,
+        Err(error) => return end_of_start(error),
+    };
+    match load_keys(alloc, devices, keys) {
+        Ok(()) => {}
+        Err(_) => return RunEnd::NoMemory,
+    }
+    match run_slices(&mut kernel, slices, host, devices) {
+        Ok(()) => run_end(kernel.living(), kernel.ticks()),
+        Err(RunFault::Output) => RunEnd::OutputFailed,
+        Err(RunFault::NoMemory) => RunEnd::NoMemory,
+    }
+}
+
+/// How a run ends whose machine did not start.
+fn end_of_start(error: StartError) -> RunEnd
+    ensures { result ≡ start_end error }
+{
+    match error {
+        StartError::Boot(BootFault::OutOfMemory) => RunEnd::NoMemory,
+        StartError::Boot(fault) => RunEnd::Refused(fault),
+        StartError::Drive(drive, number) => RunEnd::DriveFailed(drive, number),
+    }
+}
+
+/// How a run ended after which so many processes live, with so many slices begun.
+fn run_end(living: u8, begun: u32) -> RunEnd
+    ensures idle { living ≡ 0 → result ≡ RunEnd.Ended begun }
+    ensures lives { living ≢ 0 → result ≡ RunEnd.Living begun }
+{
+    if living == 0 {
+        RunEnd::Ended(begun)
+    } else {
+        RunEnd::Living(begun)
+    }
+}
