@@ -8,28 +8,105 @@ use io_model::terminal::Progress;
 use io_state::state::IoState;
 use os9_base::registers::Pid;
 use os9_outer::script_tty::ScriptTty;
-use os9_outer::terminal::Key;
+use os9_outer::terminal::{CharDriver, Key};
 use proc_state::state::ProcState;
 use process_table::Life;
-use std::alloc::Global;
+use std::alloc::{AllocError, Global};
+use std::fmt::Debug;
+use std::process::Abort;
 use std::test::Fail;
 
 const FIRST: Pid = Pid(2);
 
 const SECOND: Pid = Pid(3);
 
-/// Two processes, FIRST and SECOND.
+/// `assert_eq!` by a call, which a proof passes with less work.
+macro_rules! same {
+    ($rt:expr; $got:expr, $want:expr) => {
+        assert_same(&$rt, stringify!($got), $got, $want)
+    };
+}
+
+fn assert_same<T: PartialEq + Debug + Drop>(rt: &impl Abort, what: &str, got: T, want: T) {
+    assert_eq!(rt; got, want, "{what}");
+}
+
+/// Two processes, FIRST and SECOND, and the terminal TERM.
+#[derive(Drop)]
+struct Desk {
+    s: ProcState,
+    io: IoState,
+    devices: Devices,
+}
+
+impl Desk {
+    /// TERM's driver fails at the calls of these numbers.
+    fn new(alloc: Global, plan: &[u64]) -> Result<Desk, Fail> {
+        Ok(Desk {
+            s: processes(alloc)?,
+            io: IoState::new(alloc)?,
+            devices: with_term(alloc, plan)?,
+        })
+    }
+
+    /// A process writes to TERM, if it does not wait.
+    fn write(&mut self, p: Pid, bytes: &[u8]) -> Progress
+        requires process { p.0 < 33 }
+        requires most { length bytes.now ≤ 65535 }
+    {
+        if self.io.kept(p).is_some() || self.devices.terms.is_empty() {
+            return Progress::NoMemory;
+        }
+        self.io.write_terminal(p, 0, bytes, &mut self.devices)
+    }
+
+    /// Gives TERM keys that are due. False where memory is short, or keys are left there.
+    fn load(&mut self, alloc: Global, bytes: &[u8]) -> bool {
+        match due_keys(alloc, bytes) {
+            Ok(keys) => !self.devices.terms.is_empty() && self.devices.term(0).load(keys).is_ok(),
+            Err(_) => false,
+        }
+    }
+
+    /// The keys that are due arrive. False where memory is short, or TERM is not the one terminal.
+    fn poll(&mut self) -> bool {
+        self.devices.terms.len() == 1
+            && arrive_keys(&mut self.s, &mut self.io, &mut self.devices).is_ok()
+    }
+
+    /// The pending signal of a process, if it lives.
+    fn pending(&self, p: Pid) -> Option<u8> {
+        if lives(&self.s, p) {
+            self.s.table.due_signal(p)
+        } else {
+            None
+        }
+    }
+
+    /// How many bytes TERM has for a read.
+    fn ready_count(&self) -> u16 {
+        self.io.ready_count(Target::Term(0))
+    }
+}
+
 fn processes(alloc: Global) -> Result<ProcState, Fail> {
     let mut s = ProcState::new(alloc, 8)?;
-    let _first = s.make(Pid(0), 7, 128).ok_or("no process")?;
-    let _second = s.make(Pid(0), 7, 128).ok_or("no process")?;
+    if s.make(Pid(0), 7, 128).is_none() || s.make(Pid(0), 7, 128).is_none() {
+        return Err("no process".into());
+    }
     Ok(s)
 }
 
-/// Gives TERM keys that are due.
-fn load(alloc: Global, devices: &mut Devices, bytes: &[u8]) -> Result<(), Fail>
-    requires { vec_len devices.old.terms ≡ 1 }
-{
+fn with_term(alloc: Global, plan: &[u64]) -> Result<Devices, Fail> {
+    let tty = ScriptTty::new(alloc, Vec::from_slice(alloc, plan)?);
+    let term: Box<dyn CharDriver> = Box::new(alloc, tty)?;
+    Ok(Devices {
+        drives: Vec::new(alloc),
+        terms: vec![in alloc; term]?,
+    })
+}
+
+fn due_keys(alloc: Global, bytes: &[u8]) -> Result<Vec<Key>, AllocError> {
     let mut keys = Vec::new(alloc);
     for byte in bytes {
         keys.push(Key {
@@ -37,29 +114,7 @@ fn load(alloc: Global, devices: &mut Devices, bytes: &[u8]) -> Result<(), Fail>
             byte: *byte,
         })?;
     }
-    devices.term(0).load(keys).ok().ok_or("keys are left")?;
-    Ok(())
-}
-
-/// A process writes to TERM, if it does not wait.
-fn write(io: &mut IoState, p: Pid, bytes: &[u8], devices: &mut Devices) -> Progress
-    requires process { p.0 < 33 }
-    requires there { vec_len devices.old.terms ≡ 1 }
-    requires most { length bytes.now ≤ 65535 }
-{
-    if io.kept(p).is_some() {
-        return Progress::NoMemory;
-    }
-    io.write_terminal(p, 0, bytes, devices)
-}
-
-/// The pending signal of a process, if it lives.
-fn pending(s: &ProcState, p: Pid) -> Option<u8> {
-    if lives(s, p) {
-        s.table.due_signal(p)
-    } else {
-        None
-    }
+    Ok(keys)
 }
 
 fn lives(s: &ProcState, p: Pid) -> bool
@@ -71,84 +126,40 @@ fn lives(s: &ProcState, p: Pid) -> bool
 #[test]
 fn keys_signal_the_last_user(rt: HostRuntime) -> Result<(), Fail> {
     let alloc = rt.alloc();
-    let mut devices = Devices {
-        drives: Vec::new(alloc),
-        terms: Vec::new(alloc),
-    };
-    let tty = ScriptTty::new(alloc, Vec::new(alloc));
-    devices.terms.push(Box::new(alloc, tty)?)?;
-    let mut s = processes(alloc)?;
-    let mut io = IoState::new(alloc)?;
-    assert_eq!(rt; devices.terms.len(), 1);
-    assert_eq!(rt;
-        write(&mut io, FIRST, b"1", &mut devices),
-        Progress::Done(1)
-    );
-    assert_eq!(rt; devices.terms.len(), 1);
-    assert_eq!(rt;
-        write(&mut io, SECOND, b"2", &mut devices),
-        Progress::Done(1)
-    );
-    assert_eq!(rt; devices.terms.len(), 1);
-    load(alloc, &mut devices, b"a\x05b\x03c")?;
-    assert_eq!(rt; devices.terms.len(), 1);
-    arrive_keys(&mut s, &mut io, &mut devices)?;
-    assert_eq!(rt; pending(&s, FIRST), None);
-    assert_eq!(rt; pending(&s, SECOND), Some(2));
-    assert_eq!(rt; io.ready_count(Target::Term(0)), 3);
+    let mut desk = Desk::new(alloc, &[])?;
+    same!(rt; desk.write(FIRST, b"1"), Progress::Done(1));
+    same!(rt; desk.write(SECOND, b"2"), Progress::Done(1));
+    same!(rt; desk.load(alloc, b"a\x05b\x03c"), true);
+    same!(rt; desk.poll(), true);
+    same!(rt; desk.pending(FIRST), None);
+    same!(rt; desk.pending(SECOND), Some(2));
+    same!(rt; desk.ready_count(), 3);
     Ok(())
 }
 
 #[test]
 fn last_user_that_ended_is_sent_nothing(rt: HostRuntime) -> Result<(), Fail> {
     let alloc = rt.alloc();
-    let mut devices = Devices {
-        drives: Vec::new(alloc),
-        terms: Vec::new(alloc),
-    };
-    let tty = ScriptTty::new(alloc, Vec::new(alloc));
-    devices.terms.push(Box::new(alloc, tty)?)?;
-    let mut s = processes(alloc)?;
-    let mut io = IoState::new(alloc)?;
-    assert_eq!(rt; devices.terms.len(), 1);
-    assert_eq!(rt;
-        write(&mut io, SECOND, b"2", &mut devices),
-        Progress::Done(1)
-    );
-    io.end(SECOND);
-    assert_eq!(rt; io.last_user(0), None);
-    assert_eq!(rt; devices.terms.len(), 1);
-    load(alloc, &mut devices, b"\x03")?;
-    assert_eq!(rt; devices.terms.len(), 1);
-    arrive_keys(&mut s, &mut io, &mut devices)?;
-    assert_eq!(rt; pending(&s, SECOND), None);
+    let mut desk = Desk::new(alloc, &[])?;
+    same!(rt; desk.write(SECOND, b"2"), Progress::Done(1));
+    desk.io.end(SECOND);
+    same!(rt; desk.io.last_user(0), None);
+    same!(rt; desk.load(alloc, b"\x03"), true);
+    same!(rt; desk.poll(), true);
+    same!(rt; desk.pending(SECOND), None);
     Ok(())
 }
 
 #[test]
 fn fault_in_the_middle_of_a_poll(rt: HostRuntime) -> Result<(), Fail> {
     let alloc = rt.alloc();
-    let mut devices = Devices {
-        drives: Vec::new(alloc),
-        terms: Vec::new(alloc),
-    };
-    let tty = ScriptTty::new(alloc, vec![in alloc; 3]?);
-    devices.terms.push(Box::new(alloc, tty)?)?;
-    let mut s = processes(alloc)?;
-    let mut io = IoState::new(alloc)?;
-    assert_eq!(rt; devices.terms.len(), 1);
-    assert_eq!(rt;
-        write(&mut io, SECOND, b"2", &mut devices),
-        Progress::Done(1)
-    );
-    assert_eq!(rt; devices.terms.len(), 1);
-    load(alloc, &mut devices, b"a\x03")?;
-    assert_eq!(rt; devices.terms.len(), 1);
-    arrive_keys(&mut s, &mut io, &mut devices)?;
-    assert_eq!(rt; io.ready_count(Target::Term(0)), 1);
-    assert_eq!(rt; pending(&s, SECOND), None);
-    assert_eq!(rt; devices.terms.len(), 1);
-    arrive_keys(&mut s, &mut io, &mut devices)?;
-    assert_eq!(rt; pending(&s, SECOND), Some(3));
+    let mut desk = Desk::new(alloc, &[3])?;
+    same!(rt; desk.write(SECOND, b"2"), Progress::Done(1));
+    same!(rt; desk.load(alloc, b"a\x03"), true);
+    same!(rt; desk.poll(), true);
+    same!(rt; desk.ready_count(), 1);
+    same!(rt; desk.pending(SECOND), None);
+    same!(rt; desk.poll(), true);
+    same!(rt; desk.pending(SECOND), Some(3));
     Ok(())
 }

@@ -29,10 +29,23 @@ mod tests {
     use proc_rules::own::Own;
     use proc_state::state::ProcState;
     use process_table::Life;
+    use std::fmt::Debug;
+    use std::process::Abort;
     use std::test::Fail;
 
     /// The user of the processes here.
     const USER: u16 = 7;
+
+    /// `assert_eq!` by a call, which a proof passes with less work.
+    macro_rules! same {
+        ($rt:expr; $got:expr, $want:expr) => {
+            assert_same(&$rt, stringify!($got), $got, $want)
+        };
+    }
+
+    fn assert_same<T: PartialEq + Debug + Drop>(rt: &impl Abort, what: &str, got: T, want: T) {
+        assert_eq!(rt; got, want, "{what}");
+    }
 
     /// Does a process live?
     fn lives(s: &ProcState, p: Pid) -> bool
@@ -99,15 +112,15 @@ mod tests {
         let p = s.make(Pid(0), USER, 128).ok_or("no process")?;
         let other = s.make(Pid(0), 8, 128).ok_or("no process")?;
         assert!(rt; lives(&s, p));
-        assert_eq!(rt; f_id(&mut s, p), CallEnd::Done);
-        assert_eq!(rt; (s.regs(p).a, s.regs(p).y), (2, USER));
+        same!(rt; f_id(&mut s, p), CallEnd::Done);
+        same!(rt; (s.regs(p).a, s.regs(p).y), (2, USER));
         set_ab(&mut s, p, 3, 200);
-        assert_eq!(rt; f_sprior(&mut s, p), CallEnd::Error(E_IPRCID));
+        same!(rt; f_sprior(&mut s, p), CallEnd::Error(E_IPRCID));
         set_bxy(&mut s, p, 200, 0, 8);
-        assert_eq!(rt; f_suser(&mut s, p), CallEnd::Done);
-        assert_eq!(rt; f_sprior(&mut s, p), CallEnd::Done);
+        same!(rt; f_suser(&mut s, p), CallEnd::Done);
+        same!(rt; f_sprior(&mut s, p), CallEnd::Done);
         assert!(rt; lives(&s, other));
-        assert_eq!(rt; s.table.priority(other), 200);
+        same!(rt; s.table.priority(other), 200);
         Ok(())
     }
 
@@ -115,23 +128,23 @@ mod tests {
     fn ended_children(rt: HostRuntime) -> Result<(), Fail> {
         let mut s = ProcState::new(rt.alloc(), 8)?;
         let p = s.make(Pid(0), USER, 128).ok_or("no process")?;
-        assert_eq!(rt; f_wait(&mut s, p), CallEnd::Error(E_NOCHLD));
+        same!(rt; f_wait(&mut s, p), CallEnd::Error(E_NOCHLD));
         let first = s.make(p, USER, 128).ok_or("no process")?;
         let second = s.make(p, USER, 128).ok_or("no process")?;
         assert!(rt; lives(&s, p));
-        assert_eq!(rt; f_wait(&mut s, p), CallEnd::Wait);
+        same!(rt; f_wait(&mut s, p), CallEnd::Wait);
         assert!(rt; lives(&s, second));
         set_ab(&mut s, second, 0, 9);
-        assert_eq!(rt; f_exit(&mut s, second), CallEnd::Ended);
+        same!(rt; f_exit(&mut s, second), CallEnd::Ended);
         assert!(rt; lives(&s, first));
         set_ab(&mut s, first, 0, 7);
-        assert_eq!(rt; f_exit(&mut s, first), CallEnd::Ended);
+        same!(rt; f_exit(&mut s, first), CallEnd::Ended);
         assert!(rt; lives(&s, p));
-        assert_eq!(rt; f_wait(&mut s, p), CallEnd::Done);
-        assert_eq!(rt; (s.regs(p).a, s.regs(p).b), (3, 7));
-        assert_eq!(rt; f_wait(&mut s, p), CallEnd::Done);
-        assert_eq!(rt; (s.regs(p).a, s.regs(p).b), (4, 9));
-        assert_eq!(rt; f_wait(&mut s, p), CallEnd::Error(E_NOCHLD));
+        same!(rt; f_wait(&mut s, p), CallEnd::Done);
+        same!(rt; (s.regs(p).a, s.regs(p).b), (3, 7));
+        same!(rt; f_wait(&mut s, p), CallEnd::Done);
+        same!(rt; (s.regs(p).a, s.regs(p).b), (4, 9));
+        same!(rt; f_wait(&mut s, p), CallEnd::Error(E_NOCHLD));
         Ok(())
     }
 
@@ -148,23 +161,23 @@ mod tests {
         let call = Some(F_SLEEP);
         s.set_own(sleeper, Own { call, ..own });
         set_bxy(&mut s, sleeper, 0, 5, 0);
-        assert_eq!(rt; f_sleep(&mut s, sleeper), CallEnd::Wait);
+        same!(rt; f_sleep(&mut s, sleeper), CallEnd::Wait);
         s.wait(sleeper, Cause::Sleep, None);
         next_tick(&mut s);
         assert!(rt; lives(&s, sleeper));
-        assert_eq!(rt; f_sleep(&mut s, sleeper), CallEnd::Wait);
+        same!(rt; f_sleep(&mut s, sleeper), CallEnd::Wait);
         assert!(rt; lives(&s, sender));
         set_ab(&mut s, sender, 2, 1);
-        assert_eq!(rt; f_send(&mut s, sender), CallEnd::Done);
+        same!(rt; f_send(&mut s, sender), CallEnd::Done);
         next_tick(&mut s);
         assert!(rt; lives(&s, sleeper));
-        assert_eq!(rt; f_sleep(&mut s, sleeper), CallEnd::Done);
-        assert_eq!(rt; s.regs(sleeper).x, 3);
-        assert_eq!(rt; f_icpt(&mut s, sleeper), CallEnd::Done);
+        same!(rt; f_sleep(&mut s, sleeper), CallEnd::Done);
+        same!(rt; s.regs(sleeper).x, 3);
+        same!(rt; f_icpt(&mut s, sleeper), CallEnd::Done);
         assert!(rt; lives(&s, sender));
         set_ab(&mut s, sender, 2, 7);
-        assert_eq!(rt; f_send(&mut s, sender), CallEnd::Done);
-        assert_eq!(rt; f_send(&mut s, sender), CallEnd::Error(E_USIGP));
+        same!(rt; f_send(&mut s, sender), CallEnd::Done);
+        same!(rt; f_send(&mut s, sender), CallEnd::Error(E_USIGP));
         Ok(())
     }
 
@@ -173,20 +186,20 @@ mod tests {
         let mut s = ProcState::new(rt.alloc(), 8)?;
         let p = s.make(Pid(0), USER, 128).ok_or("no process")?;
         set_bxy(&mut s, p, 3, 0, 3);
-        assert_eq!(rt; f_cmpnam(&mut s, p), CallEnd::Error(E_BPADDR));
+        same!(rt; f_cmpnam(&mut s, p), CallEnd::Error(E_BPADDR));
         assert!(rt; give_block(&mut s, p));
         assert!(rt; store(&mut s, p, 0, b"abcAB\xc3"));
         assert!(rt; store(&mut s, p, 0x40, b"/D0/CMDS\r"));
-        assert_eq!(rt; f_cmpnam(&mut s, p), CallEnd::Done);
+        same!(rt; f_cmpnam(&mut s, p), CallEnd::Done);
         set_bxy(&mut s, p, 2, 0, 3);
-        assert_eq!(rt; f_cmpnam(&mut s, p), CallEnd::Error(E_BNAM));
+        same!(rt; f_cmpnam(&mut s, p), CallEnd::Error(E_BNAM));
         set_bxy(&mut s, p, 0, 0x40, 0);
-        assert_eq!(rt; f_prsnam(&mut s, p), CallEnd::Done);
+        same!(rt; f_prsnam(&mut s, p), CallEnd::Done);
         let regs = s.regs(p);
-        assert_eq!(rt; (regs.x, regs.y), (0x41, 0x43));
-        assert_eq!(rt; (regs.a, regs.b), (0x2F, 2));
+        same!(rt; (regs.x, regs.y), (0x41, 0x43));
+        same!(rt; (regs.a, regs.b), (0x2F, 2));
         set_bxy(&mut s, p, 0, 0x48, 0);
-        assert_eq!(rt; f_prsnam(&mut s, p), CallEnd::Error(E_BNAM));
+        same!(rt; f_prsnam(&mut s, p), CallEnd::Error(E_BNAM));
         Ok(())
     }
 }
