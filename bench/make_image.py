@@ -98,4 +98,5 @@ def main():
         out.write(volume.image)
 
 
-main()
+if __name__ == "__main__":
+    main()

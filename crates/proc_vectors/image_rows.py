@@ -70,6 +70,7 @@ def main():
     # the first image's boot file runs
     row(BOOT, good, out=LINE)
     row(BOOT + " --blocks 8", good, out=LINE)
+    row(BOOT + " --time 1990-01-01T00:00:00", good, out=LINE)
     row(TWO, good, other, out=LINE)
     row("boot --script=script d0.img --slices=slices d1.img d0.img d1.img", good, other, out=LINE)
     row(TWO, other, good, status=8, err="os9: boot bounds")
@@ -83,7 +84,6 @@ def main():
     row("boot d0.img --script script", good, status=1, err="os9: words")
     row("boot d0.img d0.img d0.img d0.img d0.img --slices slices --script script", good, status=1, err="os9: words")
     row(BOOT + " --history", good, status=1, err="os9: words")
-    row(BOOT + " --time 1990-01-01T00:00:00", good, status=1, err="os9: words")
     # the order of causes: what is read, the texts, the images, the boot file
     row(TWO, bad, bad, status=2, err="os9: cannot read script", slices=b"0", script=b"0", failing="1")
     row(TWO, bad, bad, status=2, err="os9: cannot read slices", slices=b"0", script=b"0", failing="2")

@@ -1,10 +1,13 @@
 //! The program: the real host, four drives and four terminals for the top call.
 #![tactic(auto)]
 
-ghost use Rattle.os9_boot.specs.Drives.{HaveRoom, drive_states};
+ghost use Rattle.boot_images.specs.Drives.{HaveRoom};
+ghost use Rattle.file_drives.specs.Drives.{drive_views};
+ghost use Rattle.key_loading.specs.Loaded.{AreUnloaded};
+ghost use Rattle.os9_outer.specs.TerminalState.{terminal_states};
 
 use device_table::devices::Devices;
-use os9_boot::os9_main;
+use os9_boot::{add_drive, os9_main};
 use os9_outer::drive::BlockDriver;
 use os9_outer::real_host::RealHost;
 use os9_outer::sure_drive::SureDrive;
@@ -38,17 +41,17 @@ fn run(rt: HostRuntime) -> io::Result<u8> {
         words.push(word)?;
     }
     let mut drives: Vec<Box<dyn BlockDriver>> = Vec::new(alloc);
-    drives.push(Box::new(alloc, SureDrive::new())?)?;
-    drives.push(Box::new(alloc, SureDrive::new())?)?;
-    drives.push(Box::new(alloc, SureDrive::new())?)?;
-    drives.push(Box::new(alloc, SureDrive::new())?)?;
+    add_drive(&mut drives, Box::new(alloc, SureDrive::new())?)?;
+    add_drive(&mut drives, Box::new(alloc, SureDrive::new())?)?;
+    add_drive(&mut drives, Box::new(alloc, SureDrive::new())?)?;
+    add_drive(&mut drives, Box::new(alloc, SureDrive::new())?)?;
     run_on(rt, words.as_slice(), drives)
 }
 
 /// Does what the words say on these drives, of which there are four without an image, and on four
 /// terminals without keys.
 fn run_on(rt: HostRuntime, words: &[String], drives: Vec<Box<dyn BlockDriver>>) -> io::Result<u8>
-    requires { HaveRoom 4 (drive_states ⟦<dyn BlockDriver as BlockDriver>⟧ drives.items) }
+    requires { HaveRoom 4 (drive_views ⟦<dyn BlockDriver as BlockDriver>⟧ drives.items) }
 {
     let alloc = rt.alloc();
     let mut terms: Vec<Box<dyn CharDriver>> = Vec::new(alloc);
@@ -56,9 +59,21 @@ fn run_on(rt: HostRuntime, words: &[String], drives: Vec<Box<dyn BlockDriver>>) 
     terms.push(Box::new(alloc, SureTty::new(alloc))?)?;
     terms.push(Box::new(alloc, SureTty::new(alloc))?)?;
     terms.push(Box::new(alloc, SureTty::new(alloc))?)?;
-    let mut devices = Devices { drives, terms };
+    Ok(run_with(rt, words, Devices { drives, terms }))
+}
+
+/// Does what the words say on the real host and these devices, four drives without an image and one
+/// to four terminals without keys.
+fn run_with(rt: HostRuntime, words: &[String], devices: Devices) -> u8
+    requires terminals { AreUnloaded
+        (terminal_states ⟦<dyn CharDriver as CharDriver>⟧ devices.terms.items) }
+    requires drives { HaveRoom 4
+        (drive_views ⟦<dyn BlockDriver as BlockDriver>⟧ devices.drives.items) }
+{
+    let alloc = rt.alloc();
+    let mut devices = devices;
     let mut host = RealHost::new(rt);
-    Ok(os9_main(alloc, words, &mut host, &mut devices))
+    os9_main(alloc, words, &mut host, &mut devices)
 }
 
 /// Reports that the words are no command line.

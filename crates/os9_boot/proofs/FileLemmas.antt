@@ -2,28 +2,27 @@
 use Rattle.std.proofs.Common.{◌≡◌, ℕ, zero, suc, Option, Some, None, Result, Ok, Err, List, [], ◌∷◌, ◌++◌, take, slice_get, refl, ap, ◌∙◌}
 use Rattle.std.specs.Prelude.{IfErr, IfSome}
 use Rattle.os9_outer.specs.Host.{Files, file_contents}
-use Rattle.os9_outer.specs.TerminalState.{TerminalState}
+use Rattle.disk_kernel.specs.Outside.{Outside}
 use Rattle.os9_words.specs.declared.command.Command.{Command}
 use Rattle.os9_words.specs.declared.command.RunWords.{RunWords}
+use Rattle.boot_images.specs.Images.{images_of}
+use Rattle.boot_run.specs.World.{World}
 use Rattle.os9_boot.specs.declared.files.BootFiles.{BootFiles}
 use Rattle.os9_boot.specs.declared.files.RunFiles.{RunFiles}
 use Rattle.os9_boot.specs.declared.status.End.{End}
 use Rattle.os9_boot.specs.declared.status.Input.{Input}
-use Rattle.os9_boot.specs.BootFiles.{HasBootFiles}
-use Rattle.os9_boot.specs.Commands.{script_of}
+use Rattle.os9_boot.specs.Commands.{CommandCall}
 use Rattle.os9_boot.specs.End.{file_name}
-use Rattle.os9_boot.specs.Images.{images_of}
-use Rattle.os9_boot.specs.RunFiles.{HasFiles}
-use Rattle.os9_boot.specs.TopCall.{CommandCall}
-use Rattle.os9_boot.specs.World.{World}
+use Rattle.os9_boot.specs.Reading.{HasBootFiles, HasRunFiles}
+use Rattle.os9_boot.specs.Setup.{script_of}
 
 -- a command that names the file as this input, by a name that is known, ended so
-pub ended-as : {Value : Type 0} (answer : Result Value End) (input : Input) (name : List ℕ) (given : Option (List ℕ)) (before after : ℕ → List TerminalState → World) → given ≡ Some name → IfErr answer (λ end. (drives : ℕ) (terms : List TerminalState) (command : Command) → file_name command input ≡ Some name → CommandCall command (before drives terms) (after drives terms) end) → IfErr answer (λ end. (drives : ℕ) (terms : List TerminalState) (command : Command) → file_name command input ≡ given → CommandCall command (before drives terms) (after drives terms) end)
+pub ended-as : {Value : Type 0} (answer : Result Value End) (input : Input) (name : List ℕ) (given : Option (List ℕ)) (before after : Outside → World) → given ≡ Some name → IfErr answer (λ end. (devices : Outside) (command : Command) → file_name command input ≡ Some name → CommandCall command (before devices) (after devices) end) → IfErr answer (λ end. (devices : Outside) (command : Command) → file_name command input ≡ given → CommandCall command (before devices) (after devices) end)
 ended-as (Ok value) input name given before after is ended = tt
-ended-as (Err end) input name given before after is ended = λ drives terms command named. ended drives terms command (named ∙ is)
+ended-as (Err end) input name given before after is ended = λ devices command named. ended devices command (named ∙ is)
 
 -- the three files were read
-pub has-files : (told : Option Files) (run : RunWords) (read : RunFiles) (name : List ℕ) → slice_get run.files 0 ≡ Some name → IfSome told (λ files. read.script.items ≡ script_of files run) → IfSome told (λ files. read.slices.items ≡ file_contents files run.slices) → IfSome told (λ files. read.modules.items ≡ file_contents files name) → IfSome told (λ files. HasFiles files run read)
+pub has-files : (told : Option Files) (run : RunWords) (read : RunFiles) (name : List ℕ) → slice_get run.files 0 ≡ Some name → IfSome told (λ files. read.script.items ≡ script_of files run) → IfSome told (λ files. read.slices.items ≡ file_contents files run.slices) → IfSome told (λ files. read.modules.items ≡ file_contents files name) → IfSome told (λ files. HasRunFiles files run read)
 has-files None run read name named script slices modules = tt
 has-files (Some files) run read name named script slices modules = record {
   script = script;

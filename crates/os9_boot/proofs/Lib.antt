@@ -1,8 +1,9 @@
-pub mod ConsoleLemmas
-pub mod RunLemmas
-pub mod CallLemmas
-pub mod LoadedLemmas
 pub mod FileLemmas
-pub mod DriveLemmas
-pub mod ImageLemmas
+pub mod CallLemmas
+pub mod CheckLemmas
+pub mod WriteLemmas
+pub mod MachineLemmas
+pub mod RunLemmas
 pub mod BootLemmas
+pub mod RoomLemmas
+pub mod Completeness

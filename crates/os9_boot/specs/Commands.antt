@@ -1,94 +1,105 @@
--- What a run and a check do if nothing fails.
-use Rattle.std.specs.Prelude.{◌≡◌, ◌≢◌, ℕ, ◌⊎◌, not, Option, List, [], length, count_by, slice_get, MatchOption, MatchResult}
-use Rattle.os9_outer.specs.Host.{Files, file_contents}
-use Rattle.os9_outer.specs.Stream.{stream_with}
-use Rattle.std.specs.Option.{option_map_or}
-use Rattle.script_text.specs.declared.script.ScriptKey.{ScriptKey}
-use Rattle.script_text.specs.Script.{keys_of}
-use Rattle.script_text.specs.Slices.{slices_of}
-use Rattle.key_loading.specs.Loaded.{loaded}
-use Rattle.os9_words.specs.declared.command.RunWords.{RunWords}
-use Rattle.os9_words.specs.Lines.{counts_line}
-use Rattle.rbf_model.specs.Geometry.{Geometry, image_geometry}
-use Rattle.rbf_model.specs.Volume.{DiskVolume, Vol, free_clusters, lost_clusters}
-use Rattle.rbf_model.specs.Counts.{file_count, directory_count}
-use Rattle.rbf_model.specs.Faults.{IsFault}
-use Rattle.rbf_check.specs.declared.faults.CheckFault.{CheckFault}
-use Rattle.rbf_check.specs.declared.tree.Tree.{Tree}
-use Rattle.rbf_check.specs.Tree.{is_directory_node}
-use Rattle.machine_model.specs.State.{State}
-use Rattle.machine_model.specs.declared.ends.BootFault.{BootFault}
-use Rattle.machine_model.specs.Start.{Starts, Refuses}
-use Rattle.machine_model.specs.Run.{Run, status_of}
+-- What a command does, by how it ended.
+use Rattle.std.specs.Prelude.{◌≡◌, ◌≢◌, ℕ, ⊤, IfSome, List, All}
+use Rattle.os9_outer.specs.Host.{Files, file_contents, IfObserved}
+use Rattle.os9_words.specs.declared.command.Command.{Command}
+use Rattle.os9_words.specs.declared.command.Command.TheVariants.{Run as RunCommand, Boot as BootCommand, Check as CheckCommand, Stress as StressCommand}
+use Rattle.boot_run.specs.Console.{IsObserved}
+use Rattle.boot_run.specs.Machine.{FailsToMount}
+use Rattle.boot_run.specs.World.{World}
 use Rattle.os9_boot.specs.declared.status.End.{End}
-use Rattle.os9_boot.specs.declared.status.End.TheVariants.{Ended, BadImage, BadText}
-use Rattle.os9_boot.specs.declared.status.Input.TheVariants.{Script as ScriptInput, Slices as SlicesInput}
-use Rattle.os9_boot.specs.End.{boot_end, status_number}
-use Rattle.os9_boot.specs.World.{World}
+use Rattle.os9_boot.specs.declared.status.End.TheVariants.{Ended, Living, CannotRead, CannotWrite, CannotWriteImage, NoMemory, BadImage, BadBounds, DriveFailed}
+use Rattle.os9_boot.specs.Boots.{BootComesTo, RunComesTo}
+use Rattle.os9_boot.specs.Check.{CheckComesTo}
+use Rattle.os9_boot.specs.Host.{FailsAsTold, IfAllObserved}
+use Rattle.os9_boot.specs.End.{stress_end}
+use Rattle.stress_run.specs.Stress.{StressComesTo}
+use Rattle.stress_run.specs.declared.stress.StressEnd.{StressEnd}
 
--- the machine goes on from this state over these slices, through the states of a run: the output gains what it
--- writes, the terminals are those at its end, and the command ends with its status
-abbrev pub Runs : State → List ℕ → World → World → End → Type 0
-Runs s slices before after end =
-    (states : List State) × (written : List ℕ) × (t : State) × Run slices s states written t
-    × (status_number end ≡ status_of t) × (after.out ≡ stream_with before.out written) × (after.terms ≡ t.terms)
+-- what comes of a stress, by how the command ends
+abbrev pub StressGives : ℕ → World → World → End → Type 0
+StressGives seed before after end = (it : StressEnd) × (end ≡ stress_end it) × StressComesTo seed before after it
 
--- the boot file starts a machine with so many blocks, and the devices that there are, in this state, where each
--- terminal is loaded with its keys
-abbrev pub StartsLoaded : List ℕ → ℕ → List ScriptKey → World → State → Type 0
-StartsLoaded file blocks keys before s = Starts file blocks before.drives (loaded keys before.terms) s
+-- what comes of a command, where the files that it reads and the bytes of the terminals that it has are observed
+abbrev pub ComesOf : Command → World → World → End → Type 0
+ComesOf (RunCommand run) before after end = IfAllObserved before (λ files. RunComesTo files run before after end)
+ComesOf (BootCommand boot) before after end = IfAllObserved before (λ files. BootComesTo files boot before after end)
+ComesOf (CheckCommand image) before after end =
+    IfSome before.files (λ files. CheckComesTo (file_contents files image) before after end)
+ComesOf (StressCommand seed) before after end =
+    All IsObserved before.devices.terms → StressGives seed before after end
 
--- the machine that the boot file starts is run; or the file is refused, with its fault
-abbrev pub Boots : List ℕ → ℕ → List ScriptKey → List ℕ → World → World → End → Type 0
-Boots file blocks keys slices before after end =
-    ((s : State) × StartsLoaded file blocks keys before s × Runs s slices before after end)
-    ⊎ ((fault : BootFault) × Refuses file blocks fault × (end ≡ boot_end fault) × (after ≡ before))
+-- the ends that a run may have: it checks no image, and writes none
+abbrev pub RunMayEnd : End → Type 0
+RunMayEnd (BadImage number fault) = ⊥
+RunMayEnd BadBounds = ⊥
+RunMayEnd (CannotWriteImage number) = ⊥
+RunMayEnd end = ⊤
 
--- the slice text gives slices, or is refused, with its first line that breaks a rule
-abbrev pub Slices : List ℕ → List ℕ → ℕ → List ScriptKey → World → World → End → Type 0
-Slices text file blocks keys before after end =
-    MatchResult (slices_of text)
-    (λ slices. Boots file blocks keys slices before after end)
-    (λ line. (end ≡ BadText SlicesInput line) × (after ≡ before))
+-- those of a check: it has one image, and runs nothing
+abbrev pub CheckMayEnd : End → Type 0
+CheckMayEnd Ended = ⊤
+CheckMayEnd (CannotRead input) = ⊤
+CheckMayEnd CannotWrite = ⊤
+CheckMayEnd NoMemory = ⊤
+CheckMayEnd (BadImage number fault) = number ≡ 0
+CheckMayEnd end = ⊥
 
--- the text of the script that the words name; without one an empty text, which gives no keys
-abbrev pub script_of : Files → RunWords → List ℕ
-script_of files run = option_map_or (λ script. file_contents files script) run.script []
+-- those of a stress: it reads no file, and writes none
+abbrev pub StressMayEnd : End → Type 0
+StressMayEnd Ended = ⊤
+StressMayEnd Living = ⊤
+StressMayEnd CannotWrite = ⊤
+StressMayEnd NoMemory = ⊤
+StressMayEnd (DriveFailed drive number) = ⊤
+StressMayEnd end = ⊥
 
--- the files that the words name are those of the host; the script gives keys to the terminals that are there, or is
--- refused, with its first line that breaks a rule
-abbrev pub Performs : Files → RunWords → World → World → End → Type 0
-Performs files run before after end =
-    MatchOption (slice_get run.files 0) ⊥
-    (λ modules. MatchResult (keys_of (length before.terms) (script_of files run))
-    (λ keys. Slices (file_contents files run.slices) (file_contents files modules) run.blocks keys before after end)
-    (λ line. (end ≡ BadText ScriptInput line) × (after ≡ before)))
+-- the ends that a command may have, observed or not; a boot may have each
+abbrev pub MayEnd : Command → End → Type 0
+MayEnd (RunCommand run) end = RunMayEnd end
+MayEnd (BootCommand boot) end = ⊤
+MayEnd (CheckCommand image) end = CheckMayEnd end
+MayEnd (StressCommand seed) end = StressMayEnd end
 
--- the line of the counts of a volume
-abbrev pub counts_of : Geometry → DiskVolume → List ℕ
-counts_of g v =
-    counts_line (file_count g v) (directory_count g v) (length (free_clusters g v)) (length (lost_clusters g v))
+-- the output and the devices are as they were
+pub record IsSilent (before after : World) : Type 0 where
+  pub out : after.out ≡ before.out
+  pub devices : after.devices ≡ before.devices
 
--- the line of the counts of a tree
-abbrev pub tree_line : Tree → List ℕ
-tree_line tree =
-    counts_line (count_by (λ node. not (is_directory_node node)) tree.nodes) (count_by is_directory_node tree.nodes)
-    tree.free tree.lost
+-- what is left of the output and the devices, observed or not, by how the command ended: where no machine was started
+-- all is as it was, or a drive failed
+abbrev pub LeavesDevices : World → World → End → Type 0
+LeavesDevices before after Ended = ⊤
+LeavesDevices before after Living = ⊤
+LeavesDevices before after CannotWrite = ⊤
+LeavesDevices before after (CannotWriteImage number) = ⊤
+LeavesDevices before after NoMemory = ⊤
+LeavesDevices before after (DriveFailed drive number) = FailsToMount drive number before after
+LeavesDevices before after end = IsSilent before after
 
--- the image represents a volume, whose counts are printed; or it is refused, with its fault
-abbrev pub Checks : List ℕ → Option (List ℕ) → Option (List ℕ) → End → Type 0
-Checks image before now end =
-    ((v : DiskVolume) × Vol image v × (end ≡ Ended) × (now ≡ stream_with before (counts_of (image_geometry image) v)))
-    ⊎ ((fault : CheckFault) × IsFault image fault.rule fault.lsn × (end ≡ BadImage 0 fault) × (now ≡ before))
+-- no file is changed but those of these names
+abbrev pub ChangesOnly : List (List ℕ) → Files → Files → Type 0
+ChangesOnly names before now = (name : List ℕ) → All (λ other. name ≢ other) names → now name ≡ before name
 
--- nothing failed, and memory sufficed
-abbrev pub IsAnswered : ℕ → Type 0
-IsAnswered status = (status ≢ 2) × (status ≢ 3) × (status ≢ 4)
+-- what is left of the files by a boot: only behind its run it writes images
+abbrev pub BootLeavesFiles : List (List ℕ) → World → World → End → Type 0
+BootLeavesFiles names before after Ended = IfObserved (ChangesOnly names) before.files after.files
+BootLeavesFiles names before after Living = IfObserved (ChangesOnly names) before.files after.files
+BootLeavesFiles names before after (CannotWriteImage number) = IfObserved (ChangesOnly names) before.files after.files
+BootLeavesFiles names before after NoMemory = IfObserved (ChangesOnly names) before.files after.files
+BootLeavesFiles names before after end = after.files ≡ before.files
 
--- the output could not be written, or memory was out
-abbrev pub IsStopped : ℕ → Type 0
-IsStopped status = (status ≡ 3) ⊎ (status ≡ 4)
+-- and by every command: no other changes a file
+abbrev pub LeavesFiles : Command → World → World → End → Type 0
+LeavesFiles (BootCommand boot) before after end = BootLeavesFiles boot.files before after end
+LeavesFiles command before after end = after.files ≡ before.files
 
--- the command ended before anything ran
-abbrev pub IsSilent : ℕ → Type 0
-IsSilent status = (status ≡ 1) ⊎ (status ≡ 2) ⊎ (status ≡ 6) ⊎ (status ≡ 7) ⊎ (status ≡ 8)
+-- A command was done, and ended so.
+pub record CommandCall (command : Command) (before after : World) (end : End) : Type 0 where
+  -- what came of it, where that can be observed
+  pub comes : ComesOf command before after end
+  -- and what is so, observed or not
+  pub may : MayEnd command end
+  pub devices : LeavesDevices before after end
+  pub host : FailsAsTold command end before after
+  pub files : LeavesFiles command before after end
+  pub check_keeps : (image : List ℕ) → command ≡ CheckCommand image → after.devices ≡ before.devices

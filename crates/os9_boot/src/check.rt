@@ -1,8 +1,8 @@
 ghost use Rattle.std.specs.Prelude.{◌≡◌, ℕ, List};
-ghost use Rattle.os9_outer.specs.TerminalState.{TerminalState};
-ghost use Rattle.os9_boot.specs.Commands.{tree_line};
-ghost use Rattle.os9_boot.specs.TopCall.{CommandCall, PrintCall};
-ghost use Rattle.os9_boot.specs.World.{world_of};
+ghost use Rattle.disk_kernel.specs.Outside.{Outside};
+ghost use Rattle.os9_boot.specs.Check.{PrintsLine, tree_line};
+ghost use Rattle.os9_boot.specs.Commands.{CommandCall};
+ghost use Rattle.boot_run.specs.World.{world_of};
 
 use crate::input::read_input;
 use crate::status::{End, Input};
@@ -16,8 +16,8 @@ use std::alloc::Global;
 /// `check IMAGE`: reads the image of a disk, and passes the counts of its volume to the output
 /// stream.
 pub fn check_image<H: Host>(alloc: Global, image: &Word, host: &mut H) -> End
-    ensures call { (drives : ℕ) (terms : List TerminalState) → CommandCall (Command.Check image.now)
-        (world_of H.Host host.old drives terms) (world_of H.Host host.new drives terms) result }
+    ensures call { (devices : Outside) → CommandCall (Command.Check image.now)
+        (world_of H.Host host.old devices) (world_of H.Host host.new devices) result }
     ensures err_kept { H.bytes_err host.new ≡ H.bytes_err host.old }
 {
     let bytes = match read_input(host, image, Input::Image(0)) {
@@ -33,8 +33,8 @@ pub fn check_image<H: Host>(alloc: Global, image: &Word, host: &mut H) -> End
 
 /// Passes the counts of a volume to the output stream.
 fn print_counts<H: Host>(tree: &Tree, host: &mut H) -> End
-    ensures call { (drives : ℕ) (terms : List TerminalState) → PrintCall (tree_line tree.now)
-        (world_of H.Host host.old drives terms) (world_of H.Host host.new drives terms) result }
+    ensures call { (devices : Outside) → PrintsLine (tree_line tree.now)
+        (world_of H.Host host.old devices) (world_of H.Host host.new devices) result }
     ensures err_kept { H.bytes_err host.new ≡ H.bytes_err host.old }
 {
     let counts = Counts {

@@ -1,18 +1,17 @@
 ghost use Rattle.std.specs.Prelude.{◌≡◌, ◌≤◌, ℕ, IfErr, IfOk, IfSome, List, OnOk, length};
-ghost use Rattle.os9_outer.specs.TerminalState.{TerminalState};
+ghost use Rattle.disk_kernel.specs.Outside.{Outside};
 ghost use Rattle.os9_words.specs.Command.{most_images};
 ghost use Rattle.os9_words.specs.declared.command.Command.{Command};
-ghost use Rattle.os9_boot.specs.BootFiles.{HasBootFiles};
-ghost use Rattle.os9_boot.specs.Commands.{script_of};
+ghost use Rattle.os9_boot.specs.Setup.{script_of};
 ghost use Rattle.os9_boot.specs.End.{file_name};
-ghost use Rattle.os9_boot.specs.Images.{images_of};
-ghost use Rattle.os9_boot.specs.RunFiles.{HasFiles};
-ghost use Rattle.os9_boot.specs.TopCall.{CommandCall};
-ghost use Rattle.os9_boot.specs.World.{world_of};
+ghost use Rattle.boot_images.specs.Images.{images_of};
+ghost use Rattle.os9_boot.specs.Reading.{HasBootFiles, HasRunFiles};
+ghost use Rattle.os9_boot.specs.Commands.{CommandCall};
+ghost use Rattle.boot_run.specs.World.{world_of};
 
-use crate::images::Images;
 use crate::input::read_input;
 use crate::status::{End, Input};
+use boot_images::images::Images;
 use os9_outer::host::Host;
 use os9_words::command::{Command, RunWords};
 use std::alloc::Global;
@@ -47,12 +46,12 @@ pub struct BootFiles {
 pub fn read_files<H: Host>(alloc: Global, run: &RunWords, host: &mut H) -> Result<RunFiles, End>
     requires { length run.now.files ≡ 1 }
     ensures contents { IfOk result (λ read. IfSome (H.file_map host.old) (λ files.
-        HasFiles files run.now read)) }
-    ensures kept { OnOk result ((drives : ℕ) (terms : List TerminalState)
-        → world_of H.Host host.new drives terms ≡ world_of H.Host host.old drives terms) }
-    ensures ended { IfErr result (λ end. (drives : ℕ) (terms : List TerminalState)
+        HasRunFiles files run.now read)) }
+    ensures kept { OnOk result ((devices : Outside)
+        → world_of H.Host host.new devices ≡ world_of H.Host host.old devices) }
+    ensures ended { IfErr result (λ end. (devices : Outside)
         → CommandCall (Command.Run run.now)
-        (world_of H.Host host.old drives terms) (world_of H.Host host.new drives terms) end) }
+        (world_of H.Host host.old devices) (world_of H.Host host.new devices) end) }
     ensures err_kept { H.bytes_err host.new ≡ H.bytes_err host.old }
 {
     let script = read_script(alloc, run, host)?;
@@ -80,11 +79,11 @@ pub fn read_boot_files<H: Host>(
     ensures contents { IfOk result (λ read. IfSome (H.file_map host.old) (λ files.
         HasBootFiles files run.now read)) }
     ensures count { IfOk result (λ read. length read.images ≡ length run.now.files) }
-    ensures kept { OnOk result ((drives : ℕ) (terms : List TerminalState)
-        → world_of H.Host host.new drives terms ≡ world_of H.Host host.old drives terms) }
-    ensures ended { IfErr result (λ end. (drives : ℕ) (terms : List TerminalState)
+    ensures kept { OnOk result ((devices : Outside)
+        → world_of H.Host host.new devices ≡ world_of H.Host host.old devices) }
+    ensures ended { IfErr result (λ end. (devices : Outside)
         → CommandCall (Command.Boot run.now)
-        (world_of H.Host host.old drives terms) (world_of H.Host host.new drives terms) end) }
+        (world_of H.Host host.old devices) (world_of H.Host host.new devices) end) }
     ensures err_kept { H.bytes_err host.new ≡ H.bytes_err host.old }
 {
     let script = read_script(alloc, run, host)?;
@@ -103,11 +102,11 @@ fn read_images<H: Host>(alloc: Global, run: &RunWords, host: &mut H) -> Result<I
     ensures contents { IfOk result (λ images. IfSome (H.file_map host.old) (λ files.
         images ≡ images_of files run.now.files)) }
     ensures count { IfOk result (λ images. length images ≡ length run.now.files) }
-    ensures kept { OnOk result ((drives : ℕ) (terms : List TerminalState)
-        → world_of H.Host host.new drives terms ≡ world_of H.Host host.old drives terms) }
-    ensures ended { IfErr result (λ end. (drives : ℕ) (terms : List TerminalState)
+    ensures kept { OnOk result ((devices : Outside)
+        → world_of H.Host host.new devices ≡ world_of H.Host host.old devices) }
+    ensures ended { IfErr result (λ end. (devices : Outside)
         → CommandCall (Command.Boot run.now)
-        (world_of H.Host host.old drives terms) (world_of H.Host host.new drives terms) end) }
+        (world_of H.Host host.old devices) (world_of H.Host host.new devices) end) }
     ensures err_kept { H.bytes_err host.new ≡ H.bytes_err host.old }
 {
     let mut images = Images::none(alloc);
@@ -125,11 +124,11 @@ fn read_images<H: Host>(alloc: Global, run: &RunWords, host: &mut H) -> Result<I
 fn read_script<H: Host>(alloc: Global, run: &RunWords, host: &mut H) -> Result<Vec<u8>, End>
     ensures contents { IfOk result (λ text. IfSome (H.file_map host.old) (λ files.
         text.items ≡ script_of files run.now)) }
-    ensures kept { OnOk result ((drives : ℕ) (terms : List TerminalState)
-        → world_of H.Host host.new drives terms ≡ world_of H.Host host.old drives terms) }
-    ensures ended { IfErr result (λ end. (drives : ℕ) (terms : List TerminalState)
+    ensures kept { OnOk result ((devices : Outside)
+        → world_of H.Host host.new devices ≡ world_of H.Host host.old devices) }
+    ensures ended { IfErr result (λ end. (devices : Outside)
         (command : Command) → file_name command Input.Script ≡ run.now.script → CommandCall command
-        (world_of H.Host host.old drives terms) (world_of H.Host host.new drives terms) end) }
+        (world_of H.Host host.old devices) (world_of H.Host host.new devices) end) }
     ensures err_kept { H.bytes_err host.new ≡ H.bytes_err host.old }
 {
     match &run.script {

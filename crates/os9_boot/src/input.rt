@@ -1,10 +1,10 @@
 ghost use Rattle.std.specs.Prelude.{◌≡◌, ℕ, IfErr, IfOk, IfSome, List, OnOk, Some};
 ghost use Rattle.os9_outer.specs.Host.{file_contents};
-ghost use Rattle.os9_outer.specs.TerminalState.{TerminalState};
+ghost use Rattle.disk_kernel.specs.Outside.{Outside};
 ghost use Rattle.os9_words.specs.declared.command.Command.{Command};
 ghost use Rattle.os9_boot.specs.End.{file_name};
-ghost use Rattle.os9_boot.specs.TopCall.{CommandCall};
-ghost use Rattle.os9_boot.specs.World.{world_of};
+ghost use Rattle.os9_boot.specs.Commands.{CommandCall};
+ghost use Rattle.boot_run.specs.World.{world_of};
 
 use crate::status::{End, Input};
 use os9_outer::host::{Host, HostFault};
@@ -18,11 +18,11 @@ use os9_words::word::Word;
 pub fn read_input<H: Host>(host: &mut H, name: &Word, input: Input) -> Result<Vec<u8>, End>
     ensures contents { IfOk result (λ bytes. IfSome (H.file_map host.old) (λ files.
         bytes.items ≡ file_contents files name.now)) }
-    ensures kept { OnOk result ((drives : ℕ) (terms : List TerminalState)
-        → world_of H.Host host.new drives terms ≡ world_of H.Host host.old drives terms) }
-    ensures ended { IfErr result (λ end. (drives : ℕ) (terms : List TerminalState)
+    ensures kept { OnOk result ((devices : Outside)
+        → world_of H.Host host.new devices ≡ world_of H.Host host.old devices) }
+    ensures ended { IfErr result (λ end. (devices : Outside)
         (command : Command) → file_name command input ≡ Some name.now → CommandCall command
-        (world_of H.Host host.old drives terms) (world_of H.Host host.new drives terms) end) }
+        (world_of H.Host host.old devices) (world_of H.Host host.new devices) end) }
     ensures err_kept { H.bytes_err host.new ≡ H.bytes_err host.old }
 {
     match host.read_file(name.text()) {

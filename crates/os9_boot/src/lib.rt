@@ -2,15 +2,12 @@
 #![tactic(auto)]
 
 mod boot;
-mod boot_file;
 mod check;
-mod console;
-mod drives;
+mod devices;
 mod files;
-mod images;
 mod input;
-mod machine;
-mod run;
+pub mod laws;
+mod start;
 mod status;
 #[cfg(test)]
 mod tests;
@@ -18,5 +15,6 @@ mod texts;
 mod top;
 mod write;
 
+pub use devices::add_drive;
 pub use os9_words::command::read_words;
 pub use top::os9_main;

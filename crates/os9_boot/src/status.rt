@@ -1,12 +1,13 @@
 ghost use Rattle.std.specs.Prelude.{◌≡◌, [], slice_get, unwrap_or};
 ghost use Rattle.os9_words.specs.Streams.{WritesErr};
-ghost use Rattle.os9_boot.specs.ImageWrites.{lacks_run};
-ghost use Rattle.os9_boot.specs.End.{status_number, run_file_name, shown_name, end_line, text_of};
+ghost use Rattle.os9_boot.specs.End.{boot_end, stress_end, status_number, run_file_name, shown_name, end_line, text_of};
 
+use machine_model::ends::BootFault;
 use os9_outer::host::{Host, HostFault};
 use os9_words::command::{Command, RunWords};
 use os9_words::message::{Message, report};
 use rbf_check::CheckFault;
+use stress_run::StressEnd;
 
 /// A file that the words of a command give to be read.
 #[derive(Clone, Copy, Debug, PartialEq, Eq)]
@@ -48,6 +49,8 @@ pub enum End {
     NoFirst,
     /// The boot file is too long, or there is no room for it and the data area of `SysGo`.
     TooLarge,
+    /// A drive failed when its image was mounted: its number, and that of its fault.
+    DriveFailed(u8, u8),
 }
 
 impl End {
@@ -64,18 +67,32 @@ impl End {
             End::BadImage(..) => 6,
             End::BadText(..) => 7,
             End::BadBounds | End::BadModule(..) | End::NoFirst | End::TooLarge => 8,
+            End::DriveFailed(..) => 9,
         }
     }
-}
 
-impl End {
-    /// Has the command ended without a run to its end?
-    pub fn lacks_run(self) -> bool
-        ensures { result ≡ lacks_run self }
+    /// How a command ends whose boot file is refused.
+    pub fn of_boot_fault(fault: BootFault) -> End
+        ensures { result ≡ boot_end fault }
     {
-        match self {
-            End::Ended | End::Living => false,
-            _ => true,
+        match fault {
+            BootFault::OutOfMemory => End::NoMemory,
+            BootFault::BadModule(at, error) => End::BadModule(at, error),
+            BootFault::NoFirst => End::NoFirst,
+            BootFault::TooLarge => End::TooLarge,
+        }
+    }
+
+    /// How a command ends whose stress ended so.
+    pub fn of_stress(end: StressEnd) -> End
+        ensures { result ≡ stress_end end }
+    {
+        match end {
+            StressEnd::Ended => End::Ended,
+            StressEnd::Living => End::Living,
+            StressEnd::DriveFailed(drive, number) => End::DriveFailed(drive, number),
+            StressEnd::OutputFailed => End::CannotWrite,
+            StressEnd::NoMemory => End::NoMemory,
         }
     }
 }
@@ -115,6 +132,7 @@ fn message_of<'a>(end: End, command: &'a Command) -> Option<Message<'a>>
         End::BadModule(at, error) => Some(Message::BadModule(at, error)),
         End::NoFirst => Some(Message::NoFirst),
         End::TooLarge => Some(Message::TooLarge),
+        End::DriveFailed(drive, number) => Some(Message::DriveFailed(drive, number)),
         End::Ended | End::Living => None,
     }
 }
@@ -127,6 +145,7 @@ fn name_of(command: &Command, input: Input) -> &str
         Command::Check(image) => image.text(),
         Command::Run(run) => name_in(run, input),
         Command::Boot(run) => name_in(run, input),
+        Command::Stress(_) => "",
     }
 }
 

@@ -1,7 +1,7 @@
 ghost use Rattle.std.specs.Prelude.{◌≡◌, ◌<◌, Ok, IfErr, IfOk, length};
 ghost use Rattle.script_text.specs.Script.{keys_of};
 ghost use Rattle.script_text.specs.Slices.{slices_of};
-ghost use Rattle.os9_boot.specs.RunFiles.{RefusesTexts};
+ghost use Rattle.os9_boot.specs.Reading.{RefusesTexts};
 
 use crate::status::{End, Input};
 use os9_base::limits::LAST_TICK;

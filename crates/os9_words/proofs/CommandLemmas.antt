@@ -3,14 +3,15 @@ use Rattle.std.proofs.Common.{◌≡◌, ◌≤◌, ℕ, Bool, true, false, Opti
 use Rattle.std.specs.Prelude.{nat_le, ◌&&◌, option_and_then, option_map, if◌then◌else◌}
 use Rattle.std.specs.Option.{option_map_or}
 use Rattle.std.proofs.lemmas.Bool.{leb-true}
+use Rattle.os9_base.specs.declared.registers.TimePacket.{TimePacket}
+use Rattle.civil_time.specs.CivilTime.{is_time_packet}
 use Rattle.number_text.specs.Number.{number_of, within}
+use Rattle.time_text.specs.TimeText.{time_in}
+use Rattle.time_text.proofs.Places.{is-read}
 use Rattle.word_options.specs.Given.{Given, only_argument, value_of, words_give}
 use Rattle.os9_words.specs.declared.command.Command.{Command}
-use Rattle.os9_words.specs.declared.command.Command.TheVariants.{Boot, Check}
-use Rattle.os9_words.specs.Command.{blocks_of, boot_of, boot_with, check_of, check_options, command_of, most_images, run_of, run_options, run_with, HasBlocks, HasFiles}
-
-abbrev pub IsComplete : Command → Type 0
-IsComplete command = HasFiles command × HasBlocks command
+use Rattle.os9_words.specs.declared.command.Command.TheVariants.{Boot, Check, Stress}
+use Rattle.os9_words.specs.Command.{blocks_of, boot_of, boot_with, check_of, check_options, command_of, default_start, most_images, most_seed, run_of, run_options, run_with, seed_of, stress_of, stress_options, time_of, IsCommand}
 
 some-is : {X : Type 0} (x y : X) → Some x ≡ Some y → x ≡ y
 some-is x y is = cc is
@@ -35,69 +36,112 @@ blocks-are given blocks is = by (value_of given (codes "blocks")) is
     by None is = subst (λ n. (8 ≤ n) × (n ≤ 256)) (some-is 64 blocks is) (omega arith, omega arith)
     by (Some number) is = within-bounds 8 256 (number_of number) blocks is
 
--- the number of blocks has its bounds, where there is one
+-- a run or a boot starts at a date and time
+time-is : (given : Given) (start : TimePacket) → time_of given ≡ Some start → is_time_packet start ≡ true
+time-is given start is = by (value_of given (codes "time")) is
+  where
+    by : (value : Option (List ℕ)) → option_map_or time_in value (Some default_start) ≡ Some start → is_time_packet start ≡ true
+    by None is = subst (λ t. is_time_packet t ≡ true) (some-is default_start start is) refl
+    by (Some text) is = (is-read text start is).time
+
+-- the number of blocks has its bounds, where there is one, and the start is a date and time, where there is one
 abbrev pub IsBounded : Option ℕ → Type 0
 IsBounded blocks = (n : ℕ) → blocks ≡ Some n → (8 ≤ n) × (n ≤ 256)
 
-run-complete : (modules script slices : Option (List ℕ)) (blocks : Option ℕ) (command : Command) → IsBounded blocks → run_with modules script slices blocks ≡ Some command → IsComplete command
-run-complete None script slices blocks command bounded is = absurd (cc is)
-run-complete (Some modules) script None blocks command bounded is = absurd (cc is)
-run-complete (Some modules) script (Some slices) None command bounded is = absurd (cc is)
-run-complete (Some modules) script (Some slices) (Some n) command bounded is =
-    subst IsComplete (some-is _ command is) (refl, bounded n refl)
+abbrev pub IsTime : Option TimePacket → Type 0
+IsTime start = (t : TimePacket) → start ≡ Some t → is_time_packet t ≡ true
 
-boot-complete : (images : List (List ℕ)) (script slices : Option (List ℕ)) (blocks : Option ℕ) (command : Command) → IsBounded blocks → boot_with images script slices blocks ≡ Some command → IsComplete command
-boot-complete images None slices blocks command bounded is = absurd (cc is)
-boot-complete images (Some script) None blocks command bounded is = absurd (cc is)
-boot-complete images (Some script) (Some slices) None command bounded is = absurd (cc is)
-boot-complete images (Some script) (Some slices) (Some n) command bounded is =
+run-complete : (modules script slices : Option (List ℕ)) (blocks : Option ℕ) (start : Option TimePacket) (command : Command) → IsBounded blocks → IsTime start → run_with modules script slices blocks start ≡ Some command → IsCommand command
+run-complete None script slices blocks start command bounded civil is = absurd (cc is)
+run-complete (Some modules) script None blocks start command bounded civil is = absurd (cc is)
+run-complete (Some modules) script (Some slices) None start command bounded civil is = absurd (cc is)
+run-complete (Some modules) script (Some slices) (Some n) None command bounded civil is = absurd (cc is)
+run-complete (Some modules) script (Some slices) (Some n) (Some t) command bounded civil is =
+    subst IsCommand (some-is _ command is) (record {
+      files = refl;
+      blocks = bounded n refl;
+      time = civil t refl;
+      seed = tt;
+    })
+
+boot-complete : (images : List (List ℕ)) (script slices : Option (List ℕ)) (blocks : Option ℕ) (start : Option TimePacket) (command : Command) → IsBounded blocks → IsTime start → boot_with images script slices blocks start ≡ Some command → IsCommand command
+boot-complete images None slices blocks start command bounded civil is = absurd (cc is)
+boot-complete images (Some script) None blocks start command bounded civil is = absurd (cc is)
+boot-complete images (Some script) (Some slices) None start command bounded civil is = absurd (cc is)
+boot-complete images (Some script) (Some slices) (Some n) None command bounded civil is = absurd (cc is)
+boot-complete images (Some script) (Some slices) (Some n) (Some t) command bounded civil is =
     by (nat_le 1 (length images)) (nat_le (length images) most_images) refl refl is
   where
-    by : (some few : Bool) → nat_le 1 (length images) ≡ some → nat_le (length images) most_images ≡ few → (if some && few then Some (Boot (record { files = images; script = Some script; slices = slices; blocks = n })) else None) ≡ Some command → IsComplete command
+    by : (some few : Bool) → nat_le 1 (length images) ≡ some → nat_le (length images) most_images ≡ few → (if some && few then Some (Boot (record { files = images; script = Some script; slices = slices; blocks = n; start = t })) else None) ≡ Some command → IsCommand command
     by true true some few is =
-        subst IsComplete (some-is _ command is) (
-          record {
+        subst IsCommand (some-is _ command is) (record {
+          files = record {
             some = leb-true 1 (length images) some;
             few = leb-true (length images) most_images few;
             script = refl;
-          },
-          bounded n refl,
-        )
+          };
+          blocks = bounded n refl;
+          time = civil t refl;
+          seed = tt;
+        })
     by true false some few is = absurd (cc is)
     by false few some fewer is = absurd (cc is)
 
-check-complete : (image : Option (List ℕ)) (command : Command) → option_map Check image ≡ Some command → IsComplete command
+check-complete : (image : Option (List ℕ)) (command : Command) → option_map Check image ≡ Some command → IsCommand command
 check-complete None command is = absurd (cc is)
-check-complete (Some image) command is = subst IsComplete (some-is (Check image) command is) (tt, tt)
+check-complete (Some image) command is =
+    subst IsCommand (some-is (Check image) command is) (record { files = tt; blocks = tt; time = tt; seed = tt })
 
-given-complete : (given : Option Given) (reads : Given → Option Command) (command : Command) → ((words : Given) → reads words ≡ Some command → IsComplete command) → option_and_then reads given ≡ Some command → IsComplete command
+stress-complete : (seed : Option ℕ) (command : Command) → ((n : ℕ) → seed ≡ Some n → n ≤ most_seed) → option_map Stress seed ≡ Some command → IsCommand command
+stress-complete None command most is = absurd (cc is)
+stress-complete (Some n) command most is =
+    let few : n ≤ most_seed = most n refl in
+    subst IsCommand (some-is (Stress n) command is) (record {
+      files = tt;
+      blocks = tt;
+      time = tt;
+      seed = omega (arith, few);
+    })
+
+-- the seed has its bound, where there is one
+seed-most : (number : Option (List ℕ)) (n : ℕ) → option_and_then seed_of number ≡ Some n → n ≤ most_seed
+seed-most None n is = absurd (cc is)
+seed-most (Some number) n is = (within-bounds 0 most_seed (number_of number) n is).1
+
+given-complete : (given : Option Given) (reads : Given → Option Command) (command : Command) → ((words : Given) → reads words ≡ Some command → IsCommand command) → option_and_then reads given ≡ Some command → IsCommand command
 given-complete None reads command complete is = absurd (cc is)
 given-complete (Some words) reads command complete is = complete words is
 
 -- ---- commands by their words
 
-runs-complete : (given : Given) (command : Command) → run_of given ≡ Some command → IsComplete command
+runs-complete : (given : Given) (command : Command) → run_of given ≡ Some command → IsCommand command
 runs-complete given command is =
-    run-complete (only_argument given) (value_of given (codes "script")) (value_of given (codes "slices")) (blocks_of given) command (blocks-are given) is
+    run-complete (only_argument given) (value_of given (codes "script")) (value_of given (codes "slices")) (blocks_of given) (time_of given) command (blocks-are given) (time-is given) is
 
-boots-complete : (given : Given) (command : Command) → boot_of given ≡ Some command → IsComplete command
+boots-complete : (given : Given) (command : Command) → boot_of given ≡ Some command → IsCommand command
 boots-complete given command is =
-    boot-complete given.arguments (value_of given (codes "script")) (value_of given (codes "slices")) (blocks_of given) command (blocks-are given) is
+    boot-complete given.arguments (value_of given (codes "script")) (value_of given (codes "slices")) (blocks_of given) (time_of given) command (blocks-are given) (time-is given) is
 
-checks-complete : (given : Given) (command : Command) → check_of given ≡ Some command → IsComplete command
+checks-complete : (given : Given) (command : Command) → check_of given ≡ Some command → IsCommand command
 checks-complete given command is = check-complete (only_argument given) command is
 
--- a run has one file, a boot has its images and a script, and both have from 8 to 256 blocks
-pub is-complete : (words : List (List ℕ)) (command : Command) → command_of words ≡ Some command → IsComplete command
+stresses-complete : (given : Given) (command : Command) → stress_of given ≡ Some command → IsCommand command
+stresses-complete given command is =
+    stress-complete (option_and_then seed_of (only_argument given)) command (seed-most (only_argument given)) is
+
+-- what words spell has what a command has
+pub is-complete : (words : List (List ℕ)) (command : Command) → command_of words ≡ Some command → IsCommand command
 is-complete [] command is = absurd (cc is)
 is-complete (first ∷ words) command is =
-    by (bytes_eq first (codes "run")) (bytes_eq first (codes "boot")) (bytes_eq first (codes "check")) is
+    by (bytes_eq first (codes "run")) (bytes_eq first (codes "boot")) (bytes_eq first (codes "check")) (bytes_eq first (codes "stress")) is
   where
-    by : (run boot check : Bool) → (if run then option_and_then run_of (words_give run_options words) else (if boot then option_and_then boot_of (words_give run_options words) else (if check then option_and_then check_of (words_give check_options words) else None))) ≡ Some command → IsComplete command
-    by true boot check is =
+    by : (run boot check stress : Bool) → (if run then option_and_then run_of (words_give run_options words) else (if boot then option_and_then boot_of (words_give run_options words) else (if check then option_and_then check_of (words_give check_options words) else (if stress then option_and_then stress_of (words_give stress_options words) else None)))) ≡ Some command → IsCommand command
+    by true boot check stress is =
         given-complete (words_give run_options words) run_of command (λ given e. runs-complete given command e) is
-    by false true check is =
+    by false true check stress is =
         given-complete (words_give run_options words) boot_of command (λ given e. boots-complete given command e) is
-    by false false true is =
+    by false false true stress is =
         given-complete (words_give check_options words) check_of command (λ given e. checks-complete given command e) is
-    by false false false is = absurd (cc is)
+    by false false false true is =
+        given-complete (words_give stress_options words) stress_of command (λ given e. stresses-complete given command e) is
+    by false false false false is = absurd (cc is)

@@ -1,59 +1,95 @@
 -- Which words are a command line (this project's own).
-use Rattle.std.specs.Prelude.{◌≡◌, ℕ, ◌≤◌, nat_le, ◌&&◌, length, Option, Some, None, IsSome, option_and_then, option_map, Result, Ok, Err, ⊤, List, [], ◌∷◌, bytes_eq, codes, if◌then◌else◌}
+use Rattle.std.specs.Prelude.{◌≡◌, ℕ, ◌<◌, ◌≤◌, true, nat_le, ◌&&◌, length, Option, Some, None, IsSome, option_and_then, option_map, Result, Ok, Err, ⊤, List, [], ◌∷◌, bytes_eq, codes, if◌then◌else◌}
 use Rattle.std.specs.Option.{option_map_or}
+use Rattle.os9_base.specs.declared.registers.TimePacket.{TimePacket}
+use Rattle.civil_time.specs.CivilTime.{is_time_packet}
 use Rattle.number_text.specs.Number.{number_of, within}
+use Rattle.time_text.specs.TimeText.{time_in}
 use Rattle.word_options.specs.Given.{Given, only_argument, value_of, words_give}
 use Rattle.os9_words.specs.declared.command.Command.{Command}
-use Rattle.os9_words.specs.declared.command.Command.TheVariants.{Run, Boot, Check}
+use Rattle.os9_words.specs.declared.command.Command.TheVariants.{Run, Boot, Check, Stress}
 use Rattle.os9_words.specs.declared.command.RunWords.{RunWords}
 use Rattle.os9_words.specs.declared.command.WordsFault.{WordsFault}
 use Rattle.os9_words.specs.declared.command.WordsFault.TheVariants.{Refused, OutOfMemory}
 
--- the options of `run` and of `boot`, and those of `check`
+-- the options of `run` and of `boot`, those of `check`, and those of `stress`
 abbrev pub run_options : List (List ℕ)
-run_options = codes "slices" ∷ codes "script" ∷ codes "blocks" ∷ []
+run_options = codes "slices" ∷ codes "script" ∷ codes "blocks" ∷ codes "time" ∷ []
 
 abbrev pub check_options : List (List ℕ)
 check_options = []
+
+abbrev pub stress_options : List (List ℕ)
+stress_options = []
 
 -- the number of blocks: 64 without `--blocks`, and N, from 8 to 256, by `--blocks N`
 abbrev pub blocks_of : Given → Option ℕ
 blocks_of words =
     option_map_or (λ number. within 8 256 (number_of number)) (value_of words (codes "blocks")) (Some 64)
 
--- `run` of this file of modules, with this script or without one, over these slices and blocks, where files of
--- modules and slices and a number of blocks are given
-abbrev pub run_with : Option (List ℕ) → Option (List ℕ) → Option (List ℕ) → Option ℕ → Option Command
-run_with (Some modules) script (Some slices) (Some blocks) =
-    Some (Run (record { files = modules ∷ []; script = script; slices = slices; blocks = blocks }))
-run_with _ _ _ _ = None
+-- the start of a run without `--time`: the beginning of 1990
+abbrev pub default_start : TimePacket
+default_start = record { year = 90; month = 1; day = 1; hour = 0; minute = 0; second = 0 }
 
--- `run MODULES --slices SLICES`, with `--script SCRIPT` and `--blocks N` or not
+-- the date and time at the start: T by `--time T`
+abbrev pub time_of : Given → Option TimePacket
+time_of words = option_map_or time_in (value_of words (codes "time")) (Some default_start)
+
+-- `run` of this file of modules, with this script or without one, over these slices and blocks, from this time on,
+-- where files of modules and slices, a number of blocks and a time are given
+abbrev pub run_with : (modules script slices : Option (List ℕ)) (blocks : Option ℕ) (start : Option TimePacket)
+    → Option Command
+run_with (Some modules) script (Some slices) (Some blocks) (Some start) =
+    Some (Run (record { files = modules ∷ []; script = script; slices = slices; blocks = blocks; start = start }))
+run_with _ _ _ _ _ = None
+
+-- `run MODULES --slices SLICES`, with `--script SCRIPT`, `--blocks N` and `--time T` or not
 abbrev pub run_of : Given → Option Command
 run_of words =
     run_with (only_argument words) (value_of words (codes "script")) (value_of words (codes "slices")) (blocks_of words)
+    (time_of words)
 
 -- a boot takes one to four images
 abbrev pub most_images : ℕ
 most_images = 4
 
--- `boot` of these images, with this script, over these slices and blocks, where one to four images, a script, slices
--- and a number of blocks are given
-abbrev pub boot_with : List (List ℕ) → Option (List ℕ) → Option (List ℕ) → Option ℕ → Option Command
-boot_with images (Some script) (Some slices) (Some blocks) =
+-- `boot` of these images, with this script, over these slices and blocks, from this time on, where one to four
+-- images, a script, slices, a number of blocks and a time are given
+abbrev pub boot_with : List (List ℕ) → (script slices : Option (List ℕ)) (blocks : Option ℕ) (start : Option TimePacket)
+    → Option Command
+boot_with images (Some script) (Some slices) (Some blocks) (Some start) =
     if nat_le 1 (length images) && nat_le (length images) most_images
-    then Some (Boot (record { files = images; script = Some script; slices = slices; blocks = blocks }))
+    then Some (Boot (record {
+      files = images;
+      script = Some script;
+      slices = slices;
+      blocks = blocks;
+      start = start;
+    }))
     else None
-boot_with _ _ _ _ = None
+boot_with _ _ _ _ _ = None
 
--- `boot IMAGE.. --script SCRIPT --slices SLICES`, with `--blocks N` or not
+-- `boot IMAGE.. --script SCRIPT --slices SLICES`, with `--blocks N` and `--time T` or not
 abbrev pub boot_of : Given → Option Command
 boot_of words =
     boot_with words.arguments (value_of words (codes "script")) (value_of words (codes "slices")) (blocks_of words)
+    (time_of words)
 
 -- `check IMAGE`
 abbrev pub check_of : Given → Option Command
 check_of words = option_map Check (only_argument words)
+
+-- the greatest seed of `stress`
+abbrev pub most_seed : ℕ
+most_seed = 2147483647
+
+-- the seed that a number spells, from 0 to the greatest
+abbrev pub seed_of : List ℕ → Option ℕ
+seed_of number = within 0 most_seed (number_of number)
+
+-- `stress N`
+abbrev pub stress_of : Given → Option Command
+stress_of words = option_map Stress (option_and_then seed_of (only_argument words))
 
 -- the command that the words spell, or nothing where they spell none
 abbrev pub command_of : List (List ℕ) → Option Command
@@ -65,7 +101,9 @@ command_of (command ∷ words) =
     then option_and_then boot_of (words_give run_options words)
     else (if bytes_eq command (codes "check")
     then option_and_then check_of (words_give check_options words)
-    else None))
+    else (if bytes_eq command (codes "stress")
+    then option_and_then stress_of (words_give stress_options words)
+    else None)))
 
 -- a boot names one to four images and a script
 pub record HasImages (run : RunWords) : Type 0 where
@@ -78,12 +116,35 @@ abbrev pub HasFiles : Command → Type 0
 HasFiles (Run run) = length run.files ≡ 1
 HasFiles (Boot run) = HasImages run
 HasFiles (Check image) = ⊤
+HasFiles (Stress seed) = ⊤
 
 -- a command that runs programs has from 8 to 256 blocks
 abbrev pub HasBlocks : Command → Type 0
 HasBlocks (Run run) = (8 ≤ run.blocks) × (run.blocks ≤ 256)
 HasBlocks (Boot run) = (8 ≤ run.blocks) × (run.blocks ≤ 256)
 HasBlocks (Check image) = ⊤
+HasBlocks (Stress seed) = ⊤
+
+-- and starts at a date and time of 1900 to 2155
+abbrev pub HasTime : Command → Type 0
+HasTime (Run run) = is_time_packet run.start ≡ true
+HasTime (Boot run) = is_time_packet run.start ≡ true
+HasTime (Check image) = ⊤
+HasTime (Stress seed) = ⊤
+
+-- the seed of a stress is one of 31 bits
+abbrev pub HasSeed : Command → Type 0
+HasSeed (Run run) = ⊤
+HasSeed (Boot run) = ⊤
+HasSeed (Check image) = ⊤
+HasSeed (Stress seed) = seed < 2147483648
+
+-- what each command has that words spell
+pub record IsCommand (command : Command) : Type 0 where
+  pub files : HasFiles command
+  pub blocks : HasBlocks command
+  pub time : HasTime command
+  pub seed : HasSeed command
 
 -- the fact holds where the words are refused
 abbrev pub OnRefused : {T : Type 0} → Result T WordsFault → Type 0 → Type 0

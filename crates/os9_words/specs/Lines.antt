@@ -1,7 +1,8 @@
--- The lines on the error stream, and the line of `check` on the output stream.
+-- The lines on the error stream, and the lines of `check` and `stress` on the output stream.
 use Rattle.std.specs.Prelude.{ℕ, List, [], ◌∷◌, ◌++◌, codes, decimal}
 use Rattle.os9_words.specs.declared.message.Message.{Message}
-use Rattle.os9_words.specs.declared.message.Message.TheVariants.{Words, CannotRead, CannotWrite, CannotWriteFile, NoMemory, BadImage, BadText, BadBounds, BadModule, TooLarge, NoFirst}
+use Rattle.os9_words.specs.declared.message.Message.TheVariants.{Words, CannotRead, CannotWrite, CannotWriteFile, NoMemory, BadImage, BadText, BadBounds, BadModule, TooLarge, NoFirst, DriveFailed}
+use Rattle.os9_words.specs.declared.stress_counts.StressCounts.{StressCounts}
 
 -- the line with this text
 abbrev pub line_of : List ℕ → List ℕ
@@ -52,6 +53,10 @@ boot_too_large_line = line_of (codes "os9: boot too large")
 abbrev pub no_first_line : List ℕ
 no_first_line = line_of (codes "os9: boot no SysGo")
 
+-- the drive of this number failed with the fault of this number
+abbrev pub drive_failed_line : ℕ → ℕ → List ℕ
+drive_failed_line drive fault = line_of (codes "os9: drive " ++ decimal drive ++ codes ": " ++ decimal fault)
+
 -- the line of a message
 abbrev pub message_line : Message → List ℕ
 message_line Words = words_line
@@ -65,6 +70,7 @@ message_line BadBounds = boot_bounds_line
 message_line (BadModule at error) = boot_module_line at error
 message_line TooLarge = boot_too_large_line
 message_line NoFirst = no_first_line
+message_line (DriveFailed drive fault) = drive_failed_line drive fault
 
 -- what `check` counts: files that are no directories, directories with the root, free clusters and
 -- lost clusters
@@ -72,3 +78,10 @@ abbrev pub counts_line : ℕ → ℕ → ℕ → ℕ → List ℕ
 counts_line files directories free lost =
     line_of (codes "files " ++ decimal files ++ codes " dirs " ++ decimal directories
     ++ codes " free " ++ decimal free ++ codes " lost " ++ decimal lost)
+
+-- what `stress` counts
+abbrev pub stress_line : StressCounts → List ℕ
+stress_line counts =
+    line_of (codes "slices " ++ decimal counts.slices ++ codes " files " ++ decimal counts.files
+    ++ codes " bytes " ++ decimal counts.bytes ++ codes " free " ++ decimal counts.free
+    ++ codes " lost " ++ decimal counts.lost)

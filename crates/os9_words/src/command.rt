@@ -1,14 +1,18 @@
-ghost use Rattle.std.specs.Prelude.{◌≡◌, ◌≢◌, ◌≤◌, ◌&&◌, nat_le, None, Some, IfOk, IfSome, [], ◌∷◌, length, map, option_and_then, option_map, string_bytes, take};
+ghost use Rattle.std.specs.Prelude.{◌≡◌, ◌≢◌, ◌<◌, ◌≤◌, ◌&&◌, nat_le, true, None, Some, IfOk, IfSome, [], ◌∷◌, length, map, option_and_then, option_map, string_bytes, take};
 ghost use Rattle.std.specs.List.{All};
-ghost use Rattle.os9_words.specs.Command.{command_of, check_options, most_images, run_options, HasFiles, HasBlocks, OnRefused};
+ghost use Rattle.civil_time.specs.CivilTime.{is_time_packet};
+ghost use Rattle.os9_words.specs.Command.{command_of, check_options, most_images, run_options, stress_options, IsCommand, OnRefused};
 ghost use Rattle.os9_words.specs.Command.{blocks_of as blocks_of_lem, boot_of as boot_of_lem, check_of as check_of_lem, run_of as run_of_lem};
+ghost use Rattle.os9_words.specs.Command.{seed_of as seed_of_lem, stress_of as stress_of_lem, time_of as time_of_lem};
 ghost use Rattle.word_options.specs.Given.{words_give};
 
 use crate::word::{Word, Words};
 use number_text::read_number;
 use option_reader::{GivenWords, read_given};
+use os9_base::registers::TimePacket;
 use std::alloc::{AllocError, Global};
 use thiserror::Error;
+use time_text::read_time;
 
 /// The words of a command that runs programs.
 #[derive(Debug, Drop)]
@@ -21,19 +25,23 @@ pub struct RunWords {
     pub slices: Word,
     /// The number of memory blocks, from 8 to 256.
     pub blocks: u16,
+    /// The date and time at the start.
+    pub start: TimePacket,
 }
 
 /// A command line.
 #[derive(Debug, Drop)]
 pub enum Command {
-    /// `run MODULES --slices SLICES`, with `--script SCRIPT` and `--blocks N` or not: runs the
-    /// program of a file of modules.
+    /// `run MODULES --slices SLICES`, with `--script SCRIPT`, `--blocks N` and `--time T` or not:
+    /// runs the program of a file of modules.
     Run(RunWords),
-    /// `boot IMAGE.. --script SCRIPT --slices SLICES`, with `--blocks N` or not: runs the program
-    /// of the boot file of the first of one to four images.
+    /// `boot IMAGE.. --script SCRIPT --slices SLICES`, with `--blocks N` and `--time T` or not: runs
+    /// the program of the boot file of the first of one to four images.
     Boot(RunWords),
     /// `check IMAGE`: tests the image in a file.
     Check(Word),
+    /// `stress N`: runs the programs of the load of this seed, which is below 2,147,483,648.
+    Stress(u32),
 }
 
 /// Why words were not read.
@@ -59,6 +67,19 @@ const MOST_BLOCKS: u32 = 256;
 /// The greatest number of images that `boot` takes.
 const MOST_IMAGES: usize = 4;
 
+/// The start without the option `--time`: the beginning of 1990.
+const DEFAULT_START: TimePacket = TimePacket {
+    year: 90,
+    month: 1,
+    day: 1,
+    hour: 0,
+    minute: 0,
+    second: 0,
+};
+
+/// The greatest seed that `stress` takes.
+const MOST_SEED: u32 = 2_147_483_647;
+
 /// Reads the words of a command line, without the program's own name (this project's own).
 ///
 /// # Errors
@@ -67,8 +88,7 @@ const MOST_IMAGES: usize = 4;
 pub fn read_words(alloc: Global, words: &[String]) -> Result<Command, WordsFault>
     ensures command { IfOk result (λ command.
         command_of (map string_bytes words.now) ≡ Some command) }
-    ensures files { IfOk result HasFiles }
-    ensures blocks { IfOk result HasBlocks }
+    ensures complete { IfOk result IsCommand }
     ensures refused { OnRefused result (command_of (map string_bytes words.now) ≡ None) }
 {
     let [command, words @ ..] = words else {
@@ -78,6 +98,7 @@ pub fn read_words(alloc: Global, words: &[String]) -> Result<Command, WordsFault
         "run" => read_run(alloc, words),
         "boot" => read_boot(alloc, words),
         "check" => read_check(alloc, words),
+        "stress" => read_stress(alloc, words),
         _ => Err(WordsFault::Refused),
     }
 }
@@ -86,12 +107,11 @@ pub fn read_words(alloc: Global, words: &[String]) -> Result<Command, WordsFault
 fn read_run(alloc: Global, words: &[String]) -> Result<Command, WordsFault>
     ensures command { IfOk result (λ read. option_and_then run_of_lem
         (words_give run_options (map string_bytes words.now)) ≡ Some read) }
-    ensures files { IfOk result HasFiles }
-    ensures blocks { IfOk result HasBlocks }
+    ensures complete { IfOk result IsCommand }
     ensures refused { OnRefused result (option_and_then run_of_lem
         (words_give run_options (map string_bytes words.now)) ≡ None) }
 {
-    let names = ["slices", "script", "blocks"];
+    let names = ["slices", "script", "blocks", "time"];
     let given = read_options(alloc, &names, words)?;
     run_of(alloc, &given)
 }
@@ -100,12 +120,11 @@ fn read_run(alloc: Global, words: &[String]) -> Result<Command, WordsFault>
 fn read_boot(alloc: Global, words: &[String]) -> Result<Command, WordsFault>
     ensures command { IfOk result (λ read. option_and_then boot_of_lem
         (words_give run_options (map string_bytes words.now)) ≡ Some read) }
-    ensures files { IfOk result HasFiles }
-    ensures blocks { IfOk result HasBlocks }
+    ensures complete { IfOk result IsCommand }
     ensures refused { OnRefused result (option_and_then boot_of_lem
         (words_give run_options (map string_bytes words.now)) ≡ None) }
 {
-    let options = ["slices", "script", "blocks"];
+    let options = ["slices", "script", "blocks", "time"];
     let given = read_options(alloc, &options, words)?;
     boot_of(alloc, &given)
 }
@@ -114,11 +133,23 @@ fn read_boot(alloc: Global, words: &[String]) -> Result<Command, WordsFault>
 fn read_check(alloc: Global, words: &[String]) -> Result<Command, WordsFault>
     ensures command { IfOk result (λ read. option_and_then check_of_lem
         (words_give check_options (map string_bytes words.now)) ≡ Some read) }
+    ensures complete { IfOk result IsCommand }
     ensures refused { OnRefused result (option_and_then check_of_lem
         (words_give check_options (map string_bytes words.now)) ≡ None) }
 {
     let given = read_options(alloc, &[], words)?;
     check_of(alloc, &given)
+}
+
+// Reads the words behind `stress`.
+fn read_stress(alloc: Global, words: &[String]) -> Result<Command, WordsFault>
+    ensures command { IfOk result (λ read. option_and_then stress_of_lem
+        (words_give stress_options (map string_bytes words.now)) ≡ Some read) }
+    ensures complete { IfOk result IsCommand }
+    ensures refused { OnRefused result (option_and_then stress_of_lem
+        (words_give stress_options (map string_bytes words.now)) ≡ None) }
+{
+    stress_of(&read_options(alloc, &[], words)?)
 }
 
 // Reads the words behind a command, whose options have these names.
@@ -140,42 +171,44 @@ fn read_options<'a>(
     }
 }
 
-// `run MODULES --slices SLICES`, with `--script SCRIPT` and `--blocks N` or not.
+// `run MODULES --slices SLICES`, with `--script SCRIPT`, `--blocks N` and `--time T` or not.
 fn run_of(alloc: Global, given: &GivenWords<'_>) -> Result<Command, WordsFault>
     ensures command { IfOk result (λ read. run_of_lem given.now ≡ Some read) }
-    ensures files { IfOk result HasFiles }
-    ensures blocks { IfOk result HasBlocks }
+    ensures complete { IfOk result IsCommand }
     ensures refused { OnRefused result (run_of_lem given.now ≡ None) }
 {
     let modules = given.only_argument();
     let slices = given.value("slices");
     let blocks = blocks_of(given);
-    let (Some(modules), Some(slices), Some(blocks)) = (modules, slices, blocks) else {
+    let start = time_of(given);
+    let (Some(modules), Some(slices), Some(blocks), Some(start)) = (modules, slices, blocks, start)
+    else {
         return Err(WordsFault::Refused);
     };
-    match run_words(alloc, modules, given.value("script"), slices, blocks) {
+    match run_words(alloc, modules, given.value("script"), slices, blocks, start) {
         Ok(run) => Ok(Command::Run(run)),
         Err(_) => Err(WordsFault::OutOfMemory),
     }
 }
 
-// `boot IMAGE.. --script SCRIPT --slices SLICES`, with `--blocks N` or not.
+// `boot IMAGE.. --script SCRIPT --slices SLICES`, with `--blocks N` and `--time T` or not.
 fn boot_of(alloc: Global, given: &GivenWords<'_>) -> Result<Command, WordsFault>
     ensures command { IfOk result (λ read. boot_of_lem given.now ≡ Some read) }
-    ensures files { IfOk result HasFiles }
-    ensures blocks { IfOk result HasBlocks }
+    ensures complete { IfOk result IsCommand }
     ensures refused { OnRefused result (boot_of_lem given.now ≡ None) }
 {
     let script = given.value("script");
     let slices = given.value("slices");
     let blocks = blocks_of(given);
-    let (Some(script), Some(slices), Some(blocks)) = (script, slices, blocks) else {
+    let start = time_of(given);
+    let (Some(script), Some(slices), Some(blocks), Some(start)) = (script, slices, blocks, start)
+    else {
         return Err(WordsFault::Refused);
     };
     if !has_images(given) {
         return Err(WordsFault::Refused);
     }
-    match boot_words(alloc, given, script, slices, blocks) {
+    match boot_words(alloc, given, script, slices, blocks, start) {
         Ok(boot) => Ok(Command::Boot(boot)),
         Err(_) => Err(WordsFault::OutOfMemory),
     }
@@ -195,12 +228,14 @@ fn boot_words(
     script: &str,
     slices: &str,
     blocks: u16,
+    start: TimePacket,
 ) -> Result<RunWords, AllocError>
     ensures { IfOk result (λ run. run ≡ record {
       files = take most_images given.now.arguments;
       script = Some script.now;
       slices = slices.now;
       blocks = blocks;
+      start = start;
     }) }
 {
     Ok(RunWords {
@@ -208,6 +243,7 @@ fn boot_words(
         script: Some(Word::copy_of(alloc, script)?),
         slices: Word::copy_of(alloc, slices)?,
         blocks,
+        start,
     })
 }
 
@@ -228,6 +264,7 @@ fn image_words(alloc: Global, given: &GivenWords<'_>) -> Result<Words, AllocErro
 // `check IMAGE`.
 fn check_of(alloc: Global, given: &GivenWords<'_>) -> Result<Command, WordsFault>
     ensures command { IfOk result (λ read. check_of_lem given.now ≡ Some read) }
+    ensures complete { IfOk result IsCommand }
     ensures refused { OnRefused result (check_of_lem given.now ≡ None) }
 {
     let Some(image) = given.only_argument() else {
@@ -239,18 +276,35 @@ fn check_of(alloc: Global, given: &GivenWords<'_>) -> Result<Command, WordsFault
     }
 }
 
+// `stress N`.
+fn stress_of(given: &GivenWords<'_>) -> Result<Command, WordsFault>
+    ensures command { IfOk result (λ read. stress_of_lem given.now ≡ Some read) }
+    ensures complete { IfOk result IsCommand }
+    ensures refused { OnRefused result (stress_of_lem given.now ≡ None) }
+{
+    let Some(number) = given.only_argument() else {
+        return Err(WordsFault::Refused);
+    };
+    match seed_of(number) {
+        Some(seed) => Ok(Command::Stress(seed)),
+        None => Err(WordsFault::Refused),
+    }
+}
+
 fn run_words(
     alloc: Global,
     modules: &str,
     script: Option<&str>,
     slices: &str,
     blocks: u16,
+    start: TimePacket,
 ) -> Result<RunWords, AllocError>
     ensures { IfOk result (λ run. run ≡ record {
       files = modules.now ∷ [];
       script = option_map (λ script. script.now) script.entry;
       slices = slices.now;
       blocks = blocks;
+      start = start;
     }) }
 {
     let modules = Word::copy_of(alloc, modules)?;
@@ -259,6 +313,7 @@ fn run_words(
         script: copy_if_given(alloc, script)?,
         slices: Word::copy_of(alloc, slices)?,
         blocks,
+        start,
     })
 }
 
@@ -283,6 +338,25 @@ fn blocks_of(given: &GivenWords<'_>) -> Option<u16>
     };
     let blocks = read_number(number.as_bytes(), FEWEST_BLOCKS, MOST_BLOCKS)?;
     Some(blocks as u16)
+}
+
+// The date and time at the start: the beginning of 1990 without `--time`.
+fn time_of(given: &GivenWords<'_>) -> Option<TimePacket>
+    ensures time { result ≡ time_of_lem given.now }
+    ensures civil { IfSome result (λ start. is_time_packet start ≡ true) }
+{
+    match given.value("time") {
+        Some(text) => read_time(text.as_bytes()),
+        None => Some(DEFAULT_START),
+    }
+}
+
+// The seed that a number spells.
+fn seed_of(number: &str) -> Option<u32>
+    ensures seed { result ≡ seed_of_lem number.now }
+    ensures most { IfSome result (λ seed. seed < 2147483648) }
+{
+    read_number(number.as_bytes(), 0, MOST_SEED)
 }
 
 #[cfg(test)]
@@ -388,6 +462,108 @@ mod tests {
         Ok(())
     }
 
+    fn packet(year: u8, month: u8, day: u8, hour: u8, minute: u8, second: u8) -> TimePacket {
+        TimePacket {
+            year,
+            month,
+            day,
+            hour,
+            minute,
+            second,
+        }
+    }
+
+    #[test]
+    fn starts_are_read(rt: HostRuntime) -> Result<(), Fail> {
+        for (words, start) in [
+            (
+                ["run", "h", "--slices", "s"].as_slice(),
+                packet(90, 1, 1, 0, 0, 0),
+            ),
+            (
+                &["boot", "e", "--script", "t", "--slices", "s"],
+                packet(90, 1, 1, 0, 0, 0),
+            ),
+            (
+                &["run", "h", "--slices", "s", "--time", "1992-06-15T01:02:03"],
+                packet(92, 6, 15, 1, 2, 3),
+            ),
+            (
+                &["run", "--time=2000-02-29T23:59:59", "h", "--slices", "s"],
+                packet(100, 2, 29, 23, 59, 59),
+            ),
+            (
+                &[
+                    "boot",
+                    "e",
+                    "--script=t",
+                    "--slices=s",
+                    "--time",
+                    "1900-01-01T00:00:00",
+                ],
+                packet(0, 1, 1, 0, 0, 0),
+            ),
+            (
+                &[
+                    "boot",
+                    "--time=2155-12-31T23:59:59",
+                    "e",
+                    "--script=t",
+                    "--slices=s",
+                ],
+                packet(255, 12, 31, 23, 59, 59),
+            ),
+        ] {
+            let words = words_of(rt.alloc(), words)?;
+            let run = match read_words(rt.alloc(), &words)? {
+                Command::Run(run) => run,
+                Command::Boot(run) => run,
+                _ => return Err(Fail::from("no run and no boot")),
+            };
+            assert_eq!(rt; run.start, start);
+        }
+        Ok(())
+    }
+
+    #[test]
+    fn stress_words_are_read(rt: HostRuntime) -> Result<(), Fail> {
+        for (number, read) in [
+            ("0", 0),
+            ("2147483647", 2_147_483_647),
+            ("000000000000000000001", 1),
+        ] {
+            let words = words_of(rt.alloc(), &["stress", number])?;
+            let Command::Stress(seed) = read_words(rt.alloc(), &words)? else {
+                return Err(Fail::from("no stress"));
+            };
+            assert_eq!(rt; seed, read);
+        }
+        Ok(())
+    }
+
+    #[test]
+    fn bad_times(rt: HostRuntime) -> Result<(), Fail> {
+        for time in [
+            "1899-12-31T23:59:59",
+            "2156-01-01T00:00:00",
+            "1900-02-29T00:00:00",
+            "1990-01-01",
+            "1990-1-1T00:00:00",
+            "",
+        ] {
+            let run = ["run", "h", "--slices", "s", "--time", time];
+            let boot = [
+                "boot", "e", "--script", "t", "--slices", "s", "--time", time,
+            ];
+            for words in [run.as_slice(), &boot] {
+                let words = words_of(rt.alloc(), words)?;
+                let refused = read_words(rt.alloc(), &words).err();
+                assert_eq!(rt; refused, Some(WordsFault::Refused));
+            }
+        }
+        Ok(())
+    }
+
     #[test]
     fn bad_words(rt: HostRuntime) -> Result<(), Fail> {
         for words in [
@@ -406,16 +582,13 @@ mod tests {
             &[
                 "run", "h", "--slices", "s", "--script", "t", "--script", "t",
             ],
-            &["run", "h", "--slices", "s", "--time", "1990-01-01T00:00:00"],
             &["boot", "--script", "t", "--slices", "s"],
             &["boot", "e", "--slices", "s"],
             &["boot", "e", "--script", "t"],
-            &["boot", "e", "--script", "t", "--slices", "s", "--time", "1"],
             &["boot", "e", "--script", "t", "--slices", "s", "--history"],
             &[
                 "boot", "a", "b", "c", "d", "e", "--script", "t", "--slices", "s",
             ],
-            &["stress", "1"],
             &["run", "h", "--slices", "s", "--slices", "s"],
             &["run", "h", "--slices", "s", "--blocks"],
             &["run", "h", "--slices", "s", "--blocks", "x"],
@@ -434,6 +607,24 @@ mod tests {
             &[
                 "run", "h", "--slices", "s", "--blocks", "8", "--blocks", "8",
             ],
+            &[
+                "run",
+                "h",
+                "--slices=s",
+                "--time=1990-01-01T00:00:00",
+                "--time=1990-01-01T00:00:00",
+            ],
+            &["run", "h", "--slices=s", "--time"],
+            &["run", "h", "--slices=s", "--time="],
+            &["check", "--time=1990-01-01T00:00:00", "a"],
+            &["stress"],
+            &["stress", "1", "2"],
+            &["stress", "2147483648"],
+            &["stress", "-1"],
+            &["stress", "+1"],
+            &["stress", "x"],
+            &["stress", "--seed", "1"],
+            &["stress", "1", "--time=1990-01-01T00:00:00"],
             &["check"],
             &["check", "-x"],
             &["check", "a", "b"],

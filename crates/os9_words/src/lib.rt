@@ -1,4 +1,4 @@
-//! The words of a command line, the messages on the error stream, and the line that a command puts
+//! The words of a command line, the messages on the error stream, and the lines that commands put
 //! on the output stream.
 #![tactic(auto)]
 
@@ -6,5 +6,6 @@ pub mod command;
 pub mod counts;
 pub mod message;
 mod pieces;
+pub mod stress_counts;
 pub mod word;
 pub mod worked;

@@ -1,4 +1,4 @@
-ghost use Rattle.os9_words.specs.Lines.{boot_module_line, image_fault_line, text_fault_line, message_line};
+ghost use Rattle.os9_words.specs.Lines.{boot_module_line, drive_failed_line, image_fault_line, text_fault_line, message_line};
 ghost use Rattle.os9_words.specs.Streams.{WritesErr};
 
 use crate::pieces::{report_pieces, report_text};
@@ -35,6 +35,8 @@ pub enum Message<'a> {
     TooLarge,
     /// The boot file has no program `SysGo`: `os9: boot no SysGo`.
     NoFirst,
+    /// The drive of this number, from 0, failed with the fault of this number: `os9: drive D: E`.
+    DriveFailed(u8, u8),
 }
 
 /// Writes the line of a message to the error stream.
@@ -61,6 +63,7 @@ pub fn report<H: Host>(host: &mut H, message: &Message) -> Result<(), HostFault>
         Message::BadModule(at, error) => report_bad_module(host, *at, *error),
         Message::TooLarge => report_text(host, b"os9: boot too large\n"),
         Message::NoFirst => report_text(host, b"os9: boot no SysGo\n"),
+        Message::DriveFailed(drive, fault) => report_drive_failed(host, *drive, *fault),
     }
 }
 
@@ -119,6 +122,24 @@ fn report_bad_module<H: Host>(host: &mut H, at: u32, error: u8) -> Result<(), Ho
     )
 }
 
+/// Writes that a drive failed.
+fn report_drive_failed<H: Host>(host: &mut H, drive: u8, fault: u8) -> Result<(), HostFault>
+    ensures { WritesErr H.Host (drive_failed_line drive fault) result host.old host.new }
+{
+    let mut drive_text = Buffer::new();
+    let mut fault_text = Buffer::new();
+    report_pieces(
+        host,
+        &[
+            b"os9: drive ",
+            drive_text.format(drive).as_bytes(),
+            b": ",
+            fault_text.format(fault).as_bytes(),
+            b"\n",
+        ],
+    )
+}
+
 #[cfg(test)]
 mod tests {
     use super::*;
@@ -141,6 +162,7 @@ mod tests {
             Message::BadModule(0, 232),
             Message::TooLarge,
             Message::NoFirst,
+            Message::DriveFailed(1, 244),
         ] {
             report(&mut host, &message)?;
         }
@@ -154,7 +176,8 @@ mod tests {
             os9: boot bounds\n\
             os9: boot module 232 at 0\n\
             os9: boot too large\n\
-            os9: boot no SysGo\n";
+            os9: boot no SysGo\n\
+            os9: drive 1: 244\n";
         assert_eq!(rt; host.err_bytes.as_slice(), lines.as_slice());
         Ok(())
     }

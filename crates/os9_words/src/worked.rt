@@ -1,37 +1,81 @@
 //! Words with what they spell, as laws that the check computes from the definitions.
 
 ghost use Rattle.std.specs.Prelude.{◌≡◌, [], ◌∷◌, Some, None, codes};
+ghost use Rattle.civil_time.specs.Rows.{at};
 ghost use Rattle.os9_words.specs.Command.{boot_with, command_of, run_with};
+ghost use Rattle.os9_words.specs.declared.command.Command.TheVariants.{Stress};
 
 /// Command lines in both forms of an option, and in any order.
 pub fn runs_are_read()
     ensures one_word { command_of (codes "run" ∷ codes "h" ∷ codes "--slices=s" ∷ [])
-        ≡ run_with (Some (codes "h")) None (Some (codes "s")) (Some 64) }
+        ≡ run_with (Some (codes "h")) None (Some (codes "s")) (Some 64)
+        (Some (at 90 1 1 0 0 0)) }
     ensures options_first { command_of (codes "run" ∷ codes "--blocks" ∷ codes "8"
         ∷ codes "--slices=-s" ∷ codes "--" ∷ codes "-h" ∷ [])
-        ≡ run_with (Some (codes "-h")) None (Some (codes "-s")) (Some 8) }
+        ≡ run_with (Some (codes "-h")) None (Some (codes "-s")) (Some 8)
+        (Some (at 90 1 1 0 0 0)) }
+{}
+
+/// Command lines of a run with a script.
+pub fn scripts_are_read()
     ensures script_last { command_of (codes "run" ∷ codes "h" ∷ codes "--slices" ∷ codes "s"
         ∷ codes "--script" ∷ codes "t" ∷ [])
-        ≡ run_with (Some (codes "h")) (Some (codes "t")) (Some (codes "s")) (Some 64) }
+        ≡ run_with (Some (codes "h")) (Some (codes "t")) (Some (codes "s")) (Some 64)
+        (Some (at 90 1 1 0 0 0)) }
     ensures script_first { command_of (codes "run" ∷ codes "--script=-t" ∷ codes "--slices=s"
         ∷ codes "h" ∷ [])
-        ≡ run_with (Some (codes "h")) (Some (codes "-t")) (Some (codes "s")) (Some 64) }
+        ≡ run_with (Some (codes "h")) (Some (codes "-t")) (Some (codes "s")) (Some 64)
+        (Some (at 90 1 1 0 0 0)) }
 {}
 
 /// Command lines of a boot: the images in their order, also one name twice.
 pub fn boots_are_read()
     ensures one_image { command_of (codes "boot" ∷ codes "a" ∷ codes "--script=t"
         ∷ codes "--slices=s" ∷ [])
-        ≡ boot_with (codes "a" ∷ []) (Some (codes "t")) (Some (codes "s")) (Some 64) }
+        ≡ boot_with (codes "a" ∷ []) (Some (codes "t")) (Some (codes "s")) (Some 64)
+        (Some (at 90 1 1 0 0 0)) }
     ensures some_images { command_of (codes "boot" ∷ codes "b" ∷ codes "--slices=s" ∷ codes "a"
         ∷ codes "--script" ∷ codes "t" ∷ codes "b" ∷ codes "--blocks=8" ∷ [])
         ≡ boot_with (codes "b" ∷ codes "a" ∷ codes "b" ∷ []) (Some (codes "t")) (Some (codes "s"))
-        (Some 8) }
+        (Some 8) (Some (at 90 1 1 0 0 0)) }
+{}
+
+/// Words of a boot without a script, without an image, and with one too many.
+pub fn boots_are_refused()
     ensures no_script { command_of (codes "boot" ∷ codes "a" ∷ codes "--slices=s" ∷ []) ≡ None }
     ensures no_image { command_of (codes "boot" ∷ codes "--script=t" ∷ codes "--slices=s" ∷ [])
         ≡ None }
     ensures five_images { command_of (codes "boot" ∷ codes "a" ∷ codes "b" ∷ codes "c" ∷ codes "d"
         ∷ codes "e" ∷ codes "--script=t" ∷ codes "--slices=s" ∷ []) ≡ None }
+{}
+
+/// Command lines with a time at the start.
+pub fn times_are_read()
+    ensures two_words { command_of (codes "run" ∷ codes "h" ∷ codes "--slices=s"
+        ∷ codes "--time" ∷ codes "2000-02-29T23:59:59" ∷ [])
+        ≡ run_with (Some (codes "h")) None (Some (codes "s")) (Some 64)
+        (Some (at 100 2 29 23 59 59)) }
+    ensures one_word { command_of (codes "boot" ∷ codes "--time=2155-12-31T23:59:59" ∷ codes "a"
+        ∷ codes "--script=t" ∷ codes "--slices=s" ∷ [])
+        ≡ boot_with (codes "a" ∷ []) (Some (codes "t")) (Some (codes "s")) (Some 64)
+        (Some (at 255 12 31 23 59 59)) }
+    ensures no_leap_day { command_of (codes "run" ∷ codes "h" ∷ codes "--slices=s"
+        ∷ codes "--time=1900-02-29T00:00:00" ∷ []) ≡ None }
+    ensures day_alone { command_of (codes "run" ∷ codes "h" ∷ codes "--slices=s"
+        ∷ codes "--time=1990-01-01" ∷ []) ≡ None }
+{}
+
+/// Command lines of a stress, and the least number that is none of its seeds.
+pub fn stresses_are_read()
+    ensures least { command_of (codes "stress" ∷ codes "0" ∷ []) ≡ Some (Stress 0) }
+    ensures most { command_of (codes "stress" ∷ codes "2147483647" ∷ [])
+        ≡ Some (Stress 2147483647) }
+    ensures behind_dashes { command_of (codes "stress" ∷ codes "--" ∷ codes "0001" ∷ [])
+        ≡ Some (Stress 1) }
+    ensures too_large { command_of (codes "stress" ∷ codes "2147483648" ∷ []) ≡ None }
+    ensures no_number { command_of (codes "stress" ∷ []) ≡ None }
+    ensures with_an_option { command_of (codes "stress" ∷ codes "1" ∷ codes "--blocks=8" ∷ [])
+        ≡ None }
 {}
 
 /// Words that are no command line.

@@ -1,5 +1,10 @@
-ghost use Rattle.os9_boot.specs.Drives.{HaveRoom, drive_states};
-ghost use Rattle.std.specs.Prelude.{◌≡◌, true, bytes_eq, [], IfOk};
+ghost use Rattle.boot_images.specs.Drives.{HaveRoom, IsEmpty};
+ghost use Rattle.boot_images.specs.Ready.{AreFree};
+ghost use Rattle.disk_kernel.specs.Outside.{outside};
+ghost use Rattle.file_drives.specs.Drives.{drive_views};
+ghost use Rattle.key_loading.specs.Loaded.{HasNoKeys};
+ghost use Rattle.os9_outer.specs.TerminalState.{terminal_states};
+ghost use Rattle.std.specs.Prelude.{◌≡◌, ◌+◌, true, All, None, IfOk, OnOk, bytes_eq, length, []};
 ghost use Rattle.std.specs.Bool.{OnTrue};
 
 use crate::row::Row;
@@ -42,28 +47,69 @@ impl Shown {
 /// and four terminals, whose calls fail as the row says. What it writes to a file is what it read
 /// there, so the files are to be as they were.
 pub(crate) fn run(alloc: Global, row: &Row) -> Result<Shown, AllocError> {
-    // (a boxed driver may not be handed out, so all are made here and below)
-    let mut drives: Vec<Box<dyn BlockDriver>> = Vec::new(alloc);
-    drives.push(Box::new(alloc, SureDrive::new())?)?;
-    drives.push(Box::new(alloc, SureDrive::new())?)?;
-    drives.push(Box::new(alloc, SureDrive::new())?)?;
-    drives.push(Box::new(alloc, SureDrive::new())?)?;
-    run_on(alloc, row, drives)
+    let mut drives = Vec::new(alloc);
+    add_drive(&mut drives, Box::new(alloc, SureDrive::new())?)?;
+    add_drive(&mut drives, Box::new(alloc, SureDrive::new())?)?;
+    add_drive(&mut drives, Box::new(alloc, SureDrive::new())?)?;
+    add_drive(&mut drives, Box::new(alloc, SureDrive::new())?)?;
+    run_over(alloc, row, drives)
 }
 
-/// The same on these drives, of which there are four without an image.
-fn run_on(alloc: Global, row: &Row, drives: Vec<Box<dyn BlockDriver>>) -> Result<Shown, AllocError>
-    requires { HaveRoom 4 (drive_states ⟦<dyn BlockDriver as BlockDriver>⟧ drives.items) }
+/// The same over these drives, of which there are four without an image.
+fn run_over(
+    alloc: Global,
+    row: &Row,
+    drives: Vec<Box<dyn BlockDriver>>,
+) -> Result<Shown, AllocError>
+    requires { HaveRoom 4 (drive_views ⟦<dyn BlockDriver as BlockDriver>⟧ drives.items) }
+{
+    let mut terms = Vec::new(alloc);
+    add_terminal(&mut terms, Box::new(alloc, terminal(alloc, row, 0)?)?)?;
+    add_terminal(&mut terms, Box::new(alloc, terminal(alloc, row, 1)?)?)?;
+    add_terminal(&mut terms, Box::new(alloc, terminal(alloc, row, 2)?)?)?;
+    add_terminal(&mut terms, Box::new(alloc, terminal(alloc, row, 3)?)?)?;
+    run_on(alloc, row, Devices { drives, terms })
+}
+
+/// Puts a drive without an image behind others.
+fn add_drive(
+    drives: &mut Vec<Box<dyn BlockDriver>>,
+    drive: Box<dyn BlockDriver>,
+) -> Result<(), AllocError>
+    requires empty { All IsEmpty (drive_views ⟦<dyn BlockDriver as BlockDriver>⟧ drives.old.items) }
+    requires drive { media drive ≡ None }
+    ensures empty { OnOk result
+        (All IsEmpty (drive_views ⟦<dyn BlockDriver as BlockDriver>⟧ drives.new.items)) }
+    ensures count { OnOk result (length drives.new.items ≡ length drives.old.items + 1) }
+{
+    drives.push(drive)?;
+    Ok(())
+}
+
+/// Puts a terminal without keys behind others.
+fn add_terminal(
+    terms: &mut Vec<Box<dyn CharDriver>>,
+    term: Box<dyn CharDriver>,
+) -> Result<(), AllocError>
+    requires keys { All HasNoKeys (terminal_states ⟦<dyn CharDriver as CharDriver>⟧ terms.old.items) }
+    requires term { keys_left term ≡ [] }
+    ensures keys { OnOk result
+        (All HasNoKeys (terminal_states ⟦<dyn CharDriver as CharDriver>⟧ terms.new.items)) }
+    ensures count { OnOk result (length terms.new.items ≡ length terms.old.items + 1) }
+{
+    terms.push(term)?;
+    Ok(())
+}
+
+/// The same on these devices.
+fn run_on(alloc: Global, row: &Row, devices: Devices) -> Result<Shown, AllocError>
+    requires { AreFree 4 (outside ⟦<dyn BlockDriver as BlockDriver>⟧ devices.drives.items
+        ⟦<dyn CharDriver as CharDriver>⟧ devices.terms.items) }
 {
     let words = words(alloc, row)?;
     let failing = Vec::from_slice(alloc, row.host_failing.as_slice())?;
     let mut host = MemHost::new(alloc, files(alloc, row)?, failing);
-    let mut terms: Vec<Box<dyn CharDriver>> = Vec::new(alloc);
-    terms.push(Box::new(alloc, terminal(alloc, row, 0)?)?)?;
-    terms.push(Box::new(alloc, terminal(alloc, row, 1)?)?)?;
-    terms.push(Box::new(alloc, terminal(alloc, row, 2)?)?)?;
-    terms.push(Box::new(alloc, terminal(alloc, row, 3)?)?)?;
-    let mut devices = Devices { drives, terms };
+    let mut devices = devices;
     let status = os9_main(alloc, words.as_slice(), &mut host, &mut devices);
     Ok(Shown {
         status,

@@ -3,8 +3,8 @@ use Rattle.std.specs.Prelude.{IfSome}
 use Rattle.std.proofs.lemmas.Result.{err_from_is_err_and}
 use Rattle.os9_outer.specs.Host.{file_contents}
 use Rattle.os9_words.specs.declared.command.Command.TheVariants.{Boot as BootCommand}
-use Rattle.os9_boot.specs.Images.{images_of}
-use Rattle.os9_boot.specs.World.{World}
+use Rattle.boot_images.specs.Images.{images_of}
+use Rattle.boot_run.specs.World.{World}
 use Rattle.os9_boot.proofs.CallLemmas.{ended-after}
 use Rattle.os9_boot.proofs.FileLemmas.{has-boot-files}
 use Rattle.os9_boot.proofs.files.read_boot_files.Goals as goal
@@ -12,24 +12,24 @@ use Rattle.os9_boot.proofs.files.read_boot_files.Goals as goal
 pub returns-in_err-script-clause-ended : goal.returns-in_err-script-clause-ended
 returns-in_err-script-clause-ended g c =
     let gave = err_from_is_err_and c.from_residual.result c.from_residual.ensures.1 in
-    rw (gave.1, gave.2) (λ drives terms. c.in_err-script.ensures.ended drives terms (BootCommand c.args.run.now) refl)
+    rw (gave.1, gave.2) (λ devices. c.in_err-script.ensures.ended devices (BootCommand c.args.run.now) refl)
 
 pub returns-in_err-slices-clause-ended : goal.returns-in_err-slices-clause-ended
 returns-in_err-slices-clause-ended g c =
     let gave = err_from_is_err_and c.from_residual-in_err-slices.result c.from_residual-in_err-slices.ensures.1 in
-    rw (gave.1, gave.2) (λ drives terms. ended-after (BootCommand c.args.run.now) _ _ _ _ (c.in_ok-script.ensures.kept drives terms) (c.in_err-slices.ensures.ended drives terms (BootCommand c.args.run.now) refl))
+    rw (gave.1, gave.2) (λ devices. ended-after (BootCommand c.args.run.now) _ _ _ _ (c.in_ok-script.ensures.kept devices) (c.in_err-slices.ensures.ended devices (BootCommand c.args.run.now) refl))
 
 pub returns-in_err-images-clause-ended : goal.returns-in_err-images-clause-ended
 returns-in_err-images-clause-ended g c =
     let gave = err_from_is_err_and c.from_residual-in_err-images.result c.from_residual-in_err-images.ensures.1 in
-    rw (gave.1, gave.2) (λ drives terms. ended-after (BootCommand c.args.run.now) _ _ _ _ (c.in_ok-slices.ensures.kept drives terms ∙ c.in_ok-script.ensures.kept drives terms) (c.in_err-images.ensures.ended drives terms))
+    rw (gave.1, gave.2) (λ devices. ended-after (BootCommand c.args.run.now) _ _ _ _ (c.in_ok-slices.ensures.kept devices ∙ c.in_ok-script.ensures.kept devices) (c.in_err-images.ensures.ended devices))
 
 pub returns-clause-contents : goal.returns-clause-contents
 returns-clause-contents g c =
-    let slices = subst (λ told. IfSome told (λ files. c.in_ok-slices.slices.items ≡ file_contents files c.args.run.now.slices)) (ap (λ (w : World). w.files) (c.in_ok-script.ensures.kept 0 [])) c.in_ok-slices.ensures.contents in
-    let images = subst (λ told. IfSome told (λ files. c.in_ok-images.images ≡ images_of files c.args.run.now.files)) (ap (λ (w : World). w.files) (c.in_ok-slices.ensures.kept 0 [] ∙ c.in_ok-script.ensures.kept 0 [])) c.in_ok-images.ensures.contents in
+    let slices = subst (λ told. IfSome told (λ files. c.in_ok-slices.slices.items ≡ file_contents files c.args.run.now.slices)) (ap (λ (w : World). w.files) (c.in_ok-script.ensures.kept (record { drives = []; terms = [] }))) c.in_ok-slices.ensures.contents in
+    let images = subst (λ told. IfSome told (λ files. c.in_ok-images.images ≡ images_of files c.args.run.now.files)) (ap (λ (w : World). w.files) (c.in_ok-slices.ensures.kept (record { drives = []; terms = [] }) ∙ c.in_ok-script.ensures.kept (record { drives = []; terms = [] }))) c.in_ok-images.ensures.contents in
     has-boot-files _ c.args.run.now _ c.in_ok-script.ensures.contents slices images
 
 pub returns-clause-kept : goal.returns-clause-kept
-returns-clause-kept g c drives terms =
-    c.in_ok-images.ensures.kept drives terms ∙ c.in_ok-slices.ensures.kept drives terms ∙ c.in_ok-script.ensures.kept drives terms
+returns-clause-kept g c devices =
+    c.in_ok-images.ensures.kept devices ∙ c.in_ok-slices.ensures.kept devices ∙ c.in_ok-script.ensures.kept devices

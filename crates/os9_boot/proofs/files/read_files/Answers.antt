@@ -3,7 +3,7 @@ use Rattle.std.specs.Prelude.{IfSome}
 use Rattle.std.proofs.lemmas.Result.{err_from_is_err_and}
 use Rattle.os9_outer.specs.Host.{file_contents}
 use Rattle.os9_words.specs.declared.command.Command.TheVariants.{Run as RunCommand}
-use Rattle.os9_boot.specs.World.{World}
+use Rattle.boot_run.specs.World.{World}
 use Rattle.os9_boot.proofs.CallLemmas.{ended-after}
 use Rattle.os9_boot.proofs.FileLemmas.{has-files}
 use Rattle.os9_boot.proofs.files.read_files.Goals as goal
@@ -11,24 +11,24 @@ use Rattle.os9_boot.proofs.files.read_files.Goals as goal
 pub returns-in_err-script-clause-ended : goal.returns-in_err-script-clause-ended
 returns-in_err-script-clause-ended g c =
     let gave = err_from_is_err_and c.from_residual.result c.from_residual.ensures.1 in
-    rw (gave.1, gave.2) (λ drives terms. c.in_err-script.ensures.ended drives terms (RunCommand c.args.run.now) refl)
+    rw (gave.1, gave.2) (λ devices. c.in_err-script.ensures.ended devices (RunCommand c.args.run.now) refl)
 
 pub returns-in_err-slices-clause-ended : goal.returns-in_err-slices-clause-ended
 returns-in_err-slices-clause-ended g c =
     let gave = err_from_is_err_and c.from_residual-in_err-slices.result c.from_residual-in_err-slices.ensures.1 in
-    rw (gave.1, gave.2) (λ drives terms. ended-after (RunCommand c.args.run.now) _ _ _ _ (c.in_ok-script.ensures.kept drives terms) (c.in_err-slices.ensures.ended drives terms (RunCommand c.args.run.now) refl))
+    rw (gave.1, gave.2) (λ devices. ended-after (RunCommand c.args.run.now) _ _ _ _ (c.in_ok-script.ensures.kept devices) (c.in_err-slices.ensures.ended devices (RunCommand c.args.run.now) refl))
 
 pub returns-in_err-modules-clause-ended : goal.returns-in_err-modules-clause-ended
 returns-in_err-modules-clause-ended g c =
     let gave = err_from_is_err_and c.from_residual-in_err-modules.result c.from_residual-in_err-modules.ensures.1 in
-    rw (gave.1, gave.2) (λ drives terms. ended-after (RunCommand c.args.run.now) _ _ _ _ (c.in_ok-slices.ensures.kept drives terms ∙ c.in_ok-script.ensures.kept drives terms) (c.in_err-modules.ensures.ended drives terms (RunCommand c.args.run.now) c.word.ensures))
+    rw (gave.1, gave.2) (λ devices. ended-after (RunCommand c.args.run.now) _ _ _ _ (c.in_ok-slices.ensures.kept devices ∙ c.in_ok-script.ensures.kept devices) (c.in_err-modules.ensures.ended devices (RunCommand c.args.run.now) c.word.ensures))
 
 pub returns-clause-contents : goal.returns-clause-contents
 returns-clause-contents g c =
-    let slices = subst (λ told. IfSome told (λ files. c.in_ok-slices.slices.items ≡ file_contents files c.args.run.now.slices)) (ap (λ (w : World). w.files) (c.in_ok-script.ensures.kept 0 [])) c.in_ok-slices.ensures.contents in
-    let modules = subst (λ told. IfSome told (λ files. c.in_ok-modules.modules.items ≡ file_contents files c.word.result.now)) (ap (λ (w : World). w.files) (c.in_ok-slices.ensures.kept 0 [] ∙ c.in_ok-script.ensures.kept 0 [])) c.in_ok-modules.ensures.contents in
+    let slices = subst (λ told. IfSome told (λ files. c.in_ok-slices.slices.items ≡ file_contents files c.args.run.now.slices)) (ap (λ (w : World). w.files) (c.in_ok-script.ensures.kept (record { drives = []; terms = [] }))) c.in_ok-slices.ensures.contents in
+    let modules = subst (λ told. IfSome told (λ files. c.in_ok-modules.modules.items ≡ file_contents files c.word.result.now)) (ap (λ (w : World). w.files) (c.in_ok-slices.ensures.kept (record { drives = []; terms = [] }) ∙ c.in_ok-script.ensures.kept (record { drives = []; terms = [] }))) c.in_ok-modules.ensures.contents in
     has-files _ c.args.run.now _ c.word.result.now c.word.ensures c.in_ok-script.ensures.contents slices modules
 
 pub returns-clause-kept : goal.returns-clause-kept
-returns-clause-kept g c drives terms =
-    c.in_ok-modules.ensures.kept drives terms ∙ c.in_ok-slices.ensures.kept drives terms ∙ c.in_ok-script.ensures.kept drives terms
+returns-clause-kept g c devices =
+    c.in_ok-modules.ensures.kept devices ∙ c.in_ok-slices.ensures.kept devices ∙ c.in_ok-script.ensures.kept devices

@@ -1,10 +1,10 @@
-use Rattle.std.proofs.Common.{◌≡◌, ◌<◌, ◌+◌, ◌∙◌, ◌∷◌, [], suc, length, ap, subst, arith}
+use Rattle.std.proofs.Common.{◌≡◌, ◌<◌, ◌+◌, ◌∙◌, [], suc, length, ap, subst, arith}
 use Rattle.std.specs.Prelude.{IfSome}
 use Rattle.std.proofs.lemmas.List.{length-append}
 use Rattle.std.proofs.lemmas.Result.{err_from_is_err_and}
 use Rattle.os9_outer.specs.Host.{file_contents}
 use Rattle.os9_words.specs.declared.command.Command.TheVariants.{Boot as BootCommand}
-use Rattle.os9_boot.specs.World.{World}
+use Rattle.boot_run.specs.World.{World}
 use Rattle.os9_boot.proofs.CallLemmas.{ended-after, out-of-memory}
 use Rattle.os9_boot.proofs.FileLemmas.{images-more}
 use Rattle.os9_boot.proofs.files.read_images.Goals as goal
@@ -12,11 +12,11 @@ use Rattle.os9_boot.proofs.files.read_images.Goals as goal
 pub returns-in_err-image-clause-ended : goal.returns-in_err-image-clause-ended
 returns-in_err-image-clause-ended g c =
     let gave = err_from_is_err_and c.from_residual.result c.from_residual.ensures.1 in
-    rw (gave.1, gave.2) (λ drives terms. ended-after (BootCommand c.args.run.now) _ _ _ _ (c.loop-place.invariant.kept drives terms) (c.in_err-image.ensures.ended drives terms (BootCommand c.args.run.now) c.word.ensures))
+    rw (gave.1, gave.2) (λ devices. ended-after (BootCommand c.args.run.now) _ _ _ _ (c.loop-place.invariant.kept devices) (c.in_err-image.ensures.ended devices (BootCommand c.args.run.now) c.word.ensures))
 
 pub returns-in-Err-clause-ended : goal.returns-in-Err-clause-ended
-returns-in-Err-clause-ended g c drives terms =
-    out-of-memory (BootCommand c.args.run.now) _ _ (c.in_ok-image.ensures.kept drives terms ∙ c.loop-place.invariant.kept drives terms)
+returns-in-Err-clause-ended g c devices =
+    out-of-memory (BootCommand c.args.run.now) _ _ (c.in_ok-image.ensures.kept devices ∙ c.loop-place.invariant.kept devices)
 
 pub loop-place-preserved : goal.loop-place-preserved
 loop-place-preserved g c =
@@ -24,11 +24,11 @@ loop-place-preserved g c =
     let pushed = c.in-Ok.ensures.pushed in
     let below : c.loop-place.place < length c.args.run.now.files = omega (arith, c.len-place-end.ensures) in
     let next : c.loop-place.place + 1 ≡ suc c.loop-place.place = omega arith in
-    let same = ap (λ (w : World). w.files) (so_far.kept 0 []) in
+    let same = ap (λ (w : World). w.files) (so_far.kept (record { drives = []; terms = [] })) in
     record {
       within = omega arith;
       count = rw (pushed, length-append, so_far.count) (omega arith);
       contents = rw (pushed, next) (images-more _ c.args.run.now.files c.loop-place.images c.loop-place.place c.word.result.now c.in_ok-image.image.items c.word.ensures so_far.contents (subst (λ told. IfSome told (λ files. c.in_ok-image.image.items ≡ file_contents files c.word.result.now)) same c.in_ok-image.ensures.contents));
-      kept = λ drives terms. c.in_ok-image.ensures.kept drives terms ∙ so_far.kept drives terms;
+      kept = λ devices. c.in_ok-image.ensures.kept devices ∙ so_far.kept devices;
       err = c.in_ok-image.ensures.err_kept ∙ so_far.err;
     }

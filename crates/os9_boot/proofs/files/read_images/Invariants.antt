@@ -1,9 +1,9 @@
 -- The images below the place are read.
-use Rattle.std.proofs.Common.{◌≡◌, ◌≤◌, ℕ, List, length, take}
+use Rattle.std.proofs.Common.{◌≡◌, ◌≤◌, length, take}
 use Rattle.std.specs.Prelude.{IfSome}
-use Rattle.os9_outer.specs.TerminalState.{TerminalState}
-use Rattle.os9_boot.specs.Images.{images_of}
-use Rattle.os9_boot.specs.World.{world_of}
+use Rattle.disk_kernel.specs.Outside.{Outside}
+use Rattle.boot_images.specs.Images.{images_of}
+use Rattle.boot_run.specs.World.{world_of}
 use Rattle.os9_boot.proofs.files.read_images.Given as goal
 
 abbrev pub invariant-loop-place : goal.invariant-loop-place
@@ -11,6 +11,6 @@ invariant-loop-place g l = record {
   within : l.place ≤ length l.run.files;
   count : length l.images ≡ l.place;
   contents : IfSome (g.H.Host.file_map l.initial.host) (λ files. l.images ≡ images_of files (take l.place l.run.files));
-  kept : (drives : ℕ) (terms : List TerminalState) → world_of g.H.Host l.host drives terms ≡ world_of g.H.Host l.initial.host drives terms;
+  kept : (devices : Outside) → world_of g.H.Host l.host devices ≡ world_of g.H.Host l.initial.host devices;
   err : g.H.Host.bytes_err l.host ≡ g.H.Host.bytes_err l.initial.host;
 }

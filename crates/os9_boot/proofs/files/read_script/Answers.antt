@@ -1,8 +1,8 @@
-use Rattle.os9_boot.specs.World.{world_of}
+use Rattle.boot_run.specs.World.{world_of}
 use Rattle.os9_boot.specs.declared.status.Input.TheVariants.{Script}
 use Rattle.os9_boot.proofs.FileLemmas.{ended-as}
 use Rattle.os9_boot.proofs.files.read_script.Goals as goal
 
 pub returns-in-Some-clause-ended : goal.returns-in-Some-clause-ended
 returns-in-Some-clause-ended g c =
-    ended-as c.read_input.result Script _ c.args.run.now.script (λ drives terms. world_of g.H.Host c.args.host.now drives terms) (λ drives terms. world_of g.H.Host c.read_input.new.host drives terms) (cc) c.read_input.ensures.ended
+    ended-as c.read_input.result Script _ c.args.run.now.script (λ devices. world_of g.H.Host c.args.host.now devices) (λ devices. world_of g.H.Host c.read_input.new.host devices) (cc) c.read_input.ensures.ended

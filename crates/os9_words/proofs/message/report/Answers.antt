@@ -25,3 +25,6 @@ returns-in-TooLarge g c = rw c.in-TooLarge.is c.report_text-in-TooLarge.ensures
 
 pub returns-in-NoFirst : goal.returns-in-NoFirst
 returns-in-NoFirst g c = rw c.in-NoFirst.is c.report_text-in-NoFirst.ensures
+
+pub returns-in-DriveFailed : goal.returns-in-DriveFailed
+returns-in-DriveFailed g c = rw c.in-DriveFailed.is c.report_drive_failed.ensures

@@ -1,0 +1,76 @@
+#!/usr/bin/env bash
+# Prints what a call costs in host instructions by which a guest copies a file of 1 MB on a disk, 256
+# bytes at a time, and what `stress 1` costs. Needs valgrind.
+top=$(cd "$(dirname "$(readlink -f "${BASH_SOURCE[0]}")")/.." && pwd) || exit 1
+folder=$(mktemp -d) || exit 1
+trap 'rm -rf "$folder"' EXIT
+cd "$folder" || exit 1
+
+# Copies BIG to COPY.
+cat >copy.asm <<'END'
+        mod     SysGo,$11,$81,1000
+start   leax    from,pcr
+        lda     #1
+        os9     $84
+        bcs     exit
+        sta     0
+        leax    to,pcr
+        lda     #2
+        ldb     #3
+        os9     $83
+        bcs     exit
+        sta     1
+again   lda     0
+        ldx     #256
+        ldy     #256
+        os9     $89
+        bcs     over
+        lda     1
+        ldx     #256
+        os9     $8A
+        bcc     again
+        bra     exit
+over    cmpb    #211
+        bne     exit
+        clrb
+exit    os9     $06
+from    fcc     "BIG"
+        fcb     $0D
+to      fcc     "COPY"
+        fcb     $0D
+        emod
+END
+python3 "$top/crates/proc_vectors/assemble.py" copy.asm copy.mod || exit 1
+echo "# no key" >script
+echo "1000000*10" >slices
+
+# The host instructions of `os9` with these words.
+host_instructions() {
+    valgrind --tool=callgrind --callgrind-out-file=/dev/null "$top/crates/os9/out/os9" "$@" >out 2>err
+    sed -n 's/.*Collected : \([0-9]*\).*/\1/p' err
+}
+
+# Those of a boot whose guest copies a file of so many sectors, on a disk of 4 MiB.
+copied() {
+    python3 - "$top/bench" "$1" <<'PYTHON' || exit 1
+import sys
+sys.path.insert(0, sys.argv[1])
+from make_image import Volume
+volume = Volume(16384)
+root = volume.take(1)
+named = [("OS9Boot", volume.boot_file(open("copy.mod", "rb").read())), ("BIG", volume.file(int(sys.argv[2])))]
+volume.directory(root, root, named)
+volume.finish(root)
+open("disk", "wb").write(volume.image)
+PYTHON
+    host_instructions boot disk --script script --slices slices
+}
+
+# The first run builds the program, where that is needed.
+"$top/os9" stress 1 || exit 1
+few=$(copied 2048) || exit 1
+many=$(copied 4096) || exit 1
+"$top/os9" check disk || exit 1
+awk -v few="$few" -v many="$many" \
+    'BEGIN { printf "a call of 256 bytes: %.0f host instructions, the mean of I$Read and I$Write\n", (many - few) / 4096 }'
+echo "stress 1: $(host_instructions stress 1) host instructions"

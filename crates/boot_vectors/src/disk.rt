@@ -1,0 +1,90 @@
+ghost use Rattle.std.specs.Prelude.{◌≡◌, ◌*◌, ◌≤◌, true, bytes_eq, drop, length, string_bytes};
+ghost use Rattle.std.specs.Bool.{OnTrue};
+ghost use Rattle.rbf_model.specs.Fields.{total_field};
+ghost use Rattle.rbf_model.specs.Geometry.{sector};
+
+use crate::tree::tree_text;
+use rbf_sector::read_ident;
+use std::alloc::{AllocError, Global};
+
+/// The bytes of a sector.
+pub(crate) const SECTOR: usize = 256;
+
+/// The file of an image, and the tree of its volume.
+#[derive(Drop)]
+pub(crate) struct Disk {
+    pub(crate) name: String,
+    pub(crate) image: Vec<u8>,
+    pub(crate) tree: String,
+}
+
+impl Disk {
+    /// The image of a file, and its tree.
+    pub(crate) fn read(alloc: Global, name: &str, image: &[u8]) -> Result<Disk, AllocError> {
+        Ok(Disk {
+            name: String::from_str(alloc, name)?,
+            image: Vec::from_slice(alloc, image)?,
+            tree: tree_text(alloc, image)?,
+        })
+    }
+
+    /// Is it what a run over the image of a row may leave, with the tree that the row gives?
+    pub(crate) fn is_left_of(&self, row: &Disk) -> bool
+        ensures tree { OnTrue result
+            (bytes_eq (string_bytes self.now.tree) (string_bytes row.now.tree) ≡ true) }
+        ensures length { OnTrue result (length self.now.image.items ≡ length row.now.image.items) }
+        ensures first { OnTrue result
+            (sector self.now.image.items 0 ≡ sector row.now.image.items 0) }
+        ensures past { OnTrue result (bytes_eq
+            (drop (256 * total_field (sector row.now.image.items 0)) self.now.image.items)
+            (drop (256 * total_field (sector row.now.image.items 0)) row.now.image.items) ≡ true) }
+    {
+        self.tree.as_str() == row.tree.as_str() && keep_ends(&row.image, &self.image)
+    }
+
+    /// Has it the bytes of the image of a row?
+    pub(crate) fn is_same(&self, row: &Disk) -> bool
+        ensures { result ≡ bytes_eq self.now.image.items row.now.image.items }
+    {
+        self.image.as_slice() == row.image.as_slice()
+    }
+}
+
+/// Has an image after a run the length, the first sector and the bytes past the sectors of its
+/// volume that it had before?
+fn keep_ends(before: &[u8], after: &[u8]) -> bool
+    ensures length { OnTrue result (length after.now ≡ length before.now) }
+    ensures first { OnTrue result (sector after.now 0 ≡ sector before.now 0) }
+    ensures past { OnTrue result (bytes_eq
+        (drop (256 * total_field (sector before.now 0)) after.now)
+        (drop (256 * total_field (sector before.now 0)) before.now) ≡ true) }
+{
+    if before.len() < SECTOR || before.len() != after.len() {
+        return false;
+    }
+    let first = first_sector(before);
+    let total = read_ident(&first).total;
+    let same_past = past(after, total) == past(before, total);
+    first_sector(after) == first && same_past
+}
+
+/// The bytes of sector 0.
+fn first_sector(image: &[u8]) -> [u8; 256]
+    requires { 256 ≤ length image.now }
+    ensures { result ≡ sector image.now 0 }
+{
+    let mut bytes = [0; 256];
+    bytes.copy_from_slice(&image[..SECTOR]);
+    bytes
+}
+
+/// The bytes of an image past so many sectors.
+fn past(image: &[u8], sectors: u32) -> &[u8]
+    ensures { result.now ≡ drop (256 * sectors) image.now }
+{
+    let end = SECTOR * sectors as usize;
+    if end > image.len() {
+        return &[];
+    }
+    &image[end..]
+}

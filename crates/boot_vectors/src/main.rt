@@ -1,0 +1,35 @@
+//! Runs guest programs whose end is known from elsewhere, on disk images or on none, one a line, and
+//! prints how many there were and how many came out otherwise. A line that begins with `#` names
+//! those behind it.
+#![tactic(auto)]
+
+mod disk;
+mod failing;
+mod fields;
+mod row;
+mod shown;
+mod tree;
+
+use anyhow::Result;
+use row::Row;
+use shown::run;
+use std::io::{BufRead, BufReader};
+
+fn main(rt: HostRuntime) -> Result<()> {
+    let mut rows: u64 = 0;
+    let mut differ: u64 = 0;
+    for line in BufReader::new(rt.alloc(), rt.reader())?.lines(rt.alloc()) {
+        let line = line?;
+        if line.as_str().starts_with('#') {
+            continue;
+        }
+        let row = Row::parse(rt.alloc(), line.as_str())?;
+        rows = rows.saturating_add(1);
+        if !run(rt.alloc(), &row)?.is_as(&row) {
+            differ = differ.saturating_add(1);
+            println!(rt; "differs: line {rows}")?;
+        }
+    }
+    println!(rt; "{rows} programs, {differ} differ")?;
+    Ok(())
+}

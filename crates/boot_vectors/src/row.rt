@@ -1,0 +1,75 @@
+use crate::disk::Disk;
+use crate::failing::{FailingCall, failing_calls};
+use crate::fields::{Fields, RowError};
+use std::alloc::Global;
+
+/// The names that the words of a row give the files of its images.
+const IMAGES: [&str; 2] = ["d0.img", "d1.img"];
+
+/// A command line with its files, and what the program answers to it.
+#[derive(Drop)]
+pub(crate) struct Row {
+    /// The words, separated by single spaces. They name the files `modules`, `slices` and `script`,
+    /// and the images `d0.img` and `d1.img`.
+    pub(crate) words: String,
+    pub(crate) modules: Vec<u8>,
+    pub(crate) slices: Vec<u8>,
+    pub(crate) script: Vec<u8>,
+    pub(crate) status: u8,
+    pub(crate) out: Vec<u8>,
+    /// The line on the error stream, without its line feed; none where it is empty.
+    pub(crate) err: String,
+    /// The images that there are, as they are before the run, with the trees behind it.
+    pub(crate) disks: Vec<Disk>,
+    /// The calls of drives that fail in the run.
+    pub(crate) failing: Vec<FailingCall>,
+}
+
+impl Row {
+    /// The row of a line: the words, the file of modules, the number of zero bytes behind it, the
+    /// slice text, the script of keys, the status, the bytes written, the line on the error stream,
+    /// for each of two images what it holds before the run, and its tree behind it, and the calls
+    /// of drives that fail (`failing_calls`), a field that may be missing.
+    pub(crate) fn parse(alloc: Global, line: &str) -> Result<Row, RowError> {
+        let mut fields = Fields::of(line);
+        let row = Row {
+            words: String::from_str(alloc, fields.text()?)?,
+            modules: modules(alloc, &mut fields)?,
+            slices: fields.bytes(alloc)?,
+            script: fields.bytes(alloc)?,
+            status: fields.byte()?,
+            out: fields.bytes(alloc)?,
+            err: String::from_str(alloc, fields.text()?)?,
+            disks: disks(alloc, &mut fields)?,
+            failing: failing_calls(alloc, fields.last_text()?)?,
+        };
+        fields.end()?;
+        Ok(row)
+    }
+}
+
+/// The file of modules of two fields: its bytes, and the number of zeros behind them.
+fn modules(alloc: Global, fields: &mut Fields<'_>) -> Result<Vec<u8>, RowError> {
+    let mut modules = fields.bytes(alloc)?;
+    for _ in 0..fields.short()? {
+        modules.push(0)?;
+    }
+    Ok(modules)
+}
+
+/// The images of four fields: of each what it holds, and its tree.
+fn disks(alloc: Global, fields: &mut Fields<'_>) -> Result<Vec<Disk>, RowError> {
+    let mut disks = Vec::new(alloc);
+    for name in IMAGES {
+        let image = fields.image(alloc)?;
+        let tree = fields.text()?;
+        if let Some(image) = image {
+            disks.push(Disk {
+                name: String::from_str(alloc, name)?,
+                image,
+                tree: String::from_str(alloc, tree)?,
+            })?;
+        }
+    }
+    Ok(disks)
+}

@@ -1,4 +1,0 @@
-//! Worked slices of the machine of many processes.
-#![tactic(auto)]
-
-pub mod rows;

@@ -1,0 +1,23 @@
+use Rattle.std.proofs.Common.{◌≡◌, length, arith}
+use Rattle.std.proofs.lemmas.List.{length-map}
+use Rattle.os9_outer.specs.TerminalState.{terminal_states}
+use Rattle.disk_kernel.specs.Outside.{outside}
+use Rattle.os9_boot.proofs.RunLemmas.{run-ended, run-texts-refused}
+use Rattle.os9_boot.proofs.MachineLemmas.{runs-after}
+use Rattle.os9_boot.proofs.boot.run_modules.Goals as goal
+
+pub returns-in-Err-clause-call : goal.returns-in-Err-clause-call
+returns-in-Err-clause-call g c =
+    c.in-Err.ensures.ended (outside (λ table. (g.dyn-1.0.entry table).1) c.args.devices.now.drives.items (λ table. (g.dyn-2.0.entry table).1) c.args.devices.now.terms.items)
+
+pub returns-in-Err-read_texts-clause-call : goal.returns-in-Err-read_texts-clause-call
+returns-in-Err-read_texts-clause-call g c =
+    let devices = outside (λ table. (g.dyn-1.0.entry table).1) c.args.devices.now.drives.items (λ table. (g.dyn-2.0.entry table).1) c.args.devices.now.terms.items in
+    let count : c.len-terminals.result ≡ length (terminal_states (λ table. (g.dyn-2.0.entry table).1) c.args.devices.now.terms.items) = rw length-map (omega (arith, c.len-terminals.ensures, c.args.devices.now.terms.ok.0)) in
+    run-texts-refused _ c.args.run.now c.in-Ok.files c.in-Ok.ensures.contents _ (c.in-Ok.ensures.kept devices) c.len-terminals.result c.in-Err-read_texts.end count (rw (c.as_slice.ensures.value, c.as_slice-2.ensures.value) at c.in-Err-read_texts.ensures.refused)
+
+pub returns-clause-call : goal.returns-clause-call
+returns-clause-call g c =
+    let devices = outside (λ table. (g.dyn-1.0.entry table).1) c.args.devices.now.drives.items (λ table. (g.dyn-2.0.entry table).1) c.args.devices.now.terms.items in
+    let count : c.len-terminals.result ≡ length (terminal_states (λ table. (g.dyn-2.0.entry table).1) c.args.devices.now.terms.items) = rw length-map (omega (arith, c.len-terminals.ensures, c.args.devices.now.terms.ok.0)) in
+    rw c.end_of_run.ensures (run-ended _ c.args.run.now c.in-Ok.files c.in-Ok.ensures.contents c.in-Ok-read_texts.texts.keys.items c.in-Ok-read_texts.texts.slices.items (rw (c.as_slice.ensures.value, count) at c.in-Ok-read_texts.ensures.keys) (rw c.as_slice-2.ensures.value at c.in-Ok-read_texts.ensures.slices) _ _ c.run_images.result (runs-after _ _ _ _ _ _ (c.in-Ok.ensures.kept devices) (rw c.none-images.ensures at c.run_images.ensures.run)))

@@ -1,0 +1,122 @@
+-- What comes of a command that runs a machine on what its files hold (Level Two manual, "Booting"; the order of the
+-- tests is this project's own).
+use Rattle.std.specs.Prelude.{◌≡◌, ◌⊎◌, ℕ, ⊤, Bool, true, false, Err, List, [], length}
+use Rattle.os9_outer.specs.Host.{Files, file_contents, IfObserved}
+use Rattle.os9_outer.specs.Stream.{stream_with}
+use Rattle.script_text.specs.declared.script.ScriptKey.{ScriptKey}
+use Rattle.script_text.specs.Script.{keys_of}
+use Rattle.machine_model.specs.declared.ends.BootFault.{BootFault}
+use Rattle.machine_model.specs.Start.{Refuses}
+use Rattle.disk_machine.specs.State.{State, has_living}
+use Rattle.os9_words.specs.declared.command.RunWords.{RunWords}
+use Rattle.boot_images.specs.BootFile.{IsFirstFault}
+use Rattle.boot_images.specs.Images.{WritesAll, WritesUpTo, images_of}
+use Rattle.boot_images.specs.Outcome.{HasOutcome}
+use Rattle.boot_run.specs.Machine.{IsUnrun, RunsFirst, Setup}
+use Rattle.boot_run.specs.World.{World}
+use Rattle.os9_boot.specs.declared.status.End.{End}
+use Rattle.os9_boot.specs.declared.status.End.TheVariants.{Ended, Living, CannotRead, CannotWrite, CannotWriteImage, NoMemory, BadImage, BadText, BadBounds, DriveFailed}
+use Rattle.os9_boot.specs.declared.status.Input.TheVariants.{Script as ScriptInput, Slices as SlicesInput}
+use Rattle.os9_boot.specs.End.{boot_end}
+use Rattle.os9_boot.specs.Images.{LackBootFile}
+use Rattle.os9_boot.specs.Reading.{BreaksSlices}
+use Rattle.os9_boot.specs.Setup.{HaveTexts, SetsUpBoot, SetsUpRun, script_of}
+
+-- ---- of a machine that is set up so
+
+-- it ran to its end: a process lives then or none does, the output has gained what it wrote, and its images are
+-- written under these names
+pub record RunsToEnd (setup : Setup) (names : List (List ℕ)) (lives : Bool) (before after : World) : Type 0 where
+  pub t : State
+  pub written : List ℕ
+  pub images : List (List ℕ)
+  pub outcome : HasOutcome setup t written images before after
+  pub living : has_living t ≡ lives
+  pub output : after.out ≡ stream_with before.out written
+  pub files : IfObserved (WritesAll names images) before.files after.files
+
+-- it ran to its end, and its images are written up to that of this number, which is not
+pub record RunsUnwritten (setup : Setup) (names : List (List ℕ)) (number : ℕ) (before after : World) : Type 0 where
+  pub t : State
+  pub written : List ℕ
+  pub images : List (List ℕ)
+  pub outcome : HasOutcome setup t written images before after
+  pub output : after.out ≡ stream_with before.out written
+  pub files : IfObserved (WritesUpTo number names images) before.files after.files
+
+-- nothing was run, and nothing has changed that can be observed but how often drives were called
+pub record IsUndone (before after : World) : Type 0 where
+  pub unrun : IsUnrun before after
+  pub files : after.files ≡ before.files
+
+-- it ran over the first of its slices, and no image was written
+pub record RunsUnended (setup : Setup) (before after : World) : Type 0 where
+  pub first : RunsFirst setup before after
+  pub files : after.files ≡ before.files
+
+-- what comes of it, by how the command ends that writes its images under these names
+abbrev pub MachineComesTo : Setup → List (List ℕ) → World → World → End → Type 0
+MachineComesTo setup names before after Ended = RunsToEnd setup names false before after
+MachineComesTo setup names before after Living = RunsToEnd setup names true before after
+MachineComesTo setup names before after CannotWrite = RunsUnended setup before after
+MachineComesTo setup names before after (CannotWriteImage number) = RunsUnwritten setup names number before after
+MachineComesTo setup names before after NoMemory =
+    IsUndone before after ⊎ RunsUnended setup before after
+    ⊎ ((number : ℕ) × RunsUnwritten setup names number before after)
+MachineComesTo setup names before after (DriveFailed drive number) =
+    (fault : BootFault) → ¬ Refuses setup.file setup.blocks fault
+MachineComesTo setup names before after end =
+    (fault : BootFault) × Refuses setup.file setup.blocks fault × (end ≡ boot_end fault)
+
+-- ---- of a run and of a boot
+
+-- the script, and then the slice text, is refused: its first line that breaks a rule
+abbrev pub RefusesScript : Files → RunWords → ℕ → ℕ → Type 0
+RefusesScript files run terminals line = keys_of terminals (script_of files run) ≡ Err line
+
+abbrev pub RefusesSlices : Files → RunWords → ℕ → ℕ → Type 0
+RefusesSlices files run terminals line =
+    BreaksSlices terminals line (script_of files run) (file_contents files run.slices)
+
+-- the texts are accepted
+abbrev pub AcceptsTexts : Files → RunWords → ℕ → Type 0
+AcceptsTexts files run terminals =
+    (keys : List ScriptKey) × (slices : List ℕ) × HaveTexts files run terminals keys slices
+
+-- what comes of a run, by how it ends
+abbrev pub RunComesTo : Files → RunWords → World → World → End → Type 0
+RunComesTo files run before after (CannotRead input) = ⊤
+RunComesTo files run before after (BadText ScriptInput line) =
+    RefusesScript files run (length before.devices.terms) line
+RunComesTo files run before after (BadText SlicesInput line) =
+    RefusesSlices files run (length before.devices.terms) line
+RunComesTo files run before after (BadText input line) = ⊥
+RunComesTo files run before after (BadImage number fault) = ⊥
+RunComesTo files run before after BadBounds = ⊥
+RunComesTo files run before after NoMemory =
+    IsUndone before after
+    ⊎ ((setup : Setup) × SetsUpRun files run (length before.devices.terms) setup
+    × MachineComesTo setup [] before after NoMemory)
+RunComesTo files run before after end =
+    (setup : Setup) × SetsUpRun files run (length before.devices.terms) setup
+    × MachineComesTo setup [] before after end
+
+-- what comes of a boot
+abbrev pub BootComesTo : Files → RunWords → World → World → End → Type 0
+BootComesTo files boot before after (CannotRead input) = ⊤
+BootComesTo files boot before after (BadText ScriptInput line) =
+    RefusesScript files boot (length before.devices.terms) line
+BootComesTo files boot before after (BadText SlicesInput line) =
+    RefusesSlices files boot (length before.devices.terms) line
+BootComesTo files boot before after (BadText input line) = ⊥
+BootComesTo files boot before after (BadImage number fault) =
+    AcceptsTexts files boot (length before.devices.terms) × IsFirstFault (images_of files boot.files) number fault
+BootComesTo files boot before after BadBounds =
+    AcceptsTexts files boot (length before.devices.terms) × LackBootFile (images_of files boot.files)
+BootComesTo files boot before after NoMemory =
+    IsUndone before after
+    ⊎ ((setup : Setup) × SetsUpBoot files boot (length before.devices.terms) setup
+    × MachineComesTo setup boot.files before after NoMemory)
+BootComesTo files boot before after end =
+    (setup : Setup) × SetsUpBoot files boot (length before.devices.terms) setup
+    × MachineComesTo setup boot.files before after end

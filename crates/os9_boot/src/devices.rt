@@ -1,0 +1,28 @@
+//! Drives for a call of the program.
+
+ghost use Rattle.std.specs.Prelude.{◌≡◌, ◌+◌, All, None, OnOk, length};
+ghost use Rattle.boot_images.specs.Drives.{IsEmpty};
+ghost use Rattle.file_drives.specs.Drives.{drive_views};
+
+use os9_outer::drive::BlockDriver;
+use std::alloc::AllocError;
+
+/// Puts a drive without an image behind these.
+///
+/// # Errors
+///
+/// Out of memory.
+pub fn add_drive(
+    drives: &mut Vec<Box<dyn BlockDriver>>,
+    drive: Box<dyn BlockDriver>,
+) -> Result<(), AllocError>
+    requires { media drive ≡ None }
+    ensures count { OnOk result
+        (length drives.new.items ≡ length drives.old.items + 1) }
+    ensures empty { OnOk result
+        (All IsEmpty (drive_views ⟦<dyn BlockDriver as BlockDriver>⟧ drives.old.items)
+        → All IsEmpty (drive_views ⟦<dyn BlockDriver as BlockDriver>⟧ drives.new.items)) }
+{
+    drives.push(drive)?;
+    Ok(())
+}

@@ -1,0 +1,5 @@
+pub mod Counts
+pub mod Disk
+pub mod Nodes
+pub mod Stress
+pub mod Told

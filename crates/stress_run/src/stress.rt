@@ -1,0 +1,249 @@
+//! `stress N`.
+
+ghost use Rattle.std.specs.Prelude.{◌≡◌, ◌<◌, IfOk};
+ghost use Rattle.boot_images.specs.Outcome.{setup_of};
+ghost use Rattle.boot_images.specs.Ready.{AreEmptyAgain, AreFree, CanStart};
+ghost use Rattle.boot_run.specs.World.{world_of};
+ghost use Rattle.disk_kernel.specs.Outside.{outside};
+ghost use Rattle.file_drives.specs.Drives.{drive_views};
+ghost use Rattle.stress_run.specs.Disk.{IsDiskOf};
+ghost use Rattle.stress_run.specs.Stress.{StressCall, stress_setup};
+ghost use Rattle.stress_run.specs.Told.{TellsEnd, WritesCounts, end_told as end_told_lem};
+
+use crate::counts::count_volume;
+use boot_images::boot_file::{BootFileFault, boot_file};
+use boot_images::images::Images;
+use boot_images::machine::{Start, run_images};
+use boot_run::RunEnd;
+use device_table::devices::Devices;
+use guest_mods::{Load, stress_image, stress_slices};
+use os9_base::call::OutOfMemory;
+use os9_base::registers::TimePacket;
+use os9_outer::drive::BlockDriver;
+use os9_outer::host::{Host, HostFault};
+use os9_outer::terminal::CharDriver;
+use os9_words::stress_counts::put_stress_counts;
+use std::alloc::Global;
+
+/// How many Workers write files.
+const WORKERS: u8 = 4;
+
+/// How often each writes its file.
+const PASSES: u8 = 40;
+
+/// In how many records.
+const RECORDS: u8 = 200;
+
+/// How many slices there are.
+const SLICES: u32 = 20_000;
+
+/// How many blocks the machine has.
+const BLOCKS: u16 = 64;
+
+/// The date and time at its start: the beginning of 1990.
+const START: TimePacket = TimePacket {
+    year: 90,
+    month: 1,
+    day: 1,
+    hour: 0,
+    minute: 0,
+    second: 0,
+};
+
+/// How a stress ended.
+#[derive(Clone, Copy, Debug, PartialEq, Eq)]
+pub enum StressEnd {
+    /// No process lives.
+    Ended,
+    /// The slices are used up, and a process lives.
+    Living,
+    /// A drive failed when its image was mounted: its number, and that of its fault.
+    DriveFailed(u8, u8),
+    /// The output stream could not be written.
+    OutputFailed,
+    /// Out of memory.
+    NoMemory,
+}
+
+/// `stress N`: makes the disk of a seed, boots it over the slices of that seed, and passes what it
+/// writes and the counts of its last state to the output stream (this project's own).
+pub fn run_stress<H: Host>(
+    alloc: Global,
+    seed: u32,
+    host: &mut H,
+    devices: &mut Devices,
+) -> StressEnd
+    requires devices { AreFree 1 (outside ⟦<dyn BlockDriver as BlockDriver>⟧
+        devices.old.drives.items ⟦<dyn CharDriver as CharDriver>⟧ devices.old.terms.items) }
+    requires seed { seed < 2147483648 }
+    ensures call { StressCall seed
+        (world_of H.Host host.old (outside ⟦<dyn BlockDriver as BlockDriver>⟧
+        devices.old.drives.items ⟦<dyn CharDriver as CharDriver>⟧ devices.old.terms.items))
+        (world_of H.Host host.new (outside ⟦<dyn BlockDriver as BlockDriver>⟧
+        devices.new.drives.items ⟦<dyn CharDriver as CharDriver>⟧ devices.new.terms.items)) result }
+    ensures err_kept { H.bytes_err host.new ≡ H.bytes_err host.old }
+    ensures drives { AreEmptyAgain
+        (drive_views ⟦<dyn BlockDriver as BlockDriver>⟧ devices.old.drives.items)
+        (drive_views ⟦<dyn BlockDriver as BlockDriver>⟧ devices.new.drives.items) }
+{
+    let mut images = match stress_disk(alloc, seed) {
+        Ok(images) => images,
+        Err(OutOfMemory) => return StressEnd::NoMemory,
+    };
+    let start = match stress_start(alloc, seed, &images) {
+        Ok(start) => start,
+        Err(OutOfMemory) => return StressEnd::NoMemory,
+    };
+    let end = run_images(alloc, &start, &mut images, host, devices);
+    tell_end(alloc, end, images.image(0), host)
+}
+
+/// The disk of a seed, as the only image.
+fn stress_disk(alloc: Global, seed: u32) -> Result<Images, OutOfMemory>
+    requires { seed < 2147483648 }
+    ensures { IfOk result (IsDiskOf seed) }
+{
+    let load = Load {
+        seed,
+        workers: WORKERS,
+        passes: PASSES,
+        records: RECORDS,
+    };
+    let image = stress_image(alloc, &load)?;
+    let mut images = Images::none(alloc);
+    images.push(image)?;
+    Ok(images)
+}
+
+/// What the machine of a seed is started with, beside its disk.
+fn stress_start(alloc: Global, seed: u32, images: &Images) -> Result<Start, OutOfMemory>
+    requires seed { seed < 2147483648 }
+    requires disk { IsDiskOf seed images.now }
+    ensures setup { IfOk result (λ start. setup_of start images.now ≡ stress_setup seed) }
+    ensures can_start { IfOk result CanStart }
+{
+    let file = match boot_file(alloc, images) {
+        Ok(file) => file,
+        Err(BootFileFault::OutOfMemory) => return Err(OutOfMemory),
+        Err(BootFileFault::Bounds) => unreachable!(),
+    };
+    let slices = stress_slices(alloc, seed, SLICES)?;
+    Ok(Start {
+        blocks: BLOCKS,
+        time: START,
+        file,
+        keys: Vec::new(alloc),
+        slices,
+    })
+}
+
+/// How a stress ends whose run ended so and left this image of D0. The counts are passed to the
+/// output stream if the run came to its end.
+fn tell_end<H: Host>(alloc: Global, end: RunEnd, image: &[u8], host: &mut H) -> StressEnd
+    ensures told { TellsEnd H.Host end image.now result host.old host.new }
+    ensures err_kept { H.bytes_err host.new ≡ H.bytes_err host.old }
+{
+    match end {
+        RunEnd::Ended(begun) => {
+            end_told(StressEnd::Ended, tell_counts(alloc, begun, image, host))
+        }
+        RunEnd::Living(begun) => {
+            end_told(StressEnd::Living, tell_counts(alloc, begun, image, host))
+        }
+        RunEnd::DriveFailed(drive, number) => StressEnd::DriveFailed(drive, number),
+        RunEnd::OutputFailed => StressEnd::OutputFailed,
+        // The boot file of a load is never refused.
+        RunEnd::Refused(_) | RunEnd::NoMemory => StressEnd::NoMemory,
+    }
+}
+
+/// How a stress ends whose run ended so, by what comes of its counts.
+fn end_told(end: StressEnd, answer: Result<(), HostFault>) -> StressEnd
+    ensures { result ≡ end_told_lem end answer }
+{
+    match answer {
+        Ok(()) => end,
+        Err(HostFault::Failed) => StressEnd::OutputFailed,
+        Err(HostFault::OutOfMemory) => StressEnd::NoMemory,
+    }
+}
+
+/// Passes the line of so many slices and of the counts of an image to the output stream.
+///
+/// `Failed` comes only with a count. After a refusal a part of the line may be out.
+fn tell_counts<H: Host>(
+    alloc: Global,
+    slices: u32,
+    image: &[u8],
+    host: &mut H,
+) -> Result<(), HostFault>
+    ensures counts { WritesCounts H.Host slices image.now result host.old host.new }
+    ensures err_kept { H.bytes_err host.new ≡ H.bytes_err host.old }
+{
+    match count_volume(alloc, slices, image) {
+        Ok(counts) => put_stress_counts(host, &counts),
+        // A machine leaves its images well formed.
+        Err(_) => Err(HostFault::OutOfMemory),
+    }
+}
+
+#[cfg(test)]
+mod tests {
+    use super::*;
+    use os9_outer::mem_host::MemHost;
+    use os9_outer::sure_drive::SureDrive;
+    use os9_outer::sure_tty::SureTty;
+    use std::alloc::AllocError;
+    use std::test::Fail;
+
+    /// What a stress shows.
+    #[derive(Drop)]
+    struct Shown {
+        end: StressEnd,
+        out: Vec<u8>,
+    }
+
+    /// Runs the stress of a seed over a host whose calls of these numbers fail.
+    fn run_seed(alloc: Global, seed: u32, plan: &[u64]) -> Result<Shown, AllocError>
+        requires { seed < 2147483648 }
+    {
+        let mut drives: Vec<Box<dyn BlockDriver>> = Vec::new(alloc);
+        drives.push(Box::new(alloc, SureDrive::new())?)?;
+        let mut terms: Vec<Box<dyn CharDriver>> = Vec::new(alloc);
+        terms.push(Box::new(alloc, SureTty::new(alloc))?)?;
+        let mut devices = Devices { drives, terms };
+        let plan = Vec::from_slice(alloc, plan)?;
+        let mut host = MemHost::new(alloc, Vec::new(alloc), plan);
+        let end = run_stress(alloc, seed, &mut host, &mut devices);
+        let out = Vec::from_slice(alloc, host.out_bytes.as_slice())?;
+        Ok(Shown { end, out })
+    }
+
+    // The boot file has 1,086 bytes, and the 800 lengths of the seeds are 13,689 and 13,349 together.
+    // Of the 4,096 sectors the system has 6, the boot file 5, the Workers' four descriptors 4, and
+    // their files 56 and 55.
+    #[test]
+    fn counts_of_two_seeds(rt: HostRuntime) -> Result<(), Fail> {
+        let first = run_seed(rt.alloc(), 0, &[])?;
+        assert_eq!(rt; first.end, StressEnd::Ended);
+        let counts = b" files 5 bytes 14775 free 4025 lost 0\n";
+        assert!(rt; first.out.ends_with(counts));
+        let second = run_seed(rt.alloc(), 1, &[])?;
+        assert_eq!(rt; second.end, StressEnd::Ended);
+        let counts = b" files 5 bytes 14435 free 4026 lost 0\n";
+        assert!(rt; second.out.ends_with(counts));
+        let again = run_seed(rt.alloc(), 1, &[])?;
+        assert_eq!(rt; again.out.as_slice(), second.out.as_slice());
+        Ok(())
+    }
+
+    // The third call of the host is a write within the line.
+    #[test]
+    fn output_that_fails_within_the_line(rt: HostRuntime) -> Result<(), Fail> {
+        let broken = run_seed(rt.alloc(), 0, &[3])?;
+        assert_eq!(rt; broken.end, StressEnd::OutputFailed);
+        assert!(rt; broken.out.starts_with(b"slices "));
+        assert!(rt; !broken.out.ends_with(b"\n"));
+        Ok(())
+    }
+}
