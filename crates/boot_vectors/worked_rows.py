@@ -72,10 +72,11 @@ class Volume:
             contents = contents[SECTOR * count :]
 
     def directory(self, number, parent, names):
-        """A directory with descriptor `number` and its contents behind it: names with the numbers of descriptors."""
+        """A directory with descriptor `number` and its contents behind it: names with the numbers of descriptors. One
+        without a name is free."""
         listing = b""
         for name, target in [("..", parent), (".", number), *names]:
-            marked = name[:-1].encode() + bytes([ord(name[-1]) | 0x80])
+            marked = name[:-1].encode() + bytes([ord(name[-1]) | 0x80]) if name else b""
             listing += marked.ljust(29, b"\0") + target.to_bytes(3, "big")
         self.file(number, ALL_MAY, listing, [(number + 1, needed(listing))])
 
@@ -303,7 +304,8 @@ shared  fcs     "Shared"
 def newer_revision():
     """The boot file has a module, and files have it with the same revision and with the next one. A line has the type
     of the module in A, and its attributes and revision in B; its first byte stands 15 behind its header. Process 3
-    links it and sleeps until process 2 has loaded, and process 4 has linked and unlinked, what is newer."""
+    links it and sleeps until process 2 has loaded what is newer, and process 4 has linked it, stored 77 there, which
+    process 2 reads, and unlinked it."""
     old, newer = (data_module("Shared", "$40", f"$8{revision}", [17 * revision]) for revision in (1, 2))
     one, two = assemble(old), assemble(newer)
     modules = assemble(program("SysGo", f"""
@@ -322,6 +324,8 @@ start   leax    holder,pcr
         lbsr    fork
         os9     $04
         lbsr    show
+        ldu     <$30
+        lbsr    first
         lda     #3
         ldb     #1
         os9     $08
@@ -354,6 +358,8 @@ start   nop
 start   nop
 {LINK}
         lbsr    first
+        lda     #$77
+        sta     15,u
         clrb
         os9     $02
         lbsr    answer
@@ -361,7 +367,7 @@ start   nop
     files = [("One", MORE, 7, one, [(MORE + 1, 1)]), ("Two", MORE + 2, 7, two, [(MORE + 3, 1)])]
     disk = boot_disk(modules, files=files)
     holder, loads, reader = "4081", "01E7 4082", "4082 0022 0000"
-    row("a newer revision of a module", lines(f"{holder} {loads} {reader} 0400 0011 0300 0000 4081 0011"),
+    row("a newer revision of a module", lines(f"{holder} {loads} {reader} 0400 0077 0011 0300 0000 4081 0011"),
         [(disk, tree([directory_line("/", ["OS9Boot", "One", "Two"]), file_line("/OS9Boot", 3, modules),
                       file_line("/One", 7, one), file_line("/Two", 7, two)],
                      64 - BOOT_SECTORS - needed(modules) - 4))], "1000*30")
@@ -460,8 +466,8 @@ SEARCH = 2
 
 
 def write_fault():
-    """A file is made and 768 bytes are written, of which the last sector's write fails. The three clusters that are
-    marked then are lost, the size is still 0, and the same bytes go to three other clusters."""
+    """A file is made, in a free entry, and 768 bytes are written, of which the last sector's write fails. The three
+    clusters that are marked then are lost, the size is still 0, and the same bytes go to three other clusters."""
     contents = bytes((n + 1) % 256 for n in range(768))
     write = """
         lda     <$30
@@ -493,15 +499,15 @@ fill    stb     ,x+
 name    fcs     "/D1/Data"
 """, 1200))
     disk = Volume(32)
-    disk.directory(ROOT, ROOT, [])  # clusters 0 to 3
-    # the map's mark and the descriptor; then the entry, in a sector that is read before, and the root's descriptor
-    created = MOUNT + SEARCH + 2 + 3
+    disk.directory(ROOT, ROOT, [("", 0)])  # clusters 0 to 3
+    # the map's mark and the descriptor; then the entry, in a sector that is read before
+    created = MOUNT + SEARCH + 2 + 2
     # the descriptor is read and the map written; then each of three sectors is read and written
     last = created + 2 + 3 * 2
     row("768 bytes, whose last sector is not written, and then the same again", lines("0003 01F5 0000 0000 0300"),
         [(boot_disk(modules), tree([directory_line("/", ["OS9Boot"]), file_line("/OS9Boot", 3, modules)],
                                    64 - BOOT_SECTORS - needed(modules))),
-         (disk, tree([directory_line("/", ["Data"], WRITTEN), file_line("/Data", 3, contents, NEW)],
+         (disk, tree([directory_line("/", ["Data"]), file_line("/Data", 3, contents, NEW)],
                      32 - 4 - 1 - 3 - 3, 3))], failing=[f"D1 {last} 245"])
 
 
@@ -536,6 +542,52 @@ name    fcs     "/D1/Gone"
              (disk, tree([directory_line("/", names), *files], free, lost))], failing=[f"D1 {call} {number}"])
 
 
+def driver_calls():
+    """A root of 64 bytes is opened and read. What comes to an end before the call that is to fail is not told of it."""
+    idle = f"""
+start   nop
+{EXIT}
+"""
+    reads = f"""
+start   clra
+        clrb
+        ldx     #$100
+        std     0,x
+        leax    name,pcr
+        lda     #$81
+        os9     $84
+        sta     <$30
+        lbsr    answer
+        lda     <$30
+        ldx     #$100
+        ldy     #64
+        os9     $89
+        lbsr    answer
+        tfr     y,d
+        lbsr    show
+        ldx     #$100
+        ldd     0,x
+        lbsr    show
+{EXIT}
+name    fcs     "/D1"
+"""
+    # to open it is to read its descriptor; to read it, its descriptor and the one sector that holds its bytes
+    opened, read = MOUNT + 1, MOUNT + 1 + 2
+    for name, source, call, shown in [
+        ("mounted, in two calls", idle, MOUNT + 1, ""),
+        ("opened and read, in three more", reads, read + 1, "0000 0000 0040 2EAE"),
+        ("opened, and the last call of its read fails", reads, read, "0000 01F4 0040 0000"),
+        ("not opened, since the first call after mounting fails", reads, opened, "01F4 01C9 0040 0000"),
+    ]:
+        modules = assemble(program("SysGo", source, 600))
+        disk = Volume(16)
+        disk.directory(ROOT, ROOT, [])  # clusters 0 to 3
+        row(f"the root of a second drive is {name}", lines(shown),
+            [(boot_disk(modules), tree([directory_line("/", ["OS9Boot"]), file_line("/OS9Boot", 3, modules)],
+                                       64 - BOOT_SECTORS - needed(modules))),
+             (disk, tree([directory_line("/", [])], 16 - 4))], failing=[f"D1 {call} 244"])
+
+
 def main():
     assert crc(b"123456789").hex() == "200fa5"
     assert crc(b"").hex() == "000000"
@@ -547,6 +599,7 @@ def main():
     mount_faults()
     write_fault()
     delete_faults()
+    driver_calls()
 
 
 if __name__ == "__main__":

@@ -401,16 +401,7 @@ def check_and_full():
     calls = ["free", "create /A 0b 0 r"]
     yield ["check-and-full", full, "-", calls, [full.block(answers, full.root, 0, 12)]]
     for after, answer in ((True, "error 217"), (False, "ok")):
-        volume = Volume(1, 104)
-        file = File(0x03, 0, bytes(48 * 256))
-        segments = [(6 + 2 * i, 1) for i in range(48)]
-        volume.sectors[4] = volume.descriptor(file, len(file.data), segments)
-        volume.used |= {4} | {lsn for lsn, _ in segments}
-        volume.root.entries.append(("A", file, 4))
-        if after:
-            volume.next = 101
-            volume.add("B", 0x03, 0, b"", 0)
-        volume.lay_entries(0)
+        volume, file = full_segments(after)
         left = volume.free()
         if not after:
             file.data += b"\5"
@@ -510,6 +501,70 @@ def most_segments():
     return [["segments", volume, "-", ["create /N 0b 0 r", "mkdir /N bf 0", "free"], blocks]]
 
 
+def stages():
+    """Rows of worked examples that end earlier, so that `check` sees the volume behind each call."""
+    for count in range(1, 5):
+        volume = Volume(1, 16)
+        volume.add("A", 0x03, 0, pattern(255, 1), 1)
+        volume.lay_entries(0)
+        file, ends = volume.root.at("A"), (255, 256, 257, 1000)[:count]
+        for at in ends:
+            file.data = overwritten(file.data, at, bytes([at % 251]))
+        file.date = minute(1 + count)
+        calls = [f"write /A {at} 1*{at % 251}" for at in ends]
+        free = (10, 9, 9, 7)[count - 1]
+        yield ["file-growth", volume, "-", calls, [volume.block(["ok"] * (1 + count), volume.root, free, 0)]]
+    calls = ["create /A 0b 0 r", "write /A 0 768*1", "write /A 768 1*1"]
+    for count in range(1, 4):
+        volume = Volume(4, 8)
+        volume.lay_entries(0)
+        data = (b"", pattern(768, 1), pattern(768, 1) + b"\1")[count - 1]
+        after = copy.deepcopy(volume.root)
+        after.entries = [("A", File(0x0B, 0, data, minute(1 + count), minute(2)[:3]))]
+        after.date = minute(2)
+        free = (6, 6, 5)[count - 1]
+        yield ["clusters", volume, "-", calls[:count], [volume.block(["ok"] * (1 + count), after, free, 0)]]
+    volume = Volume(1, 16)
+    volume.lay_entries(1)
+    root, blocks = copy.deepcopy(volume.root), []
+    for answer, lost, taken, data, date in (
+        ("device 245", 0, 0, b"", 2), ("device 245", 3, 0, b"", 2), ("ok", 0, 3, pattern(768, 7), 3),
+    ):
+        root.entries = [("A", File(0x0B, 0, data, minute(date), minute(2)[:3]))]
+        blocks.append(volume.block(["ok", "ok", answer], root, 11 - lost - taken, lost))
+    yield ["write-fault", volume, "3 245", ["create /A 0b 0 r", "write /A 0 768*7"], blocks]
+    volume = Volume(1, 16)
+    volume.lay_entries(0)
+    blocks = [volume.block(["device 244"], volume.root, 12, 0), volume.block(["ok", "ok 12"], volume.root, 12, 0)]
+    yield ["mount-driver-calls", volume, "1 244", ["free"], blocks]
+
+
+def refused_names_and_sizes():
+    """Names that no entry may have, and a size for which 48 full segments have no room."""
+    for call in ("create /.. 0b 0 r", "create /. 0b 0 r", "mkdir /.. bf 0", "mkdir /. bf 0"):
+        volume = Volume(1, 16)
+        volume.lay_entries(0)
+        yield ["names", volume, "2 245", [call], [volume.block(["ok", "error 215"], volume.root, 12, 0)]]
+    volume, _ = full_segments(True)
+    blocks = [volume.block(["ok", answer], volume.root, volume.free(), 0) for answer in ("device 245", "error 217")]
+    yield ["segments", volume, "2 245", ["size /A 12289"], blocks]
+
+
+def full_segments(after):
+    """A file of 48 full segments, and another one behind the last of them or not."""
+    volume = Volume(1, 104)
+    file = File(0x03, 0, bytes(48 * 256))
+    segments = [(6 + 2 * i, 1) for i in range(48)]
+    volume.sectors[4] = volume.descriptor(file, len(file.data), segments)
+    volume.used |= {4} | {lsn for lsn, _ in segments}
+    volume.root.entries.append(("A", file, 4))
+    if after:
+        volume.next = 101
+        volume.add("B", 0x03, 0, b"", 0)
+    volume.lay_entries(0)
+    return volume, file
+
+
 def all_rows():
     """The title, the fields and the outcomes of each row."""
     number = 1
@@ -526,6 +581,10 @@ def all_rows():
         for fault in faults:
             fields = [str(number), fault.volume.field(), "2 245", "mount", fault.call]
             yield fault.name, fields, fault.blocks
+            number += 1
+    for rows in (stages(), refused_names_and_sizes()):
+        for title, volume, swept, calls, blocks in rows:
+            yield title, [str(number), volume.field(), swept, "mount", *calls], blocks
             number += 1
 
 

@@ -67,24 +67,25 @@ def main():
     good = volume()
     other = volume(b"")
     bad = changed(good, 256, 0xE0)  # rule 3: the root's sector 3 is not marked
-    # the first image's boot file runs
+    print("# boots from images: the first one's boot file runs")
     row(BOOT, good, out=LINE)
     row(BOOT + " --blocks 8", good, out=LINE)
     row(BOOT + " --time 1990-01-01T00:00:00", good, out=LINE)
     row(TWO, good, other, out=LINE)
     row("boot --script=script d0.img --slices=slices d1.img d0.img d1.img", good, other, out=LINE)
     row(TWO, other, good, status=8, err="os9: boot bounds")
+    row(BOOT, good, status=5, slices=b"")
     row(BOOT, good, status=5, slices=b"4")
     row(BOOT, good, status=5, out=LINE, slices=b"6")
     row(BOOT, volume(rest=b"\x01" * 300), out=LINE)
     row(BOOT, volume(ECHO), out=b"hi\r\nhi\r\n", slices=b"100*2", script=b"2 TERM 68 69 0D")
-    # words
+    print("# boots: words that are no command line")
     row("boot --slices slices --script script", good, status=1, err="os9: words")
     row("boot d0.img --slices slices", good, status=1, err="os9: words")
     row("boot d0.img --script script", good, status=1, err="os9: words")
     row("boot d0.img d0.img d0.img d0.img d0.img --slices slices --script script", good, status=1, err="os9: words")
     row(BOOT + " --history", good, status=1, err="os9: words")
-    # the order of causes: what is read, the texts, the images, the boot file
+    print("# boots: the order of causes: what cannot be read, the texts, the images, the boot file")
     row(TWO, bad, bad, status=2, err="os9: cannot read script", slices=b"0", script=b"0", failing="1")
     row(TWO, bad, bad, status=2, err="os9: cannot read slices", slices=b"0", script=b"0", failing="2")
     row(TWO, bad, bad, status=2, err="os9: cannot read d0.img", slices=b"0", script=b"0", failing="3")
@@ -92,19 +93,24 @@ def main():
     row("boot d0.img d2.img --slices slices --script script", bad, status=2, err="os9: cannot read d2.img")
     row(TWO, bad, bad, status=7, err="os9: script: line 1", slices=b"0", script=b"0")
     row(TWO, bad, bad, status=7, err="os9: slices: line 1", slices=b"0")
+    row("boot d0.img --slices slices --script d0.img", bad, status=7, err="os9: d0.img: line 1")
+    row("boot d0.img --slices d0.img --script script", bad, status=7, err="os9: d0.img: line 1")
     row(TWO, bad, bad, status=6, err="os9: d0.img: rule 3 at LSN 3")
     row(TWO, volume(at=0), bad, status=6, err="os9: d1.img: rule 3 at LSN 3")
     row(TWO, good, good[:1024], status=6, err="os9: d1.img: rule 1 at LSN 0")
-    # the bounds of the boot file
+    print("# boots: the bounds of the boot file, and its modules")
     for at, size in [(0, 43), (4, 0), (16, 1), (15, 257), (14, 513), (4, 65535), (16777215, 65535)]:
         row(BOOT, volume(HELLO, at, size), status=8, err="os9: boot bounds")
     row(BOOT, volume(at=15, size=257, rest=bytes(256)), status=8, err="os9: boot bounds")
     row(BOOT, volume(HELLO + bytes(213), at=15), out=LINE)
     row(BOOT, volume(at=14, size=512), out=LINE)
     row(BOOT, volume(size=42), status=8, err="os9: boot module 205 at 0")
+    # the map, the root's descriptor and its entries in the place of a boot file
+    for at, size in [(1, 16), (2, 256), (3, 64)]:
+        row(BOOT, volume(b"", at, size), status=8, err="os9: boot module 205 at 0")
     row(BOOT, volume(at=15, size=256, file=b""), status=8, err="os9: boot no SysGo")
     row(BOOT, volume(changed(HELLO, 8, 2)), status=8, err="os9: boot module 236 at 0")
-    # writes that fail: those of the output, and behind the run those of the images, in order
+    print("# boots: writes that fail: those of the output, and behind the run those of the images, in order")
     row(BOOT, good, status=3, err="os9: cannot write output", failing="4")
     row(BOOT, good, status=3, out=LINE, err="os9: cannot write d0.img", failing="5")
     row(TWO, good, other, status=3, err="os9: cannot write output", failing="5")

@@ -334,6 +334,22 @@ start   leax    pipe,pcr
         os9     $89
         lbsr    report
 {EXIT}{PIPE}"""}, 0, "01D3 0050 0000 0100 01F5 0001 00FF 0001 0000 0100")
+    # Two numbers of one process are one holder: its wait would be of no use.
+    by_hand("a pipe on two paths of one process", {"SysGo": f"""
+start   leax    pipe,pcr
+        lda     #3
+        os9     $84
+        os9     $82
+        tfr     a,b
+        clra
+        lbsr    show
+        lda     #3
+        ldy     #80
+        ldx     #$200
+        clrb
+        os9     $89
+        lbsr    report
+{EXIT}{PIPE}"""}, 0, "0004 01D3 0050")
     by_hand("a line through a pipe that a child has as path 0", {"SysGo": f"""
 start   clra
         os9     $8F
@@ -521,6 +537,36 @@ start   lda     #2
 {EXIT}"""}, 0, "01C9 0005")
 
 
+def refusals():
+    # A path that is not open is told before a code that is none, and that before memory that is not there.
+    asked = "".join(f"""
+        ldx     #$4000
+        lda     #{path}
+        ldb     #{code}
+        os9     $8D
+        lbsr    report
+""" for path, code in [(9, 255), (1, 255), (9, 0), (1, 0)])
+    by_hand("the order of the refusals of I$GetStt", {"SysGo": f"start   ldy     #0\n{asked}{EXIT}"},
+            0, "01C9 0000 01D0 0000 01C9 0000 01D2 0000")
+    # Sixteen numbers are in use: a device that is not there is told first, and so is a mode without a bit.
+    opened = "".join(f"""
+        leax    {name},pcr
+        lda     #{mode}
+        clrb
+        os9     $84
+        lbsr    report
+""" for name, mode in [("none", 3), ("term", 8), ("term", 3)])
+    by_hand("the order of the refusals of I$Open", {"SysGo": f"""
+start   ldy     #0
+again   lda     #1
+        os9     $82
+        bcc     again
+{opened}{EXIT}
+none    fcs     "/T4"
+term    fcs     "/TERM"
+"""}, 0, "01DD 0000 01CB 0000 01C8 0000")
+
+
 def signals():
     # Key 03 of tick 3 ends the child, which reads, though the poll fails at the next call; that key comes a tick later.
     waiting = f"""
@@ -557,12 +603,43 @@ refused ldx     #0
         os9     $0A
 text    fcb     $41
 """}, 0, "0003 0000", script=b"3 TERM 03\n", failing="TERM 3")
+    # The last user of T1 has ended, and process 3 is another one when the key arrives.
+    started = """
+        tfr     a,b
+        clra
+        lbsr    show
+        os9     $04
+        lbsr    report
+"""
+    later = FORK.replace("child,pcr", "later,pcr")
+    by_hand("a key 03 of a terminal whose last user has ended, when its number is used again", {"SysGo": f"""
+start   nop
+{FORK}{started}{later}{started}{EXIT}{CHILD}
+later   fcs     "Later"
+""", "Child": """
+start   leax    term,pcr
+        lda     #3
+        os9     $84
+        leax    text,pcr
+        ldy     #1
+        os9     $8A
+        clrb
+        os9     $06
+text    fcb     $41
+term    fcs     "/T1"
+""", "Later": """
+start   ldx     #6
+        os9     $0A
+        clrb
+        os9     $06
+"""}, 0, b"0003\r\nA0000\r\n0000\r\n0003\r\n0000\r\n0000\r\n", "10000*20", b"7 T1 03\n")
 
 
 def main():
     worked()
     failing_terminals()
     signals()
+    refusals()
     long_lines()
     texts()
     pipes()
