@@ -1,6 +1,8 @@
 #!/usr/bin/env bash
 # Prints what a byte costs in host instructions that a guest writes to a terminal in long lines, reads
-# from the keys of a script, and moves through a pipe to another process. Needs valgrind.
+# from the keys of a script, and moves through a pipe to another process; then a key for which the
+# type-ahead has no room, and a byte that is read as a line of a pipe with one byte and with 255. Needs
+# valgrind.
 top=$(cd "$(dirname "$(readlink -f "${BASH_SOURCE[0]}")")/.." && pwd) || exit 1
 folder=$(mktemp -d) || exit 1
 trap 'rm -rf "$folder"' EXIT
@@ -77,6 +79,41 @@ line    fcc     "$(printf 'a%.0s' $(seq $((BYTES - 1))))"
 END
 }
 
+# It fills a pipe of its own with so many bytes, none a carriage return, and then reads one as a line and
+# writes one, again and again.
+filled() {
+    cat <<END
+        mod     SysGo,\$11,\$81,600
+start   lda     #3
+        leax    device,pcr
+        os9     \$84
+        ldx     #0
+        ldy     #$1
+        lda     #3
+        os9     \$8A
+again   ldx     #\$200
+        ldy     #1
+        lda     #3
+        os9     \$8B
+        ldx     #\$200
+        ldy     #1
+        lda     #3
+        os9     \$8A
+        bra     again
+device  fcc     "/PIPE"
+        fcb     \$0D
+        emod
+END
+}
+
+cat >sleep.asm <<'END'
+        mod     SysGo,$11,$81,200
+start   ldx     #0
+        os9     $0A
+        bra     start
+        emod
+END
+
 # So many lines of keys, one at each tick.
 keys() {
     awk -v lines="$1" -v keys=$((KEYS - 1)) 'BEGIN {
@@ -105,7 +142,8 @@ a_byte() {
 
 written 1 >screen.asm
 written 9 >closed.asm
-for guest in screen closed read; do assemble $guest.asm $guest.mod; done
+for bytes in 1 255; do filled $bytes >filled$bytes.asm; done
+for guest in screen closed read sleep filled1 filled255; do assemble $guest.asm $guest.mod; done
 for lines in 1000 2000; do
     piped $lines >pipe.asm
     assemble pipe.asm pipe$lines.mod
@@ -132,3 +170,15 @@ a_byte 'I$ReadLn of a key, its text and its slice' "$few" "$many" $((1000 * KEYS
 few=$(host_instructions pipe1000.mod '1000*10000')
 many=$(host_instructions pipe2000.mod '1000*10000')
 a_byte 'a pipe, written and read in lines' "$few" "$many" $((1000 * BYTES))
+
+# 256 keys come first, so that each later one finds no room and rings the bell.
+few=$(host_instructions sleep.mod '1*1000' --script keys1000)
+many=$(host_instructions sleep.mod '1*2000' --script keys2000)
+a_byte 'a key without room, its text and its bell' "$few" "$many" $((1000 * KEYS))
+
+# Nine instructions read a byte and write one.
+for bytes in 1 255; do
+    few=$(host_instructions filled$bytes.mod '90*100')
+    many=$(host_instructions filled$bytes.mod '90*200')
+    a_byte "a byte read as a line, of $bytes in the pipe" "$few" "$many" 1000
+done
