@@ -238,6 +238,20 @@ name    fcs     "/D0/Runs"
                           file_line("/Runs", 3, left, dates), file_line("/Next", 3, b"")], free, 128 - used - free))])
 
 
+# 768 bytes from 100 on, 1 to 255, 0 and so on, and then the file by the name is made
+FILLED = """start   ldx     #$100
+        ldb     #1
+fill    stb     ,x+
+        incb
+        cmpx    #$400
+        bne     fill
+        leax    name,pcr
+        lda     #3
+        ldb     #3
+        os9     $83
+"""
+
+
 def clusters():
     """A volume of eight clusters of four sectors: a descriptor's cluster has three sectors of the contents."""
     first = bytes((n + 1) % 256 for n in range(768))
@@ -259,17 +273,7 @@ def clusters():
         ("the size 0 again", b"", 6),
     ]):
         modules = assemble(program("SysGo", f"""
-start   ldx     #$100
-        ldb     #1
-fill    stb     ,x+
-        incb
-        cmpx    #$400
-        bne     fill
-        leax    name,pcr
-        lda     #3
-        ldb     #3
-        os9     $83
-        ldx     #$100
+{FILLED}        ldx     #$100
         ldy     #768
         clrb
         os9     $8A
@@ -483,17 +487,7 @@ def write_fault():
         lbsr    show
 """
     modules = assemble(program("SysGo", f"""
-start   ldx     #$100
-        ldb     #1
-fill    stb     ,x+
-        incb
-        cmpx    #$400
-        bne     fill
-        leax    name,pcr
-        lda     #3
-        ldb     #3
-        os9     $83
-        sta     <$30
+{FILLED}        sta     <$30
         lbsr    answer
 {write}{write}{EXIT}
 name    fcs     "/D1/Data"

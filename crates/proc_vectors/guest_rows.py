@@ -2,37 +2,10 @@
 """Makes rows of the stdin of this crate: guest programs whose answers are worked out by hand from the
 manuals (docs/calls.md and docs/machine.md). src/row.rt has the fields of a row."""
 
+import routines
 from assemble import assemble
 
-# writes D as four hexadecimal digits and 0D; changes no register but CC
-SHOW = """
-show    pshs    a,b,x,y
-        ldx     #$10
-        bsr     pair
-        tfr     b,a
-        bsr     pair
-        lda     #$0D
-        sta     0,x
-        ldx     #$10
-        ldy     #5
-        lda     #1
-        os9     $8C
-        puls    a,b,x,y,pc
-pair    pshs    a
-        lsra
-        lsra
-        lsra
-        lsra
-        bsr     digit
-        puls    a
-        anda    #15
-digit   adda    #$30
-        cmpa    #$3A
-        bcs     store
-        adda    #7
-store   sta     ,x+
-        rts
-"""
+SHOW = routines.SHOW.replace("PATH", "1")
 
 
 def program(name, source, storage=200):

@@ -6,39 +6,13 @@ What programs over terminals write is worked out by a second implementation, whi
 shares no text with the program; where the bytes of a row are known, it is compared with them. The rows of pipes, of
 signals and of limits are worked out by hand."""
 
+import routines
 from assemble import assemble
 from terminal_model import Machine
 
 # The programs in assembler. A program opens T1, T2 and T3 as its paths 3, 4 and 5, and shows on T3 what each call
 # answers: carry and B, and Y, as lines of four digits; of a read that is done the bytes too.
-SHOW = """
-show    pshs    a,b,x,y
-        ldx     #$10
-        bsr     pair
-        tfr     b,a
-        bsr     pair
-        lda     #$0D
-        sta     0,x
-        ldx     #$10
-        ldy     #5
-        lda     #PATH
-        os9     $8C
-        puls    a,b,x,y,pc
-pair    pshs    a
-        lsra
-        lsra
-        lsra
-        lsra
-        bsr     digit
-        puls    a
-        anda    #15
-digit   adda    #$30
-        cmpa    #$3A
-        bcs     store
-        adda    #7
-store   sta     ,x+
-        rts
-report  pshs    cc,a,b,x,y
+SHOW = routines.SHOW + """report  pshs    cc,a,b,x,y
         tfr     cc,a
         anda    #1
         lbsr    show
