@@ -201,7 +201,8 @@ fn end_of_file(s: &mut ProcState, io: &mut IoState, p: Pid, regs: Regs, call: Ke
     requires lives { IsLiving s.old.table p.0 }
     requires no_read { ReadsNoTerminal io.old p.0 }
     ensures call { (m : Inner) (at : ℕ) → Represents s.old m → regs ≡ regs_at m p.0
-        → Leaves (stores at [] (line_ended (caller_of m p.0) call) io.old) m p.0 result s.new io.new }
+        → Leaves (stores at [] (line_ended (caller_of m p.0) call) io.old)
+        m p.0 result s.new io.new }
     ensures lives { IsLiving s.new.table p.0 }
 {
     if call.moved == 0 {
