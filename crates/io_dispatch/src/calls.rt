@@ -1,17 +1,10 @@
 //! The calls on paths by their names.
 
-ghost use Rattle.std.specs.Prelude.{◌≡◌, ◌≢◌, vec_len};
-ghost use Rattle.guest_memory.specs.Tie.{cells_of};
-ghost use Rattle.os9_outer.specs.TerminalState.{terminal_states};
-ghost use Rattle.proc_rules.specs.Records.{IsLiving, record_at};
-ghost use Rattle.call_rules.specs.Inner.{Inner};
-ghost use Rattle.io_rules.specs.Again.{IsAgain};
-ghost use Rattle.io_rules.specs.Attempts.{caller_of, step_of};
-ghost use Rattle.io_state.specs.Attempt.{Attempts};
-ghost use Rattle.io_dispatch.specs.Staying.{StaysAllowed};
-ghost use Rattle.proc_state.specs.Tie.{Represents};
-ghost use Rattle.stream_calls.specs.Moving.{AreTerminals};
-ghost use Rattle.stream_calls.specs.Trying.{WantsMemory};
+ghost use Rattle.std.specs.Prelude.{◌≡◌, vec_len};
+ghost use Rattle.proc_rules.specs.Records.{IsLiving};
+ghost use Rattle.io_dispatch.specs.Staying.{MayAttempt};
+ghost use Rattle.stream_calls.specs.Streams.{streams};
+ghost use Rattle.stream_calls.specs.Trying.{AttemptsFrom, WantsMemoryFrom};
 
 use device_table::devices::Devices;
 use io_rules::io_call::IoCall;
@@ -42,20 +35,13 @@ pub fn attempt(
     devices: &mut Devices,
 ) -> CallEnd
     requires lives { IsLiving s.old.table p.0 }
-    requires again { IsAgain call (record_at s.old.table p.0).regs io.old p.0 }
-    requires stays { StaysAllowed call (cells_of s.old.memory p.0)
-        (record_at s.old.table p.0).regs io.old p.0 }
-    requires terminals { AreTerminals io.old.paths (vec_len devices.old.terms) }
-    ensures call { (m : Inner) → Represents s.old m → result ≢ CallEnd.NoMemory
-        → Attempts call m io.old (vec_len devices.old.drives) p.0 result s.new io.new
-        (terminal_states ⟦<dyn CharDriver as CharDriver>⟧ devices.old.terms.items)
-        (terminal_states ⟦<dyn CharDriver as CharDriver>⟧ devices.new.terms.items) }
-    ensures memory { (m : Inner) → Represents s.old m → result ≡ CallEnd.NoMemory
-        → WantsMemory (step_of call m p.0 io.old (vec_len devices.old.drives)
-        (terminal_states ⟦<dyn CharDriver as CharDriver>⟧ devices.old.terms.items))
-        (caller_of m p.0) io.old
-        (terminal_states ⟦<dyn CharDriver as CharDriver>⟧ devices.old.terms.items)
-        (terminal_states ⟦<dyn CharDriver as CharDriver>⟧ devices.new.terms.items) }
+    requires may { MayAttempt call s.old io.old p.0 (vec_len devices.old.terms) }
+    ensures call { AttemptsFrom call (vec_len devices.old.drives) p.0 result s.old s.new
+        (streams ⟦<dyn CharDriver as CharDriver>⟧ io.old devices.old.terms.items)
+        (streams ⟦<dyn CharDriver as CharDriver>⟧ io.new devices.new.terms.items) }
+    ensures memory { WantsMemoryFrom call (vec_len devices.old.drives) p.0 result s.old
+        (streams ⟦<dyn CharDriver as CharDriver>⟧ io.old devices.old.terms.items)
+        (streams ⟦<dyn CharDriver as CharDriver>⟧ io.new devices.new.terms.items) }
     ensures lives { IsLiving s.new.table p.0 }
     ensures drives { devices.new.drives ≡ devices.old.drives }
     ensures count { vec_len devices.new.terms ≡ vec_len devices.old.terms }

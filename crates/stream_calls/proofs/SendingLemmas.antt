@@ -76,8 +76,7 @@ no-read kind regs io p again = by (kept_at io p) again
 
 -- what is known of the call of a write
 pub record IsWriteCall (io : Io) (p : ℕ) (target : Target) (call : Kept) (count : ℕ) : Type 0 where
-  pub may : MayWrite io p target call
-  pub all : count ≡ call.count
+  pub may : MayWrite io p target call count
   pub first : (n : ℕ) → target ≡ Term n → kept_at io p ≡ None
 
 pub write-call : (kind : WriteKind) (regs : Regs) (io : Io) (p : ℕ) (opened : OpenPath) (call : Kept) (count : ℕ) → IsIo io → MaySend kind regs io p count → open_path io p (path_number (write_call kind) regs) ≡ Some opened → call ≡ unwrap_or (kept_at io p) (first_call (write_code kind) opened count) → count ≢ 0 → IsWriteCall io p opened.desc.target call count
@@ -107,8 +106,8 @@ write-call kind regs io p opened call count is may open_is call_is some = by (ke
               let e : Some (Pipe pipe) ≡ Some (Term n) = ap (λ (t : Target). Some t) (sym is_pipe) ∙ sym on ∙ at in
               absurd cc;
         };
+        all = refl;
       };
-      all = refl;
       first = λ n is_term. none;
     }
 
@@ -117,8 +116,7 @@ write-call kind regs io p opened call count is may open_is call_is some = by (ke
         let same_path : kept.path ≡ opened.path = some-same kept.path opened.path (sym fact.path ∙ parts.0) in
         let kept_on : target_at io.paths kept.path.0 ≡ Some opened.desc.target = ap (λ (s : SysPath). target_at io.paths s.0) same_path ∙ on in
         record {
-          may = record { on = kept_on; may = λ pipe is_pipe. is.waits.calls p kept at };
-          all = sym same;
+          may = record { on = kept_on; may = λ pipe is_pipe. is.waits.calls p kept at; all = sym same };
           first = λ n is_term. absurd (no-way-back (sym (kept-writes kind kept.code fact.code) ∙ (is.waits.calls p kept at).reads n (kept_on ∙ ap (λ (t : Target). Some t) is_term)));
         }
 

@@ -1,4 +1,5 @@
 pub mod Moving
 pub mod Reading
 pub mod Sending
+pub mod Streams
 pub mod Trying

@@ -1,24 +1,30 @@
 -- Reads and writes as a process may attempt them, and what they do on a path that they found.
-use Rattle.std.specs.Prelude.{◌≡◌, ℕ, ◌<◌, true, IfSome, IsSomeAnd, Some, is_none}
+use Rattle.std.specs.Prelude.{◌≡◌, ℕ, ◌<◌, true, not, ⊤, IfSome, IsSomeAnd, Some, is_none}
 use Rattle.os9_base.specs.Cells.{Cells, FitsIn}
 use Rattle.os9_base.specs.declared.calls.TheConstants.{I_READ, I_READLN}
-use Rattle.os9_base.specs.declared.errors.TheConstants.{E_BPADDR}
+use Rattle.os9_base.specs.declared.errors.TheConstants.{E_BMODE, E_BPADDR}
 use Rattle.os9_base.specs.declared.registers.Regs.{Regs}
+use Rattle.proc_rules.specs.Records.{record_at}
 use Rattle.call_rules.specs.UserBytes.{user_bytes}
+use Rattle.guest_memory.specs.Tie.{cells_of}
 use Rattle.io_model.specs.Path.{PathTable}
 use Rattle.io_model.specs.declared.kept.Kept.{Kept}
+use Rattle.io_model.specs.declared.path.Desc.{Desc}
+use Rattle.io_model.specs.declared.path.SysPath.{SysPath}
 use Rattle.io_model.specs.declared.path.Target.{Target}
 use Rattle.io_model.specs.declared.path.Target.TheVariants.{Term}
 use Rattle.io_model.specs.declared.terminal.ReadKind.{ReadKind}
 use Rattle.io_model.specs.declared.terminal.ReadKind.TheVariants.{Bytes, WholeLine}
+use Rattle.io_rules.specs.Again.{IsAgain}
 use Rattle.io_rules.specs.Io.{Io, OpenPath, open_path, kept_at}
 use Rattle.io_rules.specs.Modes.{can_read}
 use Rattle.io_rules.specs.Read.{reads_target}
-use Rattle.io_rules.specs.Step.{Caller, IoStep, refuses}
+use Rattle.io_rules.specs.Step.{Caller, IoStep, reads, refuses}
 use Rattle.io_rules.specs.Transfer.{on_path, unless_nothing, call_now}
 use Rattle.io_rules.specs.declared.io_call.IoCall.{IoCall}
 use Rattle.io_rules.specs.declared.io_call.IoCall.TheVariants as Call
-use Rattle.io_state.specs.Sound.{MayWait, target_at}
+use Rattle.io_state.specs.Sound.{IsThere, MayWait, target_at}
+use Rattle.proc_state.specs.declared.state.ProcState.{ProcState}
 
 -- each path that is on a terminal is on one of so many
 abbrev pub AreTerminals : PathTable → ℕ → Type 0
@@ -30,6 +36,17 @@ pub record MayMove (io : Io) (p : ℕ) (target : Target) (call : Kept) : Type 0 
   pub may : MayWait io.paths p call
   pub on : target_at io.paths call.path.0 ≡ Some target
   pub same : IfSome (kept_at io p) (λ kept. kept ≡ call)
+
+-- ---- the path of a number
+
+-- a system path with its descriptor
+abbrev pub open_as : SysPath → Desc → OpenPath
+open_as path desc = record { path = path; desc = desc }
+
+-- the number of a process names this path, which was opened on what is there
+pub record Finds (io : Io) (p number : ℕ) (path : OpenPath) : Type 0 where
+  pub opened : open_path io p number ≡ Some path
+  pub there : IsThere io path.desc.target
 
 -- ---- reads
 
@@ -51,21 +68,43 @@ pub record StaysRead (cells : Cells) (regs : Regs) (io : Io) (p : ℕ) : Type 0 
 abbrev pub StaysIfKept : Cells → Regs → Io → ℕ → Type 0
 StaysIfKept cells regs io p = IfSome (kept_at io p) (λ kept. StaysRead cells regs io p)
 
+-- an attempt on a terminal
+abbrev pub read_terminal : ReadKind → ℕ → Kept → Caller → Io → IoStep
+read_terminal kind n call caller io = reads (record { terminal = n; kind = kind; call = call })
+
 -- an attempt on what a path was opened on
-unfoldable pub read_on : ReadKind → Caller → Io → Kept → Target → IoStep
-read_on kind caller io call target = reads_target kind caller io call target
+unfoldable pub read_on : ReadKind → Kept → Target → Caller → Io → IoStep
+read_on kind call target caller io = reads_target kind caller io call target
 
 -- an attempt on a path that may be read
-unfoldable pub read_open : ReadKind → Caller → Io → OpenPath → IoStep
-read_open kind caller io opened =
+unfoldable pub read_open : ReadKind → OpenPath → Caller → Io → IoStep
+read_open kind opened caller io =
     unless_nothing caller io
-    (read_on kind caller io (call_now caller io (read_code kind) opened caller.regs.y) opened.desc.target)
+    (read_on kind (call_now caller io (read_code kind) opened caller.regs.y) opened.desc.target caller io)
+
+-- an attempt on the path that its number names
+abbrev pub read_found : ReadKind → OpenPath → Caller → Io → IoStep
+read_found kind opened caller io = refuses (not (can_read opened.desc.mode)) E_BMODE (read_open kind opened caller io)
 
 -- an attempt whose buffer is there
 unfoldable pub read_named : ReadKind → Caller → Io → IoStep
-read_named kind caller io = on_path caller io caller.regs.a can_read (read_open kind caller io)
+read_named kind caller io = on_path caller io caller.regs.a can_read (λ opened. read_open kind opened caller io)
 
 -- an attempt of a read
 unfoldable pub read_step : ReadKind → Caller → Io → IoStep
 read_step kind caller io =
     refuses (is_none (user_bytes caller.cells caller.regs.x caller.regs.y)) E_BPADDR (read_named kind caller io)
+
+-- ---- any call on paths
+
+-- where a read of the process waits, it is not refused
+abbrev pub StaysAllowed : IoCall → Cells → Regs → Io → ℕ → Type 0
+StaysAllowed Call.Read cells regs io p = StaysIfKept cells regs io p
+StaysAllowed Call.ReadLn cells regs io p = StaysIfKept cells regs io p
+StaysAllowed call cells regs io p = ⊤
+
+-- a process may attempt this call, on a machine with so many terminals
+pub record MayAttempt (call : IoCall) (processes : ProcState) (io : Io) (p terms : ℕ) : Type 0 where
+  pub again : IsAgain call (record_at processes.table p).regs io p
+  pub stays : StaysAllowed call (cells_of processes.memory p) (record_at processes.table p).regs io p
+  pub terminals : AreTerminals io.paths terms

@@ -1,6 +1,8 @@
 -- What an attempt of a write reads of the memory of its process.
-use Rattle.std.specs.Prelude.{◌≡◌, ℕ, Bool, true, false, ⊤, Option, Some, None, List, length, take, drop}
+use Rattle.std.specs.Prelude.{◌≡◌, ℕ, Bool, true, false, ⊤, IfSome, Option, Some, None, List, length, take, drop}
 use Rattle.std.specs.Option.{option_map_or}
+use Rattle.os9_base.specs.Cells.{Cells}
+use Rattle.call_rules.specs.UserBytes.{user_bytes}
 use Rattle.io_model.specs.declared.kept.Kept.{Kept}
 use Rattle.io_model.specs.declared.path.Target.{Target}
 use Rattle.io_model.specs.declared.path.Target.TheVariants.{File, Folder, Term, Pipe}
@@ -24,6 +26,12 @@ moved_before kept = option_map_or (λ (kept : Kept). kept.moved) kept 0
 -- of the bytes of a call the ones that one attempt may put into a pipe, behind so many
 abbrev pub window : ℕ → List ℕ → List ℕ
 window moved bytes = take PIPE_BYTES (drop moved bytes)
+
+-- of the bytes of a call from an address on, so many, if all are there, a buffer has in their places the ones that one
+-- attempt may put into a pipe, behind so many
+abbrev pub HasWindow : Cells → ℕ → ℕ → ℕ → List ℕ → Type 0
+HasWindow cells at moved count buffer =
+    IfSome (user_bytes cells at count) (λ bytes. window moved (take count buffer) ≡ window moved bytes)
 
 -- these bytes were read in place of those of a write on the path of a number: they are as many; on a pipe the ones that
 -- the attempt may move are the same, and elsewhere all are

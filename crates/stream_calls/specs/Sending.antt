@@ -1,29 +1,31 @@
 -- Writes as a process may attempt them, and what they do on a path that they found.
-use Rattle.std.specs.Prelude.{◌≡◌, ℕ, ◌==◌, ⊤, IfSome, Some, None, List, length, if◌then◌else◌}
+use Rattle.std.specs.Prelude.{◌≡◌, ℕ, ◌==◌, ⊤, not, IfSome, Some, None, List, length, if◌then◌else◌}
 use Rattle.os9_base.specs.Cells.{Cells}
 use Rattle.os9_base.specs.declared.call.CallEnd.{CallEnd}
 use Rattle.os9_base.specs.declared.call.CallEnd.TheVariants as End
 use Rattle.os9_base.specs.declared.calls.TheConstants.{I_WRITE, I_WRITLN, F_PERR}
-use Rattle.os9_base.specs.declared.errors.TheConstants.{E_WRITE}
+use Rattle.os9_base.specs.declared.errors.TheConstants.{E_BMODE, E_WRITE}
 use Rattle.os9_base.specs.declared.registers.Pid.{Pid}
 use Rattle.os9_base.specs.declared.registers.Regs.{Regs}
-use Rattle.os9_outer.specs.TerminalState.{TerminalState}
+use Rattle.os9_outer.specs.TerminalState.{TerminalState, ChangesOneTerminal}
 use Rattle.io_model.specs.Line.{line_length, line_put}
+use Rattle.io_model.specs.Terminal.{Writes}
 use Rattle.io_model.specs.declared.kept.Kept.{Kept}
 use Rattle.io_model.specs.declared.path.Target.{Target}
-use Rattle.io_model.specs.declared.path.Target.TheVariants.{Pipe}
+use Rattle.io_model.specs.declared.path.Target.TheVariants.{Pipe, Term}
 use Rattle.io_model.specs.declared.terminal.Progress.{Progress}
 use Rattle.io_rules.specs.Again.{IsAgain, path_number}
 use Rattle.io_rules.specs.Attempts.{Does, kept_in}
-use Rattle.io_rules.specs.Io.{Io, OpenPath, kept_at, with_call}
+use Rattle.io_rules.specs.Io.{Io, OpenPath, kept_at, terminal_at, with_call, with_terminal}
 use Rattle.io_rules.specs.Modes.{can_write}
-use Rattle.io_rules.specs.Step.{Caller, IoEnd, IoStep, done, leaves}
+use Rattle.io_rules.specs.Step.{Caller, IoEnd, IoStep, done, leaves, refuses, writes}
 use Rattle.io_rules.specs.Transfer.{call_now, on_path}
 use Rattle.io_rules.specs.Write.{Sending, sent_bytes, sent_line, writes_target}
 use Rattle.io_rules.specs.declared.io_call.IoCall.{IoCall}
 use Rattle.io_rules.specs.declared.io_call.IoCall.TheVariants as Call
 use Rattle.io_state.specs.Sound.{MayWait, target_at}
 use Rattle.pipe_calls.specs.Leaving.{IsTold}
+use Rattle.stream_calls.specs.Streams.{Streams}
 use Rattle.stream_calls.specs.Trying.{WantsMemory}
 use Rattle.stream_calls.specs.declared.sending.WriteKind.{WriteKind}
 use Rattle.stream_calls.specs.declared.sending.WriteKind.TheVariants.{Bytes, Line, ErrorLine}
@@ -71,15 +73,20 @@ IsLineOf kind bytes = put_count kind bytes ≡ length bytes
 abbrev pub IsLineFirst : WriteKind → Io → ℕ → List ℕ → Type 0
 IsLineFirst kind io p bytes = kept_at io p ≡ None → IsLineOf kind bytes
 
+-- on a terminal a line write moves a line
+abbrev pub IsLineOn : Target → WriteKind → List ℕ → Type 0
+IsLineOn target kind bytes = (n : ℕ) → target ≡ Term n → IsLineOf kind bytes
+
 -- a process may attempt such a write of so many bytes: where a call of it waits, it is this one
 pub record MaySend (kind : WriteKind) (regs : Regs) (io : Io) (p count : ℕ) : Type 0 where
   pub again : IsAgain (write_call kind) regs io p
   pub same : IfSome (kept_at io p) (λ kept. kept.count ≡ count)
 
--- a process may attempt a write in this call, whose path is on this: on a pipe it may wait in it
-pub record MayWrite (io : Io) (p : ℕ) (target : Target) (call : Kept) : Type 0 where
+-- a process may attempt a write of so many bytes in this call, whose path is on this: on a pipe it may wait in it
+pub record MayWrite (io : Io) (p : ℕ) (target : Target) (call : Kept) (count : ℕ) : Type 0 where
   pub on : target_at io.paths call.path.0 ≡ Some target
   pub may : (pipe : ℕ) → target ≡ Pipe pipe → MayWait io.paths p call
+  pub all : count ≡ call.count
 
 -- ---- steps
 
@@ -87,20 +94,30 @@ pub record MayWrite (io : Io) (p : ℕ) (target : Target) (call : Kept) : Type 0
 abbrev pub sender : Pid → Regs → Cells → Caller
 sender p regs cells = record { process = p; regs = regs; cells = cells }
 
+-- an attempt on a terminal, which leaves its process these registers when it is done
+abbrev pub put_on : WriteKind → ℕ → List ℕ → Regs → IoStep
+put_on kind n bytes told = writes (record { terminal = n; put = put_of kind bytes; count = length bytes; regs = told })
+
 -- an attempt on what its path was opened on
-unfoldable pub write_on : WriteKind → Caller → Io → List ℕ → Kept → Target → IoStep
-write_on kind caller io bytes call target = writes_target (sent kind caller bytes) caller io call target
+unfoldable pub write_on : WriteKind → Kept → Target → Caller → Io → List ℕ → IoStep
+write_on kind call target caller io bytes = writes_target (sent kind caller bytes) caller io call target
 
 -- an attempt on a path that may be written
-unfoldable pub write_open : WriteKind → Caller → Io → List ℕ → OpenPath → IoStep
-write_open kind caller io bytes opened =
+unfoldable pub write_open : WriteKind → OpenPath → Caller → Io → List ℕ → IoStep
+write_open kind opened caller io bytes =
     if length bytes == 0 then done (sent kind caller bytes).regs io
-    else write_on kind caller io bytes (call_now caller io (write_code kind) opened (length bytes)) opened.desc.target
+    else write_on kind (call_now caller io (write_code kind) opened (length bytes)) opened.desc.target caller io bytes
+
+-- an attempt on the path that its number names
+abbrev pub write_found : WriteKind → OpenPath → Caller → Io → List ℕ → IoStep
+write_found kind opened caller io bytes =
+    refuses (not (can_write opened.desc.mode)) E_BMODE (write_open kind opened caller io bytes)
 
 -- an attempt whose bytes are there
 unfoldable pub write_named : WriteKind → Caller → Io → List ℕ → IoStep
 write_named kind caller io bytes =
-    on_path caller io (path_number (write_call kind) caller.regs) can_write (write_open kind caller io bytes)
+    on_path caller io (path_number (write_call kind) caller.regs) can_write
+    (λ opened. write_open kind opened caller io bytes)
 
 -- ---- what an attempt comes to before its process is told
 
@@ -122,6 +139,21 @@ Sends step caller io regs (End.Error number) new before after =
 Sends step caller io regs End.Wait new before after = Tells step caller io regs End.Wait new before after
 Sends step caller io regs End.Ended new before after = Tells step caller io regs End.Ended new before after
 Sends step caller io regs End.NoMemory new before after = WantsMemory step caller io before after
+
+-- such a write of these bytes, that does this, by a process with these registers, ends so whatever memory it sees
+abbrev pub SendsFrom : WriteKind → (Caller → Io → List ℕ → IoStep) → Pid → Regs → List ℕ → CallEnd → Streams → Streams
+    → Type 0
+SendsFrom kind step p regs bytes end before after =
+    (cells : Cells) → Sends (step (sender p regs cells) before.io bytes) (sender p regs cells) before.io
+    (regs_done kind regs (length bytes)) end after.io before.terms after.terms
+
+-- a terminal answers so to such a write of these bytes, and nothing is kept of the call
+pub record IsPut (kind : WriteKind) (p : Pid) (n : ℕ) (bytes : List ℕ) (answer : Progress) (before after : Streams)
+    : Type 0 where
+  pub device : ChangesOneTerminal
+      (Writes p (put_of kind bytes) (put_count kind bytes) answer (terminal_at before.io n) (terminal_at after.io n)) n
+      before.terms after.terms
+  pub io : after.io ≡ with_call (with_terminal before.io n (terminal_at after.io n)) p.0 None
 
 -- a write of a terminal that answers so ends so; it never waits, and finds no end of the file
 abbrev pub PutEnds : Progress → CallEnd → Type 0

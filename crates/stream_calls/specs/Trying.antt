@@ -1,17 +1,21 @@
 -- What an attempt of a read or a write leaves, and what it leaves where memory is wanting.
-use Rattle.std.specs.Prelude.{◌≡◌, ℕ, Option, Some, None, List}
+use Rattle.std.specs.Prelude.{◌≡◌, ◌≢◌, ℕ, Option, Some, None, List}
 use Rattle.os9_base.specs.declared.call.CallEnd.{CallEnd}
 use Rattle.os9_base.specs.declared.call.CallEnd.TheVariants.{Done, Error, Wait, Ended, NoMemory}
+use Rattle.os9_base.specs.declared.registers.Regs.{Regs}
 use Rattle.os9_outer.specs.TerminalState.{TerminalState, ChangesOneTerminal}
-use Rattle.call_rules.specs.Inner.{Inner}
+use Rattle.call_rules.specs.Inner.{Inner, regs_at}
 use Rattle.io_model.specs.Terminal.{Terminal, Reads, Writes}
 use Rattle.io_model.specs.declared.terminal.Progress.TheVariants as Answer
-use Rattle.io_rules.specs.Attempts.{Does, caller_of, io_after, result_by, result_of}
+use Rattle.io_rules.specs.Attempts.{Does, caller_of, io_after, result_by, result_of, step_of}
 use Rattle.io_rules.specs.Io.{Io, terminal_at}
 use Rattle.io_rules.specs.Step.{Caller, IoEffect, IoEnd, IoStep, stores, refused, comes, reads, writes}
 use Rattle.io_rules.specs.Terminals.{request_of}
-use Rattle.proc_state.specs.Tie.{Comes}
+use Rattle.io_rules.specs.declared.io_call.IoCall.{IoCall}
+use Rattle.io_state.specs.Attempt.{Attempts}
+use Rattle.proc_state.specs.Tie.{Comes, Represents}
 use Rattle.proc_state.specs.declared.state.ProcState.{ProcState}
+use Rattle.stream_calls.specs.Streams.{Streams}
 
 -- an attempt of a process does this: how it ends, and the processes, the state and the terminals then
 pub record Takes (step : IoStep) (m : Inner) (io : Io) (p : ℕ) (end : CallEnd) (processes : ProcState) (new : Io)
@@ -49,3 +53,23 @@ abbrev pub EndsBy : Option IoEnd → ℕ → List ℕ → Inner → ℕ → Call
 EndsBy None at bytes m p end processes = end ≡ NoMemory
 EndsBy (Some it) at bytes m p end processes =
     (io : Io) → Comes m p (result_by it m p (stores at bytes it io)) end processes
+
+-- ---- from any state that the kernel's processes represent
+
+-- an attempt that does this, of a process with these registers, ends so
+abbrev pub TriesFrom : (Caller → Io → IoStep) → Regs → ℕ → CallEnd → ProcState → ProcState → Streams → Streams → Type 0
+TriesFrom step regs p end old new before after =
+    (m : Inner) → Represents old m → regs ≡ regs_at m p
+    → Tries (step (caller_of m p) before.io) m before.io p end new after.io before.terms after.terms
+
+-- an attempt of a call, on a machine with so many drives, comes to this, unless memory is wanting
+abbrev pub AttemptsFrom : IoCall → ℕ → ℕ → CallEnd → ProcState → ProcState → Streams → Streams → Type 0
+AttemptsFrom call drives p end old new before after =
+    (m : Inner) → Represents old m → end ≢ NoMemory
+    → Attempts call m before.io drives p end new after.io before.terms after.terms
+
+-- memory is wanting for such an attempt: its terminal is as the call left it, and no other one has changed
+abbrev pub WantsMemoryFrom : IoCall → ℕ → ℕ → CallEnd → ProcState → Streams → Streams → Type 0
+WantsMemoryFrom call drives p end old before after =
+    (m : Inner) → Represents old m → end ≡ NoMemory
+    → WantsMemory (step_of call m p before.io drives before.terms) (caller_of m p) before.io before.terms after.terms

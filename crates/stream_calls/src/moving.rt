@@ -7,7 +7,7 @@ ghost use Rattle.call_rules.specs.UserBytes.{user_bytes};
 ghost use Rattle.guest_memory.specs.Tie.{IsSame as IsSameMemory, cells_of};
 ghost use Rattle.io_rules.specs.Io.{kept_at, open_path};
 ghost use Rattle.proc_state.specs.Tie.{IsSame, Represents};
-ghost use Rattle.stream_calls.specs.Reading.{IsRead, is_on_pipe as is_on_pipe_lem, moved_before as moved_before_lem, window};
+ghost use Rattle.stream_calls.specs.Reading.{HasWindow, IsRead, is_on_pipe as is_on_pipe_lem, moved_before as moved_before_lem};
 
 use guest_memory::memory::Memory;
 use io_model::path::Target;
@@ -86,8 +86,8 @@ fn read_window(s: &mut ProcState, p: Pid, at: u16, moved: u16, count: u16)
     requires process { p.0 < 33 }
     requires fits { FitsIn (cells_of s.old.memory p.0) at count }
     requires left { moved < count }
-    ensures window { (m : Inner) → Represents s.old m → IfSome (user_bytes (cells_at m p.0) at count)
-        (λ bytes. window moved (take count s.new.buffer.items) ≡ window moved bytes) }
+    ensures window { (m : Inner) → Represents s.old m
+        → HasWindow (cells_at m p.0) at moved count s.new.buffer.items }
     ensures same { IsSame s.old s.new }
 {
     load_window(&mut s.memory, p, at, moved, count, &mut s.buffer);
@@ -99,8 +99,7 @@ fn load_window(memory: &mut Memory, p: Pid, at: u16, moved: u16, count: u16, int
     requires fits { FitsIn (cells_of memory.old p.0) at count }
     requires left { moved < count }
     requires room { count ≤ length into.old }
-    ensures window { IfSome (user_bytes (cells_of memory.old p.0) at count)
-        (λ bytes. window moved (take count into.new) ≡ window moved bytes) }
+    ensures window { HasWindow (cells_of memory.old p.0) at moved count into.new }
     ensures room { length into.new ≡ length into.old }
     ensures same { IsSameMemory memory.old memory.new }
 {

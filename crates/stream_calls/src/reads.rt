@@ -1,25 +1,21 @@
 //! I$Read and I$ReadLn (System Programmer's Manual, I$Read and I$ReadLn).
 
-ghost use Rattle.std.specs.Prelude.{◌≡◌, ◌≢◌, ℕ, ◌<◌, not, Some, vec_len};
+ghost use Rattle.std.specs.Prelude.{◌≡◌, ℕ, ◌<◌, Some, vec_len};
 ghost use Rattle.os9_base.specs.Cells.{FitsIn};
-ghost use Rattle.os9_outer.specs.TerminalState.{terminal_states};
-ghost use Rattle.proc_rules.specs.Records.{IsLiving, record_at};
+ghost use Rattle.proc_rules.specs.Records.{IsLiving};
 ghost use Rattle.call_rules.specs.Inner.{Inner, regs_at};
 ghost use Rattle.guest_memory.specs.Tie.{cells_of};
 ghost use Rattle.io_model.specs.Pipe.{IsPipe};
 ghost use Rattle.io_rules.specs.Attempts.{caller_of};
-ghost use Rattle.io_rules.specs.Io.{open_path};
-ghost use Rattle.io_rules.specs.Read.{i_read as i_read_lem, i_readln as i_readln_lem, pipe_read};
-ghost use Rattle.io_rules.specs.Modes.{can_read as can_read_lem};
-ghost use Rattle.io_rules.specs.Step.{refuses};
+ghost use Rattle.io_rules.specs.Read.{pipe_read};
 ghost use Rattle.io_rules.specs.declared.io_call.IoCall.TheVariants as Call;
 ghost use Rattle.io_state.specs.Again.{IsAgain};
-ghost use Rattle.io_state.specs.Attempt.{Attempts};
 ghost use Rattle.io_state.specs.Sound.{IsThere, MayWait, read_kind};
 ghost use Rattle.pipe_calls.specs.Leaving.{Leaves, ReadsNoTerminal};
 ghost use Rattle.proc_state.specs.Tie.{Represents};
-ghost use Rattle.stream_calls.specs.Moving.{AreTerminals, MayMove, StaysIfKept, read_call, read_code as read_code_lem, read_step, read_named as read_named_lem, read_open as read_open_lem, read_on as read_on_lem};
-ghost use Rattle.stream_calls.specs.Trying.{Tries, WantsMemory};
+ghost use Rattle.stream_calls.specs.Moving.{AreTerminals, Finds, MayAttempt, MayMove, StaysIfKept, open_as, read_call, read_code as read_code_lem, read_found as read_found_lem, read_step, read_named as read_named_lem, read_open as read_open_lem, read_on as read_on_lem};
+ghost use Rattle.stream_calls.specs.Streams.{streams};
+ghost use Rattle.stream_calls.specs.Trying.{AttemptsFrom, TriesFrom, WantsMemoryFrom};
 
 use crate::ends::{answer, call_now, refuse};
 use crate::modes::can_read;
@@ -49,18 +45,13 @@ use proc_state::state::ProcState;
 /// end of the file, and E$Write where a terminal failed.
 pub fn i_read(s: &mut ProcState, io: &mut IoState, devices: &mut Devices, p: Pid) -> CallEnd
     requires lives { IsLiving s.old.table p.0 }
-    requires again { IsAgain Call.Read (record_at s.old.table p.0).regs io.old p.0 }
-    requires stays { StaysIfKept (cells_of s.old.memory p.0) (record_at s.old.table p.0).regs
-        io.old p.0 }
-    requires terminals { AreTerminals io.old.paths (vec_len devices.old.terms) }
-    ensures call { (m : Inner) (drives : ℕ) → Represents s.old m → result ≢ CallEnd.NoMemory
-        → Attempts Call.Read m io.old drives p.0 result s.new io.new
-        (terminal_states ⟦<dyn CharDriver as CharDriver>⟧ devices.old.terms.items)
-        (terminal_states ⟦<dyn CharDriver as CharDriver>⟧ devices.new.terms.items) }
-    ensures memory { (m : Inner) → Represents s.old m → result ≡ CallEnd.NoMemory
-        → WantsMemory (i_read_lem (caller_of m p.0) io.old) (caller_of m p.0) io.old
-        (terminal_states ⟦<dyn CharDriver as CharDriver>⟧ devices.old.terms.items)
-        (terminal_states ⟦<dyn CharDriver as CharDriver>⟧ devices.new.terms.items) }
+    requires may { MayAttempt Call.Read s.old io.old p.0 (vec_len devices.old.terms) }
+    ensures call { (drives : ℕ) → AttemptsFrom Call.Read drives p.0 result s.old s.new
+        (streams ⟦<dyn CharDriver as CharDriver>⟧ io.old devices.old.terms.items)
+        (streams ⟦<dyn CharDriver as CharDriver>⟧ io.new devices.new.terms.items) }
+    ensures memory { (drives : ℕ) → WantsMemoryFrom Call.Read drives p.0 result s.old
+        (streams ⟦<dyn CharDriver as CharDriver>⟧ io.old devices.old.terms.items)
+        (streams ⟦<dyn CharDriver as CharDriver>⟧ io.new devices.new.terms.items) }
     ensures lives { IsLiving s.new.table p.0 }
     ensures drives { devices.new.drives ≡ devices.old.drives }
     ensures count { vec_len devices.new.terms ≡ vec_len devices.old.terms }
@@ -80,18 +71,13 @@ pub fn i_read(s: &mut ProcState, io: &mut IoState, devices: &mut Devices, p: Pid
 /// end of the file, and E$Write where a terminal failed.
 pub fn i_readln(s: &mut ProcState, io: &mut IoState, devices: &mut Devices, p: Pid) -> CallEnd
     requires lives { IsLiving s.old.table p.0 }
-    requires again { IsAgain Call.ReadLn (record_at s.old.table p.0).regs io.old p.0 }
-    requires stays { StaysIfKept (cells_of s.old.memory p.0) (record_at s.old.table p.0).regs
-        io.old p.0 }
-    requires terminals { AreTerminals io.old.paths (vec_len devices.old.terms) }
-    ensures call { (m : Inner) (drives : ℕ) → Represents s.old m → result ≢ CallEnd.NoMemory
-        → Attempts Call.ReadLn m io.old drives p.0 result s.new io.new
-        (terminal_states ⟦<dyn CharDriver as CharDriver>⟧ devices.old.terms.items)
-        (terminal_states ⟦<dyn CharDriver as CharDriver>⟧ devices.new.terms.items) }
-    ensures memory { (m : Inner) → Represents s.old m → result ≡ CallEnd.NoMemory
-        → WantsMemory (i_readln_lem (caller_of m p.0) io.old) (caller_of m p.0) io.old
-        (terminal_states ⟦<dyn CharDriver as CharDriver>⟧ devices.old.terms.items)
-        (terminal_states ⟦<dyn CharDriver as CharDriver>⟧ devices.new.terms.items) }
+    requires may { MayAttempt Call.ReadLn s.old io.old p.0 (vec_len devices.old.terms) }
+    ensures call { (drives : ℕ) → AttemptsFrom Call.ReadLn drives p.0 result s.old s.new
+        (streams ⟦<dyn CharDriver as CharDriver>⟧ io.old devices.old.terms.items)
+        (streams ⟦<dyn CharDriver as CharDriver>⟧ io.new devices.new.terms.items) }
+    ensures memory { (drives : ℕ) → WantsMemoryFrom Call.ReadLn drives p.0 result s.old
+        (streams ⟦<dyn CharDriver as CharDriver>⟧ io.old devices.old.terms.items)
+        (streams ⟦<dyn CharDriver as CharDriver>⟧ io.new devices.new.terms.items) }
     ensures lives { IsLiving s.new.table p.0 }
     ensures drives { devices.new.drives ≡ devices.old.drives }
     ensures count { vec_len devices.new.terms ≡ vec_len devices.old.terms }
@@ -113,10 +99,9 @@ fn read(
     requires again { IsAgain (read_call kind) regs io.old p.0 }
     requires stays { StaysIfKept (cells_of s.old.memory p.0) regs io.old p.0 }
     requires terminals { AreTerminals io.old.paths (vec_len devices.old.terms) }
-    ensures call { (m : Inner) → Represents s.old m → regs ≡ regs_at m p.0
-        → Tries (read_step kind (caller_of m p.0) io.old) m io.old p.0 result s.new io.new
-        (terminal_states ⟦<dyn CharDriver as CharDriver>⟧ devices.old.terms.items)
-        (terminal_states ⟦<dyn CharDriver as CharDriver>⟧ devices.new.terms.items) }
+    ensures call { TriesFrom (read_step kind) regs p.0 result s.old s.new
+        (streams ⟦<dyn CharDriver as CharDriver>⟧ io.old devices.old.terms.items)
+        (streams ⟦<dyn CharDriver as CharDriver>⟧ io.new devices.new.terms.items) }
     ensures lives { IsLiving s.new.table p.0 }
     ensures drives { devices.new.drives ≡ devices.old.drives }
     ensures count { vec_len devices.new.terms ≡ vec_len devices.old.terms }
@@ -141,10 +126,9 @@ fn read_named(
     requires stays { StaysIfKept (cells_of s.old.memory p.0) regs io.old p.0 }
     requires named { FitsIn (cells_of s.old.memory p.0) regs.x regs.y }
     requires terminals { AreTerminals io.old.paths (vec_len devices.old.terms) }
-    ensures call { (m : Inner) → Represents s.old m → regs ≡ regs_at m p.0
-        → Tries (read_named_lem kind (caller_of m p.0) io.old) m io.old p.0 result s.new io.new
-        (terminal_states ⟦<dyn CharDriver as CharDriver>⟧ devices.old.terms.items)
-        (terminal_states ⟦<dyn CharDriver as CharDriver>⟧ devices.new.terms.items) }
+    ensures call { TriesFrom (read_named_lem kind) regs p.0 result s.old s.new
+        (streams ⟦<dyn CharDriver as CharDriver>⟧ io.old devices.old.terms.items)
+        (streams ⟦<dyn CharDriver as CharDriver>⟧ io.new devices.new.terms.items) }
     ensures lives { IsLiving s.new.table p.0 }
     ensures drives { devices.new.drives ≡ devices.old.drives }
     ensures count { vec_len devices.new.terms ≡ vec_len devices.old.terms }
@@ -170,15 +154,11 @@ fn read_found(
     requires again { IsAgain (read_call kind) regs io.old p.0 }
     requires stays { StaysIfKept (cells_of s.old.memory p.0) regs io.old p.0 }
     requires named { FitsIn (cells_of s.old.memory p.0) regs.x regs.y }
-    requires opened { open_path io.old p.0 regs.a ≡ Some (record { path = path; desc = desc }) }
-    requires there { IsThere io.old desc.target }
+    requires finds { Finds io.old p.0 regs.a (open_as path desc) }
     requires terminals { AreTerminals io.old.paths (vec_len devices.old.terms) }
-    ensures call { (m : Inner) → Represents s.old m → regs ≡ regs_at m p.0
-        → Tries (refuses (not (can_read_lem desc.mode)) E_BMODE
-        (read_open_lem kind (caller_of m p.0) io.old (record { path = path; desc = desc })))
-        m io.old p.0 result s.new io.new
-        (terminal_states ⟦<dyn CharDriver as CharDriver>⟧ devices.old.terms.items)
-        (terminal_states ⟦<dyn CharDriver as CharDriver>⟧ devices.new.terms.items) }
+    ensures call { TriesFrom (read_found_lem kind (open_as path desc)) regs p.0 result s.old s.new
+        (streams ⟦<dyn CharDriver as CharDriver>⟧ io.old devices.old.terms.items)
+        (streams ⟦<dyn CharDriver as CharDriver>⟧ io.new devices.new.terms.items) }
     ensures lives { IsLiving s.new.table p.0 }
     ensures drives { devices.new.drives ≡ devices.old.drives }
     ensures count { vec_len devices.new.terms ≡ vec_len devices.old.terms }
@@ -203,14 +183,11 @@ fn read_open(
     requires lives { IsLiving s.old.table p.0 }
     requires again { IsAgain (read_call kind) regs io.old p.0 }
     requires named { FitsIn (cells_of s.old.memory p.0) regs.x regs.y }
-    requires opened { open_path io.old p.0 regs.a ≡ Some (record { path = path; desc = desc }) }
-    requires there { IsThere io.old desc.target }
+    requires finds { Finds io.old p.0 regs.a (open_as path desc) }
     requires terminals { AreTerminals io.old.paths (vec_len devices.old.terms) }
-    ensures call { (m : Inner) → Represents s.old m → regs ≡ regs_at m p.0
-        → Tries (read_open_lem kind (caller_of m p.0) io.old (record { path = path; desc = desc }))
-        m io.old p.0 result s.new io.new
-        (terminal_states ⟦<dyn CharDriver as CharDriver>⟧ devices.old.terms.items)
-        (terminal_states ⟦<dyn CharDriver as CharDriver>⟧ devices.new.terms.items) }
+    ensures call { TriesFrom (read_open_lem kind (open_as path desc)) regs p.0 result s.old s.new
+        (streams ⟦<dyn CharDriver as CharDriver>⟧ io.old devices.old.terms.items)
+        (streams ⟦<dyn CharDriver as CharDriver>⟧ io.new devices.new.terms.items) }
     ensures lives { IsLiving s.new.table p.0 }
     ensures drives { devices.new.drives ≡ devices.old.drives }
     ensures count { vec_len devices.new.terms ≡ vec_len devices.old.terms }
@@ -250,10 +227,9 @@ fn read_on(
     requires kind_is { read_kind call.code ≡ Some kind }
     requires there { IsThere io.old target }
     requires terminals { AreTerminals io.old.paths (vec_len devices.old.terms) }
-    ensures call { (m : Inner) → Represents s.old m → regs ≡ regs_at m p.0
-        → Tries (read_on_lem kind (caller_of m p.0) io.old call target) m io.old p.0 result s.new
-        io.new (terminal_states ⟦<dyn CharDriver as CharDriver>⟧ devices.old.terms.items)
-        (terminal_states ⟦<dyn CharDriver as CharDriver>⟧ devices.new.terms.items) }
+    ensures call { TriesFrom (read_on_lem kind call target) regs p.0 result s.old s.new
+        (streams ⟦<dyn CharDriver as CharDriver>⟧ io.old devices.old.terms.items)
+        (streams ⟦<dyn CharDriver as CharDriver>⟧ io.new devices.new.terms.items) }
     ensures lives { IsLiving s.new.table p.0 }
     ensures drives { devices.new.drives ≡ devices.old.drives }
     ensures count { vec_len devices.new.terms ≡ vec_len devices.old.terms }

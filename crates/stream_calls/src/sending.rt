@@ -1,18 +1,14 @@
 //! Bytes that a process sends to a terminal or a pipe.
 
-ghost use Rattle.std.specs.Prelude.{◌≡◌, ◌<◌, ℕ, Some, None, not, length, vec_len};
+ghost use Rattle.std.specs.Prelude.{◌≡◌, ◌<◌, length, vec_len};
 ghost use Rattle.os9_base.specs.Cells.{Cells};
-ghost use Rattle.os9_outer.specs.TerminalState.{terminal_states, ChangesOneTerminal};
-ghost use Rattle.io_model.specs.Terminal.{Writes};
-ghost use Rattle.io_model.specs.declared.path.Target.TheVariants.{Term};
+ghost use Rattle.os9_outer.specs.TerminalState.{terminal_states};
 ghost use Rattle.io_rules.specs.Again.{path_number as path_number_lem};
-ghost use Rattle.io_rules.specs.Io.{open_path, terminal_at, with_call, with_terminal};
-ghost use Rattle.io_rules.specs.Modes.{can_write as can_write_lem};
-ghost use Rattle.io_rules.specs.Step.{refuses, writes};
 ghost use Rattle.io_state.specs.Sound.{IsThere};
 ghost use Rattle.pipe_calls.specs.Leaving.{ReadsNoTerminal};
-ghost use Rattle.stream_calls.specs.Moving.{AreTerminals};
-ghost use Rattle.stream_calls.specs.Sending.{IsLineFirst, IsLineOf, IsPutAnswer, MaySend, MayWrite, PutEnds, Sends, put_count, put_of, regs_done, sender, write_call, write_code as write_code_lem, write_named, write_on, write_open};
+ghost use Rattle.stream_calls.specs.Moving.{AreTerminals, Finds, open_as};
+ghost use Rattle.stream_calls.specs.Sending.{IsLineFirst, IsLineOf, IsLineOn, IsPut, IsPutAnswer, MaySend, MayWrite, PutEnds, Sends, SendsFrom, put_on, sender, write_call, write_code as write_code_lem, write_found, write_named, write_on, write_open};
+ghost use Rattle.stream_calls.specs.Streams.{streams};
 
 use crate::ends::{call_now, finish, refuse};
 use crate::modes::can_write;
@@ -60,11 +56,10 @@ pub(crate) fn send(
     requires may { MaySend kind regs io.old p.0 (length bytes.now) }
     requires short { length bytes.now < 65536 }
     requires terminals { AreTerminals io.old.paths (vec_len devices.old.terms) }
-    ensures call { (cells : Cells) → IsLineFirst kind io.old p.0 bytes.now → Sends
-        (write_named kind (sender p regs cells) io.old bytes.now) (sender p regs cells) io.old
-        (regs_done kind regs (length bytes.now)) result io.new
-        (terminal_states ⟦<dyn CharDriver as CharDriver>⟧ devices.old.terms.items)
-        (terminal_states ⟦<dyn CharDriver as CharDriver>⟧ devices.new.terms.items) }
+    ensures call { IsLineFirst kind io.old p.0 bytes.now
+        → SendsFrom kind (write_named kind) p regs bytes.now result
+        (streams ⟦<dyn CharDriver as CharDriver>⟧ io.old devices.old.terms.items)
+        (streams ⟦<dyn CharDriver as CharDriver>⟧ io.new devices.new.terms.items) }
     ensures drives { devices.new.drives ≡ devices.old.drives }
     ensures count { vec_len devices.new.terms ≡ vec_len devices.old.terms }
 {
@@ -109,17 +104,12 @@ fn send_found(
     requires process { p.0 < 33 }
     requires may { MaySend kind regs io.old p.0 (length bytes.now) }
     requires short { length bytes.now < 65536 }
-    requires opened { open_path io.old p.0 (path_number_lem (write_call kind) regs)
-        ≡ Some (record { path = path; desc = desc }) }
-    requires there { IsThere io.old desc.target }
+    requires finds { Finds io.old p.0 (path_number_lem (write_call kind) regs) (open_as path desc) }
     requires terminals { AreTerminals io.old.paths (vec_len devices.old.terms) }
-    ensures call { (cells : Cells) → IsLineFirst kind io.old p.0 bytes.now → Sends
-        (refuses (not (can_write_lem desc.mode)) E_BMODE
-        (write_open kind (sender p regs cells) io.old bytes.now
-        (record { path = path; desc = desc }))) (sender p regs cells) io.old
-        (regs_done kind regs (length bytes.now)) result io.new
-        (terminal_states ⟦<dyn CharDriver as CharDriver>⟧ devices.old.terms.items)
-        (terminal_states ⟦<dyn CharDriver as CharDriver>⟧ devices.new.terms.items) }
+    ensures call { IsLineFirst kind io.old p.0 bytes.now
+        → SendsFrom kind (write_found kind (open_as path desc)) p regs bytes.now result
+        (streams ⟦<dyn CharDriver as CharDriver>⟧ io.old devices.old.terms.items)
+        (streams ⟦<dyn CharDriver as CharDriver>⟧ io.new devices.new.terms.items) }
     ensures drives { devices.new.drives ≡ devices.old.drives }
     ensures count { vec_len devices.new.terms ≡ vec_len devices.old.terms }
 {
@@ -143,16 +133,12 @@ fn send_open(
     requires process { p.0 < 33 }
     requires may { MaySend kind regs io.old p.0 (length bytes.now) }
     requires short { length bytes.now < 65536 }
-    requires opened { open_path io.old p.0 (path_number_lem (write_call kind) regs)
-        ≡ Some (record { path = path; desc = desc }) }
-    requires there { IsThere io.old desc.target }
+    requires finds { Finds io.old p.0 (path_number_lem (write_call kind) regs) (open_as path desc) }
     requires terminals { AreTerminals io.old.paths (vec_len devices.old.terms) }
-    ensures call { (cells : Cells) → IsLineFirst kind io.old p.0 bytes.now → Sends
-        (write_open kind (sender p regs cells) io.old bytes.now
-        (record { path = path; desc = desc })) (sender p regs cells) io.old
-        (regs_done kind regs (length bytes.now)) result io.new
-        (terminal_states ⟦<dyn CharDriver as CharDriver>⟧ devices.old.terms.items)
-        (terminal_states ⟦<dyn CharDriver as CharDriver>⟧ devices.new.terms.items) }
+    ensures call { IsLineFirst kind io.old p.0 bytes.now
+        → SendsFrom kind (write_open kind (open_as path desc)) p regs bytes.now result
+        (streams ⟦<dyn CharDriver as CharDriver>⟧ io.old devices.old.terms.items)
+        (streams ⟦<dyn CharDriver as CharDriver>⟧ io.new devices.new.terms.items) }
     ensures drives { devices.new.drives ≡ devices.old.drives }
     ensures count { vec_len devices.new.terms ≡ vec_len devices.old.terms }
 {
@@ -176,17 +162,15 @@ fn send_on(
     bytes: &[u8],
 ) -> CallEnd
     requires process { p.0 < 33 }
-    requires may { MayWrite io.old p.0 target call }
+    requires may { MayWrite io.old p.0 target call (length bytes.now) }
     requires no_read { ReadsNoTerminal io.old p.0 }
-    requires all { length bytes.now ≡ call.count }
     requires short { length bytes.now < 65536 }
     requires there { IsThere io.old target }
     requires terminals { AreTerminals io.old.paths (vec_len devices.old.terms) }
-    ensures call { (cells : Cells) → ((n : ℕ) → target ≡ Term n → IsLineOf kind bytes.now) → Sends
-        (write_on kind (sender p regs cells) io.old bytes.now call target) (sender p regs cells)
-        io.old (regs_done kind regs (length bytes.now)) result io.new
-        (terminal_states ⟦<dyn CharDriver as CharDriver>⟧ devices.old.terms.items)
-        (terminal_states ⟦<dyn CharDriver as CharDriver>⟧ devices.new.terms.items) }
+    ensures call { IsLineOn target kind bytes.now
+        → SendsFrom kind (write_on kind call target) p regs bytes.now result
+        (streams ⟦<dyn CharDriver as CharDriver>⟧ io.old devices.old.terms.items)
+        (streams ⟦<dyn CharDriver as CharDriver>⟧ io.new devices.new.terms.items) }
     ensures drives { devices.new.drives ≡ devices.old.drives }
     ensures count { vec_len devices.new.terms ≡ vec_len devices.old.terms }
 {
@@ -216,13 +200,8 @@ fn put(
     requires terminal { n < 4 }
     requires there { n < vec_len devices.old.terms }
     requires short { length bytes.now < 65536 }
-    ensures call { (regs told : Regs) (cells : Cells) → IsLineOf kind bytes.now → Sends
-        (writes (record {
-          terminal = n;
-          put = put_of kind bytes.now;
-          count = length bytes.now;
-          regs = told;
-        })) (sender p regs cells) io.old told result io.new
+    ensures call { (regs told : Regs) (cells : Cells) → IsLineOf kind bytes.now
+        → Sends (put_on kind n bytes.now told) (sender p regs cells) io.old told result io.new
         (terminal_states ⟦<dyn CharDriver as CharDriver>⟧ devices.old.terms.items)
         (terminal_states ⟦<dyn CharDriver as CharDriver>⟧ devices.new.terms.items) }
     ensures drives { devices.new.drives ≡ devices.old.drives }
@@ -246,12 +225,9 @@ fn put_as(
     requires terminal { n < 4 }
     requires there { n < vec_len devices.old.terms }
     requires short { length bytes.now < 65536 }
-    ensures device { ChangesOneTerminal
-        (Writes p (put_of kind bytes.now) (put_count kind bytes.now) result (terminal_at io.old n)
-        (terminal_at io.new n)) n
-        (terminal_states ⟦<dyn CharDriver as CharDriver>⟧ devices.old.terms.items)
-        (terminal_states ⟦<dyn CharDriver as CharDriver>⟧ devices.new.terms.items) }
-    ensures io { io.new ≡ with_call (with_terminal io.old n (terminal_at io.new n)) p.0 None }
+    ensures put { IsPut kind p n bytes.now result
+        (streams ⟦<dyn CharDriver as CharDriver>⟧ io.old devices.old.terms.items)
+        (streams ⟦<dyn CharDriver as CharDriver>⟧ io.new devices.new.terms.items) }
     ensures drives { devices.new.drives ≡ devices.old.drives }
     ensures count { vec_len devices.new.terms ≡ vec_len devices.old.terms }
 {

@@ -2,16 +2,17 @@
 
 ghost use Rattle.std.specs.Prelude.{◌≡◌, ◌<◌, ◌≤◌, take, vec_len};
 ghost use Rattle.os9_base.specs.Cells.{FitsIn};
-ghost use Rattle.os9_outer.specs.TerminalState.{terminal_states};
 ghost use Rattle.proc_rules.specs.Records.{IsLiving};
 ghost use Rattle.call_rules.specs.Inner.{Inner, regs_at};
 ghost use Rattle.guest_memory.specs.Tie.{cells_of};
 ghost use Rattle.io_rules.specs.Attempts.{caller_of};
-ghost use Rattle.io_rules.specs.Step.{TerminalRead, reads};
+ghost use Rattle.io_rules.specs.Step.{TerminalRead};
 ghost use Rattle.io_rules.specs.Terminals.{read_ends};
 ghost use Rattle.io_state.specs.Terminals.{MayRead, count_of};
 ghost use Rattle.proc_state.specs.Tie.{Represents};
-ghost use Rattle.stream_calls.specs.Trying.{EndsBy, Tries};
+ghost use Rattle.stream_calls.specs.Moving.{read_terminal as read_terminal_lem};
+ghost use Rattle.stream_calls.specs.Streams.{streams};
+ghost use Rattle.stream_calls.specs.Trying.{EndsBy, TriesFrom};
 
 use device_table::devices::Devices;
 use io_model::kept::Kept;
@@ -44,10 +45,9 @@ pub(crate) fn read_terminal(
     requires named { FitsIn (cells_of s.old.memory p.0) regs.x call.count }
     requires may { MayRead io.old p.0 n kind call }
     requires there { n < vec_len devices.old.terms }
-    ensures call { (m : Inner) → Represents s.old m → regs ≡ regs_at m p.0
-        → Tries (reads (record { terminal = n; kind = kind; call = call })) m io.old p.0 result
-        s.new io.new (terminal_states ⟦<dyn CharDriver as CharDriver>⟧ devices.old.terms.items)
-        (terminal_states ⟦<dyn CharDriver as CharDriver>⟧ devices.new.terms.items) }
+    ensures call { TriesFrom (read_terminal_lem kind n call) regs p.0 result s.old s.new
+        (streams ⟦<dyn CharDriver as CharDriver>⟧ io.old devices.old.terms.items)
+        (streams ⟦<dyn CharDriver as CharDriver>⟧ io.new devices.new.terms.items) }
     ensures lives { IsLiving s.new.table p.0 }
     ensures drives { devices.new.drives ≡ devices.old.drives }
     ensures count { vec_len devices.new.terms ≡ vec_len devices.old.terms }

@@ -1,19 +1,17 @@
 //! I$Write, I$WritLn and F$PErr (System Programmer's Manual, I$Write, I$WritLn and F$PErr).
 
-ghost use Rattle.std.specs.Prelude.{◌≡◌, ◌≢◌, ℕ, ◌<◌, IfSome, None, option_map, take, vec_len};
-ghost use Rattle.os9_outer.specs.TerminalState.{terminal_states};
-ghost use Rattle.proc_rules.specs.Records.{IsLiving, record_at};
+ghost use Rattle.std.specs.Prelude.{◌≡◌, ℕ, ◌<◌, IfSome, None, option_map, take, vec_len};
+ghost use Rattle.proc_rules.specs.Records.{IsLiving};
 ghost use Rattle.call_rules.specs.Inner.{Inner};
 ghost use Rattle.io_rules.specs.Attempts.{caller_of};
 ghost use Rattle.io_rules.specs.Io.{kept_at};
-ghost use Rattle.io_rules.specs.Write.{error_line as error_line_lem, f_perr as f_perr_lem, i_write as i_write_lem, i_writln as i_writln_lem, line_bytes};
+ghost use Rattle.io_rules.specs.Write.{error_line as error_line_lem, line_bytes};
 ghost use Rattle.io_rules.specs.declared.io_call.IoCall.TheVariants as Call;
-ghost use Rattle.io_state.specs.Again.{IsAgain};
-ghost use Rattle.io_state.specs.Attempt.{Attempts};
 ghost use Rattle.proc_state.specs.Tie.{IsSame, Represents};
-ghost use Rattle.stream_calls.specs.Moving.{AreTerminals};
+ghost use Rattle.stream_calls.specs.Moving.{MayAttempt};
 ghost use Rattle.stream_calls.specs.Reading.{IsRead};
-ghost use Rattle.stream_calls.specs.Trying.{WantsMemory};
+ghost use Rattle.stream_calls.specs.Streams.{streams};
+ghost use Rattle.stream_calls.specs.Trying.{AttemptsFrom, WantsMemoryFrom};
 
 use crate::ends::{refuse, tell};
 use crate::moving::read_moving;
@@ -38,16 +36,13 @@ use proc_state::state::ProcState;
 /// same wait. What is out stays out, and the registers stay.
 pub fn i_write(s: &mut ProcState, io: &mut IoState, devices: &mut Devices, p: Pid) -> CallEnd
     requires lives { IsLiving s.old.table p.0 }
-    requires again { IsAgain Call.Write (record_at s.old.table p.0).regs io.old p.0 }
-    requires terminals { AreTerminals io.old.paths (vec_len devices.old.terms) }
-    ensures call { (m : Inner) (drives : ℕ) → Represents s.old m → result ≢ CallEnd.NoMemory
-        → Attempts Call.Write m io.old drives p.0 result s.new io.new
-        (terminal_states ⟦<dyn CharDriver as CharDriver>⟧ devices.old.terms.items)
-        (terminal_states ⟦<dyn CharDriver as CharDriver>⟧ devices.new.terms.items) }
-    ensures memory { (m : Inner) → Represents s.old m → result ≡ CallEnd.NoMemory
-        → WantsMemory (i_write_lem (caller_of m p.0) io.old) (caller_of m p.0) io.old
-        (terminal_states ⟦<dyn CharDriver as CharDriver>⟧ devices.old.terms.items)
-        (terminal_states ⟦<dyn CharDriver as CharDriver>⟧ devices.new.terms.items) }
+    requires may { MayAttempt Call.Write s.old io.old p.0 (vec_len devices.old.terms) }
+    ensures call { (drives : ℕ) → AttemptsFrom Call.Write drives p.0 result s.old s.new
+        (streams ⟦<dyn CharDriver as CharDriver>⟧ io.old devices.old.terms.items)
+        (streams ⟦<dyn CharDriver as CharDriver>⟧ io.new devices.new.terms.items) }
+    ensures memory { (drives : ℕ) → WantsMemoryFrom Call.Write drives p.0 result s.old
+        (streams ⟦<dyn CharDriver as CharDriver>⟧ io.old devices.old.terms.items)
+        (streams ⟦<dyn CharDriver as CharDriver>⟧ io.new devices.new.terms.items) }
     ensures lives { IsLiving s.new.table p.0 }
     ensures drives { devices.new.drives ≡ devices.old.drives }
     ensures count { vec_len devices.new.terms ≡ vec_len devices.old.terms }
@@ -77,16 +72,13 @@ pub fn i_write(s: &mut ProcState, io: &mut IoState, devices: &mut Devices, p: Pi
 /// same wait. What is out stays out, and the registers stay.
 pub fn i_writln(s: &mut ProcState, io: &mut IoState, devices: &mut Devices, p: Pid) -> CallEnd
     requires lives { IsLiving s.old.table p.0 }
-    requires again { IsAgain Call.WritLn (record_at s.old.table p.0).regs io.old p.0 }
-    requires terminals { AreTerminals io.old.paths (vec_len devices.old.terms) }
-    ensures call { (m : Inner) (drives : ℕ) → Represents s.old m → result ≢ CallEnd.NoMemory
-        → Attempts Call.WritLn m io.old drives p.0 result s.new io.new
-        (terminal_states ⟦<dyn CharDriver as CharDriver>⟧ devices.old.terms.items)
-        (terminal_states ⟦<dyn CharDriver as CharDriver>⟧ devices.new.terms.items) }
-    ensures memory { (m : Inner) → Represents s.old m → result ≡ CallEnd.NoMemory
-        → WantsMemory (i_writln_lem (caller_of m p.0) io.old) (caller_of m p.0) io.old
-        (terminal_states ⟦<dyn CharDriver as CharDriver>⟧ devices.old.terms.items)
-        (terminal_states ⟦<dyn CharDriver as CharDriver>⟧ devices.new.terms.items) }
+    requires may { MayAttempt Call.WritLn s.old io.old p.0 (vec_len devices.old.terms) }
+    ensures call { (drives : ℕ) → AttemptsFrom Call.WritLn drives p.0 result s.old s.new
+        (streams ⟦<dyn CharDriver as CharDriver>⟧ io.old devices.old.terms.items)
+        (streams ⟦<dyn CharDriver as CharDriver>⟧ io.new devices.new.terms.items) }
+    ensures memory { (drives : ℕ) → WantsMemoryFrom Call.WritLn drives p.0 result s.old
+        (streams ⟦<dyn CharDriver as CharDriver>⟧ io.old devices.old.terms.items)
+        (streams ⟦<dyn CharDriver as CharDriver>⟧ io.new devices.new.terms.items) }
     ensures lives { IsLiving s.new.table p.0 }
     ensures drives { devices.new.drives ≡ devices.old.drives }
     ensures count { vec_len devices.new.terms ≡ vec_len devices.old.terms }
@@ -113,16 +105,13 @@ pub fn i_writln(s: &mut ProcState, io: &mut IoState, devices: &mut Devices, p: P
 /// outside the same wait. What is out stays out.
 pub fn f_perr(s: &mut ProcState, io: &mut IoState, devices: &mut Devices, p: Pid) -> CallEnd
     requires lives { IsLiving s.old.table p.0 }
-    requires again { IsAgain Call.PErr (record_at s.old.table p.0).regs io.old p.0 }
-    requires terminals { AreTerminals io.old.paths (vec_len devices.old.terms) }
-    ensures call { (m : Inner) (drives : ℕ) → Represents s.old m → result ≢ CallEnd.NoMemory
-        → Attempts Call.PErr m io.old drives p.0 result s.new io.new
-        (terminal_states ⟦<dyn CharDriver as CharDriver>⟧ devices.old.terms.items)
-        (terminal_states ⟦<dyn CharDriver as CharDriver>⟧ devices.new.terms.items) }
-    ensures memory { (m : Inner) → Represents s.old m → result ≡ CallEnd.NoMemory
-        → WantsMemory (f_perr_lem (caller_of m p.0) io.old) (caller_of m p.0) io.old
-        (terminal_states ⟦<dyn CharDriver as CharDriver>⟧ devices.old.terms.items)
-        (terminal_states ⟦<dyn CharDriver as CharDriver>⟧ devices.new.terms.items) }
+    requires may { MayAttempt Call.PErr s.old io.old p.0 (vec_len devices.old.terms) }
+    ensures call { (drives : ℕ) → AttemptsFrom Call.PErr drives p.0 result s.old s.new
+        (streams ⟦<dyn CharDriver as CharDriver>⟧ io.old devices.old.terms.items)
+        (streams ⟦<dyn CharDriver as CharDriver>⟧ io.new devices.new.terms.items) }
+    ensures memory { (drives : ℕ) → WantsMemoryFrom Call.PErr drives p.0 result s.old
+        (streams ⟦<dyn CharDriver as CharDriver>⟧ io.old devices.old.terms.items)
+        (streams ⟦<dyn CharDriver as CharDriver>⟧ io.new devices.new.terms.items) }
     ensures lives { IsLiving s.new.table p.0 }
     ensures drives { devices.new.drives ≡ devices.old.drives }
     ensures count { vec_len devices.new.terms ≡ vec_len devices.old.terms }

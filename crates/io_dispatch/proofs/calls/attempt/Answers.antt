@@ -24,38 +24,38 @@ returns-in-Close-clause-memory g c m tied is =
 pub returns-in-Read-clause-call : goal.returns-in-Read-clause-call
 returns-in-Read-clause-call g c m tied differ =
     attempts-as c.args.call Call.Read m c.args.io.now (vec_len c.args.devices.now.drives) c.args.p.0 _ _ c.in-Read.is c.i_read.result c.i_read.new.s c.i_read.new.io
-    (c.i_read.ensures.call m (vec_len c.args.devices.now.drives) tied differ)
+    (c.i_read.ensures.call (vec_len c.args.devices.now.drives) m tied differ)
 
 pub returns-in-Read-clause-memory : goal.returns-in-Read-clause-memory
 returns-in-Read-clause-memory g c m tied is =
-    wants-as c.args.call Call.Read m c.args.io.now (vec_len c.args.devices.now.drives) c.args.p.0 _ _ c.in-Read.is (c.i_read.ensures.memory m tied is)
+    wants-as c.args.call Call.Read m c.args.io.now (vec_len c.args.devices.now.drives) c.args.p.0 _ _ c.in-Read.is (c.i_read.ensures.memory (vec_len c.args.devices.now.drives) m tied is)
 
 pub returns-in-ReadLn-clause-call : goal.returns-in-ReadLn-clause-call
 returns-in-ReadLn-clause-call g c m tied differ =
     attempts-as c.args.call Call.ReadLn m c.args.io.now (vec_len c.args.devices.now.drives) c.args.p.0 _ _ c.in-ReadLn.is c.i_readln.result c.i_readln.new.s c.i_readln.new.io
-    (c.i_readln.ensures.call m (vec_len c.args.devices.now.drives) tied differ)
+    (c.i_readln.ensures.call (vec_len c.args.devices.now.drives) m tied differ)
 
 pub returns-in-ReadLn-clause-memory : goal.returns-in-ReadLn-clause-memory
 returns-in-ReadLn-clause-memory g c m tied is =
-    wants-as c.args.call Call.ReadLn m c.args.io.now (vec_len c.args.devices.now.drives) c.args.p.0 _ _ c.in-ReadLn.is (c.i_readln.ensures.memory m tied is)
+    wants-as c.args.call Call.ReadLn m c.args.io.now (vec_len c.args.devices.now.drives) c.args.p.0 _ _ c.in-ReadLn.is (c.i_readln.ensures.memory (vec_len c.args.devices.now.drives) m tied is)
 
 pub returns-in-Write-clause-call : goal.returns-in-Write-clause-call
 returns-in-Write-clause-call g c m tied differ =
     attempts-as c.args.call Call.Write m c.args.io.now (vec_len c.args.devices.now.drives) c.args.p.0 _ _ c.in-Write.is c.i_write.result c.i_write.new.s c.i_write.new.io
-    (c.i_write.ensures.call m (vec_len c.args.devices.now.drives) tied differ)
+    (c.i_write.ensures.call (vec_len c.args.devices.now.drives) m tied differ)
 
 pub returns-in-Write-clause-memory : goal.returns-in-Write-clause-memory
 returns-in-Write-clause-memory g c m tied is =
-    wants-as c.args.call Call.Write m c.args.io.now (vec_len c.args.devices.now.drives) c.args.p.0 _ _ c.in-Write.is (c.i_write.ensures.memory m tied is)
+    wants-as c.args.call Call.Write m c.args.io.now (vec_len c.args.devices.now.drives) c.args.p.0 _ _ c.in-Write.is (c.i_write.ensures.memory (vec_len c.args.devices.now.drives) m tied is)
 
 pub returns-in-WritLn-clause-call : goal.returns-in-WritLn-clause-call
 returns-in-WritLn-clause-call g c m tied differ =
     attempts-as c.args.call Call.WritLn m c.args.io.now (vec_len c.args.devices.now.drives) c.args.p.0 _ _ c.in-WritLn.is c.i_writln.result c.i_writln.new.s c.i_writln.new.io
-    (c.i_writln.ensures.call m (vec_len c.args.devices.now.drives) tied differ)
+    (c.i_writln.ensures.call (vec_len c.args.devices.now.drives) m tied differ)
 
 pub returns-in-WritLn-clause-memory : goal.returns-in-WritLn-clause-memory
 returns-in-WritLn-clause-memory g c m tied is =
-    wants-as c.args.call Call.WritLn m c.args.io.now (vec_len c.args.devices.now.drives) c.args.p.0 _ _ c.in-WritLn.is (c.i_writln.ensures.memory m tied is)
+    wants-as c.args.call Call.WritLn m c.args.io.now (vec_len c.args.devices.now.drives) c.args.p.0 _ _ c.in-WritLn.is (c.i_writln.ensures.memory (vec_len c.args.devices.now.drives) m tied is)
 
 pub returns-in-GetStt-clause-memory : goal.returns-in-GetStt-clause-memory
 returns-in-GetStt-clause-memory g c m tied is =
@@ -68,8 +68,8 @@ returns-in-SetStt-clause-memory g c m tied is =
 pub returns-in-PErr-clause-call : goal.returns-in-PErr-clause-call
 returns-in-PErr-clause-call g c m tied differ =
     attempts-as c.args.call Call.PErr m c.args.io.now (vec_len c.args.devices.now.drives) c.args.p.0 _ _ c.in-PErr.is c.f_perr.result c.f_perr.new.s c.f_perr.new.io
-    (c.f_perr.ensures.call m (vec_len c.args.devices.now.drives) tied differ)
+    (c.f_perr.ensures.call (vec_len c.args.devices.now.drives) m tied differ)
 
 pub returns-in-PErr-clause-memory : goal.returns-in-PErr-clause-memory
 returns-in-PErr-clause-memory g c m tied is =
-    wants-as c.args.call Call.PErr m c.args.io.now (vec_len c.args.devices.now.drives) c.args.p.0 _ _ c.in-PErr.is (c.f_perr.ensures.memory m tied is)
+    wants-as c.args.call Call.PErr m c.args.io.now (vec_len c.args.devices.now.drives) c.args.p.0 _ _ c.in-PErr.is (c.f_perr.ensures.memory (vec_len c.args.devices.now.drives) m tied is)

@@ -13,13 +13,13 @@ use Rattle.stream_calls.specs.Moving.{StaysIfKept, read_step}
 use Rattle.stream_calls.proofs.reads.i_readln.Goals as goal
 
 pub read-requires-clause-again : goal.read-requires-clause-again
-read-requires-clause-again g c = subst (λ (r : Regs). IsAgain Call.ReadLn r c.args.io.now c.args.p.0) (sym c.regs-regs.ensures.regs) c.requires.again
+read-requires-clause-again g c = subst (λ (r : Regs). IsAgain Call.ReadLn r c.args.io.now c.args.p.0) (sym c.regs-regs.ensures.regs) c.requires.may.again
 
 pub read-requires-clause-stays : goal.read-requires-clause-stays
-read-requires-clause-stays g c = subst (λ (r : Regs). StaysIfKept (cells_of c.args.s.now.memory c.args.p.0) r c.args.io.now c.args.p.0) (sym c.regs-regs.ensures.regs) c.requires.stays
+read-requires-clause-stays g c = subst (λ (r : Regs). StaysIfKept (cells_of c.args.s.now.memory c.args.p.0) r c.args.io.now c.args.p.0) (sym c.regs-regs.ensures.regs) c.requires.may.stays
 
 pub returns-clause-call : goal.returns-clause-call
-returns-clause-call g c m drives tied differ =
+returns-clause-call g c drives m tied differ =
     let p = c.args.p.0 in
     let caller = caller_of m p in
     attempts-of Call.ReadLn m c.args.io.now drives p c.read.new.s c.read.new.io _ _ c.read.result differ
@@ -27,7 +27,7 @@ returns-clause-call g c m drives tied differ =
     (c.read.ensures.call m tied (c.regs-regs.ensures.regs ∙ regs-tied c.args.s.now m p tied)))
 
 pub returns-clause-memory : goal.returns-clause-memory
-returns-clause-memory g c m tied wants =
+returns-clause-memory g c drives m tied wants =
     let p = c.args.p.0 in
     let caller = caller_of m p in
     wants-of m c.args.io.now p c.read.result c.read.new.s c.read.new.io _ _ (i_readln_lem caller c.args.io.now) wants

@@ -13,7 +13,7 @@ use Rattle.stream_calls.proofs.sending.send_on.Goals as goal
 
 pub returns-in-File-clause-call : goal.returns-in-File-clause-call
 unfolding write_on
-returns-in-File-clause-call g c cells line =
+returns-in-File-clause-call g c line cells =
     let bytes = c.args.bytes.now in
     let io = c.args.io.now in
     let caller : Caller = sender c.args.p c.args.regs cells in
@@ -24,7 +24,7 @@ returns-in-File-clause-call g c cells line =
 
 pub returns-in-Folder-clause-call : goal.returns-in-Folder-clause-call
 unfolding write_on
-returns-in-Folder-clause-call g c cells line =
+returns-in-Folder-clause-call g c line cells =
     let bytes = c.args.bytes.now in
     let io = c.args.io.now in
     let caller : Caller = sender c.args.p c.args.regs cells in
@@ -35,7 +35,7 @@ returns-in-Folder-clause-call g c cells line =
 
 pub returns-in-Term-clause-call : goal.returns-in-Term-clause-call
 unfolding write_on
-returns-in-Term-clause-call g c cells line =
+returns-in-Term-clause-call g c line cells =
     let bytes = c.args.bytes.now in
     let io = c.args.io.now in
     let caller : Caller = sender c.args.p c.args.regs cells in
@@ -46,7 +46,7 @@ returns-in-Term-clause-call g c cells line =
 
 pub returns-in-Pipe-clause-call : goal.returns-in-Pipe-clause-call
 unfolding write_on
-returns-in-Pipe-clause-call g c cells line =
+returns-in-Pipe-clause-call g c line cells =
     let bytes = c.args.bytes.now in
     let io = c.args.io.now in
     let caller : Caller = sender c.args.p c.args.regs cells in

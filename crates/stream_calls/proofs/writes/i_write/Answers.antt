@@ -20,7 +20,7 @@ use Rattle.stream_calls.specs.declared.sending.WriteKind.TheVariants.{Bytes}
 use Rattle.stream_calls.proofs.writes.i_write.Goals as goal
 
 pub returns-in-None-clause-call : goal.returns-in-None-clause-call
-returns-in-None-clause-call g c m drives tied differ =
+returns-in-None-clause-call g c drives m tied differ =
     let p = c.args.p.0 in
     let io = c.args.io.now in
     let caller = caller_of m p in
@@ -33,7 +33,7 @@ returns-in-None-clause-call g c m drives tied differ =
     (tries-refused m io p s c.refuse.new.io _ E_BPADDR c.refuse.result c.refuse.ensures.end (c.in-None.ensures.same.represents m tied) c.refuse.ensures.io))
 
 pub returns-in-Some-clause-call : goal.returns-in-Some-clause-call
-returns-in-Some-clause-call g c m drives tied differ =
+returns-in-Some-clause-call g c drives m tied differ =
     let p = c.args.p.0 in
     let io = c.args.io.now in
     let regs : Regs = c.regs-regs.result in
@@ -43,10 +43,10 @@ returns-in-Some-clause-call g c m drives tied differ =
     let read : IsRead io p regs.a (user_bytes cells regs.x regs.y) (Some c.in-Some.y) all = subst (λ (it : List ℕ). IsRead io p regs.a (user_bytes cells regs.x regs.y) (Some c.in-Some.y) it) (sym c.deref.ensures.value) (c.in-Some.ensures.read m tied) in
     let it = read-some io p regs.a (user_bytes cells regs.x regs.y) c.in-Some.y all read in
     attempts-of Call.Write m io drives p c.tell.new.s c.send-end.new.io _ _ c.send-end.result differ
-    (bytes-tries m io c.args.p c.tell.new.s c.send-end.new.io _ _ it.0 regs c.send-end.result regs_are (user-length cells regs.x regs.y it.0 it.1) it.1 (sends-read Bytes c.args.p regs cells io c.send-end.new.io c.send-end.result _ _ it.0 (take c.in-Some.y all) it.2 (c.send-end.ensures.call cells (λ none. refl))) (λ end between. c.tell.ensures.told m end between (c.in-Some.ensures.same.represents m tied)))
+    (bytes-tries m io c.args.p c.tell.new.s c.send-end.new.io _ _ it.0 regs c.send-end.result regs_are (user-length cells regs.x regs.y it.0 it.1) it.1 (sends-read Bytes c.args.p regs cells io c.send-end.new.io c.send-end.result _ _ it.0 (take c.in-Some.y all) it.2 (c.send-end.ensures.call (λ none. refl) cells)) (λ end between. c.tell.ensures.told m end between (c.in-Some.ensures.same.represents m tied)))
 
 pub returns-in-Some-clause-memory : goal.returns-in-Some-clause-memory
-returns-in-Some-clause-memory g c m tied wants =
+returns-in-Some-clause-memory g c drives m tied wants =
     let p = c.args.p.0 in
     let io = c.args.io.now in
     let regs : Regs = c.regs-regs.result in
@@ -56,4 +56,4 @@ returns-in-Some-clause-memory g c m tied wants =
     let read : IsRead io p regs.a (user_bytes cells regs.x regs.y) (Some c.in-Some.y) all = subst (λ (it : List ℕ). IsRead io p regs.a (user_bytes cells regs.x regs.y) (Some c.in-Some.y) it) (sym c.deref.ensures.value) (c.in-Some.ensures.read m tied) in
     let it = read-some io p regs.a (user_bytes cells regs.x regs.y) c.in-Some.y all read in
     wants-of m io p c.send-end.result c.tell.new.s c.send-end.new.io _ _ (i_write_lem (caller_of m p) io) wants
-    (bytes-tries m io c.args.p c.tell.new.s c.send-end.new.io _ _ it.0 regs c.send-end.result regs_are (user-length cells regs.x regs.y it.0 it.1) it.1 (sends-read Bytes c.args.p regs cells io c.send-end.new.io c.send-end.result _ _ it.0 (take c.in-Some.y all) it.2 (c.send-end.ensures.call cells (λ none. refl))) (λ end between. c.tell.ensures.told m end between (c.in-Some.ensures.same.represents m tied)))
+    (bytes-tries m io c.args.p c.tell.new.s c.send-end.new.io _ _ it.0 regs c.send-end.result regs_are (user-length cells regs.x regs.y it.0 it.1) it.1 (sends-read Bytes c.args.p regs cells io c.send-end.new.io c.send-end.result _ _ it.0 (take c.in-Some.y all) it.2 (c.send-end.ensures.call (λ none. refl) cells)) (λ end between. c.tell.ensures.told m end between (c.in-Some.ensures.same.represents m tied)))

@@ -27,12 +27,12 @@ send-end-requires-clause-may g c =
     let all : List ℕ = c.deref.result.now in
     let room : length all ≡ length c.read_line_now.new.s.buffer.items = ap (λ (it : List ℕ). length it) c.deref.ensures.value in
     record {
-      again = subst (λ (r : Regs). IsAgain Call.WritLn r c.args.io.now c.args.p.0) (sym c.regs-regs.ensures.regs) c.requires.again;
+      again = subst (λ (r : Regs). IsAgain Call.WritLn r c.args.io.now c.args.p.0) (sym c.regs-regs.ensures.regs) c.requires.may.again;
       same = kept-same (kept_at c.args.io.now c.args.p.0) c.in-Some.y (length (take c.in-Some.y all)) (sym (length-take-le c.in-Some.y all (omega (arith, room)))) c.in-Some.ensures.kept;
     }
 
 pub returns-in-None-clause-call : goal.returns-in-None-clause-call
-returns-in-None-clause-call g c m drives tied differ =
+returns-in-None-clause-call g c drives m tied differ =
     let p = c.args.p.0 in
     let io = c.args.io.now in
     let caller = caller_of m p in
@@ -43,7 +43,7 @@ returns-in-None-clause-call g c m drives tied differ =
     (tries-refused m io p s c.refuse.new.io _ E_BPADDR c.refuse.result c.refuse.ensures.end (c.in-None.ensures.same.represents m tied) c.refuse.ensures.io))
 
 pub returns-in-Some-clause-call : goal.returns-in-Some-clause-call
-returns-in-Some-clause-call g c m drives tied differ =
+returns-in-Some-clause-call g c drives m tied differ =
     let p = c.args.p.0 in
     let io = c.args.io.now in
     let regs : Regs = c.regs-regs.result in
@@ -55,15 +55,15 @@ returns-in-Some-clause-call g c m drives tied differ =
     let regs_are : regs ≡ regs_at m p = c.regs-regs.ensures.regs ∙ regs-tied c.args.s.now m p tied in
     let read : IsRead io p regs.a (line_bytes caller (kept_at io p)) (Some y) all = subst (λ (it : List ℕ). IsRead io p regs.a (line_bytes caller (kept_at io p)) (Some y) it) (sym c.deref.ensures.value) (c.in-Some.ensures.line m tied regs_are) in
     let it = read-some io p regs.a (line_bytes caller (kept_at io p)) y all read in
-    let again : IsAgain Call.WritLn (regs_at m p) io p = subst (λ (r : Regs). IsAgain Call.WritLn r io p) (regs-tied c.args.s.now m p tied) c.requires.again in
+    let again : IsAgain Call.WritLn (regs_at m p) io p = subst (λ (r : Regs). IsAgain Call.WritLn r io p) (regs-tied c.args.s.now m p tied) c.requires.may.again in
     let known : IsSentLine regs (kept_at io p) it.0 = subst (λ (r : Regs). IsSentLine r (kept_at io p) it.0) (sym regs_are) (sent-line caller io p (kept_at io p) it.0 again it.1) in
     let whole : kept_at io p ≡ None → line_length line ≡ length line = λ none. (sent-line caller io p (kept_at io p) line again (ap (λ (kept : Option Kept). line_bytes caller kept) none ∙ c.in-Some.ensures.first m tied regs_are none ∙ ap (λ (it : List ℕ). Some (take y it)) (sym c.deref.ensures.value))).whole none in
     let long : length it.0 ≡ y = sym it.2.count ∙ length-take-le y all (omega (arith, room)) in
     attempts-of Call.WritLn m io drives p c.tell.new.s c.send-end.new.io _ _ c.send-end.result differ
-    (line-tries m io c.args.p c.tell.new.s c.send-end.new.io _ _ it.0 regs c.send-end.result regs_are y long it.1 known (sends-read Line c.args.p regs (cells_at m p) io c.send-end.new.io c.send-end.result _ _ it.0 line it.2 (c.send-end.ensures.call (cells_at m p) whole)) (λ end between. c.tell.ensures.told m end between (c.in-Some.ensures.same.represents m tied)))
+    (line-tries m io c.args.p c.tell.new.s c.send-end.new.io _ _ it.0 regs c.send-end.result regs_are y long it.1 known (sends-read Line c.args.p regs (cells_at m p) io c.send-end.new.io c.send-end.result _ _ it.0 line it.2 (c.send-end.ensures.call whole (cells_at m p))) (λ end between. c.tell.ensures.told m end between (c.in-Some.ensures.same.represents m tied)))
 
 pub returns-in-Some-clause-memory : goal.returns-in-Some-clause-memory
-returns-in-Some-clause-memory g c m tied wants =
+returns-in-Some-clause-memory g c drives m tied wants =
     let p = c.args.p.0 in
     let io = c.args.io.now in
     let regs : Regs = c.regs-regs.result in
@@ -75,9 +75,9 @@ returns-in-Some-clause-memory g c m tied wants =
     let regs_are : regs ≡ regs_at m p = c.regs-regs.ensures.regs ∙ regs-tied c.args.s.now m p tied in
     let read : IsRead io p regs.a (line_bytes caller (kept_at io p)) (Some y) all = subst (λ (it : List ℕ). IsRead io p regs.a (line_bytes caller (kept_at io p)) (Some y) it) (sym c.deref.ensures.value) (c.in-Some.ensures.line m tied regs_are) in
     let it = read-some io p regs.a (line_bytes caller (kept_at io p)) y all read in
-    let again : IsAgain Call.WritLn (regs_at m p) io p = subst (λ (r : Regs). IsAgain Call.WritLn r io p) (regs-tied c.args.s.now m p tied) c.requires.again in
+    let again : IsAgain Call.WritLn (regs_at m p) io p = subst (λ (r : Regs). IsAgain Call.WritLn r io p) (regs-tied c.args.s.now m p tied) c.requires.may.again in
     let known : IsSentLine regs (kept_at io p) it.0 = subst (λ (r : Regs). IsSentLine r (kept_at io p) it.0) (sym regs_are) (sent-line caller io p (kept_at io p) it.0 again it.1) in
     let whole : kept_at io p ≡ None → line_length line ≡ length line = λ none. (sent-line caller io p (kept_at io p) line again (ap (λ (kept : Option Kept). line_bytes caller kept) none ∙ c.in-Some.ensures.first m tied regs_are none ∙ ap (λ (it : List ℕ). Some (take y it)) (sym c.deref.ensures.value))).whole none in
     let long : length it.0 ≡ y = sym it.2.count ∙ length-take-le y all (omega (arith, room)) in
     wants-of m io p c.send-end.result c.tell.new.s c.send-end.new.io _ _ (i_writln_lem (caller_of m p) io) wants
-    (line-tries m io c.args.p c.tell.new.s c.send-end.new.io _ _ it.0 regs c.send-end.result regs_are y long it.1 known (sends-read Line c.args.p regs (cells_at m p) io c.send-end.new.io c.send-end.result _ _ it.0 line it.2 (c.send-end.ensures.call (cells_at m p) whole)) (λ end between. c.tell.ensures.told m end between (c.in-Some.ensures.same.represents m tied)))
+    (line-tries m io c.args.p c.tell.new.s c.send-end.new.io _ _ it.0 regs c.send-end.result regs_are y long it.1 known (sends-read Line c.args.p regs (cells_at m p) io c.send-end.new.io c.send-end.result _ _ it.0 line it.2 (c.send-end.ensures.call whole (cells_at m p))) (λ end between. c.tell.ensures.told m end between (c.in-Some.ensures.same.represents m tied)))
