@@ -1,30 +1,19 @@
 //! I$Create (System Programmer's Manual, I$Create).
 
-ghost use Rattle.std.specs.Prelude.{◌≡◌, ◌<◌, ℕ, ◌+◌, false, List, None, length, vec_len};
-ghost use Rattle.call_rules.specs.Inner.{Inner, cells_at};
-ghost use Rattle.file_drives.specs.Drives.{DriveView, drive_views};
-ghost use Rattle.file_drives.specs.Entries.{IsPlaceAt};
+ghost use Rattle.std.specs.Prelude.{◌≡◌, ◌<◌, List, None, length, vec_len};
+ghost use Rattle.file_drives.specs.Drives.{drive_views};
 ghost use Rattle.file_drives.specs.Mounted.{HasFileAt};
-ghost use Rattle.file_opens.specs.Calls.{calls_at_place, creating_calls, i_create_calls, new_file_calls};
-ghost use Rattle.file_opens.specs.Ends.{HasReadIn};
-ghost use Rattle.file_opens.specs.Steps.{IsFoundAt, creates_along, creates_there, makes_there};
-ghost use Rattle.file_rules.specs.Attempts.{asker_of};
-ghost use Rattle.file_rules.specs.Files.{Files};
-ghost use Rattle.file_rules.specs.Way.{Found, along};
+ghost use Rattle.file_opens.specs.Attempts.{CreatesAlong, CreatesThere, IsPlaceForLast, MakesThere};
+ghost use Rattle.file_opens.specs.Calls.{i_create_calls};
 ghost use Rattle.file_rules.specs.declared.path_call.PathCall.TheVariants as Call;
 ghost use Rattle.file_state.specs.Attempt.{standing};
 ghost use Rattle.file_state.specs.Counted.{AttemptsWithin};
-ghost use Rattle.file_state.specs.Ends.{Ends};
-ghost use Rattle.file_state.specs.Tie.{IsSound, StandsFor};
+ghost use Rattle.file_state.specs.Tie.{IsSound};
 ghost use Rattle.file_ways.specs.Walks.{SomeFrom, SomeStand};
 ghost use Rattle.guest_memory.specs.Tie.{cells_of};
 ghost use Rattle.io_rules.specs.Io.{kept_at};
-ghost use Rattle.io_rules.specs.PathList.{PathList, ends_in_dots};
 ghost use Rattle.os9_outer.specs.TerminalState.{TerminalState};
-ghost use Rattle.path_lists.specs.Standing.{NamesFrom, NamesStand};
 ghost use Rattle.proc_rules.specs.Records.{IsLiving, record_at};
-ghost use Rattle.proc_state.specs.Tie.{Represents};
-ghost use Rattle.rbf_change.specs.Names.{is_dots};
 
 use crate::begin::begin_on;
 use crate::finding::{find_way, walk_to_last_from, walker_of};
@@ -109,16 +98,9 @@ fn create_along(
     requires names { SomeFrom (cells_of s.old.memory p.0) first }
     requires file { HasFileAt files.old.disks
         (drive_views ⟦<dyn BlockDriver as BlockDriver>⟧ devices.old.drives.items) from }
-    ensures creates { (m : Inner) (was : Files) (list : PathList) (terms : List TerminalState)
-        → Represents s.old m → StandsFor files.old
-        (drive_views ⟦<dyn BlockDriver as BlockDriver>⟧ devices.old.drives.items) was
-        → NamesFrom (cells_at m p.0) first list.names → list.next ≡ next
-        → ends_in_dots list ≡ false
-        → Ends (creates_along (asker_of m p.0 now) was list from)
-        (creating_calls (asker_of m p.0 now) was (along from list.names))
-        m was now p.0 result s.new files.new
-        (drive_views ⟦<dyn BlockDriver as BlockDriver>⟧ devices.old.drives.items)
-        (drive_views ⟦<dyn BlockDriver as BlockDriver>⟧ devices.new.drives.items) terms }
+    ensures creates { CreatesAlong from first next now p.0 result
+        (standing ⟦<dyn BlockDriver as BlockDriver>⟧ s.old files.old devices.old.drives.items)
+        (standing ⟦<dyn BlockDriver as BlockDriver>⟧ s.new files.new devices.new.drives.items) }
     ensures lives { IsLiving s.new.table p.0 }
     ensures terms_kept { devices.new.terms ≡ devices.old.terms }
 {
@@ -144,16 +126,9 @@ fn create_from(
     requires names { SomeStand (cells_of s.old.memory p.0) first }
     requires file { HasFileAt files.old.disks
         (drive_views ⟦<dyn BlockDriver as BlockDriver>⟧ devices.old.drives.items) from }
-    ensures creates { (m : Inner) (was : Files) (list : PathList) (terms : List TerminalState)
-        → Represents s.old m → StandsFor files.old
-        (drive_views ⟦<dyn BlockDriver as BlockDriver>⟧ devices.old.drives.items) was
-        → NamesStand (cells_at m p.0) first list.names → list.next ≡ next
-        → ends_in_dots list ≡ false
-        → Ends (creates_along (asker_of m p.0 now) was list from)
-        (creating_calls (asker_of m p.0 now) was (along from list.names))
-        m was now p.0 result s.new files.new
-        (drive_views ⟦<dyn BlockDriver as BlockDriver>⟧ devices.old.drives.items)
-        (drive_views ⟦<dyn BlockDriver as BlockDriver>⟧ devices.new.drives.items) terms }
+    ensures creates { CreatesAlong from (Some first) next now p.0 result
+        (standing ⟦<dyn BlockDriver as BlockDriver>⟧ s.old files.old devices.old.drives.items)
+        (standing ⟦<dyn BlockDriver as BlockDriver>⟧ s.new files.new devices.new.drives.items) }
     ensures lives { IsLiving s.new.table p.0 }
     ensures terms_kept { devices.new.terms ≡ devices.old.terms }
 {
@@ -178,15 +153,9 @@ fn create_in(
     requires quiet { kept_at files.old.io p.0 ≡ None }
     requires file { HasFileAt files.old.disks
         (drive_views ⟦<dyn BlockDriver as BlockDriver>⟧ devices.old.drives.items) last.directory }
-    ensures creates { (m : Inner) (was : Files) (list : PathList) (dir : Found)
-        (most : ℕ) (before : List DriveView) (terms : List TerminalState) → Represents s.old m
-        → HasReadIn most None last.directory.drive was files.old before
-        (drive_views ⟦<dyn BlockDriver as BlockDriver>⟧ devices.old.drives.items)
-        → IsFoundAt was last.directory dir → list.next ≡ next → is_dots last.name ≡ false
-        → Ends (creates_there (asker_of m p.0 now) was list last.name dir)
-        (most + new_file_calls (asker_of m p.0 now) last.name dir.volume dir.file)
-        m was now p.0 result s.new files.new before
-        (drive_views ⟦<dyn BlockDriver as BlockDriver>⟧ devices.new.drives.items) terms }
+    ensures creates { CreatesThere last next now p.0 result
+        (standing ⟦<dyn BlockDriver as BlockDriver>⟧ s.old files.old devices.old.drives.items)
+        (standing ⟦<dyn BlockDriver as BlockDriver>⟧ s.new files.new devices.new.drives.items) }
     ensures lives { IsLiving s.new.table p.0 }
     ensures terms_kept { devices.new.terms ≡ devices.old.terms }
 {
@@ -218,22 +187,12 @@ fn create_at(
 ) -> CallEnd
     requires lives { IsLiving s.old.table p.0 }
     requires quiet { kept_at files.old.io p.0 ≡ None }
-    requires file { HasFileAt files.old.disks
-        (drive_views ⟦<dyn BlockDriver as BlockDriver>⟧ devices.old.drives.items) last.directory }
-    requires place { IsPlaceAt
-        (drive_views ⟦<dyn BlockDriver as BlockDriver>⟧ devices.old.drives.items)
-        last.directory last.name found.now }
-    requires user { found.now.user ≡ (record_at s.old.table p.0).user }
+    requires place { IsPlaceForLast last found.now p.0
+        (standing ⟦<dyn BlockDriver as BlockDriver>⟧ s.old files.old devices.old.drives.items) }
     requires attributes { (record_at s.old.table p.0).regs.b < 128 }
-    ensures makes { (m : Inner) (was : Files) (list : PathList) (dir : Found)
-        (most : ℕ) (before : List DriveView) (terms : List TerminalState) → Represents s.old m
-        → HasReadIn most None last.directory.drive was files.old before
-        (drive_views ⟦<dyn BlockDriver as BlockDriver>⟧ devices.old.drives.items)
-        → IsFoundAt was last.directory dir → list.next ≡ next
-        → Ends (makes_there (asker_of m p.0 now) was list last.name dir)
-        (most + calls_at_place dir.volume dir.file)
-        m was now p.0 result s.new files.new before
-        (drive_views ⟦<dyn BlockDriver as BlockDriver>⟧ devices.new.drives.items) terms }
+    ensures makes { MakesThere last next now p.0 result
+        (standing ⟦<dyn BlockDriver as BlockDriver>⟧ s.old files.old devices.old.drives.items)
+        (standing ⟦<dyn BlockDriver as BlockDriver>⟧ s.new files.new devices.new.drives.items) }
     ensures lives { IsLiving s.new.table p.0 }
     ensures terms_kept { devices.new.terms ≡ devices.old.terms }
 {

@@ -1,6 +1,6 @@
 //! Where the path lists of calls lead.
 
-ghost use Rattle.std.specs.Prelude.{◌≡◌, ◌<◌, ℕ, IfOk, List, vec_len};
+ghost use Rattle.std.specs.Prelude.{◌≡◌, ◌<◌, ℕ, List, vec_len};
 ghost use Rattle.call_rules.specs.Inner.{Inner, cells_at};
 ghost use Rattle.file_drives.specs.Drives.{drive_views};
 ghost use Rattle.file_drives.specs.Mounted.{HasFileAt};
@@ -9,7 +9,7 @@ ghost use Rattle.file_rules.specs.Attempts.{asker_of};
 ghost use Rattle.file_rules.specs.Files.{Files};
 ghost use Rattle.file_state.specs.Tie.{IsSound, StandsFor};
 ghost use Rattle.file_ways.specs.Walks.{SomeFrom, SomeStand, Walks, WalksToLast};
-ghost use Rattle.file_ways.specs.Ways.{HasNames, RouteIs, StartsOn, leads, way_for};
+ghost use Rattle.file_ways.specs.Ways.{IsRouteFor, RouteHasNames, RouteStarts};
 ghost use Rattle.guest_memory.specs.Tie.{cells_of};
 ghost use Rattle.os9_base.specs.declared.registers.TimePacket.{TimePacket};
 ghost use Rattle.path_lists.specs.Standing.{NamesFrom, NamesStand};
@@ -62,12 +62,11 @@ pub(crate) fn find_way(
     ensures route { (m : Inner) (was : Files) (now : TimePacket) → Represents s.old m
         → StandsFor files.now
         (drive_views ⟦<dyn BlockDriver as BlockDriver>⟧ devices.now.drives.items) was
-        → RouteIs (cells_at m p.0) (asker_of m p.0 now) (leads (asker_of m p.0 now) refusal
-        (way_for purpose (asker_of m p.0 now) was (vec_len devices.now.terms)
-        (walker_at s.old p).execute)) result }
-    ensures names { IfOk result (λ route. HasNames (cells_of s.new.memory p.0) route.way) }
-    ensures start { IfOk result (λ route. StartsOn files.now.disks
-        (drive_views ⟦<dyn BlockDriver as BlockDriver>⟧ devices.now.drives.items) route.way) }
+        → IsRouteFor purpose refusal (cells_at m p.0) (asker_of m p.0 now) was
+        (vec_len devices.now.terms) (walker_at s.old p).execute result }
+    ensures names { RouteHasNames (cells_of s.new.memory p.0) result }
+    ensures start { RouteStarts files.now.disks
+        (drive_views ⟦<dyn BlockDriver as BlockDriver>⟧ devices.now.drives.items) result }
     ensures same { IsSame s.old s.new }
 {
     let regs = s.table.regs(p);

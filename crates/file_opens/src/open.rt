@@ -1,20 +1,19 @@
 //! I$Open (System Programmer's Manual, I$Open).
 
-ghost use Rattle.std.specs.Prelude.{◌≡◌, ℕ, ◌+◌, List, None, length, vec_len};
-ghost use Rattle.call_rules.specs.Inner.{Inner, cells_at};
+ghost use Rattle.std.specs.Prelude.{◌≡◌, List, None, length, vec_len};
+ghost use Rattle.call_rules.specs.Inner.{Inner};
 ghost use Rattle.file_drives.specs.Drives.{DriveView, drive_views};
 ghost use Rattle.file_drives.specs.Mounted.{HasFileAt};
-ghost use Rattle.file_opens.specs.Calls.{i_open_calls, opening_calls};
-ghost use Rattle.file_opens.specs.Ends.{EndsQuietly, HasReadIn};
-ghost use Rattle.file_opens.specs.Steps.{IsFoundAt, opens_along, opens_there};
+ghost use Rattle.file_opens.specs.Attempts.{OpensAlong, OpensThere};
+ghost use Rattle.file_opens.specs.Calls.{i_open_calls};
+ghost use Rattle.file_opens.specs.Ends.{EndsQuietly};
 ghost use Rattle.file_rules.specs.Attempts.{asker_of};
 ghost use Rattle.file_rules.specs.Files.{Files};
-ghost use Rattle.file_rules.specs.Open.{opens_device, opens_found};
-ghost use Rattle.file_rules.specs.Way.{Found, along};
+ghost use Rattle.file_rules.specs.Open.{opens_found};
+ghost use Rattle.file_rules.specs.Way.{Found};
 ghost use Rattle.file_rules.specs.declared.path_call.PathCall.TheVariants as Call;
 ghost use Rattle.file_state.specs.Attempt.{standing};
 ghost use Rattle.file_state.specs.Counted.{AttemptsWithin};
-ghost use Rattle.file_state.specs.Ends.{Ends};
 ghost use Rattle.file_state.specs.Tie.{IsSound, StandsFor};
 ghost use Rattle.file_ways.specs.Walks.{SomeFrom};
 ghost use Rattle.guest_memory.specs.Tie.{cells_of};
@@ -22,7 +21,6 @@ ghost use Rattle.io_rules.specs.Io.{kept_at};
 ghost use Rattle.io_rules.specs.PathList.{PathList};
 ghost use Rattle.os9_base.specs.declared.registers.TimePacket.{TimePacket};
 ghost use Rattle.os9_outer.specs.TerminalState.{TerminalState};
-ghost use Rattle.path_lists.specs.Standing.{NamesFrom};
 ghost use Rattle.proc_rules.specs.Records.{IsLiving};
 ghost use Rattle.proc_state.specs.Tie.{Represents};
 ghost use Rattle.rbf_access.specs.Reading.{IsFdOf};
@@ -100,15 +98,9 @@ fn open_along(
     requires names { SomeFrom (cells_of s.old.memory p.0) first }
     requires file { HasFileAt files.old.disks
         (drive_views ⟦<dyn BlockDriver as BlockDriver>⟧ devices.old.drives.items) from }
-    ensures opens { (m : Inner) (was : Files) (now : TimePacket) (list : PathList)
-        (terms : List TerminalState) → Represents s.old m → StandsFor files.old
-        (drive_views ⟦<dyn BlockDriver as BlockDriver>⟧ devices.old.drives.items) was
-        → NamesFrom (cells_at m p.0) first list.names → list.next ≡ next
-        → Ends (opens_along (asker_of m p.0 now) was list from)
-        (opening_calls (asker_of m p.0 now) was (along from list.names))
-        m was now p.0 result s.new files.new
-        (drive_views ⟦<dyn BlockDriver as BlockDriver>⟧ devices.old.drives.items)
-        (drive_views ⟦<dyn BlockDriver as BlockDriver>⟧ devices.new.drives.items) terms }
+    ensures opens { (now : TimePacket) → OpensAlong from first next now p.0 result
+        (standing ⟦<dyn BlockDriver as BlockDriver>⟧ s.old files.old devices.old.drives.items)
+        (standing ⟦<dyn BlockDriver as BlockDriver>⟧ s.new files.new devices.new.drives.items) }
     ensures lives { IsLiving s.new.table p.0 }
     ensures terms_kept { devices.new.terms ≡ devices.old.terms }
 {
@@ -132,14 +124,9 @@ fn open_place(
     requires quiet { kept_at files.old.io p.0 ≡ None }
     requires file { HasFileAt files.old.disks
         (drive_views ⟦<dyn BlockDriver as BlockDriver>⟧ devices.old.drives.items) place }
-    ensures opens { (m : Inner) (was : Files) (now : TimePacket) (list : PathList) (found : Found)
-        (most : ℕ) (before : List DriveView) (terms : List TerminalState) → Represents s.old m
-        → HasReadIn most None place.drive was files.old before
-        (drive_views ⟦<dyn BlockDriver as BlockDriver>⟧ devices.old.drives.items)
-        → IsFoundAt was place found → list.next ≡ next
-        → Ends (opens_there (asker_of m p.0 now) was list found) (most + 1)
-        m was now p.0 result s.new files.new before
-        (drive_views ⟦<dyn BlockDriver as BlockDriver>⟧ devices.new.drives.items) terms }
+    ensures opens { (now : TimePacket) → OpensThere place next now p.0 result
+        (standing ⟦<dyn BlockDriver as BlockDriver>⟧ s.old files.old devices.old.drives.items)
+        (standing ⟦<dyn BlockDriver as BlockDriver>⟧ s.new files.new devices.new.drives.items) }
     ensures lives { IsLiving s.new.table p.0 }
     ensures terms_kept { devices.new.terms ≡ devices.old.terms }
 {

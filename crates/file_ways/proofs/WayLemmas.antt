@@ -2,7 +2,7 @@
 use Rattle.std.proofs.Common.{◌≡◌, ◌∙◌, ℕ, ◌==◌, ◌&&◌, ◌||◌, not, Bool, true, false, IfOk, IfSome, Option, Some, None, option_map, Result, Ok, Err, List, length, refl, ap, sym, subst, if◌then◌else◌}
 use Rattle.std.specs.Option.{option_map_or}
 use Rattle.os9_base.specs.Cells.{Cells}
-use Rattle.os9_base.specs.declared.errors.TheConstants.{E_BPADDR, E_BMODE, E_BPNAM, E_MNF, E_PNNF}
+use Rattle.os9_base.specs.declared.errors.TheConstants.{E_BPADDR, E_BPNAM, E_MNF, E_PNNF}
 use Rattle.device_table.specs.Names.{device_of}
 use Rattle.device_table.specs.declared.devices.Dev.{Dev}
 use Rattle.user_names.specs.declared.name_fault.NameFault.{NameFault}

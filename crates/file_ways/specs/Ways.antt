@@ -1,5 +1,5 @@
 -- The way along which a path list leads, as the code has it.
-use Rattle.std.specs.Prelude.{◌≡◌, ℕ, ◌<◌, ◌&&◌, ◌||◌, not, ⊤, Bool, true, false, Option, Some, None, Result, Ok, Err, List, length}
+use Rattle.std.specs.Prelude.{◌≡◌, ℕ, ◌<◌, ◌&&◌, ◌||◌, not, ⊤, Bool, true, false, IfOk, Option, Some, None, Result, Ok, Err, List, length}
 use Rattle.std.specs.Option.{option_map_or}
 use Rattle.os9_base.specs.Cells.{Cells}
 use Rattle.os9_base.specs.declared.errors.TheConstants.{E_BMODE}
@@ -145,3 +145,17 @@ pub record IsRoute (cells : Cells) (asker : Asker) (step : Step Led) (route : Ro
 abbrev pub RouteIs : Cells → Asker → Step Led → Result Route ℕ → Type 0
 RouteIs cells asker step (Ok route) = IsRoute cells asker step route
 RouteIs cells asker step (Err number) = step ≡ refused number
+
+-- what a call finds that looks for this and has this refusal, if it has one: the route by its path list, on a machine
+-- with so many terminals, or the number with which it is refused
+abbrev pub IsRouteFor : Purpose → Option ℕ → Cells → Asker → Files → ℕ → Bool → Result Route ℕ → Type 0
+IsRouteFor purpose refusal cells asker files terms execute result =
+    RouteIs cells asker (leads asker refusal (way_for purpose asker files terms execute)) result
+
+-- a route that was found has some names, or none
+abbrev pub RouteHasNames : Cells → Result Route ℕ → Type 0
+RouteHasNames cells result = IfOk result (λ route. HasNames cells route.way)
+
+-- and a file is there at its start
+abbrev pub RouteStarts : List (Option Volume) → List DriveView → Result Route ℕ → Type 0
+RouteStarts disks views result = IfOk result (λ route. StartsOn disks views route.way)

@@ -1,6 +1,6 @@
 //! The path lists of calls of processes.
 
-ghost use Rattle.std.specs.Prelude.{◌≡◌, ◌<◌, ℕ, Bool, Ok, IfOk, IfSome, Option, List, vec_len};
+ghost use Rattle.std.specs.Prelude.{◌≡◌, ◌<◌, ℕ, Bool, Ok, IfSome, Option, List, vec_len};
 ghost use Rattle.call_rules.specs.Inner.{Inner, cells_at};
 ghost use Rattle.guest_memory.specs.Tie.{cells_of};
 ghost use Rattle.os9_base.specs.declared.registers.TimePacket.{TimePacket};
@@ -12,7 +12,7 @@ ghost use Rattle.file_drives.specs.Drives.{DriveView, drive_views};
 ghost use Rattle.file_drives.specs.Mounted.{AreMounted, HasFileAt};
 ghost use Rattle.path_lists.specs.Standing.{NamesFrom, NamesStand};
 ghost use Rattle.file_ways.specs.Walks.{SomeFrom, SomeStand, Walks, WalksToLast};
-ghost use Rattle.file_ways.specs.Ways.{Asks, HasNames, RouteIs, StartsOn, leads, way_for};
+ghost use Rattle.file_ways.specs.Ways.{Asks, IsRouteFor, RouteHasNames, RouteStarts};
 
 use crate::walk::{LastName, Walker, walk, walk_to_last};
 use crate::way::{Query, Route, find_route};
@@ -39,14 +39,12 @@ pub fn call_route(
         (views : List DriveView) → Represents s.old m
         → Asks query (cells_at m query.process.0) disks.now views (vec_len devices.now.drives)
         (asker_of m query.process.0 now) files execute
-        → RouteIs (cells_at m query.process.0) (asker_of m query.process.0 now)
-        (leads (asker_of m query.process.0 now) query.refusal (way_for query.purpose
-        (asker_of m query.process.0 now) files (vec_len devices.now.terms) execute)) result }
-    ensures names { IfOk result
-        (λ route. HasNames (cells_of s.old.memory query.process.0) route.way) }
+        → IsRouteFor query.purpose query.refusal (cells_at m query.process.0)
+        (asker_of m query.process.0 now) files (vec_len devices.now.terms) execute result }
+    ensures names { RouteHasNames (cells_of s.old.memory query.process.0) result }
     ensures start { (views : List DriveView) (volumes : List (Option DiskVolume))
         → AreMounted disks.now views volumes → IfSome query.directory (HasFileAt disks.now views)
-        → IfOk result (λ route. StartsOn disks.now views route.way) }
+        → RouteStarts disks.now views result }
     ensures same { IsSame s.old s.new }
 {
     find_route(&mut s.memory, disks, devices, query)

@@ -11,7 +11,7 @@ ghost use Rattle.file_drives.specs.Drives.{DriveView};
 ghost use Rattle.file_drives.specs.Mounted.{AreMounted, HasFileAt};
 ghost use Rattle.path_lists.specs.Listed.{listed};
 ghost use Rattle.path_lists.specs.Standing.{NamesFrom};
-ghost use Rattle.file_ways.specs.Ways.{Asks, HasNames, IsDevice, IsRouteOf, NamesOn, RouteIs, StartsOn, along_from, leads, makes_nothing as makes_nothing_lem, mode_refusal as mode_refusal_lem, unless_refused as unless_refused_lem, names_root, way_for, way_to};
+ghost use Rattle.file_ways.specs.Ways.{Asks, IsDevice, IsRouteFor, IsRouteOf, NamesOn, RouteHasNames, RouteStarts, StartsOn, along_from, makes_nothing as makes_nothing_lem, mode_refusal as mode_refusal_lem, unless_refused as unless_refused_lem, names_root, way_for, way_to};
 
 use device_table::devices::{Dev, Devices};
 use file_drives::disks::Disks;
@@ -86,13 +86,12 @@ pub fn find_route(
     ensures route { (asker : Asker) (files : Files) (execute : Bool) (views : List DriveView)
         → Asks query (cells_of memory.old query.process.0) disks.now views
         (vec_len devices.now.drives) asker files execute
-        → RouteIs (cells_of memory.old query.process.0) asker (leads asker query.refusal
-        (way_for query.purpose asker files (vec_len devices.now.terms) execute)) result }
-    ensures names { IfOk result
-        (λ route. HasNames (cells_of memory.old query.process.0) route.way) }
+        → IsRouteFor query.purpose query.refusal (cells_of memory.old query.process.0)
+        asker files (vec_len devices.now.terms) execute result }
+    ensures names { RouteHasNames (cells_of memory.old query.process.0) result }
     ensures start { (views : List DriveView) (volumes : List (Option DiskVolume))
         → AreMounted disks.now views volumes → IfSome query.directory (HasFileAt disks.now views)
-        → IfOk result (λ route. StartsOn disks.now views route.way) }
+        → RouteStarts disks.now views result }
     ensures same { IsSame memory.old memory.new }
 {
     match read_path_list(memory, query.process, query.at) {
@@ -137,10 +136,10 @@ fn route_of(disks: &Disks, devices: &Devices, query: Query, list: &Listed) -> Re
         → IsRouteOf cells named
         (way_for query.purpose asker files (vec_len devices.now.terms) execute named) result }
     ensures names { (cells : Cells) (named : PathList) → path_list cells query.at ≡ Ok named
-        → list.now ≡ listed named → IfOk result (λ route. HasNames cells route.way) }
+        → list.now ≡ listed named → RouteHasNames cells result }
     ensures start { (views : List DriveView) (volumes : List (Option DiskVolume))
         → AreMounted disks.now views volumes → IfSome query.directory (HasFileAt disks.now views)
-        → IfOk result (λ route. StartsOn disks.now views route.way) }
+        → RouteStarts disks.now views result }
 {
     match way_by(disks, devices, query, list) {
         Err(number) => Err(number),

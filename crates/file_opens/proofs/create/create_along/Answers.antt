@@ -8,7 +8,7 @@ use Rattle.file_opens.specs.Steps.{creates_along}
 use Rattle.file_opens.proofs.create.create_along.Goals as goal
 
 pub returns-in-None-clause-creates : goal.returns-in-None-clause-creates
-returns-in-None-clause-creates g c m was list terms tied stands names next proper =
+returns-in-None-clause-creates g c m was list tied stands names next proper terms =
     let p = c.args.p.0 in
     let now = c.args.now in
     let none : list.names ≡ [] = subst (λ (first : Option ℕ). NamesFrom (cells_at m p) first list.names) c.in-None.is names in
@@ -16,5 +16,5 @@ returns-in-None-clause-creates g c m was list terms tied stands names next prope
     (along-nameless (asker_of m p now) was list c.args.from none) stands
 
 pub returns-in-Some-clause-creates : goal.returns-in-Some-clause-creates
-returns-in-Some-clause-creates g c m was list terms tied stands names next proper =
-    c.create_from.ensures.creates m was list terms tied stands (subst (λ (first : Option ℕ). NamesFrom (cells_at m c.args.p.0) first list.names) c.in-Some.is names) next proper
+returns-in-Some-clause-creates g c m was list tied stands names next proper terms =
+    c.create_from.ensures.creates m was list tied stands (subst (λ (first : Option ℕ). NamesFrom (cells_at m c.args.p.0) first list.names) c.in-Some.is names) next proper terms

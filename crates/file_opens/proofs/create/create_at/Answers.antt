@@ -18,7 +18,7 @@ use Rattle.file_opens.specs.Steps.{makes_there}
 use Rattle.file_opens.proofs.create.create_at.Goals as goal
 
 pub returns-in-None-clause-makes : goal.returns-in-None-clause-makes
-returns-in-None-clause-makes g c m was list dir most before terms tied read found next =
+returns-in-None-clause-makes g c m was list dir most before tied read found next terms =
     let p = c.args.p.0 in
     let now = c.args.now in
     let asker = asker_of m p now in
@@ -30,7 +30,7 @@ returns-in-None-clause-makes g c m was list dir most before terms tied read foun
     (well-refused m was now p terms (makes_there asker was list name dir) c.args.last.directory.drive c.args.files.now before _ _ (makes-full asker was list name dir none) read.read)
 
 pub returns-in-Err-clause-makes : goal.returns-in-Err-clause-makes
-returns-in-Err-clause-makes g c m was list dir most before terms tied read found next =
+returns-in-Err-clause-makes g c m was list dir most before tied read found next terms =
     let p = c.args.p.0 in
     let now = c.args.now in
     let asker = asker_of m p now in
@@ -41,7 +41,7 @@ returns-in-Err-clause-makes g c m was list dir most before terms tied read found
     let views = drive_views (λ table. (g.dyn-1.0.entry table).1) c.create_at.new.devices.drives.items in
     let numbered : new_number was.io.paths p ≡ Some number = sym (c.next_number.ensures _ _ read.read.stands) ∙ c.in-Some.is in
     let bits : c.regs-attr.result.b ≡ (regs_at m p).b = ap (λ (r : Regs). r.b) (c.regs-attr.ensures.regs ∙ sym (regs-tied c.args.s.now m p tied)) in
-    let user : c.args.found.now.user ≡ user_at m p = c.requires.user ∙ sym (user-tied c.args.s.now m p tied) in
+    let user : c.args.found.now.user ≡ user_at m p = c.requires.place.user ∙ sym (user-tied c.args.s.now m p tied) in
     let changed = change-answered m was now p terms list name dir place found number numbered new before views c.args.files.now _ (Err (File c.in-Err.fault)) c.regs-attr.result.b c.args.found.now.user _ read.read refl refl bits user c.in-Err.ensures.changed in
     let called = change-called m was now p terms list name dir place found number numbered new before views most c.args.files.now _ (Err (File c.in-Err.fault)) _ read refl refl c.in-Err.ensures.changed in
     refused-ends m p new views c.refuse-in-Err.result c.args.s.now c.refuse-in-Err.new.io c.refuse-in-Err.ensures.io _ (c.refuse-in-Err.ensures.end ∙ ap Error c.number.ensures) tied was now terms (most + calls_at_place dir.volume dir.file) (makes_there asker was list name dir) _ before changed.stands
@@ -49,7 +49,7 @@ returns-in-Err-clause-makes g c m was list dir most before terms tied read found
     (make-keeps m was now p terms list name dir place found number numbered new before views c.in-Err.fault changed read.first)
 
 pub returns-in-Ok-clause-makes : goal.returns-in-Ok-clause-makes
-returns-in-Ok-clause-makes g c m was list dir most before terms tied read found next =
+returns-in-Ok-clause-makes g c m was list dir most before tied read found next terms =
     let p = c.args.p.0 in
     let now = c.args.now in
     let name : List ℕ = c.args.last.name in
@@ -59,7 +59,7 @@ returns-in-Ok-clause-makes g c m was list dir most before terms tied read found 
     let views = drive_views (λ table. (g.dyn-1.0.entry table).1) c.create_at.new.devices.drives.items in
     let numbered : new_number was.io.paths p ≡ Some number = sym (c.next_number.ensures _ _ read.read.stands) ∙ c.in-Some.is in
     let bits : c.regs-attr.result.b ≡ (regs_at m p).b = ap (λ (r : Regs). r.b) (c.regs-attr.ensures.regs ∙ sym (regs-tied c.args.s.now m p tied)) in
-    let user : c.args.found.now.user ≡ user_at m p = c.requires.user ∙ sym (user-tied c.args.s.now m p tied) in
+    let user : c.args.found.now.user ≡ user_at m p = c.requires.place.user ∙ sym (user-tied c.args.s.now m p tied) in
     let changed = change-answered m was now p terms list name dir place found number numbered new before views c.args.files.now _ (Ok c.in-Ok.n) c.regs-attr.result.b c.args.found.now.user _ read.read refl refl bits user c.in-Ok.ensures.changed in
     let called = change-called m was now p terms list name dir place found number numbered new before views most c.args.files.now _ (Ok c.in-Ok.n) _ read refl refl c.in-Ok.ensures.changed in
     make-ends m was now p terms list name dir place found number numbered new before views c.in-Ok.n changed c.begin_on.result c.begin_on.new.s c.begin_on.new.files (most + calls_at_place dir.volume dir.file) called

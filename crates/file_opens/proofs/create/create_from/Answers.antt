@@ -18,7 +18,7 @@ create_in-requires-clause-file g c =
     (c.in-Ok.ensures.walks some.names (names-stand c.args.s.now c.args.p c.walker_of-walker.result c.args.first some.names c.walker_of-walker.ensures.walker some.stand)).walks.file.file
 
 pub returns-in-Err-clause-creates : goal.returns-in-Err-clause-creates
-returns-in-Err-clause-creates g c m was list terms tied stands names next proper =
+returns-in-Err-clause-creates g c m was list tied stands names next proper terms =
     let p = c.args.p.0 in
     let now = c.args.now in
     let asker = asker_of m p now in
@@ -33,7 +33,7 @@ returns-in-Err-clause-creates g c m was list terms tied stands names next proper
     (λ v. create-walk-stays asker was list v walker.execute last.0 c.args.from (before_last list.names)))
 
 pub returns-in-Ok-clause-creates : goal.returns-in-Ok-clause-creates
-returns-in-Ok-clause-creates g c m was list terms tied stands names next proper =
+returns-in-Ok-clause-creates g c m was list tied stands names next proper terms =
     let p = c.args.p.0 in
     let now = c.args.now in
     let asker = asker_of m p now in
@@ -49,7 +49,7 @@ returns-in-Ok-clause-creates g c m was list terms tied stands names next proper 
     along-named m was now p list c.args.from name whole.name c.create_in.result c.create_in.new.s c.create_in.new.files _ views terms
     (walk-goes m was now p terms walker c.args.from (before_last list.names) c.args.files.now new _ _ who.user stands c.requires.file refl refl (creates_in asker was list name) (new_file_calls asker name) _ who.execute
     c.create_in.result c.create_in.new.s place it c.create_in.new.files views
-    (c.create_in.ensures.creates m was list found _ _ terms (c.walk_to_last_from.ensures.same.represents m tied)
+    (c.create_in.ensures.creates m was list found _ _ (c.walk_to_last_from.ensures.same.represents m tied)
     (read-there m was now p terms walker c.args.from (before_last list.names) c.args.files.now new _ _ who.user stands c.requires.file refl refl (creates_in asker was list name) place it)
     (found-at m was now p terms walker c.args.from (before_last list.names) c.args.files.now new _ _ who.user stands c.requires.file refl refl (creates_in asker was list name) place it) next
-    (last-proper list name proper whole.name)))
+    (last-proper list name proper whole.name) terms))

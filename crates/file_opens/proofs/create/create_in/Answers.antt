@@ -20,7 +20,7 @@ use Rattle.file_opens.specs.Steps.{creates_there, makes_there}
 use Rattle.file_opens.proofs.create.create_in.Goals as goal
 
 pub returns-then-says_directory-clause-creates : goal.returns-then-says_directory-clause-creates
-returns-then-says_directory-clause-creates g c m was list dir most before terms tied read found next proper =
+returns-then-says_directory-clause-creates g c m was list dir most before tied read found next proper terms =
     let p = c.args.p.0 in
     let now = c.args.now in
     let asker = asker_of m p now in
@@ -33,7 +33,7 @@ returns-then-says_directory-clause-creates g c m was list dir most before terms 
     (well-refused m was now p terms (creates_there asker was list name dir) c.args.last.directory.drive c.args.files.now before _ _ (creates-directory asker was list name dir says) read.read)
 
 pub returns-in-Err-clause-creates : goal.returns-in-Err-clause-creates
-returns-in-Err-clause-creates g c m was list dir most before terms tied read found next proper =
+returns-in-Err-clause-creates g c m was list dir most before tied read found next proper terms =
     let p = c.args.p.0 in
     let now = c.args.now in
     let asker = asker_of m p now in
@@ -55,7 +55,7 @@ returns-in-Err-clause-creates g c m was list dir most before terms tied read fou
     (answered-to m p dir.file name walker.user walker.execute (Err c.in-Err.error) who.user who.execute answer) after.read)
 
 pub returns-in-Ok-clause-creates : goal.returns-in-Ok-clause-creates
-returns-in-Ok-clause-creates g c m was list dir most before terms tied read found next proper =
+returns-in-Ok-clause-creates g c m was list dir most before tied read found next proper terms =
     let p = c.args.p.0 in
     let now = c.args.now in
     let asker = asker_of m p now in
@@ -77,4 +77,4 @@ returns-in-Ok-clause-creates g c m was list dir most before terms tied read foun
     (makes_there asker was list name dir) (creates_there asker was list name dir) ((most + finding) + making) (most + new_file_calls asker name dir.volume dir.file)
     (sym (ap (reaches dir.place.drive) (creates-on asker was list name dir is.allowed says is.absent.names_none)))
     (sum-behind most finding making ∙ ap (λ (n : ℕ). most + (n + making)) (place-same m now p dir.volume dir.file name walker.user walker.execute who.user who.execute))
-    (c.create_at.ensures.makes m was list dir (most + finding) before terms tied after found next)
+    (c.create_at.ensures.makes m was list dir (most + finding) before tied after found next terms)

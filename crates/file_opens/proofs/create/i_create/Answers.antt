@@ -64,6 +64,6 @@ returns-in-Along-clause-call g c terms many m was tied stands kinds =
     attempts-by _ Call.Create m was now p c.create_along.result terms _ _ (creates_along asker was route.list from) _
     (ap (i_create asker was) many ∙ creates-routed asker was count c.mode_refusal-refusal.result (walker_at c.args.s.now c.args.p).execute refusal_is (ap (λ (r : Regs). is_for_execution r.a) (sym same)) (cells_at m p) c.in-Ok.route (Along from first) route c.in-Along.is)
     (create-calls (cells_at m p) asker was count c.mode_refusal-refusal.result (walker_at c.args.s.now c.args.p).execute (ap (λ (r : Regs). is_for_execution r.a) (sym same)) c.in-Ok.route from first route c.in-Along.is ∙ sym (ap (i_create_calls asker was) many))
-    (c.create_along.ensures.creates m was route.list terms (c.find_way.ensures.same.represents m tied) stands
+    (c.create_along.ensures.creates m was route.list (c.find_way.ensures.same.represents m tied) stands
     (subst (λ (way : Way). NamesOn (cells_at m p) way route.list.names) c.in-Along.is route.route_is.names) (sym route.route_is.next_is)
-    (new-proper asker was count c.mode_refusal-refusal.result (walker_at c.args.s.now c.args.p).execute route.list _ route.read route.comes_to))
+    (new-proper asker was count c.mode_refusal-refusal.result (walker_at c.args.s.now c.args.p).execute route.list _ route.read route.comes_to) terms)

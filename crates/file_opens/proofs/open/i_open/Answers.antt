@@ -60,5 +60,5 @@ returns-in-Along-clause-call g c now terms many m was tied stands kinds =
     attempts-by _ Call.Open m was now p c.open_along.result terms _ _ (opens_along asker was route.list from) _
     (ap (i_open asker was) many ∙ opens-routed asker was count c.mode_refusal-refusal.result (walker_at c.args.s.now c.args.p).execute refusal_is (ap (λ (r : Regs). is_for_execution r.a) (sym same)) (cells_at m p) c.in-Ok.route (Along from first) route c.in-Along.is)
     (open-calls (cells_at m p) asker was count c.mode_refusal-refusal.result (walker_at c.args.s.now c.args.p).execute (ap (λ (r : Regs). is_for_execution r.a) (sym same)) c.in-Ok.route from first route c.in-Along.is ∙ sym (ap (i_open_calls asker was) many))
-    (c.open_along.ensures.opens m was now route.list terms (c.find_way.ensures.same.represents m tied) stands
-    (subst (λ (way : Way). NamesOn (cells_at m p) way route.list.names) c.in-Along.is route.route_is.names) (sym route.route_is.next_is))
+    (c.open_along.ensures.opens now m was route.list (c.find_way.ensures.same.represents m tied) stands
+    (subst (λ (way : Way). NamesOn (cells_at m p) way route.list.names) c.in-Along.is route.route_is.names) (sym route.route_is.next_is) terms)

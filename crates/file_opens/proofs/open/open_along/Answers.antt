@@ -14,7 +14,7 @@ open_place-requires-clause-file g c =
     (c.in-Ok.ensures.walks some.names (names-there c.args.s.now c.args.p c.walker_of-walker.result c.args.first some.names c.walker_of-walker.ensures.walker some.from)).file.file
 
 pub returns-in-Err-clause-opens : goal.returns-in-Err-clause-opens
-returns-in-Err-clause-opens g c m was now list terms tied stands names next =
+returns-in-Err-clause-opens g c now m was list tied stands names next terms =
     let p = c.args.p.0 in
     let asker = asker_of m p now in
     let walker = c.walker_of-walker.result in
@@ -26,7 +26,7 @@ returns-in-Err-clause-opens g c m was now list terms tied stands names next =
     (λ v. walk-stays asker was v walker.execute list c.args.from)
 
 pub returns-in-Ok-clause-opens : goal.returns-in-Ok-clause-opens
-returns-in-Ok-clause-opens g c m was now list terms tied stands names next =
+returns-in-Ok-clause-opens g c now m was list tied stands names next terms =
     let p = c.args.p.0 in
     let asker = asker_of m p now in
     let walker = c.walker_of-walker.result in
@@ -38,6 +38,6 @@ returns-in-Ok-clause-opens g c m was now list terms tied stands names next =
     let views = drive_views (λ table. (g.dyn-1.0.entry table).1) c.open_place.new.devices.drives.items in
     walk-goes m was now p terms walker c.args.from list.names c.args.files.now new _ _ who.user stands c.requires.file refl refl (opens_found asker was list) (λ v file. 1) _ who.execute
     c.open_place.result c.open_place.new.s place it c.open_place.new.files views
-    (c.open_place.ensures.opens m was now list found _ _ terms (c.walk_from.ensures.same.represents m tied)
+    (c.open_place.ensures.opens now m was list found _ _ (c.walk_from.ensures.same.represents m tied)
     (read-there m was now p terms walker c.args.from list.names c.args.files.now new _ _ who.user stands c.requires.file refl refl (opens_found asker was list) place it)
-    (found-at m was now p terms walker c.args.from list.names c.args.files.now new _ _ who.user stands c.requires.file refl refl (opens_found asker was list) place it) next)
+    (found-at m was now p terms walker c.args.from list.names c.args.files.now new _ _ who.user stands c.requires.file refl refl (opens_found asker was list) place it) next terms)

@@ -15,7 +15,7 @@ use Rattle.file_opens.specs.Steps.{opens_there}
 use Rattle.file_opens.proofs.open.open_place.Goals as goal
 
 pub returns-in-Err-clause-opens : goal.returns-in-Err-clause-opens
-returns-in-Err-clause-opens g c m was now list found most before terms tied read it next =
+returns-in-Err-clause-opens g c now m was list found most before tied read it next terms =
     let p = c.args.p.0 in
     let new : FileState = record c.args.files.now { disks = c.fd.new.self } in
     let after = read-on was c.args.place found it c.args.files.now new before _ _ most read _ _ refl refl c.in-Err.ensures.drive in
@@ -23,7 +23,7 @@ returns-in-Err-clause-opens g c m was now list found most before terms tied read
     (fault-does was c.args.place found it c.args.files.now new before _ _ most read m now p terms (opens_there (asker_of m p now) was list found) (ap (λ (at : FilePlace). Some at.drive) it.place_is) (λ v. found-stays (asker_of m p now) was v list found) Fd c.in-Err.fault _ c.in-Err.ensures.device refl refl c.in-Err.ensures.drive)
 
 pub returns-in-Ok-clause-opens : goal.returns-in-Ok-clause-opens
-returns-in-Ok-clause-opens g c m was now list found most before terms tied read it next =
+returns-in-Ok-clause-opens g c now m was list found most before tied read it next terms =
     let p = c.args.p.0 in
     let new : FileState = record c.args.files.now { disks = c.fd.new.self } in
     let views = drive_views (λ table. (g.dyn-1.0.entry table).1) c.fd.new.devices.drives.items in
