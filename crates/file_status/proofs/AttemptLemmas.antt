@@ -23,7 +23,7 @@ use Rattle.file_state.specs.Ends.{Ends}
 use Rattle.file_state.specs.Tie.{StandsFor}
 use Rattle.file_state.specs.declared.state.OpenFile.{OpenFile as KernelFile}
 use Rattle.file_status.proofs.OpenLemmas.{open-of}
-use Rattle.file_status.specs.Status.{IsNamedInA, IsOpen, i_setstt_calls, setting_calls}
+use Rattle.file_status.specs.Status.{IsNamedInA, IsOpen, calls_by_code, i_setstt_calls}
 
 -- the registers and the user that the kernel has of a process
 pub regs-tied : (processes : ProcState) (m : Inner) (p : ℕ) → Represents processes m → (record_at processes.table p).regs ≡ regs_at m p
@@ -48,8 +48,8 @@ module _ (m : Inner) (was : Files) (now : TimePacket) (p : ℕ) (end : CallEnd) 
       (subst (λ o. Ends (by_kind o (gets_of_device (asker_of m p now).caller was.io) (λ it. gets_status (asker_of m p now) was it (regs_at m p).b)) 1 m was now p end after.processes after.files before.views after.views terms) (sym found_is)
       (by found found-open))
 
-  pub set-attempt : ((it : OpenFile) → IsOpen was opened it → Ends (sets_status (asker_of m p now) was it (regs_at m p).b) (setting_calls (asker_of m p now) it (regs_at m p).b) m was now p end after.processes after.files before.views after.views terms) → AttemptsIn (i_setstt_calls (asker_of m p now) was (length terms)) Call.SetStt m was now p end terms terms before after
+  pub set-attempt : ((it : OpenFile) → IsOpen was opened it → Ends (sets_status (asker_of m p now) was it (regs_at m p).b) (calls_by_code (asker_of m p now) it) m was now p end after.processes after.files before.views after.views terms) → AttemptsIn (i_setstt_calls (asker_of m p now) was (length terms)) Call.SetStt m was now p end terms terms before after
   set-attempt by =
       ends-attempt (i_setstt_calls (asker_of m p now) was (length terms)) Call.SetStt m was now p end terms before after
-      (subst (λ o. Ends (by_kind o (sets_of_device (asker_of m p now).caller was.io) (λ it. sets_status (asker_of m p now) was it (regs_at m p).b)) (option_map_or (λ it. setting_calls (asker_of m p now) it (regs_at m p).b) o 0) m was now p end after.processes after.files before.views after.views terms) (sym found_is)
+      (subst (λ o. Ends (by_kind o (sets_of_device (asker_of m p now).caller was.io) (λ it. sets_status (asker_of m p now) was it (regs_at m p).b)) (option_map_or (calls_by_code (asker_of m p now)) o 0) m was now p end after.processes after.files before.views after.views terms) (sym found_is)
       (by found found-open))

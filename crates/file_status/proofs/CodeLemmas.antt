@@ -39,9 +39,9 @@ six-fail a b c d e f one two three four five six other na nb nc nd ne nf =
 pub by-code : (m : Inner) (files : Files) (now : TimePacket) (p : ℕ) (end : CallEnd) (processes : ProcState) (new : FileState) (before after : List DriveView) (terms : List TerminalState) (it : OpenFile) (known code : ℕ) → known ≡ code → Ends (gets_status (asker_of m p now) files it known) 1 m files now p end processes new before after terms → Ends (gets_status (asker_of m p now) files it code) 1 m files now p end processes new before after terms
 by-code m files now p end processes new before after terms it known code is ends = subst (λ n. Ends (gets_status (asker_of m p now) files it n) 1 m files now p end processes new before after terms) is ends
 
-pub set-by-code : (m : Inner) (files : Files) (now : TimePacket) (p : ℕ) (end : CallEnd) (processes : ProcState) (new : FileState) (before after : List DriveView) (terms : List TerminalState) (it : OpenFile) (known code : ℕ) → known ≡ code → Ends (sets_status (asker_of m p now) files it known) (setting_calls (asker_of m p now) it known) m files now p end processes new before after terms → Ends (sets_status (asker_of m p now) files it code) (setting_calls (asker_of m p now) it code) m files now p end processes new before after terms
+pub set-by-code : (m : Inner) (files : Files) (now : TimePacket) (p : ℕ) (end : CallEnd) (processes : ProcState) (new : FileState) (before after : List DriveView) (terms : List TerminalState) (it : OpenFile) (known code : ℕ) → known ≡ code → Ends (sets_status (asker_of m p now) files it known) (setting_calls known (asker_of m p now) it) m files now p end processes new before after terms → Ends (sets_status (asker_of m p now) files it code) (setting_calls code (asker_of m p now) it) m files now p end processes new before after terms
 set-by-code m files now p end processes new before after terms it known code is ends =
-    subst (λ n. Ends (sets_status (asker_of m p now) files it n) (setting_calls (asker_of m p now) it n) m files now p end processes new before after terms) is ends
+    subst (λ n. Ends (sets_status (asker_of m p now) files it n) (setting_calls n (asker_of m p now) it) m files now p end processes new before after terms) is ends
 
 module _ (m : Inner) (files : Files) (now : TimePacket) (p : ℕ) (end : CallEnd) (processes : ProcState) (state new : FileState) (views : List DriveView) (terms : List TerminalState) (it : OpenFile) (regs : Regs) (same : regs ≡ regs_at m p) (stands : StandsFor state views files) (new_is : new ≡ uncalled state p) where
   pub getting-unknown : (code : ℕ) → (code ≡ 0 → ⊥) → (code ≡ 1 → ⊥) → (code ≡ 2 → ⊥) → (code ≡ 5 → ⊥) → (code ≡ 6 → ⊥) → (code ≡ 15 → ⊥) → end ≡ CallEnd.Error E_UNKSVC → Represents processes m → Ends (gets_status (asker_of m p now) files it code) 1 m files now p end processes new views views terms

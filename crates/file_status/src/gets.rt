@@ -1,24 +1,19 @@
 //! I$GetStt of a file or a directory.
 
-ghost use Rattle.std.specs.Prelude.{◌≡◌, ℕ, min, None, List};
+ghost use Rattle.std.specs.Prelude.{◌≡◌, min, None, List};
 ghost use Rattle.os9_base.specs.declared.registers.TimePacket.{TimePacket};
 ghost use Rattle.os9_outer.specs.TerminalState.{TerminalState};
 ghost use Rattle.proc_rules.specs.Records.{IsLiving};
-ghost use Rattle.call_rules.specs.Inner.{Inner, regs_at};
 ghost use Rattle.io_rules.specs.Io.{kept_at};
-ghost use Rattle.proc_state.specs.Tie.{Represents};
-ghost use Rattle.file_rules.specs.Attempts.{asker_of};
-ghost use Rattle.file_rules.specs.Files.{Files, OpenFile as RulesFile};
 ghost use Rattle.file_rules.specs.declared.path_call.PathCall.TheVariants as Call;
-ghost use Rattle.file_rules.specs.Status.{gets_status as gets_status_lem, gets_size as gets_size_lem, gets_end as gets_end_lem, gets_descriptor as gets_descriptor_lem};
+ghost use Rattle.file_rules.specs.Status.{gets_size as gets_size_lem, gets_end as gets_end_lem, gets_descriptor as gets_descriptor_lem};
 ghost use Rattle.file_drives.specs.Drives.{DriveView, drive_views};
 ghost use Rattle.file_drives.specs.Mounted.{HasFileAt};
 ghost use Rattle.file_state.specs.Attempt.{standing};
 ghost use Rattle.file_state.specs.Counted.{AttemptsWithin};
-ghost use Rattle.file_state.specs.Ends.{Ends};
-ghost use Rattle.file_state.specs.Tie.{IsSound, StandsFor};
+ghost use Rattle.file_state.specs.Tie.{IsSound};
 ghost use Rattle.file_state.specs.declared.state.OpenFile.{OpenFile as KernelFile};
-ghost use Rattle.file_status.specs.Status.{IsNamedInA, IsOpen, gets_options as gets_options_lem, i_getstt_calls};
+ghost use Rattle.file_status.specs.Status.{EndsOn, IsNamedInA, gets_by_code, gets_options as gets_options_lem, getting_calls, i_getstt_calls};
 
 use crate::ends::{answer, refuse};
 use crate::front::{descriptor_front, file_options, long_regs};
@@ -79,13 +74,10 @@ fn get_status_of(
     requires first { kept_at files.old.io p.0 ≡ None }
     requires there { HasFileAt files.old.disks
         (drive_views ⟦<dyn BlockDriver as BlockDriver>⟧ devices.old.drives.items) opened.now.place }
-    ensures call { (m : Inner) (was : Files) (now : TimePacket) (it : RulesFile)
-        (terms : List TerminalState) → Represents s.old m → StandsFor files.old
-        (drive_views ⟦<dyn BlockDriver as BlockDriver>⟧ devices.old.drives.items) was
-        → IsOpen was opened.now it → (code : ℕ) → code ≡ (regs_at m p.0).b
-        → Ends (gets_status_lem (asker_of m p.0 now) was it code) 1 m was now p.0 result s.new
-        files.new (drive_views ⟦<dyn BlockDriver as BlockDriver>⟧ devices.old.drives.items)
-        (drive_views ⟦<dyn BlockDriver as BlockDriver>⟧ devices.new.drives.items) terms }
+    ensures call { (now : TimePacket)
+        → EndsOn opened.now gets_by_code getting_calls now p.0 result
+        (standing ⟦<dyn BlockDriver as BlockDriver>⟧ s.old files.old devices.old.drives.items)
+        (standing ⟦<dyn BlockDriver as BlockDriver>⟧ s.new files.new devices.new.drives.items) }
     ensures lives { IsLiving s.new.table p.0 }
     ensures terms_kept { devices.new.terms ≡ devices.old.terms }
 {
@@ -105,11 +97,10 @@ fn get_status_of(
 fn get_options(s: &mut ProcState, files: &mut FileState, p: Pid) -> CallEnd
     requires lives { IsLiving s.old.table p.0 }
     requires first { kept_at files.old.io p.0 ≡ None }
-    ensures call { (m : Inner) (was : Files) (now : TimePacket) (it : RulesFile)
-        (terms : List TerminalState) (opened : KernelFile) (views : List DriveView) → Represents s.old m
-        → StandsFor files.old views was → IsOpen was opened it
-        → Ends (gets_options_lem (asker_of m p.0 now) was it) 1 m was now p.0 result s.new
-        files.new views views terms }
+    ensures call { (now : TimePacket) (opened : KernelFile) (views : List DriveView)
+        → EndsOn opened gets_options_lem getting_calls now p.0 result
+        (record { processes = s.old; files = files.old; views = views })
+        (record { processes = s.new; files = files.new; views = views }) }
     ensures lives { IsLiving s.new.table p.0 }
 {
     let regs = s.regs(p);
@@ -132,13 +123,10 @@ fn get_size(
     requires first { kept_at files.old.io p.0 ≡ None }
     requires there { HasFileAt files.old.disks
         (drive_views ⟦<dyn BlockDriver as BlockDriver>⟧ devices.old.drives.items) opened.now.place }
-    ensures call { (m : Inner) (was : Files) (now : TimePacket) (it : RulesFile)
-        (terms : List TerminalState) → Represents s.old m → StandsFor files.old
-        (drive_views ⟦<dyn BlockDriver as BlockDriver>⟧ devices.old.drives.items) was
-        → IsOpen was opened.now it
-        → Ends (gets_size_lem (asker_of m p.0 now) was it) 1 m was now p.0 result s.new
-        files.new (drive_views ⟦<dyn BlockDriver as BlockDriver>⟧ devices.old.drives.items)
-        (drive_views ⟦<dyn BlockDriver as BlockDriver>⟧ devices.new.drives.items) terms }
+    ensures call { (now : TimePacket)
+        → EndsOn opened.now gets_size_lem getting_calls now p.0 result
+        (standing ⟦<dyn BlockDriver as BlockDriver>⟧ s.old files.old devices.old.drives.items)
+        (standing ⟦<dyn BlockDriver as BlockDriver>⟧ s.new files.new devices.new.drives.items) }
     ensures lives { IsLiving s.new.table p.0 }
     ensures terms_kept { devices.new.terms ≡ devices.old.terms }
 {
@@ -161,13 +149,10 @@ fn get_end(
     requires first { kept_at files.old.io p.0 ≡ None }
     requires there { HasFileAt files.old.disks
         (drive_views ⟦<dyn BlockDriver as BlockDriver>⟧ devices.old.drives.items) opened.now.place }
-    ensures call { (m : Inner) (was : Files) (now : TimePacket) (it : RulesFile)
-        (terms : List TerminalState) → Represents s.old m → StandsFor files.old
-        (drive_views ⟦<dyn BlockDriver as BlockDriver>⟧ devices.old.drives.items) was
-        → IsOpen was opened.now it
-        → Ends (gets_end_lem (asker_of m p.0 now) was it) 1 m was now p.0 result s.new
-        files.new (drive_views ⟦<dyn BlockDriver as BlockDriver>⟧ devices.old.drives.items)
-        (drive_views ⟦<dyn BlockDriver as BlockDriver>⟧ devices.new.drives.items) terms }
+    ensures call { (now : TimePacket)
+        → EndsOn opened.now gets_end_lem getting_calls now p.0 result
+        (standing ⟦<dyn BlockDriver as BlockDriver>⟧ s.old files.old devices.old.drives.items)
+        (standing ⟦<dyn BlockDriver as BlockDriver>⟧ s.new files.new devices.new.drives.items) }
     ensures lives { IsLiving s.new.table p.0 }
     ensures terms_kept { devices.new.terms ≡ devices.old.terms }
 {
@@ -195,13 +180,10 @@ fn get_descriptor(
     requires first { kept_at files.old.io p.0 ≡ None }
     requires there { HasFileAt files.old.disks
         (drive_views ⟦<dyn BlockDriver as BlockDriver>⟧ devices.old.drives.items) opened.now.place }
-    ensures call { (m : Inner) (was : Files) (now : TimePacket) (it : RulesFile)
-        (terms : List TerminalState) → Represents s.old m → StandsFor files.old
-        (drive_views ⟦<dyn BlockDriver as BlockDriver>⟧ devices.old.drives.items) was
-        → IsOpen was opened.now it
-        → Ends (gets_descriptor_lem (asker_of m p.0 now) was it) 1 m was now p.0 result s.new
-        files.new (drive_views ⟦<dyn BlockDriver as BlockDriver>⟧ devices.old.drives.items)
-        (drive_views ⟦<dyn BlockDriver as BlockDriver>⟧ devices.new.drives.items) terms }
+    ensures call { (now : TimePacket)
+        → EndsOn opened.now gets_descriptor_lem getting_calls now p.0 result
+        (standing ⟦<dyn BlockDriver as BlockDriver>⟧ s.old files.old devices.old.drives.items)
+        (standing ⟦<dyn BlockDriver as BlockDriver>⟧ s.new files.new devices.new.drives.items) }
     ensures lives { IsLiving s.new.table p.0 }
     ensures terms_kept { devices.new.terms ≡ devices.old.terms }
 {

@@ -1,23 +1,18 @@
 //! I$SetStt of a file or a directory.
 
-ghost use Rattle.std.specs.Prelude.{◌≡◌, ℕ, true, Some, None, List};
+ghost use Rattle.std.specs.Prelude.{◌≡◌, true, None, List};
 ghost use Rattle.os9_outer.specs.TerminalState.{TerminalState};
 ghost use Rattle.proc_rules.specs.Records.{IsLiving};
-ghost use Rattle.call_rules.specs.Inner.{Inner, regs_at};
 ghost use Rattle.io_rules.specs.Io.{kept_at};
 ghost use Rattle.io_rules.specs.Modes.{can_write as can_write_lem};
-ghost use Rattle.proc_state.specs.Tie.{Represents};
-ghost use Rattle.file_rules.specs.Attempts.{asker_of};
-ghost use Rattle.file_rules.specs.Files.{Files, OpenFile as RulesFile};
 ghost use Rattle.file_rules.specs.declared.path_call.PathCall.TheVariants as Call;
-ghost use Rattle.file_rules.specs.Status.{sets_status as sets_status_lem, sets_size as sets_size_lem, sets_attributes_of as sets_attributes_lem};
+ghost use Rattle.file_rules.specs.Status.{sets_size as sets_size_lem, sets_attributes_of as sets_attributes_lem};
 ghost use Rattle.file_drives.specs.Drives.{drive_views};
 ghost use Rattle.file_drives.specs.Mounted.{HasDataFileAt, HasFileAt};
 ghost use Rattle.file_state.specs.Attempt.{standing};
 ghost use Rattle.file_state.specs.Counted.{AttemptsWithin};
-ghost use Rattle.file_state.specs.Ends.{Ends};
-ghost use Rattle.file_state.specs.Tie.{IsSound, StandsFor};
-ghost use Rattle.file_status.specs.Status.{IsNamedInA, IsOpen, i_setstt_calls, setting_calls};
+ghost use Rattle.file_state.specs.Tie.{IsSound};
+ghost use Rattle.file_status.specs.Status.{EndsOn, IsNamedInA, calls_by_code, i_setstt_calls, sets_by_code, setting_calls};
 
 use crate::ends::{answer, refuse};
 use crate::front::long_of;
@@ -84,14 +79,9 @@ fn set_status_of(
         (drive_views ⟦<dyn BlockDriver as BlockDriver>⟧ devices.old.drives.items) opened.now.place }
     requires written { can_write_lem opened.now.desc.mode ≡ true → HasDataFileAt files.old.disks
         (drive_views ⟦<dyn BlockDriver as BlockDriver>⟧ devices.old.drives.items) opened.now.place }
-    ensures call { (m : Inner) (was : Files) (it : RulesFile) (terms : List TerminalState)
-        → Represents s.old m → StandsFor files.old
-        (drive_views ⟦<dyn BlockDriver as BlockDriver>⟧ devices.old.drives.items) was
-        → IsOpen was opened.now it → (code : ℕ) → code ≡ (regs_at m p.0).b
-        → Ends (sets_status_lem (asker_of m p.0 now) was it code)
-        (setting_calls (asker_of m p.0 now) it code) m was now p.0 result s.new files.new
-        (drive_views ⟦<dyn BlockDriver as BlockDriver>⟧ devices.old.drives.items)
-        (drive_views ⟦<dyn BlockDriver as BlockDriver>⟧ devices.new.drives.items) terms }
+    ensures call { EndsOn opened.now sets_by_code calls_by_code now p.0 result
+        (standing ⟦<dyn BlockDriver as BlockDriver>⟧ s.old files.old devices.old.drives.items)
+        (standing ⟦<dyn BlockDriver as BlockDriver>⟧ s.new files.new devices.new.drives.items) }
     ensures lives { IsLiving s.new.table p.0 }
     ensures terms_kept { devices.new.terms ≡ devices.old.terms }
 {
@@ -123,14 +113,9 @@ fn set_size(
     requires first { kept_at files.old.io p.0 ≡ None }
     requires written { can_write_lem opened.now.desc.mode ≡ true → HasDataFileAt files.old.disks
         (drive_views ⟦<dyn BlockDriver as BlockDriver>⟧ devices.old.drives.items) opened.now.place }
-    ensures call { (m : Inner) (was : Files) (it : RulesFile) (terms : List TerminalState)
-        → Represents s.old m → StandsFor files.old
-        (drive_views ⟦<dyn BlockDriver as BlockDriver>⟧ devices.old.drives.items) was
-        → IsOpen was opened.now it
-        → Ends (sets_size_lem (asker_of m p.0 now) was it)
-        (setting_calls (asker_of m p.0 now) it SS_SIZE) m was now p.0 result s.new files.new
-        (drive_views ⟦<dyn BlockDriver as BlockDriver>⟧ devices.old.drives.items)
-        (drive_views ⟦<dyn BlockDriver as BlockDriver>⟧ devices.new.drives.items) terms }
+    ensures call { EndsOn opened.now sets_size_lem (setting_calls SS_SIZE) now p.0 result
+        (standing ⟦<dyn BlockDriver as BlockDriver>⟧ s.old files.old devices.old.drives.items)
+        (standing ⟦<dyn BlockDriver as BlockDriver>⟧ s.new files.new devices.new.drives.items) }
     ensures lives { IsLiving s.new.table p.0 }
     ensures terms_kept { devices.new.terms ≡ devices.old.terms }
 {
@@ -158,14 +143,9 @@ fn set_attributes(
     requires first { kept_at files.old.io p.0 ≡ None }
     requires there { HasFileAt files.old.disks
         (drive_views ⟦<dyn BlockDriver as BlockDriver>⟧ devices.old.drives.items) opened.now.place }
-    ensures call { (m : Inner) (was : Files) (it : RulesFile) (terms : List TerminalState)
-        → Represents s.old m → StandsFor files.old
-        (drive_views ⟦<dyn BlockDriver as BlockDriver>⟧ devices.old.drives.items) was
-        → IsOpen was opened.now it
-        → Ends (sets_attributes_lem (asker_of m p.0 now) was it)
-        (setting_calls (asker_of m p.0 now) it SS_ATTR) m was now p.0 result s.new files.new
-        (drive_views ⟦<dyn BlockDriver as BlockDriver>⟧ devices.old.drives.items)
-        (drive_views ⟦<dyn BlockDriver as BlockDriver>⟧ devices.new.drives.items) terms }
+    ensures call { EndsOn opened.now sets_attributes_lem (setting_calls SS_ATTR) now p.0 result
+        (standing ⟦<dyn BlockDriver as BlockDriver>⟧ s.old files.old devices.old.drives.items)
+        (standing ⟦<dyn BlockDriver as BlockDriver>⟧ s.new files.new devices.new.drives.items) }
     ensures lives { IsLiving s.new.table p.0 }
     ensures terms_kept { devices.new.terms ≡ devices.old.terms }
 {

@@ -1,5 +1,3 @@
-use Rattle.std.proofs.Common.{refl}
-use Rattle.call_rules.specs.Inner.{regs_at}
 use Rattle.proc_rules.specs.Records.{record_at}
 use Rattle.file_status.proofs.AttemptLemmas.{get-attempt}
 use Rattle.file_status.proofs.OpenLemmas.{file-there}
@@ -12,4 +10,4 @@ get_status_of-requires-clause-there g c =
 pub returns-clause-call : goal.returns-clause-call
 returns-clause-call g c now terms m was tied stands kinds =
     get-attempt m was now c.args.p.0 c.get_status_of.result _ _ c.args.opened.now terms tied stands kinds c.requires.named
-    (λ it open_is. c.get_status_of.ensures.call m was now it terms tied stands open_is (regs_at m c.args.p.0).b refl)
+    (λ it open_is. c.get_status_of.ensures.call now m was it terms tied stands open_is)

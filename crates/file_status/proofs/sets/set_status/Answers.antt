@@ -1,5 +1,3 @@
-use Rattle.std.proofs.Common.{refl}
-use Rattle.call_rules.specs.Inner.{regs_at}
 use Rattle.proc_rules.specs.Records.{record_at}
 use Rattle.file_status.proofs.AttemptLemmas.{set-attempt}
 use Rattle.file_status.proofs.OpenLemmas.{data-file-there, file-there}
@@ -16,4 +14,4 @@ set_status_of-requires-clause-written g c may =
 pub returns-clause-call : goal.returns-clause-call
 returns-clause-call g c terms m was tied stands kinds =
     set-attempt m was c.args.now c.args.p.0 c.set_status_of.result _ _ c.args.opened.now terms tied stands kinds c.requires.named
-    (λ it open_is. c.set_status_of.ensures.call m was it terms tied stands open_is (regs_at m c.args.p.0).b refl)
+    (λ it open_is. c.set_status_of.ensures.call m was it terms tied stands open_is)
