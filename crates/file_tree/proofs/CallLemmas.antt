@@ -109,7 +109,7 @@ module _ (asker : Asker) (files : Files) (terms : ℕ) (execute : Bool) (most : 
   way-seen to_device = omega arith
   way-seen (nowhere number) = omega arith
 
-  pub located-seen : located_calls asker files terms execute (λ v file. 0) ≤ located_calls asker files terms execute most
+  pub located-seen : located_calls execute (λ v file. 0) asker files terms ≤ located_calls execute most asker files terms
   located-seen = by (list_of asker)
     where
       by : (read : Result PathList NameFault) → listed_calls read (λ list. way_calls asker files execute (λ v file. 0) (way_of asker files terms execute list)) ≤ listed_calls read (λ list. way_calls asker files execute most (way_of asker files terms execute list))
@@ -128,7 +128,7 @@ module _ (asker : Asker) (files : Files) (terms : ℕ) (execute : Bool) (most : 
     way-within list to_device is = cc
     way-within list (nowhere number) is = cc
 
-    pub located-within : (refusal : Option ℕ) → answer_of (locates asker files terms execute refusal) ≡ Ok it → located_calls asker files terms execute (λ v file. 0) + more ≤ located_calls asker files terms execute most
+    pub located-within : (refusal : Option ℕ) → answer_of (locates execute refusal asker files terms) ≡ Ok it → located_calls execute (λ v file. 0) asker files terms + more ≤ located_calls execute most asker files terms
     located-within = by (list_of asker)
       where
         by : (read : Result PathList NameFault) (refusal : Option ℕ) → answer_of (reads_list read (refuses_by refusal) (λ list. locates_on asker files execute list (way_of asker files terms execute list))) ≡ Ok it → listed_calls read (λ list. way_calls asker files execute (λ v file. 0) (way_of asker files terms execute list)) + more ≤ listed_calls read (λ list. way_calls asker files execute most (way_of asker files terms execute list))
@@ -147,7 +147,7 @@ module _ (purpose : Purpose) (asker : Asker) (files : Files) (terms : ℕ) (exec
   last-seen to_device last = omega arith
   last-seen (nowhere number) last = omega arith
 
-  pub named-seen : named_calls purpose asker files terms execute (λ name v dir. 0) ≤ named_calls purpose asker files terms execute most
+  pub named-seen : named_calls purpose execute (λ name v dir. 0) asker files terms ≤ named_calls purpose execute most asker files terms
   named-seen = by (list_of asker)
     where
       by : (read : Result PathList NameFault) → listed_calls read (λ list. last_calls asker files execute (λ name v dir. 0) (way_for purpose asker files terms execute list) (last_of list.names)) ≤ listed_calls read (λ list. last_calls asker files execute most (way_for purpose asker files terms execute list) (last_of list.names))
@@ -173,7 +173,7 @@ module _ (purpose : Purpose) (asker : Asker) (files : Files) (terms : ℕ) (exec
     last-within list to_device last is = cc
     last-within list (nowhere number) last is = cc
 
-    pub named-within : (refusal : Option ℕ) → answer_of (names_last purpose asker files terms execute refusal) ≡ Ok it → named_calls purpose asker files terms execute (λ name v dir. 0) + after ≤ named_calls purpose asker files terms execute most
+    pub named-within : (refusal : Option ℕ) → answer_of (names_last purpose execute refusal asker files terms) ≡ Ok it → named_calls purpose execute (λ name v dir. 0) asker files terms + after ≤ named_calls purpose execute most asker files terms
     named-within = by (list_of asker)
       where
         by : (read : Result PathList NameFault) (refusal : Option ℕ) → answer_of (reads_list read (refuses_by refusal) (λ list. names_on purpose asker files execute list (way_for purpose asker files terms execute list) (last_of list.names))) ≡ Ok it → listed_calls read (λ list. last_calls asker files execute (λ name v dir. 0) (way_for purpose asker files terms execute list) (last_of list.names)) + after ≤ listed_calls read (λ list. last_calls asker files execute most (way_for purpose asker files terms execute list) (last_of list.names))

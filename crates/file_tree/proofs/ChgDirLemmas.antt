@@ -67,21 +67,21 @@ module _ (asker : Asker) (files : Files) where
       by (Err NoName) false = refl
 
 -- the mode of a call chooses its directory, and is its refusal or none
-pub looks-same : (asker : Asker) (files : Files) (terms : ℕ) (regs : Regs) (execute allowed : Bool) (refusal : Option ℕ) → regs ≡ asker.caller.regs → execute ≡ is_for_execution regs.a → allowed ≡ is_mode regs.a → refusal ≡ mode_refusal allowed → next_step (locates asker files terms execute refusal) (allows_to_go asker) ≡ looks_for_directory asker files terms
+pub looks-same : (asker : Asker) (files : Files) (terms : ℕ) (regs : Regs) (execute allowed : Bool) (refusal : Option ℕ) → regs ≡ asker.caller.regs → execute ≡ is_for_execution regs.a → allowed ≡ is_mode regs.a → refusal ≡ mode_refusal allowed → next_step (locates execute refusal asker files terms) (allows_to_go asker) ≡ looks_for_directory asker files terms
 looks-same asker files terms regs execute allowed refusal same execute_is allowed_is refusal_is =
-    ap (λ (execute : Bool). next_step (locates asker files terms execute refusal) (allows_to_go asker)) (execute_is ∙ ap (λ (regs : Regs). is_for_execution regs.a) same)
-    ∙ ap (λ (refusal : Option ℕ). next_step (locates asker files terms (is_for_execution asker.caller.regs.a) refusal) (allows_to_go asker)) (refusal_is ∙ ap mode_refusal (allowed_is ∙ ap (λ (regs : Regs). is_mode regs.a) same))
+    ap (λ (execute : Bool). next_step (locates execute refusal asker files terms) (allows_to_go asker)) (execute_is ∙ ap (λ (regs : Regs). is_for_execution regs.a) same)
+    ∙ ap (λ (refusal : Option ℕ). next_step (locates (is_for_execution asker.caller.regs.a) refusal asker files terms) (allows_to_go asker)) (refusal_is ∙ ap mode_refusal (allowed_is ∙ ap (λ (regs : Regs). is_mode regs.a) same))
 
 -- and the calls of the walk are a part of its calls, beside one for what was found
 module _ (asker : Asker) (files : Files) (terms : ℕ) (execute : Bool) (same : execute ≡ is_for_execution asker.caller.regs.a) where
-  pub chgdir-seen : located_calls asker files terms execute (λ v file. 0) ≤ i_chgdir_calls asker files terms
+  pub chgdir-seen : located_calls execute (λ v file. 0) asker files terms ≤ i_chgdir_calls asker files terms
   chgdir-seen =
-      subst (λ (e : Bool). located_calls asker files terms execute (λ v file. 0) ≤ located_calls asker files terms e (λ v file. 1)) same
+      subst (λ (e : Bool). located_calls execute (λ v file. 0) asker files terms ≤ located_calls e (λ v file. 1) asker files terms) same
       (located-seen asker files terms execute (λ v file. 1))
 
-  pub chgdir-within : (refusal : Option ℕ) (it : FoundBy) → answer_of (locates asker files terms execute refusal) ≡ Ok it → located_calls asker files terms execute (λ v file. 0) + 1 ≤ i_chgdir_calls asker files terms
+  pub chgdir-within : (refusal : Option ℕ) (it : FoundBy) → answer_of (locates execute refusal asker files terms) ≡ Ok it → located_calls execute (λ v file. 0) asker files terms + 1 ≤ i_chgdir_calls asker files terms
   chgdir-within refusal it is =
-      subst (λ (e : Bool). located_calls asker files terms execute (λ v file. 0) + 1 ≤ located_calls asker files terms e (λ v file. 1)) same
+      subst (λ (e : Bool). located_calls execute (λ v file. 0) asker files terms + 1 ≤ located_calls e (λ v file. 1) asker files terms) same
       (located-within asker files terms execute (λ v file. 1) it refusal is)
 
 -- the call of a process is done, and its directory is another one

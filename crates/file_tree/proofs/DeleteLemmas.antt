@@ -24,7 +24,7 @@ module _ (asker : Asker) (files : Files) (execute : Bool) where
   with-way list to_device last = refl
   with-way list (nowhere number) last = refl
 
-  pub deletes-parts : (terms : ℕ) (refusal : Option ℕ) → deletes_by asker files terms execute (refuses_by refusal) ≡ next_step (names_last Existing asker files terms execute refusal) (deletes_it asker files execute)
+  pub deletes-parts : (terms : ℕ) (refusal : Option ℕ) → deletes_by asker files terms execute (refuses_by refusal) ≡ next_step (names_last Existing execute refusal asker files terms) (deletes_it asker files execute)
   deletes-parts terms refusal = by (list_of asker) refusal
     where
       by : (read : Result PathList NameFault) (refusal : Option ℕ) → reads_list read (refuses_by refusal) (λ list. deletes_named asker files execute list (way_of asker files terms execute list) (last_of list.names)) ≡ next_step (reads_list read (refuses_by refusal) (λ list. names_on Existing asker files execute list (way_of asker files terms execute list) (last_of list.names))) (deletes_it asker files execute)

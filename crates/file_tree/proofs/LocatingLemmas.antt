@@ -51,15 +51,15 @@ way-is asker refusal way list to read is = by refusal (way list) (ap (λ (read :
     by (Some number) led is = absurd (let no : refused number ≡ comes (record { list = list; way = to }) = is in cc)
 
 module _ (asker : Asker) (files : Files) (terms : ℕ) (execute : Bool) (refusal : Option ℕ) where
-  by-leads : locates asker files terms execute refusal ≡ next_step (leads asker refusal (way_of asker files terms execute)) (λ led. locates_on asker files execute led.list led.way)
+  by-leads : locates execute refusal asker files terms ≡ next_step (leads asker refusal (way_of asker files terms execute)) (λ led. locates_on asker files execute led.list led.way)
   by-leads = leads-on asker refusal (way_of asker files terms execute) (locates_on asker files execute) (λ list number. refl)
 
   -- along the way that was found
-  pub locates-way : (list : PathList) (way : Way) → leads asker refusal (way_of asker files terms execute) ≡ comes (record { list = list; way = way }) → locates asker files terms execute refusal ≡ locates_on asker files execute list way
+  pub locates-way : (list : PathList) (way : Way) → leads asker refusal (way_of asker files terms execute) ≡ comes (record { list = list; way = way }) → locates execute refusal asker files terms ≡ locates_on asker files execute list way
   locates-way list way is = by-leads ∙ ap (λ (step : Step Led). next_step step (λ led. locates_on asker files execute led.list led.way)) is
 
   -- or it is refused
-  pub locates-refused : (number : ℕ) → leads asker refusal (way_of asker files terms execute) ≡ refused number → locates asker files terms execute refusal ≡ refused number
+  pub locates-refused : (number : ℕ) → leads asker refusal (way_of asker files terms execute) ≡ refused number → locates execute refusal asker files terms ≡ refused number
   locates-refused number is = by-leads ∙ ap (λ (step : Step Led). next_step step (λ led. locates_on asker files execute led.list led.way)) is
 
 -- ---- the walk
@@ -97,27 +97,27 @@ has-along cells way from first is has = subst (λ (way : Taken). HasNames cells 
 
 module _ (asker : Asker) (files : Files) (terms : ℕ) (execute : Bool) (refusal : Option ℕ) (cells : Cells) (route : Route) (it : IsRoute cells asker (leads asker refusal (way_of asker files terms execute)) route) where
   -- it leads to a terminal or a pipe
-  pub locates-device : route.way ≡ Device → locates asker files terms execute refusal ≡ refused E_FNA
+  pub locates-device : route.way ≡ Device → locates execute refusal asker files terms ≡ refused E_FNA
   locates-device is =
       locates-way asker files terms execute refusal it.list it.way it.comes_to
       ∙ ap (locates_on asker files execute it.list) (it.route_is.way_is ∙ ap (λ (way : Taken). way_to (Ok way) it.list.names) is)
 
   module _ (from : FilePlace) (first : Option ℕ) (is : route.way ≡ Along from first) where
     -- it leads along names
-    locates-along : locates asker files terms execute refusal ≡ walks asker files execute from it.list.names (λ found. comes (found_by it.list found))
+    locates-along : locates execute refusal asker files terms ≡ walks asker files execute from it.list.names (λ found. comes (found_by it.list found))
     locates-along =
         locates-way asker files terms execute refusal it.list it.way it.comes_to
         ∙ ap (locates_on asker files execute it.list) (it.route_is.way_is ∙ ap (λ (way : Taken). way_to (Ok way) it.list.names) is)
 
     -- the calls of the walk
-    calls-along : located_calls asker files terms execute (λ v file. 0) ≡ walk_and asker.user execute from.number it.list.names (λ v file. 0) (volume_at files from.drive)
+    calls-along : located_calls execute (λ v file. 0) asker files terms ≡ walk_and asker.user execute from.number it.list.names (λ v file. 0) (volume_at files from.drive)
     calls-along =
         ap (λ (read : Result PathList NameFault). listed_calls read (λ list. way_calls asker files execute (λ v file. 0) (way_of asker files terms execute list))) it.read
         ∙ ap (way_calls asker files execute (λ v file. 0))
         (way-is asker refusal (way_of asker files terms execute) it.list it.way it.read it.comes_to
         ∙ it.route_is.way_is ∙ ap (λ (way : Taken). way_to (Ok way) it.list.names) is)
 
-    calls-enough : (walker : Walker) → walker.execute ≡ execute → asker.user ≡ walker.user → (v : DiskVolume) → volume_at files from.drive ≡ Some v → walk_calls v.files walker.user walker.execute from.number it.list.names ≤ located_calls asker files terms execute (λ v file. 0)
+    calls-enough : (walker : Walker) → walker.execute ≡ execute → asker.user ≡ walker.user → (v : DiskVolume) → volume_at files from.drive ≡ Some v → walk_calls v.files walker.user walker.execute from.number it.list.names ≤ located_calls execute (λ v file. 0) asker files terms
     calls-enough walker searches user v there =
         subst (λ (n : ℕ). walk_calls v.files walker.user walker.execute from.number it.list.names ≤ n)
         (ap (λ (e : Bool). walk_and walker.user e from.number it.list.names (λ v file. 0) (volume_at files from.drive)) searches
@@ -128,12 +128,12 @@ module _ (asker : Asker) (files : Files) (terms : ℕ) (execute : Bool) (refusal
     pub names-along : NamesFrom cells first it.list.names
     names-along = subst (λ (way : Taken). NamesOn cells way it.list.names) is it.route_is.names
 
-    pub along-located : (walker : Walker) (state new : FileState) (views now : List DriveView) → walker.execute ≡ execute → asker.user ≡ walker.user → StandsFor state views files → HasFileAt state.disks views from → new.io ≡ state.io → new.directories ≡ state.directories → (arrived : Result FilePlace DirError) (result : Result Located ℕ) → result ≡ located_by arrived route.next → Walks walker from it.list.names arrived state.disks views new.disks now → Locates (locates asker files terms execute refusal) (located_calls asker files terms execute (λ v file. 0)) result files new views now
+    pub along-located : (walker : Walker) (state new : FileState) (views now : List DriveView) → walker.execute ≡ execute → asker.user ≡ walker.user → StandsFor state views files → HasFileAt state.disks views from → new.io ≡ state.io → new.directories ≡ state.directories → (arrived : Result FilePlace DirError) (result : Result Located ℕ) → result ≡ located_by arrived route.next → Walks walker from it.list.names arrived state.disks views new.disks now → Locates (locates execute refusal asker files terms) (located_calls execute (λ v file. 0) asker files terms) result files new views now
     along-located walker state new views now searches user stands has io directories arrived result result_is walk =
-        subst (λ (step : Step FoundBy). Locates step (located_calls asker files terms execute (λ v file. 0)) result files new views now)
+        subst (λ (step : Step FoundBy). Locates step (located_calls execute (λ v file. 0) asker files terms) result files new views now)
         (ap (λ (e : Bool). walks asker files e from it.list.names (λ found. comes (found_by it.list found))) searches ∙ sym locates-along)
-        (subst (λ (r : Result Located ℕ). Locates (walks asker files walker.execute from it.list.names (λ found. comes (found_by it.list found))) (located_calls asker files terms execute (λ v file. 0)) r files new views now) (sym result_is)
-        (walk-located asker walker files it.list from state new views now user stands has io directories (located_calls asker files terms execute (λ v file. 0)) (calls-enough walker searches user) arrived route.next it.route_is.next_is walk))
+        (subst (λ (r : Result Located ℕ). Locates (walks asker files walker.execute from it.list.names (λ found. comes (found_by it.list found))) (located_calls execute (λ v file. 0) asker files terms) r files new views now) (sym result_is)
+        (walk-located asker walker files it.list from state new views now user stands has io directories (located_calls execute (λ v file. 0) asker files terms) (calls-enough walker searches user) arrived route.next it.route_is.next_is walk))
 
 -- the file that was reached is there
 pub reached-file : (drive next : ℕ) (disks : List (Option Volume)) (views : List DriveView) (arrived : Result FilePlace DirError) (result : Result Located ℕ) → result ≡ located_by arrived next → IfOk arrived (ArrivesOn drive disks views) → IfOk result (λ located. HasFileAt disks views located.place)

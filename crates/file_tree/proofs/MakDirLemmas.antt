@@ -67,7 +67,7 @@ module _ (asker : Asker) (files : Files) where
   with-way list to_device same = refl
   with-way list (nowhere number) same = refl
 
-  pub makdir-parts : (terms : ℕ) → i_makdir asker files terms ≡ next_step (names_last New asker files terms false None) (makes_it asker files)
+  pub makdir-parts : (terms : ℕ) → i_makdir asker files terms ≡ next_step (names_last New false None asker files terms) (makes_it asker files)
   makdir-parts terms = by (list_of asker)
     where
       by : (read : Result PathList NameFault) → reads_list read (λ step. step) (λ list. makes_on_way asker files list (way_to_new asker files terms false list)) ≡ next_step (reads_list read (refuses_by None) (λ list. names_on New asker files false list (way_to_new asker files terms false list) (last_of list.names))) (makes_it asker files)

@@ -50,15 +50,15 @@ module _ (purpose : Purpose) (asker : Asker) (files : Files) (terms : ℕ) (exec
   abbrev way : PathList → Way
   way = way_for purpose asker files terms execute
 
-  by-leads : names_last purpose asker files terms execute refusal ≡ next_step (leads asker refusal way) (λ led. names_on purpose asker files execute led.list led.way (last_of led.list.names))
+  by-leads : names_last purpose execute refusal asker files terms ≡ next_step (leads asker refusal way) (λ led. names_on purpose asker files execute led.list led.way (last_of led.list.names))
   by-leads = leads-on asker refusal way (λ list led. names_on purpose asker files execute list led (last_of list.names)) (λ list number. refl)
 
   -- along the way that was found
-  pub names-way : (list : PathList) (to : Way) → leads asker refusal way ≡ comes (record { list = list; way = to }) → names_last purpose asker files terms execute refusal ≡ names_on purpose asker files execute list to (last_of list.names)
+  pub names-way : (list : PathList) (to : Way) → leads asker refusal way ≡ comes (record { list = list; way = to }) → names_last purpose execute refusal asker files terms ≡ names_on purpose asker files execute list to (last_of list.names)
   names-way list to is = by-leads ∙ ap (λ (step : Step Led). next_step step (λ led. names_on purpose asker files execute led.list led.way (last_of led.list.names))) is
 
   -- or it is refused
-  pub names-refused : (number : ℕ) → leads asker refusal way ≡ refused number → names_last purpose asker files terms execute refusal ≡ refused number
+  pub names-refused : (number : ℕ) → leads asker refusal way ≡ refused number → names_last purpose execute refusal asker files terms ≡ refused number
   names-refused number is = by-leads ∙ ap (λ (step : Step Led). next_step step (λ led. names_on purpose asker files execute led.list led.way (last_of led.list.names))) is
 
 -- ---- a name of what is made
@@ -129,10 +129,10 @@ unnamed-there Existing asker files execute whole most list from state views stan
 
 module _ (purpose : Purpose) (asker : Asker) (files : Files) (terms : ℕ) (execute : Bool) (refusal : Option ℕ) (cells : Cells) (route : Route) (it : IsRoute cells asker (leads asker refusal (way_for purpose asker files terms execute)) route) where
   abbrev whole : Step NamedBy
-  whole = names_last purpose asker files terms execute refusal
+  whole = names_last purpose execute refusal asker files terms
 
   abbrev most : ℕ
-  most = named_calls purpose asker files terms execute (λ name v dir. 0)
+  most = named_calls purpose execute (λ name v dir. 0) asker files terms
 
   -- it leads to a terminal or a pipe
   pub names-device : route.way ≡ Device → whole ≡ refused E_FNA

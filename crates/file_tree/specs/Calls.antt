@@ -30,14 +30,14 @@ way_calls asker files execute most to_device = 0
 way_calls asker files execute most (nowhere number) = 0
 
 -- by the list at X, for execution or not
-abbrev pub located_calls : Asker → Files → ℕ → Bool → (DiskVolume → DiskFile → ℕ) → ℕ
-located_calls asker files terms execute most =
+abbrev pub located_calls : Bool → (DiskVolume → DiskFile → ℕ) → Asker → Files → ℕ → ℕ
+located_calls execute most asker files terms =
     listed_calls (list_of asker) (λ list. way_calls asker files execute most (way_of asker files terms execute list))
 
 -- the descriptor of what is found is read
 abbrev pub i_chgdir_calls : Asker → Files → ℕ → ℕ
 i_chgdir_calls asker files terms =
-    located_calls asker files terms (is_for_execution asker.caller.regs.a) (λ v file. 1)
+    located_calls (is_for_execution asker.caller.regs.a) (λ v file. 1) asker files terms
 
 -- ---- to the directory of the last name
 
@@ -50,8 +50,8 @@ last_calls asker files execute most to_device name = 0
 last_calls asker files execute most (nowhere number) name = 0
 
 -- by the list at X, for execution or not
-abbrev pub named_calls : Purpose → Asker → Files → ℕ → Bool → (List ℕ → DiskVolume → DiskFile → ℕ) → ℕ
-named_calls purpose asker files terms execute most =
+abbrev pub named_calls : Purpose → Bool → (List ℕ → DiskVolume → DiskFile → ℕ) → Asker → Files → ℕ → ℕ
+named_calls purpose execute most asker files terms =
     listed_calls (list_of asker)
     (λ list. last_calls asker files execute most (way_for purpose asker files terms execute list) (last_of list.names))
 
@@ -61,7 +61,7 @@ making_calls user name v dir =
     place_calls dir name user false + (file_clusters (cluster_size v) new_directory_size + 2 + entry_calls v dir)
 
 abbrev pub i_makdir_calls : Asker → Files → ℕ → ℕ
-i_makdir_calls asker files terms = named_calls New asker files terms false (making_calls asker.user)
+i_makdir_calls asker files terms = named_calls New false (making_calls asker.user) asker files terms
 
 -- the entry is looked for; it is made free, and so are the clusters of its file
 abbrev pub deleting_calls : ℕ → Bool → List ℕ → DiskVolume → DiskFile → ℕ
@@ -71,12 +71,12 @@ deleting_calls user execute name v dir =
     (look_up dir.contents name) 0
 
 -- for execution or not
-abbrev pub deletes_by_calls : Asker → Files → ℕ → Bool → ℕ
-deletes_by_calls asker files terms execute =
-    named_calls Existing asker files terms execute (deleting_calls asker.user execute)
+abbrev pub deletes_by_calls : Bool → Asker → Files → ℕ → ℕ
+deletes_by_calls execute asker files terms =
+    named_calls Existing execute (deleting_calls asker.user execute) asker files terms
 
 abbrev pub i_delete_calls : Asker → Files → ℕ → ℕ
-i_delete_calls asker files terms = deletes_by_calls asker files terms false
+i_delete_calls asker files terms = deletes_by_calls false asker files terms
 
 abbrev pub i_deletx_calls : Asker → Files → ℕ → ℕ
-i_deletx_calls asker files terms = deletes_by_calls asker files terms (is_for_execution asker.caller.regs.a)
+i_deletx_calls asker files terms = deletes_by_calls (is_for_execution asker.caller.regs.a) asker files terms

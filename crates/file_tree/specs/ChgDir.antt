@@ -16,8 +16,8 @@ allows_to_go asker it = refuses (not (may_go_to it.found.file asker.user asker.c
 
 abbrev pub looks_for_directory : Asker → Files → ℕ → Step FoundBy
 looks_for_directory asker files terms =
-    next_step (locates asker files terms (is_for_execution asker.caller.regs.a)
-    (mode_refusal (is_mode asker.caller.regs.a))) (allows_to_go asker)
+    next_step (locates (is_for_execution asker.caller.regs.a) (mode_refusal (is_mode asker.caller.regs.a)) asker files
+    terms) (allows_to_go asker)
 
 -- it becomes the directory of the process
 abbrev pub goes_there : Asker → Files → FoundBy → FileStep

@@ -1,6 +1,7 @@
 pub mod Calls
 pub mod ChgDir
 pub mod Delete
+pub mod Kept
 pub mod Locating
 pub mod Looks
 pub mod MakDir

@@ -30,8 +30,8 @@ locates_on asker files execute list to_device = refused E_FNA
 locates_on asker files execute list (nowhere number) = refused number
 
 -- by the list at X, for execution or not, of a call with this refusal, if it has one
-abbrev pub locates : Asker → Files → ℕ → Bool → Option ℕ → Step FoundBy
-locates asker files terms execute refusal =
+abbrev pub locates : Bool → Option ℕ → Asker → Files → ℕ → Step FoundBy
+locates execute refusal asker files terms =
     reads_list (list_of asker) (refuses_by refusal)
     (λ list. locates_on asker files execute list (way_of asker files terms execute list))
 

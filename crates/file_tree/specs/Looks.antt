@@ -1,12 +1,18 @@
 -- A part of a call that may reach a drive and changes no volume: what it answers, and what it leaves of the kernel's
 -- files.
 use Rattle.std.specs.Prelude.{◌≡◌, ◌⊎◌, ℕ, Some, None, List, Result, Ok, Err}
+use Rattle.os9_base.specs.declared.registers.TimePacket.{TimePacket}
+use Rattle.call_rules.specs.Inner.{Inner}
+use Rattle.proc_state.specs.Tie.{Represents}
 use Rattle.rbf_model.specs.Volume.{DiskVolume}
-use Rattle.file_rules.specs.Files.{Files, volume_at}
+use Rattle.file_rules.specs.Attempts.{asker_of}
+use Rattle.file_rules.specs.Files.{Asker, Files, volume_at}
 use Rattle.file_rules.specs.Step.{Step, refused, comes, reaches, drive_of}
 use Rattle.file_drives.specs.Drives.{DriveView, drive_states}
+use Rattle.file_state.specs.Attempt.{Standing}
 use Rattle.file_state.specs.Counted.{CalledAtMost, calls_of}
 use Rattle.file_state.specs.Reached.{HasRead}
+use Rattle.file_state.specs.Tie.{StandsFor}
 use Rattle.file_state.specs.declared.state.FileState.{FileState}
 
 -- what it comes to where no drive fails
@@ -55,6 +61,16 @@ pub record LooksFor {A R : Type 0} (fact : A → R → Type 0) (step : Step A) (
   pub looks : Looks step answer files new before now
   pub drives_are : files.drives ≡ drive_states before
   pub calls : CalledAtMost (calls_of step most) before now
+
+-- a search by a process, at any time and with so many terminals, came to this, from each state of the machine that the
+-- kernel's stands for
+abbrev pub LooksFrom : {A R : Type 0} → (Step A → Files → A → R → Type 0) → (Asker → Files → ℕ → Step A)
+    → (Asker → Files → ℕ → ℕ) → ℕ → ℕ → Result R ℕ → Standing → Standing → Type 0
+LooksFrom fact step most p terms result before after =
+    (m : Inner) (was : Files) (now : TimePacket) → Represents before.processes m
+    → StandsFor before.files before.views was
+    → LooksFor (fact (step (asker_of m p now) was terms) was) (step (asker_of m p now) was terms)
+    (most (asker_of m p now) was terms) result was after.files before.views after.views
 
 -- it came to what was found, and so the drives are then
 pub record HasFound {A R : Type 0} (fact : A → R → Type 0) (step : Step A) (most : ℕ) (found : R) (files : Files)

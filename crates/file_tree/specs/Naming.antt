@@ -47,8 +47,8 @@ names_on purpose asker files execute list to_device name = refused E_FNA
 names_on purpose asker files execute list (nowhere number) name = refused number
 
 -- by the list at X, for execution or not, of a call with this refusal, if it has one
-abbrev pub names_last : Purpose → Asker → Files → ℕ → Bool → Option ℕ → Step NamedBy
-names_last purpose asker files terms execute refusal =
+abbrev pub names_last : Purpose → Bool → Option ℕ → Asker → Files → ℕ → Step NamedBy
+names_last purpose execute refusal asker files terms =
     reads_list (list_of asker) (refuses_by refusal)
     (λ list. names_on purpose asker files execute list (way_for purpose asker files terms execute list)
     (last_of list.names))

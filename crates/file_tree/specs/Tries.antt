@@ -3,11 +3,16 @@ use Rattle.std.specs.Prelude.{ℕ, ◌%◌, List, Result, Ok, Err}
 use Rattle.os9_base.specs.declared.call.CallEnd.{CallEnd}
 use Rattle.os9_base.specs.declared.call.CallEnd.TheVariants.{Done, Error}
 use Rattle.os9_base.specs.declared.registers.Regs.{Regs}
+use Rattle.os9_base.specs.declared.registers.TimePacket.{TimePacket}
 use Rattle.os9_outer.specs.TerminalState.{TerminalState}
+use Rattle.call_rules.specs.Inner.{Inner}
 use Rattle.io_rules.specs.Step.{IoEnd, answers, fails}
+use Rattle.proc_state.specs.Tie.{Represents}
 use Rattle.file_drives.specs.Drives.{DriveView}
+use Rattle.file_rules.specs.Attempts.{asker_of}
 use Rattle.file_rules.specs.Files.{Asker, Files}
 use Rattle.file_rules.specs.Step.{FileDoes, FileStep, leaves}
+use Rattle.file_state.specs.Attempt.{Standing}
 use Rattle.file_state.specs.Counted.{CalledAtMost, calls_of}
 use Rattle.file_state.specs.Media.{KeepsDrives}
 use Rattle.file_state.specs.Tie.{StandsFor}
@@ -32,3 +37,12 @@ pub record Tries (step : FileStep) (most : ℕ) (asker : Asker) (files : Files) 
   pub stands : StandsFor new now left
   pub calls : CalledAtMost (calls_of step most) before now
   pub drives : KeepsDrives step asker files (told_by result) before now
+
+-- such an attempt of a process, at a time and with so many terminals, from each state of the machine that the kernel's
+-- stands for
+abbrev pub TriesFrom : (Asker → Files → ℕ → FileStep) → (Asker → Files → ℕ → ℕ) → TimePacket → ℕ → ℕ → Result ℕ ℕ
+    → Standing → Standing → Type 0
+TriesFrom step most now p terms result before after =
+    (m : Inner) (was : Files) → Represents before.processes m → StandsFor before.files before.views was
+    → Tries (step (asker_of m p now) was terms) (most (asker_of m p now) was terms) (asker_of m p now) was result
+    after.files before.views after.views

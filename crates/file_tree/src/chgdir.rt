@@ -1,23 +1,22 @@
 //! I$ChgDir.
 
-ghost use Rattle.std.specs.Prelude.{◌≡◌, ℕ, List, None, Ok, Err, length, vec_len, if◌then◌else◌};
-ghost use Rattle.call_rules.specs.Inner.{Inner};
+ghost use Rattle.std.specs.Prelude.{◌≡◌, List, None, Ok, Err, length, vec_len, if◌then◌else◌};
 ghost use Rattle.file_drives.specs.Drives.{drive_views};
-ghost use Rattle.file_rules.specs.Attempts.{asker_of};
 ghost use Rattle.file_rules.specs.ChgDir.{may_go_to as may_go_to_lem};
-ghost use Rattle.file_rules.specs.Files.{Files};
 ghost use Rattle.file_rules.specs.declared.path_call.PathCall.TheVariants as Call;
 ghost use Rattle.file_state.specs.Attempt.{standing};
 ghost use Rattle.file_state.specs.Counted.{AttemptsWithin};
-ghost use Rattle.file_state.specs.Tie.{IsSound, StandsFor};
+ghost use Rattle.file_state.specs.Tie.{IsSound};
 ghost use Rattle.file_tree.specs.Calls.{i_chgdir_calls};
 ghost use Rattle.file_tree.specs.ChgDir.{looks_for_directory};
-ghost use Rattle.file_tree.specs.Locating.{Locates};
+ghost use Rattle.file_tree.specs.Kept.{KeepsAllButDisks};
+ghost use Rattle.file_tree.specs.Locating.{IsLocated};
+ghost use Rattle.file_tree.specs.Looks.{LooksFrom};
 ghost use Rattle.io_rules.specs.Io.{kept_at};
 ghost use Rattle.os9_base.specs.declared.registers.TimePacket.{TimePacket};
 ghost use Rattle.os9_outer.specs.TerminalState.{TerminalState};
 ghost use Rattle.proc_rules.specs.Records.{IsLiving};
-ghost use Rattle.proc_state.specs.Tie.{IsSame, Represents};
+ghost use Rattle.proc_state.specs.Tie.{IsSame};
 ghost use Rattle.rbf_access.specs.Reading.{IsFdOf};
 ghost use Rattle.rbf_model.specs.File.{DiskFile};
 
@@ -85,15 +84,11 @@ fn find_directory(
     requires lives { IsLiving s.old.table p.0 }
     requires sound { IsSound files.old
         (drive_views ⟦<dyn BlockDriver as BlockDriver>⟧ devices.old.drives.items) }
-    ensures finds { (m : Inner) (was : Files) (now : TimePacket) → Represents s.old m
-        → StandsFor files.old
-        (drive_views ⟦<dyn BlockDriver as BlockDriver>⟧ devices.old.drives.items) was
-        → Locates (looks_for_directory (asker_of m p.0 now) was (vec_len devices.old.terms))
-        (i_chgdir_calls (asker_of m p.0 now) was (vec_len devices.old.terms)) result was files.new
-        (drive_views ⟦<dyn BlockDriver as BlockDriver>⟧ devices.old.drives.items)
-        (drive_views ⟦<dyn BlockDriver as BlockDriver>⟧ devices.new.drives.items) }
-    ensures io_kept { files.new.io ≡ files.old.io }
-    ensures directories_kept { files.new.directories ≡ files.old.directories }
+    ensures finds { LooksFrom IsLocated looks_for_directory i_chgdir_calls p.0
+        (vec_len devices.old.terms) result
+        (standing ⟦<dyn BlockDriver as BlockDriver>⟧ s.old files.old devices.old.drives.items)
+        (standing ⟦<dyn BlockDriver as BlockDriver>⟧ s.new files.new devices.new.drives.items) }
+    ensures rest_kept { KeepsAllButDisks files.old files.new }
     ensures same { IsSame s.old s.new }
     ensures terms_kept { devices.new.terms ≡ devices.old.terms }
 {

@@ -1,25 +1,23 @@
 //! I$Delete and I$DeletX.
 
-ghost use Rattle.std.specs.Prelude.{◌≡◌, ℕ, List, None, length, vec_len};
-ghost use Rattle.call_rules.specs.Inner.{Inner};
+ghost use Rattle.std.specs.Prelude.{◌≡◌, List, None, length, vec_len};
 ghost use Rattle.file_drives.specs.Drives.{drive_views};
 ghost use Rattle.file_drives.specs.Mounted.{HasFileAt};
-ghost use Rattle.file_rules.specs.Attempts.{asker_of};
 ghost use Rattle.file_rules.specs.Delete.{deletes_by};
-ghost use Rattle.file_rules.specs.Files.{Files};
 ghost use Rattle.file_rules.specs.declared.path_call.PathCall.TheVariants as Call;
 ghost use Rattle.file_state.specs.Attempt.{standing};
 ghost use Rattle.file_state.specs.Counted.{AttemptsWithin};
-ghost use Rattle.file_state.specs.Tie.{IsSound, StandsFor};
+ghost use Rattle.file_state.specs.Tie.{IsSound};
 ghost use Rattle.file_tree.specs.Calls.{deletes_by_calls, i_delete_calls, i_deletx_calls};
 ghost use Rattle.file_tree.specs.Delete.{DeletesIn};
-ghost use Rattle.file_tree.specs.Tries.{Tries};
+ghost use Rattle.file_tree.specs.Kept.{KeepsAllButDisks};
+ghost use Rattle.file_tree.specs.Tries.{TriesFrom};
 ghost use Rattle.file_ways.specs.Ways.{refuses_by};
 ghost use Rattle.io_rules.specs.Io.{kept_at};
 ghost use Rattle.os9_base.specs.declared.registers.TimePacket.{TimePacket};
 ghost use Rattle.os9_outer.specs.TerminalState.{TerminalState};
 ghost use Rattle.proc_rules.specs.Records.{IsLiving};
-ghost use Rattle.proc_state.specs.Tie.{IsSame, Represents};
+ghost use Rattle.proc_state.specs.Tie.{IsSame};
 
 use crate::ends::end_call;
 use crate::modes::{is_for_execution, is_mode};
@@ -108,15 +106,11 @@ fn delete_named(
     requires lives { IsLiving s.old.table p.0 }
     requires sound { IsSound files.old
         (drive_views ⟦<dyn BlockDriver as BlockDriver>⟧ devices.old.drives.items) }
-    ensures tries { (m : Inner) (was : Files) (now : TimePacket) → Represents s.old m
-        → StandsFor files.old
-        (drive_views ⟦<dyn BlockDriver as BlockDriver>⟧ devices.old.drives.items) was
-        → Tries (deletes_by (asker_of m p.0 now) was (vec_len devices.old.terms) execute
-        (refuses_by refusal))
-        (deletes_by_calls (asker_of m p.0 now) was (vec_len devices.old.terms) execute)
-        (asker_of m p.0 now) was result files.new
-        (drive_views ⟦<dyn BlockDriver as BlockDriver>⟧ devices.old.drives.items)
-        (drive_views ⟦<dyn BlockDriver as BlockDriver>⟧ devices.new.drives.items) }
+    ensures tries { (now : TimePacket) → TriesFrom
+        (λ asker was terms. deletes_by asker was terms execute (refuses_by refusal))
+        (deletes_by_calls execute) now p.0 (vec_len devices.old.terms) result
+        (standing ⟦<dyn BlockDriver as BlockDriver>⟧ s.old files.old devices.old.drives.items)
+        (standing ⟦<dyn BlockDriver as BlockDriver>⟧ s.new files.new devices.new.drives.items) }
     ensures io_kept { files.new.io ≡ files.old.io }
     ensures same { IsSame s.old s.new }
     ensures terms_kept { devices.new.terms ≡ devices.old.terms }
@@ -149,8 +143,7 @@ fn delete_in(
     ensures deletes { DeletesIn user execute last
         files.old (drive_views ⟦<dyn BlockDriver as BlockDriver>⟧ devices.old.drives.items) result
         files.new (drive_views ⟦<dyn BlockDriver as BlockDriver>⟧ devices.new.drives.items) }
-    ensures io_kept { files.new.io ≡ files.old.io }
-    ensures directories_kept { files.new.directories ≡ files.old.directories }
+    ensures rest_kept { KeepsAllButDisks files.old files.new }
     ensures terms_kept { devices.new.terms ≡ devices.old.terms }
 {
     match files

@@ -1,14 +1,17 @@
 //! The way along which a call's path list leads, and the file at its end.
 
-ghost use Rattle.std.specs.Prelude.{◌≡◌, ℕ, ◌<◌, IfOk, List, vec_len};
+ghost use Rattle.std.specs.Prelude.{◌≡◌, IfOk, vec_len};
 ghost use Rattle.call_rules.specs.Inner.{Inner, cells_at};
 ghost use Rattle.file_drives.specs.Drives.{drive_views};
 ghost use Rattle.file_drives.specs.Mounted.{HasFileAt};
 ghost use Rattle.file_rules.specs.Attempts.{asker_of};
 ghost use Rattle.file_rules.specs.Files.{Files};
+ghost use Rattle.file_state.specs.Attempt.{standing};
 ghost use Rattle.file_state.specs.Tie.{IsSound, StandsFor};
 ghost use Rattle.file_tree.specs.Calls.{located_calls};
-ghost use Rattle.file_tree.specs.Locating.{Locates, located_by, locates};
+ghost use Rattle.file_tree.specs.Kept.{KeepsAllButDisks};
+ghost use Rattle.file_tree.specs.Locating.{IsLocated, located_by, locates};
+ghost use Rattle.file_tree.specs.Looks.{LooksFrom};
 ghost use Rattle.file_ways.specs.Ways.{HasNames, RouteIs, StartsOn, leads, way_for};
 ghost use Rattle.guest_memory.specs.Tie.{cells_of};
 ghost use Rattle.os9_base.specs.declared.registers.TimePacket.{TimePacket};
@@ -92,18 +95,13 @@ pub(crate) fn locate(
     requires lives { IsLiving s.old.table p.0 }
     requires sound { IsSound files.old
         (drive_views ⟦<dyn BlockDriver as BlockDriver>⟧ devices.old.drives.items) }
-    ensures locates { (m : Inner) (was : Files) (now : TimePacket) → Represents s.old m
-        → StandsFor files.old
-        (drive_views ⟦<dyn BlockDriver as BlockDriver>⟧ devices.old.drives.items) was
-        → Locates (locates (asker_of m p.0 now) was (vec_len devices.old.terms) execute refusal)
-        (located_calls (asker_of m p.0 now) was (vec_len devices.old.terms) execute (λ v file. 0))
-        result was files.new
-        (drive_views ⟦<dyn BlockDriver as BlockDriver>⟧ devices.old.drives.items)
-        (drive_views ⟦<dyn BlockDriver as BlockDriver>⟧ devices.new.drives.items) }
+    ensures locates { LooksFrom IsLocated (locates execute refusal)
+        (located_calls execute (λ v file. 0)) p.0 (vec_len devices.old.terms) result
+        (standing ⟦<dyn BlockDriver as BlockDriver>⟧ s.old files.old devices.old.drives.items)
+        (standing ⟦<dyn BlockDriver as BlockDriver>⟧ s.new files.new devices.new.drives.items) }
     ensures there { IfOk result (λ located. HasFileAt files.new.disks
         (drive_views ⟦<dyn BlockDriver as BlockDriver>⟧ devices.new.drives.items) located.place) }
-    ensures io_kept { files.new.io ≡ files.old.io }
-    ensures directories_kept { files.new.directories ≡ files.old.directories }
+    ensures rest_kept { KeepsAllButDisks files.old files.new }
     ensures same { IsSame s.old s.new }
     ensures terms_kept { devices.new.terms ≡ devices.old.terms }
 {

@@ -1,23 +1,21 @@
 //! I$MakDir.
 
-ghost use Rattle.std.specs.Prelude.{◌≡◌, ℕ, List, None, length, vec_len};
-ghost use Rattle.call_rules.specs.Inner.{Inner};
+ghost use Rattle.std.specs.Prelude.{◌≡◌, List, None, length, vec_len};
 ghost use Rattle.file_drives.specs.Drives.{drive_views};
 ghost use Rattle.file_drives.specs.Mounted.{HasFileAt};
-ghost use Rattle.file_rules.specs.Attempts.{asker_of};
-ghost use Rattle.file_rules.specs.Files.{Files};
 ghost use Rattle.file_rules.specs.MakDir.{i_makdir as i_makdir_lem};
 ghost use Rattle.file_rules.specs.declared.path_call.PathCall.TheVariants as Call;
 ghost use Rattle.file_state.specs.Attempt.{standing};
 ghost use Rattle.file_state.specs.Counted.{AttemptsWithin};
-ghost use Rattle.file_state.specs.Tie.{IsSound, StandsFor};
+ghost use Rattle.file_state.specs.Tie.{IsSound};
 ghost use Rattle.file_tree.specs.Calls.{i_makdir_calls};
+ghost use Rattle.file_tree.specs.Kept.{KeepsAllButDisks};
 ghost use Rattle.file_tree.specs.MakDir.{MakesIn};
-ghost use Rattle.file_tree.specs.Tries.{Tries};
+ghost use Rattle.file_tree.specs.Tries.{TriesFrom};
 ghost use Rattle.io_rules.specs.Io.{kept_at};
 ghost use Rattle.os9_outer.specs.TerminalState.{TerminalState};
 ghost use Rattle.proc_rules.specs.Records.{IsLiving};
-ghost use Rattle.proc_state.specs.Tie.{IsSame, Represents};
+ghost use Rattle.proc_state.specs.Tie.{IsSame};
 
 use crate::ends::end_call;
 use crate::naming::{LastLocated, locate_last};
@@ -85,13 +83,9 @@ fn make_directory(
     requires lives { IsLiving s.old.table p.0 }
     requires sound { IsSound files.old
         (drive_views ⟦<dyn BlockDriver as BlockDriver>⟧ devices.old.drives.items) }
-    ensures tries { (m : Inner) (was : Files) → Represents s.old m → StandsFor files.old
-        (drive_views ⟦<dyn BlockDriver as BlockDriver>⟧ devices.old.drives.items) was
-        → Tries (i_makdir_lem (asker_of m p.0 now) was (vec_len devices.old.terms))
-        (i_makdir_calls (asker_of m p.0 now) was (vec_len devices.old.terms))
-        (asker_of m p.0 now) was result files.new
-        (drive_views ⟦<dyn BlockDriver as BlockDriver>⟧ devices.old.drives.items)
-        (drive_views ⟦<dyn BlockDriver as BlockDriver>⟧ devices.new.drives.items) }
+    ensures tries { TriesFrom i_makdir_lem i_makdir_calls now p.0 (vec_len devices.old.terms) result
+        (standing ⟦<dyn BlockDriver as BlockDriver>⟧ s.old files.old devices.old.drives.items)
+        (standing ⟦<dyn BlockDriver as BlockDriver>⟧ s.new files.new devices.new.drives.items) }
     ensures io_kept { files.new.io ≡ files.old.io }
     ensures same { IsSame s.old s.new }
     ensures terms_kept { devices.new.terms ≡ devices.old.terms }
@@ -126,8 +120,7 @@ fn make_in(
     ensures makes { MakesIn making last
         files.old (drive_views ⟦<dyn BlockDriver as BlockDriver>⟧ devices.old.drives.items) result
         files.new (drive_views ⟦<dyn BlockDriver as BlockDriver>⟧ devices.new.drives.items) }
-    ensures io_kept { files.new.io ≡ files.old.io }
-    ensures directories_kept { files.new.directories ≡ files.old.directories }
+    ensures rest_kept { KeepsAllButDisks files.old files.new }
     ensures terms_kept { devices.new.terms ≡ devices.old.terms }
 {
     let disks = &mut files.disks;

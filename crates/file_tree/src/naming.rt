@@ -1,18 +1,17 @@
 //! The last name of a call's path list, and the directory in which it is to be looked up.
 
-ghost use Rattle.std.specs.Prelude.{◌≡◌, ℕ, IfOk, List, vec_len};
-ghost use Rattle.call_rules.specs.Inner.{Inner};
+ghost use Rattle.std.specs.Prelude.{◌≡◌, IfOk, vec_len};
 ghost use Rattle.file_drives.specs.Drives.{drive_views};
 ghost use Rattle.file_drives.specs.Mounted.{HasFileAt};
-ghost use Rattle.file_rules.specs.Attempts.{asker_of};
-ghost use Rattle.file_rules.specs.Files.{Files};
-ghost use Rattle.file_state.specs.Tie.{IsSound, StandsFor};
+ghost use Rattle.file_state.specs.Attempt.{standing};
+ghost use Rattle.file_state.specs.Tie.{IsSound};
 ghost use Rattle.file_tree.specs.Calls.{named_calls};
-ghost use Rattle.file_tree.specs.Naming.{LocatesLast, last_by, names_last};
+ghost use Rattle.file_tree.specs.Kept.{KeepsAllButDisks};
+ghost use Rattle.file_tree.specs.Looks.{LooksFrom};
+ghost use Rattle.file_tree.specs.Naming.{IsNamed, last_by, names_last};
 ghost use Rattle.file_tree.specs.Naming.{unnamed_number as unnamed_number_lem};
-ghost use Rattle.os9_base.specs.declared.registers.TimePacket.{TimePacket};
 ghost use Rattle.proc_rules.specs.Records.{IsLiving};
-ghost use Rattle.proc_state.specs.Tie.{IsSame, Represents};
+ghost use Rattle.proc_state.specs.Tie.{IsSame};
 
 use crate::locating::lead;
 use device_table::devices::Devices;
@@ -58,18 +57,13 @@ pub(crate) fn locate_last(
     requires lives { IsLiving s.old.table p.0 }
     requires sound { IsSound files.old
         (drive_views ⟦<dyn BlockDriver as BlockDriver>⟧ devices.old.drives.items) }
-    ensures locates { (m : Inner) (was : Files) (now : TimePacket) → Represents s.old m
-        → StandsFor files.old
-        (drive_views ⟦<dyn BlockDriver as BlockDriver>⟧ devices.old.drives.items) was
-        → LocatesLast purpose (names_last purpose (asker_of m p.0 now) was
-        (vec_len devices.old.terms) execute refusal) (named_calls purpose (asker_of m p.0 now) was
-        (vec_len devices.old.terms) execute (λ name v dir. 0)) result was files.new
-        (drive_views ⟦<dyn BlockDriver as BlockDriver>⟧ devices.old.drives.items)
-        (drive_views ⟦<dyn BlockDriver as BlockDriver>⟧ devices.new.drives.items) }
+    ensures locates { LooksFrom (IsNamed purpose) (names_last purpose execute refusal)
+        (named_calls purpose execute (λ name v dir. 0)) p.0 (vec_len devices.old.terms) result
+        (standing ⟦<dyn BlockDriver as BlockDriver>⟧ s.old files.old devices.old.drives.items)
+        (standing ⟦<dyn BlockDriver as BlockDriver>⟧ s.new files.new devices.new.drives.items) }
     ensures there { IfOk result (λ last. HasFileAt files.new.disks
         (drive_views ⟦<dyn BlockDriver as BlockDriver>⟧ devices.new.drives.items) last.directory) }
-    ensures io_kept { files.new.io ≡ files.old.io }
-    ensures directories_kept { files.new.directories ≡ files.old.directories }
+    ensures rest_kept { KeepsAllButDisks files.old files.new }
     ensures same { IsSame s.old s.new }
     ensures terms_kept { devices.new.terms ≡ devices.old.terms }
 {

@@ -19,8 +19,8 @@ pub returns-in-Err-clause-finds : goal.returns-in-Err-clause-finds
 returns-in-Err-clause-finds g c m was now tied stands =
     let asker = asker_of m c.args.p.0 now in
     let terms = vec_len c.args.devices.now.terms in
-    let look = locates asker was terms c.is_for_execution.result c.mode_refusal-refusal.result in
-    let seen = located_calls asker was terms c.is_for_execution.result (λ v file. 0) in
+    let look = locates c.is_for_execution.result c.mode_refusal-refusal.result asker was terms in
+    let seen = located_calls c.is_for_execution.result (λ v file. 0) asker was terms in
     let most = i_chgdir_calls asker was terms in
     let execute_is : c.is_for_execution.result ≡ is_for_execution asker.caller.regs.a = c.is_for_execution.ensures ∙ ap (λ (regs : Regs). is_for_execution regs.a) (c.regs-mode.ensures.tied m tied) in
     locates-same (next_step look (allows_to_go asker)) (looks_for_directory asker was terms) most most _ was _ _ _
@@ -31,8 +31,8 @@ pub returns-in-Err-fd-clause-finds : goal.returns-in-Err-fd-clause-finds
 returns-in-Err-fd-clause-finds g c m was now tied stands =
     let asker = asker_of m c.args.p.0 now in
     let terms = vec_len c.args.devices.now.terms in
-    let look = locates asker was terms c.is_for_execution.result c.mode_refusal-refusal.result in
-    let seen = located_calls asker was terms c.is_for_execution.result (λ v file. 0) in
+    let look = locates c.is_for_execution.result c.mode_refusal-refusal.result asker was terms in
+    let seen = located_calls c.is_for_execution.result (λ v file. 0) asker was terms in
     let most = i_chgdir_calls asker was terms in
     let execute_is : c.is_for_execution.result ≡ is_for_execution asker.caller.regs.a = c.is_for_execution.ensures ∙ ap (λ (regs : Regs). is_for_execution regs.a) (c.regs-mode.ensures.tied m tied) in
     let mid = c.locate.new.files in
@@ -48,8 +48,8 @@ pub returns-in-Ok-fd-clause-finds : goal.returns-in-Ok-fd-clause-finds
 returns-in-Ok-fd-clause-finds g c m was now tied stands =
     let asker = asker_of m c.args.p.0 now in
     let terms = vec_len c.args.devices.now.terms in
-    let look = locates asker was terms c.is_for_execution.result c.mode_refusal-refusal.result in
-    let seen = located_calls asker was terms c.is_for_execution.result (λ v file. 0) in
+    let look = locates c.is_for_execution.result c.mode_refusal-refusal.result asker was terms in
+    let seen = located_calls c.is_for_execution.result (λ v file. 0) asker was terms in
     let most = i_chgdir_calls asker was terms in
     let execute_is : c.is_for_execution.result ≡ is_for_execution asker.caller.regs.a = c.is_for_execution.ensures ∙ ap (λ (regs : Regs). is_for_execution regs.a) (c.regs-mode.ensures.tied m tied) in
     let mid = c.locate.new.files in

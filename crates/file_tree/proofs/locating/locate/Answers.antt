@@ -14,15 +14,15 @@ use Rattle.file_tree.proofs.locating.locate.Goals as goal
 
 pub returns-in-Err-clause-locates : goal.returns-in-Err-clause-locates
 returns-in-Err-clause-locates g c m was now tied stands =
-    let step = locates (asker_of m c.args.p.0 now) was (vec_len c.args.devices.now.terms) c.args.execute c.args.refusal in
-    let most = located_calls (asker_of m c.args.p.0 now) was (vec_len c.args.devices.now.terms) c.args.execute (λ v file. 0) in
+    let step = locates c.args.execute c.args.refusal (asker_of m c.args.p.0 now) was (vec_len c.args.devices.now.terms) in
+    let most = located_calls c.args.execute (λ v file. 0) (asker_of m c.args.p.0 now) was (vec_len c.args.devices.now.terms) in
     refused-there (IsLocated step was) step most c.in-Err.number was c.args.files.now _ stands
     (locates-refused (asker_of m c.args.p.0 now) was (vec_len c.args.devices.now.terms) c.args.execute c.args.refusal c.in-Err.number (c.in-Err.ensures.route m was now tied stands))
 
 pub returns-in-Device-clause-locates : goal.returns-in-Device-clause-locates
 returns-in-Device-clause-locates g c m was now tied stands =
-    let step = locates (asker_of m c.args.p.0 now) was (vec_len c.args.devices.now.terms) c.args.execute c.args.refusal in
-    let most = located_calls (asker_of m c.args.p.0 now) was (vec_len c.args.devices.now.terms) c.args.execute (λ v file. 0) in
+    let step = locates c.args.execute c.args.refusal (asker_of m c.args.p.0 now) was (vec_len c.args.devices.now.terms) in
+    let most = located_calls c.args.execute (λ v file. 0) (asker_of m c.args.p.0 now) was (vec_len c.args.devices.now.terms) in
     refused-there (IsLocated step was) step most 214 was c.args.files.now _ stands
     (locates-device (asker_of m c.args.p.0 now) was (vec_len c.args.devices.now.terms) c.args.execute c.args.refusal (cells_at m c.args.p.0) c.in-Ok.route (c.in-Ok.ensures.route m was now tied stands) c.in-Device.is)
 

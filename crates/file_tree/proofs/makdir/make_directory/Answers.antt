@@ -19,8 +19,8 @@ pub returns-in-Err-clause-tries : goal.returns-in-Err-clause-tries
 returns-in-Err-clause-tries g c m was tied stands =
     let asker = asker_of m c.args.p.0 c.args.now in
     let terms = vec_len c.args.devices.now.terms in
-    let look = names_last New asker was terms false None in
-    let seen = named_calls New asker was terms false (λ name v dir. 0) in
+    let look = names_last New false None asker was terms in
+    let seen = named_calls New false (λ name v dir. 0) asker was terms in
     let most = i_makdir_calls asker was terms in
     tries-same (next_step look (makes_it asker was)) (i_makdir asker was terms) most most asker was _ _ _ _ (sym (makdir-parts asker was terms)) refl
     (tries-more (next_step look (makes_it asker was)) seen most asker was _ _ _ _ (named-seen New asker was terms false (making_calls asker.user))
@@ -30,8 +30,8 @@ pub returns-in-Ok-clause-tries : goal.returns-in-Ok-clause-tries
 returns-in-Ok-clause-tries g c m was tied stands =
     let asker = asker_of m c.args.p.0 c.args.now in
     let terms = vec_len c.args.devices.now.terms in
-    let look = names_last New asker was terms false None in
-    let seen = named_calls New asker was terms false (λ name v dir. 0) in
+    let look = names_last New false None asker was terms in
+    let seen = named_calls New false (λ name v dir. 0) asker was terms in
     let most = i_makdir_calls asker was terms in
     let loc = found (IsNamed New look was) look seen was c.in-Ok.last c.locate_last.new.files _ _ (c.in-Ok.ensures.locates m was c.args.now tied stands) in
     tries-same (next_step look (makes_it asker was)) (i_makdir asker was terms) most most asker was _ _ _ _ (sym (makdir-parts asker was terms)) refl

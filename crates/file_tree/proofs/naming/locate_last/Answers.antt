@@ -16,15 +16,15 @@ use Rattle.file_tree.proofs.naming.locate_last.Goals as goal
 
 pub returns-in-Err-clause-locates : goal.returns-in-Err-clause-locates
 returns-in-Err-clause-locates g c m was now tied stands =
-    let step = names_last c.args.purpose (asker_of m c.args.p.0 now) was (vec_len c.args.devices.now.terms) c.args.execute c.args.refusal in
-    let most = named_calls c.args.purpose (asker_of m c.args.p.0 now) was (vec_len c.args.devices.now.terms) c.args.execute (λ name v dir. 0) in
+    let step = names_last c.args.purpose c.args.execute c.args.refusal (asker_of m c.args.p.0 now) was (vec_len c.args.devices.now.terms) in
+    let most = named_calls c.args.purpose c.args.execute (λ name v dir. 0) (asker_of m c.args.p.0 now) was (vec_len c.args.devices.now.terms) in
     refused-there (IsNamed c.args.purpose step was) step most c.in-Err.number was c.args.files.now _ stands
     (names-refused c.args.purpose (asker_of m c.args.p.0 now) was (vec_len c.args.devices.now.terms) c.args.execute c.args.refusal c.in-Err.number (c.in-Err.ensures.route m was now tied stands))
 
 pub returns-in-Device-clause-locates : goal.returns-in-Device-clause-locates
 returns-in-Device-clause-locates g c m was now tied stands =
-    let step = names_last c.args.purpose (asker_of m c.args.p.0 now) was (vec_len c.args.devices.now.terms) c.args.execute c.args.refusal in
-    let most = named_calls c.args.purpose (asker_of m c.args.p.0 now) was (vec_len c.args.devices.now.terms) c.args.execute (λ name v dir. 0) in
+    let step = names_last c.args.purpose c.args.execute c.args.refusal (asker_of m c.args.p.0 now) was (vec_len c.args.devices.now.terms) in
+    let most = named_calls c.args.purpose c.args.execute (λ name v dir. 0) (asker_of m c.args.p.0 now) was (vec_len c.args.devices.now.terms) in
     refused-there (IsNamed c.args.purpose step was) step most 214 was c.args.files.now _ stands
     (names-device c.args.purpose (asker_of m c.args.p.0 now) was (vec_len c.args.devices.now.terms) c.args.execute c.args.refusal (cells_at m c.args.p.0) c.in-Ok.route (c.in-Ok.ensures.route m was now tied stands) c.in-Device.is)
 
