@@ -3,19 +3,18 @@ use Rattle.std.proofs.Common.{◌≡◌, ◌∙◌, ℕ, None, List, ap, refl, s
 use Rattle.os9_base.specs.declared.call.CallEnd.{CallEnd}
 use Rattle.os9_base.specs.declared.registers.TimePacket.{TimePacket}
 use Rattle.os9_outer.specs.TerminalState.{TerminalState}
-use Rattle.call_rules.specs.Inner.{Inner}
 use Rattle.io_dispatch.proofs.Quiet.{is-first}
 use Rattle.io_rules.specs.Io.{kept_at}
 use Rattle.io_rules.specs.declared.io_call.IoCall.TheVariants as Device
 use Rattle.io_state.specs.Sound.{IsIo}
 use Rattle.proc_rules.specs.Records.{record_at}
 use Rattle.proc_state.specs.declared.state.ProcState.{ProcState}
-use Rattle.file_rules.specs.Files.{Files}
 use Rattle.file_rules.specs.declared.path_call.PathCall.{PathCall}
 use Rattle.file_drives.specs.Drives.{DriveView}
+use Rattle.file_state.specs.Attempt.{Standing}
 use Rattle.file_state.specs.Counted.{AttemptsWithin}
 use Rattle.file_state.specs.declared.state.FileState.{FileState}
-use Rattle.file_dispatch.specs.Attempts.{LacksMemory, MayAttempt}
+use Rattle.file_dispatch.specs.Attempts.{MayAttempt, TriesFrom}
 use Rattle.file_dispatch.specs.Bounds.{attempt_calls}
 use Rattle.file_dispatch.specs.Calls.{kind_call, list_call}
 use Rattle.file_dispatch.specs.declared.calls.CallKind.{CallKind}
@@ -44,5 +43,6 @@ module _ (call other : PathCall) (now : TimePacket) (p : ℕ) (is : other ≡ ca
   call-attempts end terms terms_after old processes state new views later attempts =
       subst (λ (c : PathCall). AttemptsWithin (attempt_calls c) c now p end terms terms_after (record { processes = old; files = state; views = views }) (record { processes = processes; files = new; views = later })) is attempts
 
-  pub call-lacks : (m : Inner) (files : Files) (before after : List TerminalState) → LacksMemory other m files now p before after → LacksMemory call m files now p before after
-  call-lacks m files before after lacks = subst (λ (c : PathCall). LacksMemory c m files now p before after) is lacks
+  pub call-tries : (end : CallEnd) (terms terms_after : List TerminalState) (before after : Standing) → TriesFrom other now p end terms terms_after before after → TriesFrom call now p end terms terms_after before after
+  call-tries end terms terms_after before after tries =
+      subst (λ (c : PathCall). TriesFrom c now p end terms terms_after before after) is tries

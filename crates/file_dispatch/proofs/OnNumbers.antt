@@ -1,19 +1,15 @@
 -- Calls on the number of a path, by their names.
-use Rattle.std.proofs.Common.{◌≡◌, ◌≢◌, ℕ, List, length, sym, subst}
+use Rattle.std.proofs.Common.{◌≡◌, ℕ, List, sym, subst}
 use Rattle.os9_base.specs.declared.call.CallEnd.{CallEnd}
-use Rattle.os9_base.specs.declared.call.CallEnd.TheVariants.{NoMemory}
 use Rattle.os9_base.specs.declared.registers.TimePacket.{TimePacket}
 use Rattle.os9_outer.specs.TerminalState.{TerminalState}
 use Rattle.call_rules.specs.Inner.{Inner}
 use Rattle.io_dispatch.specs.Staying.{MayAttempt as MayAttemptOnDevice}
 use Rattle.proc_state.specs.declared.state.ProcState.{ProcState}
-use Rattle.file_rules.specs.Attempts.{asker_of}
 use Rattle.file_rules.specs.Files.{Files}
 use Rattle.file_state.specs.Attempt.{Standing}
-use Rattle.file_state.specs.Counted.{AttemptsIn}
 use Rattle.file_state.specs.declared.state.FileState.{FileState}
-use Rattle.file_dispatch.specs.Attempts.{LacksMemory, MayAttempt, Tries}
-use Rattle.file_dispatch.specs.Bounds.{attempt_calls}
+use Rattle.file_dispatch.specs.Attempts.{MayAttempt, Tries}
 use Rattle.file_dispatch.specs.Numbers.{number_call}
 use Rattle.file_dispatch.specs.Uses.{call_of, device_of}
 use Rattle.file_dispatch.specs.declared.numbers.NumberCall.{NumberCall}
@@ -31,12 +27,6 @@ may-use Use.SetStt processes state p terms may = may
 may-use Use.PErr processes state p terms may = may
 
 -- what comes of a call is what comes of the one that it is
-module _ (call other : NumberCall) (m : Inner) (files : Files) (now : TimePacket) (p : ℕ) (is : call ≡ other) (end : CallEnd) (terms terms_after : List TerminalState) (before after : Standing) (tries : Tries (number_call other) m files now p end terms terms_after before after) where
-  here : Tries (number_call call) m files now p end terms terms_after before after
-  here = subst (λ (call : NumberCall). Tries (number_call call) m files now p end terms terms_after before after) (sym is) tries
-
-  pub number-attempts : end ≢ NoMemory → AttemptsIn (attempt_calls (number_call call) (asker_of m p now) files (length terms)) (number_call call) m files now p end terms terms_after before after
-  number-attempts differ = here.attempted differ
-
-  pub number-lacks : end ≡ NoMemory → LacksMemory (number_call call) m files now p terms terms_after
-  number-lacks is = here.memory is
+pub number-tries : (call other : NumberCall) (m : Inner) (files : Files) (now : TimePacket) (p : ℕ) → call ≡ other → (end : CallEnd) (terms terms_after : List TerminalState) (before after : Standing) → Tries (number_call other) m files now p end terms terms_after before after → Tries (number_call call) m files now p end terms terms_after before after
+number-tries call other m files now p is end terms terms_after before after tries =
+    subst (λ (call : NumberCall). Tries (number_call call) m files now p end terms terms_after before after) (sym is) tries

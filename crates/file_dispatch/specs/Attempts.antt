@@ -11,14 +11,16 @@ use Rattle.io_rules.specs.Io.{Io, kept_at}
 use Rattle.io_rules.specs.Step.{IoStep}
 use Rattle.io_rules.specs.declared.io_call.IoCall.{IoCall}
 use Rattle.io_dispatch.specs.Staying.{MayAttempt as MayAttemptOnDevice}
+use Rattle.proc_state.specs.Tie.{Represents}
 use Rattle.proc_state.specs.declared.state.ProcState.{ProcState}
 use Rattle.stream_calls.specs.Trying.{WantsMemory}
 use Rattle.file_rules.specs.Attempts.{asker_of, file_step}
 use Rattle.file_rules.specs.Files.{Files}
 use Rattle.file_rules.specs.Step.{as_io, deed_of}
 use Rattle.file_rules.specs.declared.path_call.PathCall.{PathCall}
-use Rattle.file_state.specs.Attempt.{Standing}
+use Rattle.file_state.specs.Attempt.{OnEach, Standing}
 use Rattle.file_state.specs.Counted.{AttemptsIn}
+use Rattle.file_state.specs.Tie.{StandsFor}
 use Rattle.file_state.specs.declared.state.FileState.{FileState}
 use Rattle.touch_laws.specs.Devices.{device_call}
 use Rattle.file_dispatch.specs.Bounds.{attempt_calls}
@@ -56,3 +58,19 @@ pub record Tries (call : PathCall) (m : Inner) (files : Files) (now : TimePacket
       → AttemptsIn (attempt_calls call (asker_of m p now) files (length terms)) call m files now p end terms terms_after
       before after
   pub memory : end ≡ NoMemory → LacksMemory call m files now p terms terms_after
+
+-- ---- from any state that the kernel's stands for
+
+-- a process tries a call, at a time, with paths and directories on what is there
+abbrev pub TriesFrom : PathCall → TimePacket → ℕ → CallEnd → List TerminalState → List TerminalState → Standing
+    → Standing → Type 0
+TriesFrom call now p end terms terms_after before after =
+    OnEach before (λ m was. Tries call m was now p end terms terms_after before after)
+
+-- a process tries each call that is this one on terminals and pipes, at any time, on a machine with so many drives
+abbrev pub TriesOnDevice : IoCall → ℕ → ℕ → CallEnd → List TerminalState → List TerminalState → Standing → Standing
+    → Type 0
+TriesOnDevice device p drives end terms terms_after before after =
+    (call : PathCall) (m : Inner) (was : Files) (now : TimePacket) → Represents before.processes m
+    → StandsFor before.files before.views was → IsOnDevice call device m was now p drives terms
+    → Tries call m was now p end terms terms_after before after

@@ -1,18 +1,11 @@
 //! Calls on terminals and pipes, as calls on paths, files and directories.
 
 ghost use Rattle.std.specs.Prelude.{◌≡◌, vec_len};
-ghost use Rattle.call_rules.specs.Inner.{Inner};
-ghost use Rattle.file_dispatch.specs.Attempts.{IsOnDevice, Tries};
-ghost use Rattle.file_drives.specs.Drives.{drive_views};
-ghost use Rattle.file_rules.specs.Files.{Files};
-ghost use Rattle.file_rules.specs.declared.path_call.PathCall.{PathCall};
+ghost use Rattle.file_dispatch.specs.Attempts.{TriesOnDevice};
 ghost use Rattle.file_state.specs.Attempt.{standing};
-ghost use Rattle.file_state.specs.Tie.{StandsFor};
 ghost use Rattle.io_dispatch.specs.Staying.{MayAttempt};
-ghost use Rattle.os9_base.specs.declared.registers.TimePacket.{TimePacket};
 ghost use Rattle.os9_outer.specs.TerminalState.{terminal_states};
 ghost use Rattle.proc_rules.specs.Records.{IsLiving};
-ghost use Rattle.proc_state.specs.Tie.{Represents};
 
 use device_table::devices::Devices;
 use file_state::state::FileState;
@@ -41,12 +34,7 @@ pub fn attempt_on_device(
 ) -> CallEnd
     requires lives { IsLiving s.old.table p.0 }
     requires may { MayAttempt device s.old files.old.io p.0 (vec_len devices.old.terms) }
-    ensures call { (call : PathCall) (m : Inner) (was : Files) (now : TimePacket)
-        → Represents s.old m → StandsFor files.old
-        (drive_views ⟦<dyn BlockDriver as BlockDriver>⟧ devices.old.drives.items) was
-        → IsOnDevice call device m was now p.0 (vec_len devices.old.drives)
-        (terminal_states ⟦<dyn CharDriver as CharDriver>⟧ devices.old.terms.items)
-        → Tries call m was now p.0 result
+    ensures call { TriesOnDevice device p.0 (vec_len devices.old.drives) result
         (terminal_states ⟦<dyn CharDriver as CharDriver>⟧ devices.old.terms.items)
         (terminal_states ⟦<dyn CharDriver as CharDriver>⟧ devices.new.terms.items)
         (standing ⟦<dyn BlockDriver as BlockDriver>⟧ s.old files.old devices.old.drives.items)

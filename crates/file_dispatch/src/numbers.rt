@@ -1,19 +1,13 @@
 //! Calls on the number of a path.
 
-ghost use Rattle.std.specs.Prelude.{◌≡◌, ◌≢◌, vec_len};
-ghost use Rattle.call_rules.specs.Inner.{Inner};
-ghost use Rattle.file_dispatch.specs.Attempts.{LacksMemory, MayAttempt};
-ghost use Rattle.file_dispatch.specs.Bounds.{attempt_calls};
+ghost use Rattle.std.specs.Prelude.{◌≡◌, vec_len};
+ghost use Rattle.file_dispatch.specs.Attempts.{MayAttempt, TriesFrom};
 ghost use Rattle.file_dispatch.specs.Numbers.{number_call};
 ghost use Rattle.file_drives.specs.Drives.{drive_views};
-ghost use Rattle.file_laws.specs.Kinds.{AreKinds};
-ghost use Rattle.file_rules.specs.Files.{Files};
 ghost use Rattle.file_state.specs.Attempt.{standing};
-ghost use Rattle.file_state.specs.Counted.{AttemptsWithin};
-ghost use Rattle.file_state.specs.Tie.{IsSound, StandsFor};
+ghost use Rattle.file_state.specs.Tie.{IsSound};
 ghost use Rattle.os9_outer.specs.TerminalState.{terminal_states};
 ghost use Rattle.proc_rules.specs.Records.{IsLiving};
-ghost use Rattle.proc_state.specs.Tie.{Represents};
 
 use crate::device::attempt_on_device;
 use crate::path::{seek_path, use_path};
@@ -61,17 +55,11 @@ pub fn attempt_on_number(
     requires may { MayAttempt (number_call call) s.old files.old p.0 (vec_len devices.old.terms) }
     requires sound { IsSound files.old
         (drive_views ⟦<dyn BlockDriver as BlockDriver>⟧ devices.old.drives.items) }
-    ensures call { result ≢ CallEnd.NoMemory
-        → AttemptsWithin (attempt_calls (number_call call)) (number_call call) now p.0 result
+    ensures call { TriesFrom (number_call call) now p.0 result
         (terminal_states ⟦<dyn CharDriver as CharDriver>⟧ devices.old.terms.items)
         (terminal_states ⟦<dyn CharDriver as CharDriver>⟧ devices.new.terms.items)
         (standing ⟦<dyn BlockDriver as BlockDriver>⟧ s.old files.old devices.old.drives.items)
         (standing ⟦<dyn BlockDriver as BlockDriver>⟧ s.new files.new devices.new.drives.items) }
-    ensures memory { (m : Inner) (was : Files) → Represents s.old m → StandsFor files.old
-        (drive_views ⟦<dyn BlockDriver as BlockDriver>⟧ devices.old.drives.items) was → AreKinds was
-        → result ≡ CallEnd.NoMemory → LacksMemory (number_call call) m was now p.0
-        (terminal_states ⟦<dyn CharDriver as CharDriver>⟧ devices.old.terms.items)
-        (terminal_states ⟦<dyn CharDriver as CharDriver>⟧ devices.new.terms.items) }
     ensures drives_kept { result ≡ CallEnd.NoMemory → devices.new.drives ≡ devices.old.drives }
     ensures lives { IsLiving s.new.table p.0 }
     ensures count { vec_len devices.new.terms ≡ vec_len devices.old.terms }

@@ -1,25 +1,21 @@
 //! Calls that use an open path, by what it was opened on.
 
 ghost use Rattle.std.specs.Prelude.{◌≡◌, List, None, vec_len};
-ghost use Rattle.call_rules.specs.Inner.{Inner};
 ghost use Rattle.file_bytes.specs.Opened.{IsOpened};
-ghost use Rattle.file_dispatch.specs.Attempts.{Tries};
+ghost use Rattle.file_dispatch.specs.Attempts.{TriesFrom};
 ghost use Rattle.file_dispatch.specs.Bounds.{attempt_calls};
 ghost use Rattle.file_dispatch.specs.Uses.{call_of, device_of};
 ghost use Rattle.file_drives.specs.Drives.{DriveView, drive_views};
-ghost use Rattle.file_laws.specs.Kinds.{AreKinds};
-ghost use Rattle.file_rules.specs.Files.{Files};
 ghost use Rattle.file_rules.specs.declared.path_call.PathCall.TheVariants as Call;
 ghost use Rattle.file_state.specs.Attempt.{standing};
 ghost use Rattle.file_state.specs.Counted.{AttemptsWithin};
-ghost use Rattle.file_state.specs.Tie.{IsSound, StandsFor};
+ghost use Rattle.file_state.specs.Tie.{IsSound};
 ghost use Rattle.io_dispatch.specs.Staying.{MayAttempt};
 ghost use Rattle.io_rules.specs.Again.{IsAgain, path_number};
 ghost use Rattle.io_rules.specs.Io.{kept_at};
 ghost use Rattle.os9_base.specs.declared.registers.TimePacket.{TimePacket};
 ghost use Rattle.os9_outer.specs.TerminalState.{TerminalState, terminal_states};
 ghost use Rattle.proc_rules.specs.Records.{IsLiving, record_at};
-ghost use Rattle.proc_state.specs.Tie.{Represents};
 
 use crate::device::attempt_on_device;
 use crate::path_use::PathUse;
@@ -56,9 +52,7 @@ pub fn use_path(
     requires may { MayAttempt (device_of call) s.old files.old.io p.0 (vec_len devices.old.terms) }
     requires sound { IsSound files.old
         (drive_views ⟦<dyn BlockDriver as BlockDriver>⟧ devices.old.drives.items) }
-    ensures call { (m : Inner) (was : Files) → Represents s.old m → StandsFor files.old
-        (drive_views ⟦<dyn BlockDriver as BlockDriver>⟧ devices.old.drives.items) was → AreKinds was
-        → Tries (call_of call) m was now p.0 result
+    ensures call { TriesFrom (call_of call) now p.0 result
         (terminal_states ⟦<dyn CharDriver as CharDriver>⟧ devices.old.terms.items)
         (terminal_states ⟦<dyn CharDriver as CharDriver>⟧ devices.new.terms.items)
         (standing ⟦<dyn BlockDriver as BlockDriver>⟧ s.old files.old devices.old.drives.items)

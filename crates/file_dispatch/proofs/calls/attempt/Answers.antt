@@ -1,7 +1,7 @@
 use Rattle.std.proofs.Common.{◌∙◌, sym, vec_len}
 use Rattle.std.proofs.lemmas.List.{length-map, length-replicate}
 use Rattle.file_dispatch.proofs.Lifting.{never-memory, some-terms, tries-of, unused_terminal}
-use Rattle.file_dispatch.proofs.OnCalls.{call-attempts, call-is, call-lacks, may-as}
+use Rattle.file_dispatch.proofs.OnCalls.{call-is, call-tries, may-as}
 use Rattle.file_dispatch.specs.Bounds.{attempt_calls}
 use Rattle.file_dispatch.specs.Calls.{list_call}
 use Rattle.file_dispatch.specs.Numbers.{number_call}
@@ -13,27 +13,15 @@ attempt_on_number-requires-clause-may g c =
     may-as c.args.call (number_call c.in-Number.number) c.args.s.now c.args.files.now c.args.p.0 _ (call-is c.kind_of.result (Kind.Number c.in-Number.number) c.args.call c.in-Number.is c.kind_of.ensures) c.requires.may
 
 pub returns-in-Number-clause-call : goal.returns-in-Number-clause-call
-returns-in-Number-clause-call g c differ =
-    call-attempts c.args.call (number_call c.in-Number.number) c.args.now c.args.p.0 (call-is c.kind_of.result (Kind.Number c.in-Number.number) c.args.call c.in-Number.is c.kind_of.ensures) c.attempt_on_number.result _ _ c.args.s.now c.attempt_on_number.new.s c.args.files.now c.attempt_on_number.new.files _ _
-    (c.attempt_on_number.ensures.call differ)
-
-pub returns-in-Number-clause-memory : goal.returns-in-Number-clause-memory
-returns-in-Number-clause-memory g c m was tied stands kinds is =
-    call-lacks c.args.call (number_call c.in-Number.number) c.args.now c.args.p.0 (call-is c.kind_of.result (Kind.Number c.in-Number.number) c.args.call c.in-Number.is c.kind_of.ensures) m was _ _
-    (c.attempt_on_number.ensures.memory m was tied stands kinds is)
+returns-in-Number-clause-call g c =
+    call-tries c.args.call (number_call c.in-Number.number) c.args.now c.args.p.0 (call-is c.kind_of.result (Kind.Number c.in-Number.number) c.args.call c.in-Number.is c.kind_of.ensures) c.attempt_on_number.result _ _ _ _ c.attempt_on_number.ensures.call
 
 pub returns-in-List-clause-call : goal.returns-in-List-clause-call
-returns-in-List-clause-call g c differ =
+returns-in-List-clause-call g c =
     rw c.attempt_on_list.ensures.terms_kept
-    (call-attempts c.args.call (list_call c.in-List.list) c.args.now c.args.p.0 (call-is c.kind_of.result (Kind.List c.in-List.list) c.args.call c.in-List.is c.kind_of.ensures) c.attempt_on_list.result _ _ c.args.s.now c.attempt_on_list.new.s c.args.files.now c.attempt_on_list.new.files _ _
-    (c.attempt_on_list.ensures.call _ (length-map _ _ ∙ sym c.args.devices.now.terms.ok.0)))
-
-pub returns-in-List-clause-memory : goal.returns-in-List-clause-memory
-returns-in-List-clause-memory g c m was tied stands kinds is =
-    rw c.attempt_on_list.ensures.terms_kept
-    (call-lacks c.args.call (list_call c.in-List.list) c.args.now c.args.p.0 (call-is c.kind_of.result (Kind.List c.in-List.list) c.args.call c.in-List.is c.kind_of.ensures) m was _ _
-    ((tries-of (list_call c.in-List.list) m was c.args.now c.args.p.0 c.attempt_on_list.result _ _ _ _
-    (c.attempt_on_list.ensures.call _ (length-map _ _ ∙ sym c.args.devices.now.terms.ok.0) m was tied stands kinds)).memory is))
+    (call-tries c.args.call (list_call c.in-List.list) c.args.now c.args.p.0 (call-is c.kind_of.result (Kind.List c.in-List.list) c.args.call c.in-List.is c.kind_of.ensures) c.attempt_on_list.result _ _ _ _
+    (λ m was tied stands kinds. tries-of (list_call c.in-List.list) m was c.args.now c.args.p.0 c.attempt_on_list.result _ _ _ _
+    (c.attempt_on_list.ensures.call _ (length-map _ _ ∙ sym c.args.devices.now.terms.ok.0) m was tied stands kinds)))
 
 pub returns-in-List-clause-drives_kept : goal.returns-in-List-clause-drives_kept
 returns-in-List-clause-drives_kept g c is =

@@ -1,38 +1,22 @@
 use Rattle.std.proofs.Common.{refl}
 use Rattle.file_rules.specs.declared.path_call.PathCall.TheVariants as Call
 use Rattle.file_dispatch.proofs.Lifting.{tries-of}
-use Rattle.file_dispatch.proofs.OnNumbers.{number-attempts, number-lacks}
+use Rattle.file_dispatch.proofs.OnNumbers.{number-tries}
 use Rattle.file_dispatch.specs.declared.numbers.NumberCall.TheVariants as Number
 use Rattle.file_dispatch.proofs.numbers.attempt_on_number.Goals as goal
 
 pub returns-in-Dup-clause-call : goal.returns-in-Dup-clause-call
-returns-in-Dup-clause-call g c differ m was tied stands kinds =
-    number-attempts c.args.call Number.Dup m was c.args.now c.args.p.0 c.in-Dup.is c.attempt_on_device.result _ _ _ _ (c.attempt_on_device.ensures.call Call.Dup m was c.args.now tied stands refl) differ
-
-pub returns-in-Dup-clause-memory : goal.returns-in-Dup-clause-memory
-returns-in-Dup-clause-memory g c m was tied stands kinds is =
-    number-lacks c.args.call Number.Dup m was c.args.now c.args.p.0 c.in-Dup.is c.attempt_on_device.result _ _ _ _ (c.attempt_on_device.ensures.call Call.Dup m was c.args.now tied stands refl) is
+returns-in-Dup-clause-call g c m was tied stands kinds =
+    number-tries c.args.call Number.Dup m was c.args.now c.args.p.0 c.in-Dup.is c.attempt_on_device.result _ _ _ _ (c.attempt_on_device.ensures.call Call.Dup m was c.args.now tied stands refl)
 
 pub returns-in-Seek-clause-call : goal.returns-in-Seek-clause-call
-returns-in-Seek-clause-call g c differ m was tied stands kinds =
-    number-attempts c.args.call Number.Seek m was c.args.now c.args.p.0 c.in-Seek.is c.seek_path.result _ _ _ _ (tries-of Call.Seek m was c.args.now c.args.p.0 c.seek_path.result _ _ _ _ (c.seek_path.ensures.call c.args.now _ _ m was tied stands kinds)) differ
-
-pub returns-in-Seek-clause-memory : goal.returns-in-Seek-clause-memory
-returns-in-Seek-clause-memory g c m was tied stands kinds is =
-    number-lacks c.args.call Number.Seek m was c.args.now c.args.p.0 c.in-Seek.is c.seek_path.result _ _ _ _ (tries-of Call.Seek m was c.args.now c.args.p.0 c.seek_path.result _ _ _ _ (c.seek_path.ensures.call c.args.now _ _ m was tied stands kinds)) is
+returns-in-Seek-clause-call g c m was tied stands kinds =
+    number-tries c.args.call Number.Seek m was c.args.now c.args.p.0 c.in-Seek.is c.seek_path.result _ _ _ _ (tries-of Call.Seek m was c.args.now c.args.p.0 c.seek_path.result _ _ _ _ (c.seek_path.ensures.call c.args.now _ _ m was tied stands kinds))
 
 pub returns-in-Close-clause-call : goal.returns-in-Close-clause-call
-returns-in-Close-clause-call g c differ m was tied stands kinds =
-    number-attempts c.args.call Number.Close m was c.args.now c.args.p.0 c.in-Close.is c.attempt_on_device-in-Close.result _ _ _ _ (c.attempt_on_device-in-Close.ensures.call Call.Close m was c.args.now tied stands refl) differ
-
-pub returns-in-Close-clause-memory : goal.returns-in-Close-clause-memory
-returns-in-Close-clause-memory g c m was tied stands kinds is =
-    number-lacks c.args.call Number.Close m was c.args.now c.args.p.0 c.in-Close.is c.attempt_on_device-in-Close.result _ _ _ _ (c.attempt_on_device-in-Close.ensures.call Call.Close m was c.args.now tied stands refl) is
+returns-in-Close-clause-call g c m was tied stands kinds =
+    number-tries c.args.call Number.Close m was c.args.now c.args.p.0 c.in-Close.is c.attempt_on_device-in-Close.result _ _ _ _ (c.attempt_on_device-in-Close.ensures.call Call.Close m was c.args.now tied stands refl)
 
 pub returns-in-Use-clause-call : goal.returns-in-Use-clause-call
-returns-in-Use-clause-call g c differ m was tied stands kinds =
-    number-attempts c.args.call (Number.Use c.in-Use.used) m was c.args.now c.args.p.0 c.in-Use.is c.use_path.result _ _ _ _ (c.use_path.ensures.call m was tied stands kinds) differ
-
-pub returns-in-Use-clause-memory : goal.returns-in-Use-clause-memory
-returns-in-Use-clause-memory g c m was tied stands kinds is =
-    number-lacks c.args.call (Number.Use c.in-Use.used) m was c.args.now c.args.p.0 c.in-Use.is c.use_path.result _ _ _ _ (c.use_path.ensures.call m was tied stands kinds) is
+returns-in-Use-clause-call g c m was tied stands kinds =
+    number-tries c.args.call (Number.Use c.in-Use.used) m was c.args.now c.args.p.0 c.in-Use.is c.use_path.result _ _ _ _ (c.use_path.ensures.call m was tied stands kinds)

@@ -75,7 +75,7 @@ returns-clause-event g c =
     let other : c.event_end.result ≢ EventEnd.NoMemory → c.attempt-end.result ≢ NoMemory = (λ other out. other (c.event_end.ensures ∙ ap event_end_of out)) in
     let (s0, tied0) = c.requires.stands in record {
       step = λ ran s tied.
-          let it = (c.attempt-end.ensures.call (other ran) s.inner s.files tied.inner tied.files tied.running.kinds).attempts in
+          let it = ((c.attempt-end.ensures.call s.inner s.files tied.inner tied.files tied.running.kinds).attempted (other ran)).attempts in
           let (there, same) = c.tell_end.ensures.told s.inner it.result it.comes in
           let attempt : FileAttempts c.args.call s.inner s.files time p.0 it.result it.left s.terms after.terms = subst (λ (terms : List TerminalState). FileAttempts c.args.call s.inner s.files time p.0 it.result it.left terms after.terms) (sym (terms-are old p act next before s tied)) it.attempt in
           let stands : StandsFor new.files after.drives it.left = subst (λ (files : FileState). StandsFor files after.drives it.left) (sym c.tell_end.ensures.files) it.stands in
@@ -99,14 +99,14 @@ returns-clause-event g c =
             now = time;
             is_now = now-here old before s tied time c.now-time.ensures;
             lacks =
-                subst (λ (terms : List TerminalState). LacksMemory c.args.call s.inner s.files time p.0 terms after.terms) (sym (terms-are old p act next before s tied)) (c.attempt-end.ensures.memory s.inner s.files tied.inner tied.files tied.running.kinds is);
+                subst (λ (terms : List TerminalState). LacksMemory c.args.call s.inner s.files time p.0 terms after.terms) (sym (terms-are old p act next before s tied)) ((c.attempt-end.ensures.call s.inner s.files tied.inner tied.files tied.running.kinds).memory is);
             drives =
                 tied.files.drives ∙ ap (λ drives. drive_states (drive_views (λ table. (g.dyn-1.0.entry table).1) drives.items)) (sym (c.attempt-end.ensures.drives_kept is));
           };
       waits = λ is.
           let waiting = waits-so c.attempt-end.result (sym c.event_end.ensures ∙ is) in
           let now = c.attempt-end.new.s in
-          let it = (c.attempt-end.ensures.call (λ out. let no : Wait ≡ NoMemory = sym waiting ∙ out in cc) s0.inner s0.files tied0.inner tied0.files tied0.running.kinds).attempts in
+          let it = ((c.attempt-end.ensures.call s0.inner s0.files tied0.inner tied0.files tied0.running.kinds).attempted (λ out. let no : Wait ≡ NoMemory = sym waiting ∙ out in cc)).attempts in
           let effect = io_effect it.attempt.effect in
           let came : Comes s0.inner p.0 (result_of s0.inner p.0 effect) Wait now = subst (λ (result : CallResult). Comes s0.inner p.0 result Wait now) it.attempt.result_is (subst (λ (end : CallEnd). Comes s0.inner p.0 it.result end now) waiting it.comes) in
           let same : old.processes.table ≡ now.table = sym (records-kept s0.inner p.0 effect now came ∙ ap (λ (m : Inner). m.records) tied0.inner.is) in record {
@@ -121,7 +121,7 @@ returns-clause-event g c =
           };
       going = λ ran. (p, c.tell_end.ensures.chosen ∙ next.chosen, lives-so c.attempt-end.result new.processes.table p.0 (sym c.event_end.ensures ∙ ran) c.tell_end.ensures.lives);
       count = λ ran.
-          let it = (c.attempt-end.ensures.call (other ran) s0.inner s0.files tied0.inner tied0.files tied0.running.kinds).attempts in
+          let it = ((c.attempt-end.ensures.call s0.inner s0.files tied0.inner tied0.files tied0.running.kinds).attempted (other ran)).attempts in
           let (there, same) = c.tell_end.ensures.told s0.inner it.result it.comes in
           sym (ap (λ (m : Inner). m.tick) there.is)
           ∙ attempt-tick c.args.call s0.inner s0.files time p.0 it.result it.left before.terms after.terms it.attempt
@@ -131,7 +131,7 @@ returns-clause-event g c =
             | inl out ↦
                 leaves-drives old before after (ap (λ drives. drive_views (λ table. (g.dyn-1.0.entry table).1) drives.items) (c.attempt-end.ensures.drives_kept out)) s now tied is
             | inr there ↦
-                attempt-within-at old p c.args.code next before s tied (on_paths c.args.call) c.requires.serves time now after (now-here old before s tied time c.now-time.ensures) is (c.attempt-end.ensures.call there s.inner s.files tied.inner tied.files tied.running.kinds).calls
+                attempt-within-at old p c.args.code next before s tied (on_paths c.args.call) c.requires.serves time now after (now-here old before s tied time c.now-time.ensures) is ((c.attempt-end.ensures.call s.inner s.files tied.inner tied.files tied.running.kinds).attempted there).calls
           ];
     }
 
@@ -142,7 +142,7 @@ returns-clause-progress g c ran =
     let p = c.args.p in
     let (s, tied) = c.requires.stands in
     let other : c.attempt-end.result ≢ NoMemory = (λ out. let no : EventEnd.Ran ≡ EventEnd.NoMemory = sym ran ∙ c.event_end.ensures ∙ ap event_end_of out in cc) in
-    let it = (c.attempt-end.ensures.call other s.inner s.files tied.inner tied.files tied.running.kinds).attempts in
+    let it = ((c.attempt-end.ensures.call s.inner s.files tied.inner tied.files tied.running.kinds).attempted other).attempts in
     let (there, same) = c.tell_end.ensures.told s.inner it.result it.comes in
     let (t, regs, is) = goes-on it.result (sym (c.event_end.ensures ∙ ap event_end_of same) ∙ ran) s.inner p.0 in
     let none = no-call new.processes t p.0 regs c.requires.next.process.1 (subst (λ (m : Inner). RepresentsProcesses new.processes m) is there) in
@@ -158,6 +158,6 @@ returns-clause-drives g c =
       | inl out ↦ ap (λ drives. vec_len drives) (c.attempt-end.ensures.drives_kept out)
       | inr other ↦
           now.ok.0 ∙ sym (length-map now.items view)
-          ∙ (c.attempt-end.ensures.call other s.inner s.files tied.inner tied.files tied.running.kinds).calls.as_many
+          ∙ ((c.attempt-end.ensures.call s.inner s.files tied.inner tied.files tied.running.kinds).attempted other).calls.as_many
           ∙ length-map was.items view ∙ sym was.ok.0
     ]
