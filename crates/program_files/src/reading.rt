@@ -1,27 +1,22 @@
 //! The file of modules to which a call's path list leads.
 
-ghost use Rattle.std.specs.Prelude.{◌≡◌, ◌≤◌, IfOk, List, None, vec_len};
-ghost use Rattle.call_rules.specs.Inner.{Inner, cells_at};
-ghost use Rattle.file_drives.specs.Drives.{DriveView, drive_views};
+ghost use Rattle.std.specs.Prelude.{◌≡◌, ◌≤◌, IfOk, vec_len};
+ghost use Rattle.file_drives.specs.Drives.{drive_views};
 ghost use Rattle.file_drives.specs.Mounted.{HasFileAt};
-ghost use Rattle.file_rules.specs.Attempts.{asker_of};
 ghost use Rattle.file_rules.specs.Files.{Files};
-ghost use Rattle.file_rules.specs.ProgramFile.{program_file, program_on_way};
-ghost use Rattle.file_rules.specs.Way.{Found, along};
-ghost use Rattle.file_state.specs.Reached.{HasRead};
-ghost use Rattle.file_state.specs.Tie.{IsSound, StandsFor};
+ghost use Rattle.file_rules.specs.ProgramFile.{program_file};
+ghost use Rattle.file_rules.specs.Way.{Found};
+ghost use Rattle.file_state.specs.Attempt.{standing};
+ghost use Rattle.file_state.specs.Tie.{IsSound};
 ghost use Rattle.file_ways.specs.Walks.{SomeFrom};
 ghost use Rattle.file_ways.specs.Ways.{refuses_by};
 ghost use Rattle.guest_memory.specs.Tie.{cells_of};
-ghost use Rattle.io_rules.specs.PathList.{PathList};
 ghost use Rattle.os9_base.specs.declared.limits.TheConstants.{MOST_GROUP_BYTES as MOST};
-ghost use Rattle.os9_base.specs.declared.registers.TimePacket.{TimePacket};
-ghost use Rattle.path_lists.specs.Standing.{NamesFrom};
 ghost use Rattle.proc_rules.specs.Records.{IsLiving};
-ghost use Rattle.proc_state.specs.Tie.{IsSame, Represents};
-ghost use Rattle.program_files.specs.Calls.{found_calls, program_calls, size_calls, way_calls};
-ghost use Rattle.program_files.specs.Found.{IsFoundAt, program_size as program_size_lem, program_there};
-ghost use Rattle.program_files.specs.Reading.{ReadsTo, read_by};
+ghost use Rattle.proc_state.specs.Tie.{IsSame};
+ghost use Rattle.program_files.specs.Calls.{found_calls, program_calls, size_calls};
+ghost use Rattle.program_files.specs.Found.{program_size as program_size_lem, program_there};
+ghost use Rattle.program_files.specs.Reading.{HasFound, ReadsAlong, ReadsBetween, ReadsFrom, read_by};
 ghost use Rattle.rbf_access.specs.Reading.{IsFdOf};
 
 use crate::found::{load_whole, program_size};
@@ -68,14 +63,11 @@ pub fn read_program(
     requires lives { IsLiving s.old.table p.0 }
     requires sound { IsSound files.old
         (drive_views ⟦<dyn BlockDriver as BlockDriver>⟧ devices.old.drives.items) }
-    ensures call { (m : Inner) (was : Files) (now : TimePacket) → Represents s.old m
-        → StandsFor files.old
-        (drive_views ⟦<dyn BlockDriver as BlockDriver>⟧ devices.old.drives.items) was
-        → ReadsTo (program_file (asker_of m p.0 now) was (vec_len devices.old.terms)
-        (refuses_by refusal)) (program_calls (asker_of m p.0 now) was (vec_len devices.old.terms)
-        refusal) was result s.new.buffer.items files.new
-        (drive_views ⟦<dyn BlockDriver as BlockDriver>⟧ devices.old.drives.items)
-        (drive_views ⟦<dyn BlockDriver as BlockDriver>⟧ devices.new.drives.items) }
+    ensures call { ReadsFrom p.0
+        (λ asker was. program_file asker was (vec_len devices.old.terms) (refuses_by refusal))
+        (λ asker was. program_calls asker was (vec_len devices.old.terms) refusal) result
+        (standing ⟦<dyn BlockDriver as BlockDriver>⟧ s.old files.old devices.old.drives.items)
+        (standing ⟦<dyn BlockDriver as BlockDriver>⟧ s.new files.new devices.new.drives.items) }
     ensures short { IfOk result (λ read. read.size ≤ MOST) }
     ensures same { IsSame s.old s.new }
     ensures terms_kept { devices.new.terms ≡ devices.old.terms }
@@ -117,15 +109,9 @@ fn read_along(
     requires names { SomeFrom (cells_of s.old.memory p.0) first }
     requires file { HasFileAt files.old.disks
         (drive_views ⟦<dyn BlockDriver as BlockDriver>⟧ devices.old.drives.items) from }
-    ensures along { (m : Inner) (was : Files) (now : TimePacket) (list : PathList)
-        → Represents s.old m → StandsFor files.old
-        (drive_views ⟦<dyn BlockDriver as BlockDriver>⟧ devices.old.drives.items) was
-        → NamesFrom (cells_at m p.0) first list.names → next ≡ list.next
-        → ReadsTo (program_on_way (asker_of m p.0 now) was list (along from list.names))
-        (way_calls (asker_of m p.0 now) was (along from list.names)) was result
-        s.new.buffer.items files.new
-        (drive_views ⟦<dyn BlockDriver as BlockDriver>⟧ devices.old.drives.items)
-        (drive_views ⟦<dyn BlockDriver as BlockDriver>⟧ devices.new.drives.items) }
+    ensures along { ReadsAlong p.0 from first next result
+        (standing ⟦<dyn BlockDriver as BlockDriver>⟧ s.old files.old devices.old.drives.items)
+        (standing ⟦<dyn BlockDriver as BlockDriver>⟧ s.new files.new devices.new.drives.items) }
     ensures short { IfOk result (λ read. read.size ≤ MOST) }
     ensures same { IsSame s.old s.new }
     ensures terms_kept { devices.new.terms ≡ devices.old.terms }
@@ -157,13 +143,11 @@ fn read_there(
 ) -> Result<ProgramRead, u8>
     requires file { HasFileAt files.old.disks
         (drive_views ⟦<dyn BlockDriver as BlockDriver>⟧ devices.old.drives.items) place }
-    ensures there { (was : Files) (found : Found) (before : List DriveView)
-        → HasRead None place.drive was files.old before
-        (drive_views ⟦<dyn BlockDriver as BlockDriver>⟧ devices.old.drives.items)
-        → IsFoundAt was place found → ReadsTo (program_there user was next found)
-        (found_calls user was found) was result s.new.buffer.items files.new
-        (drive_views ⟦<dyn BlockDriver as BlockDriver>⟧ devices.old.drives.items)
-        (drive_views ⟦<dyn BlockDriver as BlockDriver>⟧ devices.new.drives.items) }
+    ensures there { (was : Files) (found : Found) → HasFound place was found
+        (standing ⟦<dyn BlockDriver as BlockDriver>⟧ s.old files.old devices.old.drives.items)
+        → ReadsBetween (program_there user was next found) (found_calls user was found) was result
+        (standing ⟦<dyn BlockDriver as BlockDriver>⟧ s.old files.old devices.old.drives.items)
+        (standing ⟦<dyn BlockDriver as BlockDriver>⟧ s.new files.new devices.new.drives.items) }
     ensures short { IfOk result (λ read. read.size ≤ MOST) }
     ensures same { IsSame s.old s.new }
     ensures terms_kept { devices.new.terms ≡ devices.old.terms }
@@ -190,14 +174,12 @@ fn read_found(
 ) -> Result<ProgramRead, u8>
     requires file { HasFileAt files.old.disks
         (drive_views ⟦<dyn BlockDriver as BlockDriver>⟧ devices.old.drives.items) place }
-    ensures found { (was : Files) (found : Found) (before : List DriveView)
-        → HasRead None place.drive was files.old before
-        (drive_views ⟦<dyn BlockDriver as BlockDriver>⟧ devices.old.drives.items)
-        → IsFoundAt was place found → IsFdOf found.file fd.now
-        → ReadsTo (program_there user was next found)
-        (size_calls found.file (program_size_lem user was found)) was result s.new.buffer.items
-        files.new (drive_views ⟦<dyn BlockDriver as BlockDriver>⟧ devices.old.drives.items)
-        (drive_views ⟦<dyn BlockDriver as BlockDriver>⟧ devices.new.drives.items) }
+    ensures found { (was : Files) (found : Found) → HasFound place was found
+        (standing ⟦<dyn BlockDriver as BlockDriver>⟧ s.old files.old devices.old.drives.items)
+        → IsFdOf found.file fd.now → ReadsBetween (program_there user was next found)
+        (size_calls found.file (program_size_lem user was found)) was result
+        (standing ⟦<dyn BlockDriver as BlockDriver>⟧ s.old files.old devices.old.drives.items)
+        (standing ⟦<dyn BlockDriver as BlockDriver>⟧ s.new files.new devices.new.drives.items) }
     ensures short { IfOk result (λ read. read.size ≤ MOST) }
     ensures same { IsSame s.old s.new }
     ensures terms_kept { devices.new.terms ≡ devices.old.terms }

@@ -29,7 +29,7 @@ returns-in-Ok-clause-along g c m was now list tied stands names next =
     let same : user_at m c.args.p.0 ≡ c.user-user.result = same-user c.args.s.now m c.args.p.0 tied ∙ sym c.user-user.ensures.user in
     let at = walk-arrives asker c.args.p c.user-user.result was list c.args.from c.args.files.now mid _ _ same stands c.requires.file refl refl c.in-Ok.place (c.in-Ok.ensures.walks m list.names tied names) in
     arrived-reads asker was list c.args.from c.in-Ok.place mid c.read_there.new.files _ _ _ at c.args.next c.user-user.result c.read_there.result c.read_there.new.s.buffer.items same next
-    (c.read_there.ensures.there was at.found _ at.read at.there)
+    (c.read_there.ensures.there was at.found (record { before = _; read = at.read; there = at.there }))
 
 pub returns-in-Ok-clause-same : goal.returns-in-Ok-clause-same
 returns-in-Ok-clause-same g c =
