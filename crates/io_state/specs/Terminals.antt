@@ -1,11 +1,17 @@
 -- Attempts on the terminals, as the calls that wait take part in them.
-use Rattle.std.specs.Prelude.{◌≡◌, ℕ, Option, Some, None, IfSome}
+use Rattle.std.specs.Prelude.{◌≡◌, ℕ, ◌<◌, ◌≤◌, Option, Some, None, IfSome, List, slice_index_or, slice_set}
+use Rattle.std.specs.declared.alloc.Global.{Global}
+use Rattle.std.specs.declared.dyn_box.DynBox.{DynBox}
+use Rattle.os9_outer.specs.TerminalState.{ChangesOneTerminal, TerminalState, terminal_states}
+use Rattle.os9_outer.specs.declared.terminal.CharDriver.{Ghosts}
+use Rattle.io_model.specs.Terminal.{IsSameCall, Terminal, new_terminal}
 use Rattle.io_model.specs.declared.kept.Kept.{Kept}
 use Rattle.io_model.specs.declared.path.Target.TheVariants.{Term}
 use Rattle.io_model.specs.declared.terminal.Progress.{Progress}
 use Rattle.io_model.specs.declared.terminal.Progress.TheVariants.{Done, Wait, End, Fault, NoMemory}
 use Rattle.io_model.specs.declared.terminal.ReadKind.{ReadKind}
-use Rattle.io_rules.specs.Io.{Io, kept_at}
+use Rattle.io_model.specs.declared.terminal.Reading.{Reading}
+use Rattle.io_rules.specs.Io.{Io, kept_at, terminal_at, with_call, with_terminal}
 use Rattle.io_state.specs.Sound.{MayWait, target_at, read_kind}
 
 -- what is kept of a call after an attempt that came to this answer
@@ -31,3 +37,29 @@ pub record MayRead (io : Io) (p n : ℕ) (kind : ReadKind) (call : Kept) : Type 
   pub on : target_at io.paths call.path.0 ≡ Some (Term n)
   pub kind_is : read_kind call.code ≡ Some kind
   pub same : IfSome (kept_at io p) (λ kept. kept ≡ call)
+
+-- a terminal may be asked for a read: of 1 to 256 bytes, and of none but the call that its process began there
+pub record MayBeAsked (request : Reading) (terminal : Terminal) : Type 0 where
+  pub some : 0 < request.most
+  pub most : request.most ≤ 256
+  pub same : IsSameCall request terminal
+
+-- ---- what an attempt changes
+
+-- the terminal of this number and its driver, which is in the box of this number, changed so together, and no other
+-- driver changed; as `ChangesWithDriver ⟦<dyn CharDriver as CharDriver>⟧ n (Reads request result) self.old
+-- devices.old.terms.items self.new devices.new.terms.items`
+abbrev pub ChangesWithDriver : {Table : Type 0} {Driver : Table → Type 0} → ((table : Table) → Ghosts (Driver table))
+    → ℕ → (Terminal → Terminal → TerminalState → TerminalState → Type 0) → List Terminal
+    → List (DynBox Table Global Driver) → List Terminal → List (DynBox Table Global Driver) → Type 0
+ChangesWithDriver members n change terms drivers terms_after drivers_after =
+    ChangesOneTerminal (change (slice_index_or terms n new_terminal) (slice_index_or terms_after n new_terminal)) n
+    (terminal_states members drivers) (terminal_states members drivers_after)
+
+-- no terminal but this one changed
+abbrev pub ChangesAlone : ℕ → List Terminal → List Terminal → Type 0
+ChangesAlone n before after = after ≡ slice_set before n (slice_index_or after n new_terminal)
+
+-- in a call of a process this terminal changed, and this is kept of the call; all else is as it was
+abbrev pub ChangesInCall : ℕ → ℕ → Option Kept → Io → Io → Type 0
+ChangesInCall n p kept before after = after ≡ with_call (with_terminal before n (terminal_at after n)) p kept

@@ -1,12 +1,11 @@
 //! Reads and writes of terminals.
 
 ghost use Rattle.std.specs.Prelude.{◌≡◌, ◌<◌, ◌≤◌, None, IfSome, length, take, vec_len};
-ghost use Rattle.os9_outer.specs.TerminalState.{terminal_states, ChangesOneTerminal};
 ghost use Rattle.io_model.specs.Line.{line_length, line_put};
 ghost use Rattle.io_model.specs.Terminal.{Arrives, Reads, Writes, stored_bytes};
-ghost use Rattle.io_rules.specs.Io.{kept_at, terminal_at, with_call, with_terminal};
+ghost use Rattle.io_rules.specs.Io.{kept_at, terminal_at, with_terminal};
 ghost use Rattle.io_state.specs.Sound.{IsNoRead, most_of};
-ghost use Rattle.io_state.specs.Terminals.{MayRead, count_of, kept_after as kept_after_lem};
+ghost use Rattle.io_state.specs.Terminals.{ChangesInCall, ChangesWithDriver, MayRead, count_of, kept_after as kept_after_lem};
 ghost use Rattle.terminal_mgr.specs.Term.{read_of};
 
 use crate::state::IoState;
@@ -31,17 +30,13 @@ impl IoState {
     ) -> Progress
         requires may { MayRead self.old p.0 terminal kind call }
         requires there { terminal < vec_len devices.old.terms }
-        ensures device { ChangesOneTerminal
-            (Reads (read_of p kind (most_of call)) result (terminal_at self.old terminal)
-            (terminal_at self.new terminal)) terminal
-            (terminal_states ⟦<dyn CharDriver as CharDriver>⟧ devices.old.terms.items)
-            (terminal_states ⟦<dyn CharDriver as CharDriver>⟧ devices.new.terms.items) }
+        ensures device { ChangesWithDriver ⟦<dyn CharDriver as CharDriver>⟧ terminal
+            (Reads (read_of p kind (most_of call)) result)
+            self.old.terminals devices.old.terms.items self.new.terminals devices.new.terms.items }
         ensures stored { take (count_of result) into.new
             ≡ stored_bytes result (read_of p kind (most_of call)) (terminal_at self.old terminal) }
         ensures few { count_of result ≤ most_of call }
-        ensures io { self.new
-            ≡ with_call (with_terminal self.old terminal (terminal_at self.new terminal)) p.0
-            (kept_after_lem result call) }
+        ensures io { ChangesInCall terminal p.0 (kept_after_lem result call) self.old self.new }
         ensures drives { devices.new.drives ≡ devices.old.drives }
         ensures count { vec_len devices.new.terms ≡ vec_len devices.old.terms }
     {
@@ -70,13 +65,10 @@ impl IoState {
         requires terminal { terminal < 4 }
         requires there { terminal < vec_len devices.old.terms }
         requires most { length bytes.now ≤ 65535 }
-        ensures device { ChangesOneTerminal
-            (Writes p bytes.now (length bytes.now) result (terminal_at self.old terminal)
-            (terminal_at self.new terminal)) terminal
-            (terminal_states ⟦<dyn CharDriver as CharDriver>⟧ devices.old.terms.items)
-            (terminal_states ⟦<dyn CharDriver as CharDriver>⟧ devices.new.terms.items) }
-        ensures io { self.new
-            ≡ with_call (with_terminal self.old terminal (terminal_at self.new terminal)) p.0 None }
+        ensures device { ChangesWithDriver ⟦<dyn CharDriver as CharDriver>⟧ terminal
+            (Writes p bytes.now (length bytes.now) result)
+            self.old.terminals devices.old.terms.items self.new.terminals devices.new.terms.items }
+        ensures io { ChangesInCall terminal p.0 None self.old self.new }
         ensures drives { devices.new.drives ≡ devices.old.drives }
         ensures count { vec_len devices.new.terms ≡ vec_len devices.old.terms }
     {
@@ -100,13 +92,10 @@ impl IoState {
         requires terminal { terminal < 4 }
         requires there { terminal < vec_len devices.old.terms }
         requires most { length bytes.now ≤ 65535 }
-        ensures device { ChangesOneTerminal
-            (Writes p (line_put bytes.now) (line_length bytes.now) result
-            (terminal_at self.old terminal) (terminal_at self.new terminal)) terminal
-            (terminal_states ⟦<dyn CharDriver as CharDriver>⟧ devices.old.terms.items)
-            (terminal_states ⟦<dyn CharDriver as CharDriver>⟧ devices.new.terms.items) }
-        ensures io { self.new
-            ≡ with_call (with_terminal self.old terminal (terminal_at self.new terminal)) p.0 None }
+        ensures device { ChangesWithDriver ⟦<dyn CharDriver as CharDriver>⟧ terminal
+            (Writes p (line_put bytes.now) (line_length bytes.now) result)
+            self.old.terminals devices.old.terms.items self.new.terminals devices.new.terms.items }
+        ensures io { ChangesInCall terminal p.0 None self.old self.new }
         ensures drives { devices.new.drives ≡ devices.old.drives }
         ensures count { vec_len devices.new.terms ≡ vec_len devices.old.terms }
     {
@@ -120,11 +109,9 @@ impl IoState {
     pub fn arrive(&mut self, terminal: u8, tick: u32, devices: &mut Devices) -> Arrival
         requires terminal { terminal < 4 }
         requires there { terminal < vec_len devices.old.terms }
-        ensures device { ChangesOneTerminal
-            (λ before after. Arrives tick (terminal_at self.old terminal)
-            (terminal_at self.new terminal) before after result) terminal
-            (terminal_states ⟦<dyn CharDriver as CharDriver>⟧ devices.old.terms.items)
-            (terminal_states ⟦<dyn CharDriver as CharDriver>⟧ devices.new.terms.items) }
+        ensures device { ChangesWithDriver ⟦<dyn CharDriver as CharDriver>⟧ terminal
+            (λ old new before after. Arrives tick old new before after result)
+            self.old.terminals devices.old.terms.items self.new.terminals devices.new.terms.items }
         ensures io { self.new ≡ with_terminal self.old terminal (terminal_at self.new terminal) }
         ensures drives { devices.new.drives ≡ devices.old.drives }
         ensures count { vec_len devices.new.terms ≡ vec_len devices.old.terms }

@@ -2,11 +2,11 @@
 
 ghost use Rattle.std.specs.Prelude.{◌≡◌, ◌<◌, ◌≤◌, not, false, IfOk, length, map, replicate, slice_index_or, slice_set, take, vec_len};
 ghost use Rattle.std.specs.Option.{option_map_or};
-ghost use Rattle.os9_outer.specs.TerminalState.{terminal_states, boxed_terminal_state, ChangesOneTerminal};
+ghost use Rattle.os9_outer.specs.TerminalState.{boxed_terminal_state};
 ghost use Rattle.io_model.specs.Line.{line_length, line_put};
-ghost use Rattle.io_model.specs.Terminal.{new_terminal, Arrives, Reads, Writes, IsSameCall, is_process, forgotten, released, stored_bytes, stored_over};
+ghost use Rattle.io_model.specs.Terminal.{new_terminal, Arrives, Reads, Writes, is_process, forgotten, released, stored_bytes, stored_over};
 ghost use Rattle.io_rules.specs.Waiting.{may_read_terminal};
-ghost use Rattle.io_state.specs.Terminals.{count_of};
+ghost use Rattle.io_state.specs.Terminals.{ChangesAlone, ChangesWithDriver, MayBeAsked, count_of};
 
 use device_table::devices::Devices;
 use io_model::terminal::{Arrival, Progress, ReadKind, Reading, TYPE_AHEAD};
@@ -98,19 +98,13 @@ impl Terminals {
     ) -> Progress
         requires terminal { n < 4 }
         requires there { n < vec_len devices.old.terms }
-        requires some { 0 < request.most }
-        requires most { request.most ≤ 256 }
-        requires same { IsSameCall request (slice_index_or self.old n new_terminal) }
-        ensures device { ChangesOneTerminal
-            (Reads request result (slice_index_or self.old n new_terminal)
-            (slice_index_or self.new n new_terminal)) n
-            (terminal_states ⟦<dyn CharDriver as CharDriver>⟧ devices.old.terms.items)
-            (terminal_states ⟦<dyn CharDriver as CharDriver>⟧ devices.new.terms.items) }
+        requires asked { MayBeAsked request (slice_index_or self.old n new_terminal) }
+        ensures device { ChangesWithDriver ⟦<dyn CharDriver as CharDriver>⟧ n (Reads request result)
+            self.old devices.old.terms.items self.new devices.new.terms.items }
         ensures stored { take (count_of result) into.new
             ≡ stored_bytes result request (slice_index_or self.old n new_terminal) }
         ensures few { count_of result ≤ request.most }
-        ensures terminals { self.new
-            ≡ slice_set self.old n (slice_index_or self.new n new_terminal) }
+        ensures terminals { ChangesAlone n self.old self.new }
         ensures drives { devices.new.drives ≡ devices.old.drives }
         ensures count { vec_len devices.new.terms ≡ vec_len devices.old.terms }
     {
@@ -127,13 +121,10 @@ impl Terminals {
         requires terminal { n < 4 }
         requires there { n < vec_len devices.old.terms }
         requires most { length bytes.now ≤ 65535 }
-        ensures device { ChangesOneTerminal
-            (Writes p bytes.now (length bytes.now) result (slice_index_or self.old n new_terminal)
-            (slice_index_or self.new n new_terminal)) n
-            (terminal_states ⟦<dyn CharDriver as CharDriver>⟧ devices.old.terms.items)
-            (terminal_states ⟦<dyn CharDriver as CharDriver>⟧ devices.new.terms.items) }
-        ensures terminals { self.new
-            ≡ slice_set self.old n (slice_index_or self.new n new_terminal) }
+        ensures device { ChangesWithDriver ⟦<dyn CharDriver as CharDriver>⟧ n
+            (Writes p bytes.now (length bytes.now) result)
+            self.old devices.old.terms.items self.new devices.new.terms.items }
+        ensures terminals { ChangesAlone n self.old self.new }
         ensures drives { devices.new.drives ≡ devices.old.drives }
         ensures count { vec_len devices.new.terms ≡ vec_len devices.old.terms }
     {
@@ -150,13 +141,10 @@ impl Terminals {
         requires terminal { n < 4 }
         requires there { n < vec_len devices.old.terms }
         requires most { length bytes.now ≤ 65535 }
-        ensures device { ChangesOneTerminal
-            (Writes p (line_put bytes.now) (line_length bytes.now) result (slice_index_or self.old n new_terminal)
-            (slice_index_or self.new n new_terminal)) n
-            (terminal_states ⟦<dyn CharDriver as CharDriver>⟧ devices.old.terms.items)
-            (terminal_states ⟦<dyn CharDriver as CharDriver>⟧ devices.new.terms.items) }
-        ensures terminals { self.new
-            ≡ slice_set self.old n (slice_index_or self.new n new_terminal) }
+        ensures device { ChangesWithDriver ⟦<dyn CharDriver as CharDriver>⟧ n
+            (Writes p (line_put bytes.now) (line_length bytes.now) result)
+            self.old devices.old.terms.items self.new devices.new.terms.items }
+        ensures terminals { ChangesAlone n self.old self.new }
         ensures drives { devices.new.drives ≡ devices.old.drives }
         ensures count { vec_len devices.new.terms ≡ vec_len devices.old.terms }
     {
@@ -172,13 +160,10 @@ impl Terminals {
     pub fn arrive(&mut self, n: u8, tick: u32, devices: &mut Devices) -> Arrival
         requires terminal { n < 4 }
         requires there { n < vec_len devices.old.terms }
-        ensures device { ChangesOneTerminal
-            (λ before after. Arrives tick (slice_index_or self.old n new_terminal)
-            (slice_index_or self.new n new_terminal) before after result) n
-            (terminal_states ⟦<dyn CharDriver as CharDriver>⟧ devices.old.terms.items)
-            (terminal_states ⟦<dyn CharDriver as CharDriver>⟧ devices.new.terms.items) }
-        ensures terminals { self.new
-            ≡ slice_set self.old n (slice_index_or self.new n new_terminal) }
+        ensures device { ChangesWithDriver ⟦<dyn CharDriver as CharDriver>⟧ n
+            (λ old new before after. Arrives tick old new before after result)
+            self.old devices.old.terms.items self.new devices.new.terms.items }
+        ensures terminals { ChangesAlone n self.old self.new }
         ensures drives { devices.new.drives ≡ devices.old.drives }
         ensures count { vec_len devices.new.terms ≡ vec_len devices.old.terms }
     {
@@ -197,10 +182,8 @@ fn read_in_box(
     into: &mut [u8],
     driver: &mut Box<dyn CharDriver>,
 ) -> Progress
-    requires some { 0 < request.most }
-    requires most { request.most ≤ 256 }
+    requires asked { MayBeAsked request term.old }
     requires buffer { request.most ≡ length into.old }
-    requires same { IsSameCall request term.old }
     ensures read { Reads request result term.old term.new
         (boxed_terminal_state ⟦<dyn CharDriver as CharDriver>⟧ driver.old)
         (boxed_terminal_state ⟦<dyn CharDriver as CharDriver>⟧ driver.new) }

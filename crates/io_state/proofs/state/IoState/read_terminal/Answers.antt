@@ -1,4 +1,4 @@
-use Rattle.std.proofs.Common.{ℕ, sym, subst}
+use Rattle.std.proofs.Common.{ℕ, sym, subst, arith}
 use Rattle.io_model.specs.Terminal.{IsSameCall}
 use Rattle.io_rules.specs.Io.{Io, terminal_at}
 use Rattle.io_state.proofs.TerminalLemmas.{is-io_read}
@@ -7,8 +7,8 @@ use Rattle.io_state.specs.Terminals.{MayRead}
 use Rattle.terminal_mgr.specs.Term.{read_of}
 use Rattle.io_state.proofs.state.IoState.read_terminal.Goals as goal
 
-pub read-answer-requires-clause-same : goal.read-answer-requires-clause-same
-read-answer-requires-clause-same g c =
+pub read-answer-requires-clause-asked : goal.read-answer-requires-clause-asked
+read-answer-requires-clause-asked g c =
     let io : Io = record {
       paths = c.self.inside.paths;
       terminals = c.self.inside.terminals;
@@ -16,8 +16,13 @@ read-answer-requires-clause-same g c =
       calls = c.self.inside.calls;
     } in
     let may = subst (λ (s : Io). MayRead s c.args.p.0 c.args.terminal c.args.kind c.args.call) (sym c.self.view_is) c.requires.may in
-    subst (λ (m : ℕ). IsSameCall (read_of c.args.p c.args.kind m) (terminal_at io c.args.terminal)) (sym c.min-most.ensures)
-    (same-read io c.args.p.0 c.args.terminal c.args.kind c.args.call may c.self.invariant.waits)
+    record {
+      some = omega arith;
+      most = omega arith;
+      same =
+          subst (λ (m : ℕ). IsSameCall (read_of c.args.p c.args.kind m) (terminal_at io c.args.terminal)) (sym c.min-most.ensures)
+          (same-read io c.args.p.0 c.args.terminal c.args.kind c.args.call may c.self.invariant.waits);
+    }
 
 pub invariant_of-self : goal.invariant_of-self
 invariant_of-self g c =
