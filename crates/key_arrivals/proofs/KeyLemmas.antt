@@ -2,18 +2,10 @@
 use Rattle.std.proofs.Common.{◌≡◌, ◌∙◌, ◌+◌, ℕ, suc, List, length, map, refl, sym, subst, arith}
 use Rattle.std.proofs.lemmas.List.{length-map}
 use Rattle.os9_outer.specs.TerminalState.{TerminalState}
-use Rattle.call_rules.specs.Inner.{Inner}
-use Rattle.io_rules.specs.Arrivals.{ArrivesAt, ArrivesFrom}
+use Rattle.io_rules.specs.Arrivals.{ArrivesFrom}
 use Rattle.io_rules.specs.Io.{Io}
-use Rattle.key_arrivals.specs.Keys.{KeysArrive, KeysArriveFrom, KeysBreak, PollBreaks, desk}
-use Rattle.proc_state.specs.Tie.{Represents}
+use Rattle.key_arrivals.specs.Keys.{KeysArrive, KeysArriveAt, KeysArriveFrom, KeysBreak, KeysBreakAt, PollBreaks, desk}
 use Rattle.proc_state.specs.declared.state.ProcState.{ProcState}
-
--- the keys of one terminal arrived
-abbrev pub KeysArriveAt : ProcState → Io → List TerminalState → ProcState → Io → List TerminalState → ℕ → Type 0
-KeysArriveAt s io terms new now after n =
-    (m : Inner) → Represents s m →
-    (next : Inner) × Represents new next × ArrivesAt s.tick n (desk m io terms) (desk next now after)
 
 -- no terminal is left
 pub arrive-none : (s : ProcState) (io : Io) (terms : List TerminalState) (n count : ℕ) → count ≡ 0 → KeysArriveFrom s io terms s io terms n count
@@ -47,7 +39,7 @@ arrive-all screen drivers s new io now after count all arrive = λ m tied.
     )
 
 -- the first poll broke off
-pub break-here : (s new : ProcState) (io now : Io) (terms after : List TerminalState) (n : ℕ) → ((m : Inner) → Represents s m → Represents new m × PollBreaks s.tick n (desk m io terms) now after) → KeysBreak s io terms new now after n
+pub break-here : (s new : ProcState) (io now : Io) (terms after : List TerminalState) (n : ℕ) → KeysBreakAt s io terms new now after n → KeysBreak s io terms new now after n
 break-here s new io now terms after n broken = λ m tied.
     let here = broken m tied in (
       0,

@@ -4,7 +4,7 @@ use Rattle.os9_outer.specs.TerminalState.{TerminalState, ChangesOneTerminal}
 use Rattle.call_rules.specs.Inner.{Inner}
 use Rattle.io_model.specs.Terminal.{Terminal, Arrives}
 use Rattle.io_model.specs.declared.terminal.Arrival.{Arrival}
-use Rattle.io_rules.specs.Arrivals.{Desk, Arrivals, ArrivesFrom}
+use Rattle.io_rules.specs.Arrivals.{Desk, Arrivals, ArrivesAt, ArrivesFrom}
 use Rattle.io_rules.specs.Io.{Io, terminal_at, with_terminal}
 use Rattle.proc_state.specs.Tie.{Represents}
 use Rattle.proc_state.specs.declared.state.ProcState.{ProcState}
@@ -25,6 +25,12 @@ KeysArriveFrom s io terms new now after n count =
     (m : Inner) → Represents s m →
     (next : Inner) × ArrivesFrom s.tick n count (desk m io terms) (desk next now after) × Represents new next
 
+-- those of this one terminal arrived
+abbrev pub KeysArriveAt : ProcState → Io → List TerminalState → ProcState → Io → List TerminalState → ℕ → Type 0
+KeysArriveAt s io terms new now after n =
+    (m : Inner) → Represents s m →
+    (next : Inner) × Represents new next × ArrivesAt s.tick n (desk m io terms) (desk next now after)
+
 -- a bell of this terminal found no memory, which ends its poll before its signal is sent
 pub record PollBreaks (tick n : ℕ) (old : Desk) (new : Io) (after : List TerminalState) : Type 0 where
   pub answer : Arrival
@@ -33,6 +39,11 @@ pub record PollBreaks (tick n : ℕ) (old : Desk) (new : Io) (after : List Termi
   pub device : ChangesOneTerminal
       (λ before now. Arrives tick (terminal_at old.io n) terminal before now answer) n old.terms after
   pub io : new ≡ with_terminal old.io n terminal
+
+-- the poll of this one terminal broke off
+abbrev pub KeysBreakAt : ProcState → Io → List TerminalState → ProcState → Io → List TerminalState → ℕ → Type 0
+KeysBreakAt s io terms new now after n =
+    (m : Inner) → Represents s m → Represents new m × PollBreaks s.tick n (desk m io terms) now after
 
 -- the keys of some terminals from this one on arrived, and then a poll broke off
 abbrev pub KeysBreak : ProcState → Io → List TerminalState → ProcState → Io → List TerminalState → ℕ → Type 0

@@ -3,8 +3,8 @@
 ghost use Rattle.std.specs.Prelude.{◌≡◌, ◌-◌, ◌<◌, ◌≤◌, IsErr, IsOk, vec_len};
 ghost use Rattle.os9_outer.specs.TerminalState.{terminal_states};
 ghost use Rattle.call_rules.specs.Inner.{Inner};
-ghost use Rattle.io_rules.specs.Arrivals.{ArrivesAt, after_key_signal, after_signal_to};
-ghost use Rattle.key_arrivals.specs.Keys.{KeysArrive, KeysArriveFrom, KeysBreak, PollBreaks, desk};
+ghost use Rattle.io_rules.specs.Arrivals.{after_key_signal, after_signal_to};
+ghost use Rattle.key_arrivals.specs.Keys.{KeysArrive, KeysArriveAt, KeysArriveFrom, KeysBreak, KeysBreakAt};
 ghost use Rattle.proc_state.specs.Tie.{Represents};
 
 use device_table::devices::Devices;
@@ -81,15 +81,12 @@ fn arrive_on(
 ) -> Result<(), OutOfMemory>
     requires terminal { n < 4 }
     requires there { n < vec_len devices.old.terms }
-    ensures arrived { IsOk result → (m : Inner) → Represents s.old m
-        → (next : Inner) × Represents s.new next × ArrivesAt s.old.tick n
-        (desk m io.old (terminal_states ⟦<dyn CharDriver as CharDriver>⟧ devices.old.terms.items))
-        (desk next io.new
-        (terminal_states ⟦<dyn CharDriver as CharDriver>⟧ devices.new.terms.items)) }
-    ensures broken { IsErr result → (m : Inner) → Represents s.old m
-        → Represents s.new m × PollBreaks s.old.tick n
-        (desk m io.old (terminal_states ⟦<dyn CharDriver as CharDriver>⟧ devices.old.terms.items))
-        io.new (terminal_states ⟦<dyn CharDriver as CharDriver>⟧ devices.new.terms.items) }
+    ensures arrived { IsOk result → KeysArriveAt s.old io.old
+        (terminal_states ⟦<dyn CharDriver as CharDriver>⟧ devices.old.terms.items) s.new io.new
+        (terminal_states ⟦<dyn CharDriver as CharDriver>⟧ devices.new.terms.items) n }
+    ensures broken { IsErr result → KeysBreakAt s.old io.old
+        (terminal_states ⟦<dyn CharDriver as CharDriver>⟧ devices.old.terms.items) s.new io.new
+        (terminal_states ⟦<dyn CharDriver as CharDriver>⟧ devices.new.terms.items) n }
     ensures tick { s.new.tick ≡ s.old.tick }
     ensures drives { devices.new.drives ≡ devices.old.drives }
     ensures count { vec_len devices.new.terms ≡ vec_len devices.old.terms }
