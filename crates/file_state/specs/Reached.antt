@@ -3,12 +3,13 @@ use Rattle.std.specs.Prelude.{◌≡◌, ◌≢◌, ◌⊎◌, ℕ, true, Option
 use Rattle.rbf_model.specs.File.{DiskFile}
 use Rattle.rbf_model.specs.Volume.{DiskVolume}
 use Rattle.rbf_access.specs.declared.faults.VolFault.{VolFault}
+use Rattle.rbf_access.specs.declared.volume.Volume.{Volume}
 use Rattle.rbf_walk.specs.Walk.{directory_fault}
 use Rattle.rbf_walk.specs.declared.error.DirError.{DirError}
 use Rattle.file_rules.specs.Files.{Files, DriveState, NoneFailed, OneFailed, with_drives, with_volume}
 use Rattle.file_drives.specs.Changed.{AnswersChange, AnswersOnDisk, Asked, IsRefused, is_refused}
 use Rattle.file_drives.specs.Drives.{DriveView, KeepsIdent, drive_states, media_at, media_of}
-use Rattle.file_drives.specs.Mounted.{DriveHolds}
+use Rattle.file_drives.specs.Mounted.{DriveHolds, kept_at}
 use Rattle.file_state.specs.Tie.{StandsFor}
 use Rattle.file_state.specs.declared.state.FileState.{FileState}
 
@@ -54,3 +55,7 @@ MountsOn (Ok done) n old before new after =
     → StandsFor new after (with_drives (with_volume files n v) (drive_states after))
 MountsOn (Err fault) n old before new after =
     (files : Files) → StandsFor old before files → StandsFor new after (with_drives files (drive_states after))
+
+-- what is kept for every other drive stays
+abbrev pub OthersKept : ℕ → List (Option Volume) → List (Option Volume) → Type 0
+OthersKept n before after = (m : ℕ) → m ≢ n → kept_at after m ≡ kept_at before m

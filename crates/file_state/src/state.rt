@@ -1,6 +1,6 @@
 //! The state of input and output with the disks.
 
-ghost use Rattle.std.specs.Prelude.{◌≡◌, ◌≢◌, ◌<◌, ℕ, Bool, None, Some, IfOk, IfSome, IsSome, OnOk, OnErr, List, replicate, vec_len};
+ghost use Rattle.std.specs.Prelude.{◌≡◌, ◌<◌, ℕ, Bool, None, Some, IfOk, IfSome, IsSome, OnOk, OnErr, List, replicate, vec_len};
 ghost use Rattle.io_model.specs.Path.{desc_of, new_number};
 ghost use Rattle.io_rules.specs.Io.{first_io, kept_at};
 ghost use Rattle.io_state.specs.Files.{IsOnDisk};
@@ -11,10 +11,10 @@ ghost use Rattle.file_rules.specs.Processes.{files_started, files_ended};
 ghost use Rattle.file_rules.specs.Sharing.{is_open as is_open_lem, is_not_shared as is_not_shared_lem, is_single as is_single_lem, some_path_on};
 ghost use Rattle.file_rules.specs.Way.{Found};
 ghost use Rattle.file_drives.specs.Drives.{ChangesOneDrive, DriveView, drive_states, drive_views};
-ghost use Rattle.file_drives.specs.Mounted.{HasFileAt, ReadsToMount, kept_at as kept_of_drive};
+ghost use Rattle.file_drives.specs.Mounted.{HasFileAt, ReadsToMount};
 ghost use Rattle.file_laws.specs.Kinds.{AreKinds};
 ghost use Rattle.file_state.specs.Opened.{NamesFile, directory_in, opened_by};
-ghost use Rattle.file_state.specs.Reached.{MountsOn};
+ghost use Rattle.file_state.specs.Reached.{MountsOn, OthersKept};
 ghost use Rattle.file_state.specs.Tie.{StandsFor};
 
 use device_table::devices::Devices;
@@ -95,8 +95,7 @@ impl FileState {
             (drive_views ⟦<dyn BlockDriver as BlockDriver>⟧ devices.new.drives.items) }
         ensures io_kept { self.new.io ≡ self.old.io }
         ensures directories_kept { self.new.directories ≡ self.old.directories }
-        ensures others { (m : ℕ) → m ≢ n
-            → kept_of_drive self.new.disks m ≡ kept_of_drive self.old.disks m }
+        ensures others { OthersKept n self.old.disks self.new.disks }
         ensures terms_kept { devices.new.terms ≡ devices.old.terms }
     {
         self.disks.mount(alloc, n, devices)
