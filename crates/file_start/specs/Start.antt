@@ -1,6 +1,6 @@
 -- The volumes of a machine at its start, and the directories of its first process (Level Two manual, "Booting"; which
 -- volumes are mounted and which directories the process has is this project's own).
-use Rattle.std.specs.Prelude.{◌≡◌, ℕ, ◌+◌, ◌≤◌, ◌==◌, nat_lt, Option, Some, None, List, length, replicate, slice_get, Result, Ok, Err, if◌then◌else◌}
+use Rattle.std.specs.Prelude.{◌≡◌, ℕ, ◌+◌, ◌≤◌, ◌==◌, nat_lt, Option, Some, None, List, [], length, replicate, slice_get, OnOk, Result, Ok, Err, if◌then◌else◌}
 use Rattle.std.specs.Option.{option_map_or}
 use Rattle.rbf_model.specs.File.{DiskFile, is_directory}
 use Rattle.rbf_model.specs.Volume.{DiskVolume}
@@ -159,3 +159,36 @@ pub record StartsDrives {A : Type 0} (drives : ℕ) (result : Result A StartFaul
   pub media : (n : ℕ) → media_at after n ≡ media_at before n
   pub reads : (volumes : List DiskVolume) → length volumes ≡ drives → HoldVolumes volumes before
       → ReadUpTo (start_calls volumes before) before after
+
+-- ---- the steps of a start, each with the state and the drives before it and after it
+
+-- the volume of the drive of this number is mounted, unless the step failed
+pub record MountsOne (n : ℕ) (result : Result (Unit {0}) StartFault) (old new : FileState)
+    (before after : List DriveView) : Type 0 where
+  pub mounted : OnOk result (MountsVolume n old before new after)
+  pub read : ReadUpTo (only_drive n (media_calls (media_at before n))) before after
+  pub moves : StartMoves result before after
+
+-- the volumes of so many first drives are mounted, unless it failed
+pub record MountsFirst (drives : ℕ) (result : Result (Unit {0}) StartFault) (old new : FileState)
+    (before after : List DriveView) : Type 0 where
+  pub mounted : (volumes : List DiskVolume) → length volumes ≡ drives → HoldVolumes volumes before
+      → HasMounted [] old before → OnOk result (HasMounted volumes new after)
+  pub read : ReadUpTo (mounts_calls drives before) before after
+  pub moves : StartMoves result before after
+
+-- the first process has its directories, unless it failed: on the volume of D0, if one is mounted there
+pub record GivesDirectories (result : Result (Unit {0}) StartFault) (old new : FileState)
+    (before after : List DriveView) : Type 0 where
+  pub stands : (volumes : List DiskVolume) → HasMounted volumes old before
+      → OnOk result (HasStarted volumes new after)
+  pub read : (volumes : List DiskVolume) → HasMounted volumes old before
+      → ReadUpTo (only_drive 0 (root_calls (slice_get volumes 0))) before after
+  pub moves : StartMoves result before after
+
+-- the same where a volume is mounted on D0
+pub record GivesRoot (result : Result (Unit {0}) StartFault) (old new : FileState) (before after : List DriveView)
+    : Type 0 where
+  pub stands : OnFirst old before (λ files v. OnOk result (StandsFor new after (given files v after)))
+  pub read : OnFirst old before (λ files v. ReadUpTo (only_drive 0 (root_calls (Some v))) before after)
+  pub moves : StartMoves result before after

@@ -1,11 +1,10 @@
 //! The volumes of the first drives.
 
-ghost use Rattle.std.specs.Prelude.{◌≡◌, ◌<◌, ◌≤◌, List, [], OnOk, length, vec_len};
-ghost use Rattle.rbf_access.specs.Mounted.{media_calls};
+ghost use Rattle.std.specs.Prelude.{◌≡◌, ◌<◌, ◌≤◌, vec_len};
 ghost use Rattle.rbf_model.specs.Volume.{DiskVolume};
-ghost use Rattle.file_drives.specs.Drives.{drive_views, media_at};
+ghost use Rattle.file_drives.specs.Drives.{drive_views};
 ghost use Rattle.file_drives.specs.Mounted.{DriveHolds};
-ghost use Rattle.file_start.specs.Start.{HasMounted, HaveVolumes, HoldVolumes, MountsVolume, ReadUpTo, StartMoves, mounts_calls, only_drive};
+ghost use Rattle.file_start.specs.Start.{HaveVolumes, MountsFirst, MountsOne};
 
 use crate::fault::StartFault;
 use device_table::devices::Devices;
@@ -29,18 +28,7 @@ pub fn mount_first(
     requires few { drives ≤ 4 }
     requires volumes { HaveVolumes drives
         (drive_views ⟦<dyn BlockDriver as BlockDriver>⟧ devices.old.drives.items) }
-    ensures mounted { (volumes : List DiskVolume) → length volumes ≡ drives
-        → HoldVolumes volumes
-        (drive_views ⟦<dyn BlockDriver as BlockDriver>⟧ devices.old.drives.items)
-        → HasMounted [] state.old
-        (drive_views ⟦<dyn BlockDriver as BlockDriver>⟧ devices.old.drives.items)
-        → OnOk result (HasMounted volumes state.new
-        (drive_views ⟦<dyn BlockDriver as BlockDriver>⟧ devices.new.drives.items)) }
-    ensures read { ReadUpTo (mounts_calls drives
-        (drive_views ⟦<dyn BlockDriver as BlockDriver>⟧ devices.old.drives.items))
-        (drive_views ⟦<dyn BlockDriver as BlockDriver>⟧ devices.old.drives.items)
-        (drive_views ⟦<dyn BlockDriver as BlockDriver>⟧ devices.new.drives.items) }
-    ensures moves { StartMoves result
+    ensures mounts { MountsFirst drives result state.old state.new
         (drive_views ⟦<dyn BlockDriver as BlockDriver>⟧ devices.old.drives.items)
         (drive_views ⟦<dyn BlockDriver as BlockDriver>⟧ devices.new.drives.items) }
     ensures terms_kept { devices.new.terms ≡ devices.old.terms }
@@ -69,14 +57,7 @@ fn mount_one(
     requires few { n < 4 }
     requires volume { (v : DiskVolume) × DriveHolds
         (drive_views ⟦<dyn BlockDriver as BlockDriver>⟧ devices.old.drives.items) n v }
-    ensures mounted { OnOk result (MountsVolume n
-        state.old (drive_views ⟦<dyn BlockDriver as BlockDriver>⟧ devices.old.drives.items)
-        state.new (drive_views ⟦<dyn BlockDriver as BlockDriver>⟧ devices.new.drives.items)) }
-    ensures read { ReadUpTo (only_drive n (media_calls (media_at
-        (drive_views ⟦<dyn BlockDriver as BlockDriver>⟧ devices.old.drives.items) n)))
-        (drive_views ⟦<dyn BlockDriver as BlockDriver>⟧ devices.old.drives.items)
-        (drive_views ⟦<dyn BlockDriver as BlockDriver>⟧ devices.new.drives.items) }
-    ensures moves { StartMoves result
+    ensures mounts { MountsOne n result state.old state.new
         (drive_views ⟦<dyn BlockDriver as BlockDriver>⟧ devices.old.drives.items)
         (drive_views ⟦<dyn BlockDriver as BlockDriver>⟧ devices.new.drives.items) }
     ensures terms_kept { devices.new.terms ≡ devices.old.terms }

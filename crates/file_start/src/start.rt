@@ -1,10 +1,8 @@
 //! The start.
 
-ghost use Rattle.std.specs.Prelude.{◌≡◌, ℕ, ◌≤◌, IfOk, List, [], None, Some, OnOk, length, slice_get, vec_len};
-ghost use Rattle.rbf_model.specs.Volume.{DiskVolume};
+ghost use Rattle.std.specs.Prelude.{◌≡◌, ℕ, ◌≤◌, IfOk, List, [], None, length, vec_len};
 ghost use Rattle.file_drives.specs.Drives.{DriveView, drive_views};
-ghost use Rattle.file_state.specs.Tie.{StandsFor};
-ghost use Rattle.file_start.specs.Start.{AreFirst, HasMounted, HasStarted, HaveImages, HaveVolumes, HoldVolumes, IsRootAt, OnFirst, ReadUpTo, StartMoves, StartedOn, StartsDrives, given, only_drive, root_calls, start_calls, start_fault};
+ghost use Rattle.file_start.specs.Start.{AreFirst, GivesDirectories, GivesRoot, HasMounted, HaveImages, HaveVolumes, IsRootAt, StartedOn, StartsDrives, start_fault};
 
 use crate::commands::find_commands;
 use crate::fault::StartFault;
@@ -77,16 +75,7 @@ fn give_directories(
 ) -> Result<(), StartFault>
     requires first { AreFirst state.old
         (drive_views ⟦<dyn BlockDriver as BlockDriver>⟧ devices.old.drives.items) }
-    ensures stands { (volumes : List DiskVolume) → HasMounted volumes state.old
-        (drive_views ⟦<dyn BlockDriver as BlockDriver>⟧ devices.old.drives.items)
-        → OnOk result (HasStarted volumes state.new
-        (drive_views ⟦<dyn BlockDriver as BlockDriver>⟧ devices.new.drives.items)) }
-    ensures read { (volumes : List DiskVolume) → HasMounted volumes state.old
-        (drive_views ⟦<dyn BlockDriver as BlockDriver>⟧ devices.old.drives.items)
-        → ReadUpTo (only_drive 0 (root_calls (slice_get volumes 0)))
-        (drive_views ⟦<dyn BlockDriver as BlockDriver>⟧ devices.old.drives.items)
-        (drive_views ⟦<dyn BlockDriver as BlockDriver>⟧ devices.new.drives.items) }
-    ensures moves { StartMoves result
+    ensures gives { GivesDirectories result state.old state.new
         (drive_views ⟦<dyn BlockDriver as BlockDriver>⟧ devices.old.drives.items)
         (drive_views ⟦<dyn BlockDriver as BlockDriver>⟧ devices.new.drives.items) }
     ensures terms_kept { devices.new.terms ≡ devices.old.terms }
@@ -111,17 +100,7 @@ fn give_root(
     requires root { IsRootAt state.old.disks
         (drive_views ⟦<dyn BlockDriver as BlockDriver>⟧ devices.old.drives.items) root }
     requires first { root.drive ≡ 0 }
-    ensures stands { OnFirst state.old
-        (drive_views ⟦<dyn BlockDriver as BlockDriver>⟧ devices.old.drives.items)
-        (λ files v. OnOk result (StandsFor state.new
-        (drive_views ⟦<dyn BlockDriver as BlockDriver>⟧ devices.new.drives.items) (given files v
-        (drive_views ⟦<dyn BlockDriver as BlockDriver>⟧ devices.new.drives.items)))) }
-    ensures read { OnFirst state.old
-        (drive_views ⟦<dyn BlockDriver as BlockDriver>⟧ devices.old.drives.items)
-        (λ files v. ReadUpTo (only_drive 0 (root_calls (Some v)))
-        (drive_views ⟦<dyn BlockDriver as BlockDriver>⟧ devices.old.drives.items)
-        (drive_views ⟦<dyn BlockDriver as BlockDriver>⟧ devices.new.drives.items)) }
-    ensures moves { StartMoves result
+    ensures gives { GivesRoot result state.old state.new
         (drive_views ⟦<dyn BlockDriver as BlockDriver>⟧ devices.old.drives.items)
         (drive_views ⟦<dyn BlockDriver as BlockDriver>⟧ devices.new.drives.items) }
     ensures terms_kept { devices.new.terms ≡ devices.old.terms }

@@ -26,26 +26,24 @@ loop-n-preserved g c =
     let there = c.requires.there in
     let was = length-map c.args.devices.now.drives.items (boxed_drive_view (λ table. (g.dyn-1.0.entry table).1)) in
     record {
-      so_far = mounted-one c.loop-n.n c.args.drives c.args.state.now c.loop-n.state c.mount_one.new.state _ _ _ c.loop-n-test.true (omega (arith, there, was)) c.loop-n.invariant.so_far c.in-Ok.ensures.read c.in-Ok.ensures.mounted c.in-Ok.ensures.moves;
+      so_far = mounted-one c.loop-n.n c.args.drives c.args.state.now c.loop-n.state c.mount_one.new.state _ _ _ c.loop-n-test.true (omega (arith, there, was)) c.loop-n.invariant.so_far c.in-Ok.ensures.mounts.read c.in-Ok.ensures.mounts.mounted c.in-Ok.ensures.mounts.moves;
       terms = c.in-Ok.ensures.terms_kept ∙ c.loop-n.invariant.terms;
     }
 
-pub returns-in-Err-clause-read : goal.returns-in-Err-clause-read
-returns-in-Err-clause-read g c =
+pub returns-in-Err-clause-mounts : goal.returns-in-Err-clause-mounts
+returns-in-Err-clause-mounts g c =
     let there = c.requires.there in
     let was = length-map c.args.devices.now.drives.items (boxed_drive_view (λ table. (g.dyn-1.0.entry table).1)) in
-    mounted-read-all c.loop-n.n c.args.drives c.args.state.now c.loop-n.state c.mount_one.new.state _ _ _ c.loop-n-test.true (omega (arith, there, was)) c.loop-n.invariant.so_far c.in-Err.ensures.read
+    record {
+      mounted = λ volumes many hold has. tt;
+      read = mounted-read-all c.loop-n.n c.args.drives c.args.state.now c.loop-n.state c.mount_one.new.state _ _ _ c.loop-n-test.true (omega (arith, there, was)) c.loop-n.invariant.so_far c.in-Err.ensures.mounts.read;
+      moves = moves-then {A = Unit {0}} (Err c.in-Err.fault) _ _ _ c.loop-n.invariant.so_far.none c.in-Err.ensures.mounts.moves;
+    }
 
-pub returns-in-Err-clause-moves : goal.returns-in-Err-clause-moves
-returns-in-Err-clause-moves g c = moves-then {A = Unit {0}} (Err c.in-Err.fault) _ _ _ c.loop-n.invariant.so_far.none c.in-Err.ensures.moves
-
-pub returns-clause-mounted : goal.returns-clause-mounted
-returns-clause-mounted g c volumes many hold has =
-    mounted-all c.loop-n.n c.args.drives c.args.state.now _ _ _ volumes (omega (arith, c.loop-n-test.false)) c.loop-n.invariant.so_far many hold has
-
-pub returns-clause-read : goal.returns-clause-read
-returns-clause-read g c =
-    read-to c.loop-n.n c.args.drives c.args.state.now c.loop-n.state _ _ (omega (arith, c.loop-n-test.false, c.loop-n.auto.n-end)) c.loop-n.invariant.so_far
-
-pub returns-clause-moves : goal.returns-clause-moves
-returns-clause-moves g c = c.loop-n.invariant.so_far.none
+pub returns-clause-mounts : goal.returns-clause-mounts
+returns-clause-mounts g c = record {
+  mounted = λ volumes many hold has.
+      mounted-all c.loop-n.n c.args.drives c.args.state.now _ _ _ volumes (omega (arith, c.loop-n-test.false)) c.loop-n.invariant.so_far many hold has;
+  read = read-to c.loop-n.n c.args.drives c.args.state.now c.loop-n.state _ _ (omega (arith, c.loop-n-test.false, c.loop-n.auto.n-end)) c.loop-n.invariant.so_far;
+  moves = c.loop-n.invariant.so_far.none;
+}

@@ -1,5 +1,7 @@
+use Rattle.std.proofs.Common.{refl}
 use Rattle.file_drives.specs.Mounted.{mounted_at}
 use Rattle.file_start.specs.Start.{mounted_files}
+use Rattle.file_start.proofs.ReadLemmas.{read-none}
 use Rattle.file_start.proofs.StartLemmas.{read-first, root-at, root-first, root-none, stands-first, without-drives}
 use Rattle.file_start.proofs.start.give_directories.Goals as goal
 
@@ -9,15 +11,20 @@ give_root-requires-clause-root g c = root-at c.args.state.now _ c.in-Some.root c
 pub give_root-requires-clause-first : goal.give_root-requires-clause-first
 give_root-requires-clause-first g c = root-first c.args.state.now _ c.in-Some.root c.requires.first c.in-Some.ensures.root
 
-pub returns-in-Some-clause-stands : goal.returns-in-Some-clause-stands
-returns-in-Some-clause-stands g c volumes has =
-    stands-first c.args.state.now c.give_root.new.state _ _ volumes c.in-Some.root has c.in-Some.ensures.root c.give_root.ensures.read c.give_root.result c.give_root.ensures.stands
+pub returns-in-Some-clause-gives : goal.returns-in-Some-clause-gives
+returns-in-Some-clause-gives g c = record {
+  stands = λ volumes has.
+      stands-first c.args.state.now c.give_root.new.state _ _ volumes c.in-Some.root has c.in-Some.ensures.root c.give_root.ensures.gives.read c.give_root.result c.give_root.ensures.gives.stands;
+  read = λ volumes has.
+      read-first c.args.state.now c.give_root.new.state _ _ volumes c.in-Some.root has c.in-Some.ensures.root c.give_root.ensures.gives.read;
+  moves = c.give_root.ensures.gives.moves;
+}
 
-pub returns-in-Some-clause-read : goal.returns-in-Some-clause-read
-returns-in-Some-clause-read g c volumes has =
-    read-first c.args.state.now c.give_root.new.state _ _ volumes c.in-Some.root has c.in-Some.ensures.root c.give_root.ensures.read
-
-pub returns-in-None-clause-stands : goal.returns-in-None-clause-stands
-returns-in-None-clause-stands g c volumes has =
-    let files = mounted_files volumes _ in
-    without-drives volumes c.args.state.now _ (root-none (mounted_at files.volumes 0) (c.in-None.ensures.root _ files.volumes has.mounted)) has
+pub returns-in-None-clause-gives : goal.returns-in-None-clause-gives
+returns-in-None-clause-gives g c = record {
+  stands = λ volumes has.
+      let files = mounted_files volumes _ in
+      without-drives volumes c.args.state.now _ (root-none (mounted_at files.volumes 0) (c.in-None.ensures.root _ files.volumes has.mounted)) has;
+  read = λ volumes has. read-none _ _;
+  moves = refl;
+}

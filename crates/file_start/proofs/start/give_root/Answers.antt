@@ -1,20 +1,22 @@
-use Rattle.std.proofs.Common.{Err, Ok, Option}
+use Rattle.std.proofs.Common.{Err, Ok, Option, rules}
 use Rattle.file_rules.specs.declared.places.FilePlace.{FilePlace}
 use Rattle.file_start.proofs.StartLemmas.{moves-as, root-moves, root-reads}
 use Rattle.file_start.proofs.start.give_root.Goals as goal
 
-pub returns-in-Err-clause-read : goal.returns-in-Err-clause-read
-returns-in-Err-clause-read g c files v stands is =
-    root-reads c.args.state.now.disks _ c.args.root c.requires.root c.find_commands.new.disks _ _ c.requires.first c.in-Err.ensures.drive files.volumes v stands.mounted is
+pub returns-in-Err-clause-gives : goal.returns-in-Err-clause-gives
+returns-in-Err-clause-gives g c = record {
+  stands = λ files v stands is. tt;
+  read = λ files v stands is.
+      root-reads c.args.state.now.disks _ c.args.root c.requires.root c.find_commands.new.disks _ _ c.requires.first c.in-Err.ensures.drive files.volumes v stands.mounted is;
+  moves =
+      moves-as (Option FilePlace) (Unit {0}) c.in-Err.fault _ _ (root-moves c.args.state.now.disks _ c.args.root c.requires.root c.find_commands.new.disks _ {A = Option FilePlace} (Err c.in-Err.fault) c.in-Err.ensures.failed c.in-Err.ensures.drive);
+}
 
-pub returns-in-Err-clause-moves : goal.returns-in-Err-clause-moves
-returns-in-Err-clause-moves g c =
-    moves-as (Option FilePlace) (Unit {0}) c.in-Err.fault _ _ (root-moves c.args.state.now.disks _ c.args.root c.requires.root c.find_commands.new.disks _ {A = Option FilePlace} (Err c.in-Err.fault) c.in-Err.ensures.failed c.in-Err.ensures.drive)
-
-pub returns-in-Ok-clause-read : goal.returns-in-Ok-clause-read
-returns-in-Ok-clause-read g c files v stands is =
-    root-reads c.args.state.now.disks _ c.args.root c.requires.root c.find_commands.new.disks _ _ c.requires.first c.in-Ok.ensures.drive files.volumes v stands.mounted is
-
-pub returns-in-Ok-clause-moves : goal.returns-in-Ok-clause-moves
-returns-in-Ok-clause-moves g c =
-    root-moves c.args.state.now.disks _ c.args.root c.requires.root c.find_commands.new.disks _ {A = Option FilePlace} (Ok c.in-Ok.commands) c.in-Ok.ensures.failed c.in-Ok.ensures.drive
+pub returns-in-Ok-clause-gives : goal.returns-in-Ok-clause-gives
+returns-in-Ok-clause-gives g c = record {
+  stands = search rules;
+  read = λ files v stands is.
+      root-reads c.args.state.now.disks _ c.args.root c.requires.root c.find_commands.new.disks _ _ c.requires.first c.in-Ok.ensures.drive files.volumes v stands.mounted is;
+  moves =
+      root-moves c.args.state.now.disks _ c.args.root c.requires.root c.find_commands.new.disks _ {A = Option FilePlace} (Ok c.in-Ok.commands) c.in-Ok.ensures.failed c.in-Ok.ensures.drive;
+}

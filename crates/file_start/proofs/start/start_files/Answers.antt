@@ -9,7 +9,7 @@ pub returns-in-Err-clause-drives : goal.returns-in-Err-clause-drives
 returns-in-Err-clause-drives g c =
     let views = length-map c.args.devices.now.drives.items (boxed_drive_view (λ table. (g.dyn-1.0.entry table).1)) in
     let few = c.requires.few in
-    starts-drives {A = FileState} (Err c.in-Err.fault) c.mount_first.new.state c.args.drives _ _ _ c.requires.volumes (λ volumes many hold. c.in_ok-mount_first.ensures.mounted volumes many hold (c.in_ok-state.ensures.state _ (omega (arith, few, views)))) c.in_ok-mount_first.ensures.read c.in_ok-mount_first.ensures.moves c.in-Err.ensures.read (moves-as (Unit {0}) FileState c.in-Err.fault _ _ c.in-Err.ensures.moves)
+    starts-drives {A = FileState} (Err c.in-Err.fault) c.mount_first.new.state c.args.drives _ _ _ c.requires.volumes (λ volumes many hold. c.in_ok-mount_first.ensures.mounts.mounted volumes many hold (c.in_ok-state.ensures.state _ (omega (arith, few, views)))) c.in_ok-mount_first.ensures.mounts.read c.in_ok-mount_first.ensures.mounts.moves c.in-Err.ensures.gives.read (moves-as (Unit {0}) FileState c.in-Err.fault _ _ c.in-Err.ensures.gives.moves)
 
 pub returns-in-Ok-clause-started : goal.returns-in-Ok-clause-started
 returns-in-Ok-clause-started g c images at =
@@ -17,10 +17,10 @@ returns-in-Ok-clause-started g c images at =
     let views = length-map c.args.devices.now.drives.items (boxed_drive_view (λ table. (g.dyn-1.0.entry table).1)) in
     let few = c.requires.few in
     started-on images c.give_directories.new.state _ _ c.args.drives have at
-    (c.in-Ok.ensures.stands have.volumes (c.in_ok-mount_first.ensures.mounted have.volumes have.as_many have.hold (c.in_ok-state.ensures.state _ (omega (arith, few, views)))))
+    (c.in-Ok.ensures.gives.stands have.volumes (c.in_ok-mount_first.ensures.mounts.mounted have.volumes have.as_many have.hold (c.in_ok-state.ensures.state _ (omega (arith, few, views)))))
 
 pub returns-in-Ok-clause-drives : goal.returns-in-Ok-clause-drives
 returns-in-Ok-clause-drives g c =
     let views = length-map c.args.devices.now.drives.items (boxed_drive_view (λ table. (g.dyn-1.0.entry table).1)) in
     let few = c.requires.few in
-    starts-drives {A = FileState} (Ok c.give_directories.new.state) c.mount_first.new.state c.args.drives _ _ _ c.requires.volumes (λ volumes many hold. c.in_ok-mount_first.ensures.mounted volumes many hold (c.in_ok-state.ensures.state _ (omega (arith, few, views)))) c.in_ok-mount_first.ensures.read c.in_ok-mount_first.ensures.moves c.in-Ok.ensures.read c.in-Ok.ensures.moves
+    starts-drives {A = FileState} (Ok c.give_directories.new.state) c.mount_first.new.state c.args.drives _ _ _ c.requires.volumes (λ volumes many hold. c.in_ok-mount_first.ensures.mounts.mounted volumes many hold (c.in_ok-state.ensures.state _ (omega (arith, few, views)))) c.in_ok-mount_first.ensures.mounts.read c.in_ok-mount_first.ensures.mounts.moves c.in-Ok.ensures.gives.read c.in-Ok.ensures.gives.moves
