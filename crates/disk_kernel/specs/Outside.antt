@@ -18,3 +18,15 @@ abbrev pub outside : {Disk Line : Type 0} {Drive : Disk → Type 0} {Terminal : 
     → ((table : Line) → TerminalGhosts (Terminal table)) → List (DynBox Line Global Terminal) → Outside
 outside of_drives drives of_terms terms =
     record { drives = drive_views of_drives drives; terms = terminal_states of_terms terms }
+
+-- what holds between the devices in these boxes before a call and after it, as
+-- `OnDevices (λ before after. HasEvent self.old self.new before after result)
+-- ⟦<dyn BlockDriver as BlockDriver>⟧ devices.old.drives.items devices.new.drives.items
+-- ⟦<dyn CharDriver as CharDriver>⟧ devices.old.terms.items devices.new.terms.items`
+abbrev pub OnDevices : {Disk Line : Type 0} {Drive : Disk → Type 0} {Terminal : Line → Type 0}
+    → (Outside → Outside → Type 0)
+    → ((table : Disk) → DriveGhosts (Drive table)) → List (DynBox Disk Global Drive) → List (DynBox Disk Global Drive)
+    → ((table : Line) → TerminalGhosts (Terminal table)) → List (DynBox Line Global Terminal)
+    → List (DynBox Line Global Terminal) → Type 0
+OnDevices fact of_drives drives drives_after of_terms terms terms_after =
+    fact (outside of_drives drives of_terms terms) (outside of_drives drives_after of_terms terms_after)

@@ -1,9 +1,10 @@
 -- The start of a kernel.
-use Rattle.std.specs.Prelude.{◌≢◌, ℕ, ⊤, Result, Ok, Err, List}
+use Rattle.std.specs.Prelude.{◌≡◌, ◌≢◌, ℕ, ⊤, Result, Ok, Err, IfErr, IfOk, List, OnOk}
 use Rattle.machine_model.specs.Start.{Refuses}
 use Rattle.machine_model.specs.declared.ends.BootFault.{BootFault}
 use Rattle.machine_model.specs.declared.ends.BootFault.TheVariants.{OutOfMemory}
 use Rattle.file_drives.specs.Drives.{drive_states}
+use Rattle.file_start.specs.Start.{HaveImages, StartsDrives}
 use Rattle.file_start.specs.declared.fault.StartFault.{StartFault}
 use Rattle.file_start.specs.declared.fault.StartFault.TheVariants as Fault
 use Rattle.disk_machine.specs.Start.{Boot as Started, Starts}
@@ -13,7 +14,7 @@ use Rattle.disk_kernel.specs.declared.new.Config.{Config}
 use Rattle.disk_kernel.specs.declared.new.StartError.{StartError}
 use Rattle.disk_kernel.specs.declared.new.StartError.TheVariants.{Boot, Drive}
 use Rattle.disk_kernel.specs.Outside.{Outside}
-use Rattle.disk_kernel.specs.Tie.{Represents}
+use Rattle.disk_kernel.specs.Tie.{Represents, ticks}
 
 -- what the machine starts with, where these are its devices when the images are mounted
 abbrev pub boot_of : Config → List ℕ → List (List ℕ) → Outside → Started
@@ -50,3 +51,15 @@ abbrev pub drive_fault : {A : Type 0} → Result A StartError → Result A Start
 drive_fault (Ok a) = Ok a
 drive_fault (Err (Boot fault)) = Err Fault.OutOfMemory
 drive_fault (Err (Drive drive number)) = Err (Fault.Drive drive number)
+
+-- how a start was answered, and what it left of the devices
+pub record KernelStarts (config : Config) (file : List ℕ) (result : Result Kernel StartError) (before after : Outside)
+    : Type 0 where
+  -- with the images that were in the first drives
+  pub stands : (images : List (List ℕ)) → HaveImages config.images images before.drives
+      → IfOk result (IsStarted config file images after)
+  pub accepted : OnOk result (IsAccepted config file)
+  pub refused : IfErr result (StartIsRefused config file)
+  pub drives : StartsDrives config.images (drive_fault result) before.drives after.drives
+  -- no slice was begun
+  pub count : IfOk result (λ kernel. ticks kernel ≡ 0)

@@ -3,7 +3,7 @@
 ghost use Rattle.std.specs.Prelude.{◌≡◌, ◌≢◌, ◌<◌, vec_len};
 ghost use Rattle.disk_kernel.specs.Calls.{HasEvent};
 ghost use Rattle.disk_kernel.specs.Next.{DoesNext, HasTurn};
-ghost use Rattle.disk_kernel.specs.Outside.{Outside, outside};
+ghost use Rattle.disk_kernel.specs.Outside.{OnDevices, Outside, outside};
 ghost use Rattle.disk_kernel.specs.Tie.{Stands, pending};
 
 use crate::act::Act;
@@ -25,11 +25,9 @@ impl Kernel {
         requires stands { Stands self.old
             (outside ⟦<dyn BlockDriver as BlockDriver>⟧ devices.old.drives.items
             ⟦<dyn CharDriver as CharDriver>⟧ devices.old.terms.items) }
-        ensures event { HasEvent self.old self.new
-            (outside ⟦<dyn BlockDriver as BlockDriver>⟧ devices.old.drives.items
-            ⟦<dyn CharDriver as CharDriver>⟧ devices.old.terms.items)
-            (outside ⟦<dyn BlockDriver as BlockDriver>⟧ devices.new.drives.items
-            ⟦<dyn CharDriver as CharDriver>⟧ devices.new.terms.items) result }
+        ensures event { OnDevices (λ before after. HasEvent self.old self.new before after result)
+            ⟦<dyn BlockDriver as BlockDriver>⟧ devices.old.drives.items devices.new.drives.items
+            ⟦<dyn CharDriver as CharDriver>⟧ devices.old.terms.items devices.new.terms.items }
         ensures progress { result ≡ EventEnd.Ran → pending self.new < pending self.old }
         ensures terminals { vec_len devices.new.terms ≡ vec_len devices.old.terms }
         ensures drives { vec_len devices.new.drives ≡ vec_len devices.old.drives }

@@ -3,7 +3,7 @@ ghost use Rattle.machine_model.specs.State.{living_count};
 ghost use Rattle.disk_machine.specs.State.{State};
 ghost use Rattle.disk_machine.specs.Run.{Choose};
 ghost use Rattle.disk_kernel.specs.Calls.{HasEvent, HasSlice, HasTick};
-ghost use Rattle.disk_kernel.specs.Outside.{Outside, outside};
+ghost use Rattle.disk_kernel.specs.Outside.{OnDevices, Outside, outside};
 ghost use Rattle.disk_kernel.specs.Tie.{Represents, Stands, IsGoing, ticks};
 
 use crate::act::Act;
@@ -59,11 +59,9 @@ impl Kernel {
         requires stands { Stands self.old
             (outside ⟦<dyn BlockDriver as BlockDriver>⟧ devices.old.drives.items
             ⟦<dyn CharDriver as CharDriver>⟧ devices.old.terms.items) }
-        ensures tick { HasTick self.old self.new
-            (outside ⟦<dyn BlockDriver as BlockDriver>⟧ devices.old.drives.items
-            ⟦<dyn CharDriver as CharDriver>⟧ devices.old.terms.items)
-            (outside ⟦<dyn BlockDriver as BlockDriver>⟧ devices.new.drives.items
-            ⟦<dyn CharDriver as CharDriver>⟧ devices.new.terms.items) result }
+        ensures tick { OnDevices (λ before after. HasTick self.old self.new before after result)
+            ⟦<dyn BlockDriver as BlockDriver>⟧ devices.old.drives.items devices.new.drives.items
+            ⟦<dyn CharDriver as CharDriver>⟧ devices.old.terms.items devices.new.terms.items }
         ensures terminals { vec_len devices.new.terms ≡ vec_len devices.old.terms }
         ensures drives { vec_len devices.new.drives ≡ vec_len devices.old.drives }
     {
@@ -93,11 +91,9 @@ impl Kernel {
         requires stands { Stands self.old
             (outside ⟦<dyn BlockDriver as BlockDriver>⟧ devices.old.drives.items
             ⟦<dyn CharDriver as CharDriver>⟧ devices.old.terms.items) }
-        ensures event { HasEvent self.old self.new
-            (outside ⟦<dyn BlockDriver as BlockDriver>⟧ devices.old.drives.items
-            ⟦<dyn CharDriver as CharDriver>⟧ devices.old.terms.items)
-            (outside ⟦<dyn BlockDriver as BlockDriver>⟧ devices.new.drives.items
-            ⟦<dyn CharDriver as CharDriver>⟧ devices.new.terms.items) result }
+        ensures event { OnDevices (λ before after. HasEvent self.old self.new before after result)
+            ⟦<dyn BlockDriver as BlockDriver>⟧ devices.old.drives.items devices.new.drives.items
+            ⟦<dyn CharDriver as CharDriver>⟧ devices.old.terms.items devices.new.terms.items }
         ensures terminals { vec_len devices.new.terms ≡ vec_len devices.old.terms }
         ensures drives { vec_len devices.new.drives ≡ vec_len devices.old.drives }
     {
@@ -117,11 +113,9 @@ impl Kernel {
         requires stands { Stands self.old
             (outside ⟦<dyn BlockDriver as BlockDriver>⟧ devices.old.drives.items
             ⟦<dyn CharDriver as CharDriver>⟧ devices.old.terms.items) }
-        ensures slice { HasSlice n self.old self.new
-            (outside ⟦<dyn BlockDriver as BlockDriver>⟧ devices.old.drives.items
-            ⟦<dyn CharDriver as CharDriver>⟧ devices.old.terms.items)
-            (outside ⟦<dyn BlockDriver as BlockDriver>⟧ devices.new.drives.items
-            ⟦<dyn CharDriver as CharDriver>⟧ devices.new.terms.items) result }
+        ensures slice { OnDevices (λ before after. HasSlice n self.old self.new before after result)
+            ⟦<dyn BlockDriver as BlockDriver>⟧ devices.old.drives.items devices.new.drives.items
+            ⟦<dyn CharDriver as CharDriver>⟧ devices.old.terms.items devices.new.terms.items }
         ensures terminals { vec_len devices.new.terms ≡ vec_len devices.old.terms }
         ensures drives { vec_len devices.new.drives ≡ vec_len devices.old.drives }
     {

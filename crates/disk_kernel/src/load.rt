@@ -6,13 +6,12 @@ ghost use Rattle.proc_calls.specs.Telling.{LivesOn};
 ghost use Rattle.proc_rules.specs.Records.{IsLiving};
 ghost use Rattle.file_drives.specs.Drives.{DriveView, drive_views};
 ghost use Rattle.file_rules.specs.Files.{Files};
-ghost use Rattle.file_state.specs.Attempt.{standing};
 ghost use Rattle.file_state.specs.Tie.{IsSound, StandsFor};
 ghost use Rattle.disk_machine.specs.Services.{service_of};
 ghost use Rattle.disk_kernel.specs.Calls.{HasEvent};
-ghost use Rattle.disk_kernel.specs.Loads.{LoadsOnEach};
+ghost use Rattle.disk_kernel.specs.Loads.{LoadsOnEach, kernel_standing};
 ghost use Rattle.disk_kernel.specs.Next.{DoesNext};
-ghost use Rattle.disk_kernel.specs.Outside.{outside};
+ghost use Rattle.disk_kernel.specs.Outside.{OnDevices, outside};
 ghost use Rattle.disk_kernel.specs.Paths.{MayBegin, files_begun, number_in_a};
 ghost use Rattle.disk_kernel.specs.Services.{load_in_machine};
 ghost use Rattle.disk_kernel.specs.Tie.{Stands, pending};
@@ -45,11 +44,9 @@ impl Kernel {
         requires stands { Stands self.old
             (outside ⟦<dyn BlockDriver as BlockDriver>⟧ devices.old.drives.items
             ⟦<dyn CharDriver as CharDriver>⟧ devices.old.terms.items) }
-        ensures event { HasEvent self.old self.new
-            (outside ⟦<dyn BlockDriver as BlockDriver>⟧ devices.old.drives.items
-            ⟦<dyn CharDriver as CharDriver>⟧ devices.old.terms.items)
-            (outside ⟦<dyn BlockDriver as BlockDriver>⟧ devices.new.drives.items
-            ⟦<dyn CharDriver as CharDriver>⟧ devices.new.terms.items) result }
+        ensures event { OnDevices (λ before after. HasEvent self.old self.new before after result)
+            ⟦<dyn BlockDriver as BlockDriver>⟧ devices.old.drives.items devices.new.drives.items
+            ⟦<dyn CharDriver as CharDriver>⟧ devices.old.terms.items devices.new.terms.items }
         ensures progress { result ≡ EventEnd.Ran → pending self.new < pending self.old }
         ensures terminals { vec_len devices.new.terms ≡ vec_len devices.old.terms }
         ensures drives { vec_len devices.new.drives ≡ vec_len devices.old.drives }
@@ -68,10 +65,8 @@ impl Kernel {
             (drive_views ⟦<dyn BlockDriver as BlockDriver>⟧ devices.old.drives.items) }
         ensures call { (now : TimePacket)
             → LoadsOnEach call now (vec_len devices.old.terms) p.0 result
-            (standing ⟦<dyn BlockDriver as BlockDriver>⟧ self.old.processes self.old.files
-            devices.old.drives.items)
-            (standing ⟦<dyn BlockDriver as BlockDriver>⟧ self.new.processes self.new.files
-            devices.new.drives.items) }
+            (kernel_standing ⟦<dyn BlockDriver as BlockDriver>⟧ self.old devices.old.drives.items)
+            (kernel_standing ⟦<dyn BlockDriver as BlockDriver>⟧ self.new devices.new.drives.items) }
         ensures lives { LivesOn result self.new.processes.table p.0 }
         ensures clock { self.new.clock ≡ self.old.clock }
         ensures chosen { self.new.chosen ≡ self.old.chosen }

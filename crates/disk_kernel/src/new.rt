@@ -1,12 +1,11 @@
 //! The start of a kernel.
 
-ghost use Rattle.std.specs.Prelude.{◌≡◌, ◌<◌, ◌≤◌, ℕ, true, List, IfOk, OnOk, IfErr, vec_len};
+ghost use Rattle.std.specs.Prelude.{◌≡◌, ◌<◌, ◌≤◌, true, IfErr, vec_len};
 ghost use Rattle.civil_time.specs.CivilTime.{is_time_packet};
 ghost use Rattle.file_drives.specs.Drives.{drive_views};
-ghost use Rattle.file_start.specs.Start.{HaveImages, HaveVolumes, StartsDrives};
-ghost use Rattle.disk_kernel.specs.Outside.{outside};
-ghost use Rattle.disk_kernel.specs.Starting.{IsAccepted, IsStarted, StartIsRefused, WhereRefused, drive_fault};
-ghost use Rattle.disk_kernel.specs.Tie.{ticks};
+ghost use Rattle.file_start.specs.Start.{HaveVolumes};
+ghost use Rattle.disk_kernel.specs.Outside.{OnDevices};
+ghost use Rattle.disk_kernel.specs.Starting.{KernelStarts, WhereRefused};
 
 use crate::kernel::Kernel;
 use device_table::devices::Devices;
@@ -65,19 +64,11 @@ impl Kernel {
         requires volumes { HaveVolumes config.images
             (drive_views ⟦<dyn BlockDriver as BlockDriver>⟧ devices.old.drives.items) }
         requires terminals { (0 < vec_len devices.old.terms) × (vec_len devices.old.terms ≤ 4) }
-        ensures start { (images : List (List ℕ)) → HaveImages config.images images
-            (drive_views ⟦<dyn BlockDriver as BlockDriver>⟧ devices.old.drives.items)
-            → IfOk result (IsStarted config boot.now images
-            (outside ⟦<dyn BlockDriver as BlockDriver>⟧ devices.new.drives.items
-            ⟦<dyn CharDriver as CharDriver>⟧ devices.new.terms.items)) }
-        ensures accepted { OnOk result (IsAccepted config boot.now) }
-        ensures refused { IfErr result (StartIsRefused config boot.now) }
+        ensures starts { OnDevices (KernelStarts config boot.now result)
+            ⟦<dyn BlockDriver as BlockDriver>⟧ devices.old.drives.items devices.new.drives.items
+            ⟦<dyn CharDriver as CharDriver>⟧ devices.old.terms.items devices.new.terms.items }
         ensures untouched { IfErr result (λ error. WhereRefused error (devices.new ≡ devices.old)) }
-        ensures drives { StartsDrives config.images (drive_fault result)
-            (drive_views ⟦<dyn BlockDriver as BlockDriver>⟧ devices.old.drives.items)
-            (drive_views ⟦<dyn BlockDriver as BlockDriver>⟧ devices.new.drives.items) }
         ensures terms_kept { devices.new.terms ≡ devices.old.terms }
-        ensures count { IfOk result (λ kernel. ticks kernel ≡ 0) }
     {
         match start(alloc, config.blocks, boot) {
             Err(fault) => Err(StartError::Boot(fault)),

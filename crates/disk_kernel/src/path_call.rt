@@ -10,7 +10,7 @@ ghost use Rattle.io_rules.specs.Waiting.{io_waits_for};
 ghost use Rattle.disk_machine.specs.Services.{on_paths, service_of};
 ghost use Rattle.disk_kernel.specs.Calls.{HasEvent};
 ghost use Rattle.disk_kernel.specs.Next.{DoesNext};
-ghost use Rattle.disk_kernel.specs.Outside.{outside};
+ghost use Rattle.disk_kernel.specs.Outside.{OnDevices, outside};
 ghost use Rattle.disk_kernel.specs.Tie.{Stands, pending};
 
 use crate::act::Act;
@@ -42,11 +42,9 @@ impl Kernel {
         requires stands { Stands self.old
             (outside ⟦<dyn BlockDriver as BlockDriver>⟧ devices.old.drives.items
             ⟦<dyn CharDriver as CharDriver>⟧ devices.old.terms.items) }
-        ensures event { HasEvent self.old self.new
-            (outside ⟦<dyn BlockDriver as BlockDriver>⟧ devices.old.drives.items
-            ⟦<dyn CharDriver as CharDriver>⟧ devices.old.terms.items)
-            (outside ⟦<dyn BlockDriver as BlockDriver>⟧ devices.new.drives.items
-            ⟦<dyn CharDriver as CharDriver>⟧ devices.new.terms.items) result }
+        ensures event { OnDevices (λ before after. HasEvent self.old self.new before after result)
+            ⟦<dyn BlockDriver as BlockDriver>⟧ devices.old.drives.items devices.new.drives.items
+            ⟦<dyn CharDriver as CharDriver>⟧ devices.old.terms.items devices.new.terms.items }
         ensures progress { result ≡ EventEnd.Ran → pending self.new < pending self.old }
         ensures terminals { vec_len devices.new.terms ≡ vec_len devices.old.terms }
         ensures drives { vec_len devices.new.drives ≡ vec_len devices.old.drives }
