@@ -1,11 +1,14 @@
 -- A run of a machine from its start on.
-use Rattle.std.specs.Prelude.{◌≡◌, ◌≢◌, ◌⊎◌, ⊤, ℕ, Bool, true, false, Some, List, All}
+use Rattle.std.specs.Prelude.{◌≡◌, ◌≢◌, ◌⊎◌, ◌<◌, ◌≤◌, ⊤, ℕ, Bool, true, false, Some, List, length, All}
+use Rattle.os9_base.specs.declared.limits.TheConstants.{LAST_TICK}
 use Rattle.os9_base.specs.declared.registers.TimePacket.{TimePacket}
 use Rattle.os9_outer.specs.Stream.{stream_with}
+use Rattle.civil_time.specs.CivilTime.{is_time_packet}
 use Rattle.file_drives.specs.Drives.{drive_states, media_of}
 use Rattle.file_drives.specs.Mounted.{DriveHolds}
 use Rattle.file_rules.specs.Files.{DriveState, NoneFailed, OneFailed, volume_at}
-use Rattle.key_loading.specs.Loaded.{loaded}
+use Rattle.file_start.specs.Start.{HaveImages, HaveVolumes}
+use Rattle.key_loading.specs.Loaded.{AreUnloaded, loaded}
 use Rattle.machine_model.specs.Start.{Refuses}
 use Rattle.machine_model.specs.declared.ends.BootFault.{BootFault}
 use Rattle.rbf_model.specs.Volume.{DiskVolume}
@@ -13,6 +16,7 @@ use Rattle.script_text.specs.declared.script.ScriptKey.{ScriptKey}
 use Rattle.disk_machine.specs.Run.{Run}
 use Rattle.disk_machine.specs.Start.{Starts}
 use Rattle.disk_machine.specs.State.{State, has_living}
+use Rattle.disk_kernel.specs.Outside.{Outside}
 use Rattle.disk_kernel.specs.declared.new.Config.{Config}
 use Rattle.boot_run.specs.Console.{IsObserved}
 use Rattle.boot_run.specs.Slices.{RunsPartly}
@@ -39,6 +43,18 @@ setup_with config file images keys slices = record {
   keys = keys;
   slices = slices;
 }
+
+-- what a machine needs that is to run: as many blocks as it may have, a date and time, fewer slices than ticks are
+-- counted, one to four terminals without keys, and at most four drives, of which the first hold volumes
+pub record CanRun (config : Config) (slices : List ℕ) (devices : Outside) : Type 0 where
+  pub least : 8 ≤ config.blocks
+  pub most : config.blocks ≤ 256
+  pub time : is_time_packet config.time ≡ true
+  pub few : length slices < LAST_TICK
+  pub terminals : AreUnloaded devices.terms
+  pub enough : config.images ≤ length devices.drives
+  pub few_drives : length devices.drives ≤ 4
+  pub volumes : HaveVolumes config.images devices.drives
 
 -- the machine starts in this state: no drive has failed when the images are mounted, and then each terminal is loaded
 -- with its keys
@@ -115,6 +131,7 @@ LeavesUnrun before after (Refused fault) = after ≡ before
 LeavesUnrun before after (DriveFailed drive number) = FailsToMount drive number before after
 LeavesUnrun before after end = ⊤
 
+-- a machine was started, and its run ended so
 pub record MachineCall (setup : Setup) (before after : World) (end : RunEnd) : Type 0 where
   pub comes : All IsObserved before.devices.terms → ComesTo setup before after end
   pub unrun : LeavesUnrun before after end
@@ -122,3 +139,9 @@ pub record MachineCall (setup : Setup) (before after : World) (end : RunEnd) : T
   pub output_fault : end ≡ OutputFailed → FailsToWrite before after
   pub no_fault : end ≢ OutputFailed → HasNoFault before after
   pub files_kept : after.files ≡ before.files
+
+-- so with the images that were in the first drives
+abbrev pub MachineRuns : Config → List ℕ → List ScriptKey → List ℕ → RunEnd → World → World → Type 0
+MachineRuns config file keys slices end before after =
+    (images : List (List ℕ)) → HaveImages config.images images before.devices.drives
+    → MachineCall (setup_with config file images keys slices) before after end

@@ -1,9 +1,13 @@
 -- The world around a run of a machine, as far as it can be observed: the host and the devices.
 use Rattle.std.specs.Prelude.{◌≡◌, ℕ, true, false, Bool, Some, None, Option, List}
+use Rattle.std.specs.declared.alloc.Global.{Global}
+use Rattle.std.specs.declared.dyn_box.DynBox.{DynBox}
 use Rattle.os9_base.specs.Count.{Rose}
 use Rattle.os9_outer.specs.Host.{Files}
+use Rattle.os9_outer.specs.declared.drive.BlockDriver.{Ghosts as DriveGhosts}
 use Rattle.os9_outer.specs.declared.host.Host.{Ghosts}
-use Rattle.disk_kernel.specs.Outside.{Outside}
+use Rattle.os9_outer.specs.declared.terminal.CharDriver.{Ghosts as TerminalGhosts}
+use Rattle.disk_kernel.specs.Outside.{OnDevices, Outside}
 
 pub record World : Type 0 where
   pub files : Option Files  -- what the files hold
@@ -23,6 +27,19 @@ world_of members host devices = record {
   failed_in_read = members.failed_in_read host;
   devices = devices;
 }
+
+-- what holds between the worlds before a call and after it, of a host and of the devices in these boxes, as
+-- `OnWorld (PassesBytes result) H.Host host.old host.new
+-- ⟦<dyn BlockDriver as BlockDriver>⟧ devices.old.drives.items devices.new.drives.items
+-- ⟦<dyn CharDriver as CharDriver>⟧ devices.old.terms.items devices.new.terms.items`
+abbrev pub OnWorld : {Host Disk Line : Type 0} {Drive : Disk → Type 0} {Terminal : Line → Type 0}
+    → (World → World → Type 0) → Ghosts Host → Host → Host
+    → ((table : Disk) → DriveGhosts (Drive table)) → List (DynBox Disk Global Drive) → List (DynBox Disk Global Drive)
+    → ((table : Line) → TerminalGhosts (Terminal table)) → List (DynBox Line Global Terminal)
+    → List (DynBox Line Global Terminal) → Type 0
+OnWorld fact members host host_after of_drives drives drives_after of_terms terms terms_after =
+    OnDevices (λ before after. fact (world_of members host before) (world_of members host_after after))
+    of_drives drives drives_after of_terms terms terms_after
 
 -- the host did not fail
 abbrev pub HasNoFault : World → World → Type 0

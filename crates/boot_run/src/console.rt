@@ -2,10 +2,9 @@ ghost use Rattle.std.specs.Prelude.{◌≡◌, ◌<◌, IfSome, vec_len};
 ghost use Rattle.os9_outer.specs.Stream.{emptied};
 ghost use Rattle.os9_outer.specs.TerminalState.{terminal_states, ChangesOneTerminal};
 ghost use Rattle.os9_words.specs.Streams.{WritesOut};
-ghost use Rattle.disk_kernel.specs.Outside.{outside};
 ghost use Rattle.boot_run.specs.Console.{TakesBytes};
 ghost use Rattle.boot_run.specs.PassedBytes.{PassesBytes};
-ghost use Rattle.boot_run.specs.World.{world_of};
+ghost use Rattle.boot_run.specs.World.{OnWorld};
 
 use device_table::devices::Devices;
 use os9_outer::drive::BlockDriver;
@@ -50,11 +49,9 @@ fn take_from(devices: &mut Devices, n: usize) -> Vec<u8>
 ///
 /// The output has gained a prefix of these bytes.
 pub fn pass_on<H: Host>(devices: &mut Devices, host: &mut H) -> Result<(), HostFault>
-    ensures passed { PassesBytes result
-        (world_of H.Host host.old (outside ⟦<dyn BlockDriver as BlockDriver>⟧
-        devices.old.drives.items ⟦<dyn CharDriver as CharDriver>⟧ devices.old.terms.items))
-        (world_of H.Host host.new (outside ⟦<dyn BlockDriver as BlockDriver>⟧
-        devices.new.drives.items ⟦<dyn CharDriver as CharDriver>⟧ devices.new.terms.items)) }
+    ensures passed { OnWorld (PassesBytes result) H.Host host.old host.new
+        ⟦<dyn BlockDriver as BlockDriver>⟧ devices.old.drives.items devices.new.drives.items
+        ⟦<dyn CharDriver as CharDriver>⟧ devices.old.terms.items devices.new.terms.items }
     ensures err_kept { H.bytes_err host.new ≡ H.bytes_err host.old }
     ensures terminals { vec_len devices.new.terms ≡ vec_len devices.old.terms }
     ensures drives_kept { devices.new.drives ≡ devices.old.drives }

@@ -1,15 +1,10 @@
 //! A machine is started and run.
 
-ghost use Rattle.std.specs.Prelude.{◌≡◌, ◌≢◌, ◌<◌, ◌≤◌, ℕ, List, length, true, vec_len};
-ghost use Rattle.civil_time.specs.CivilTime.{is_time_packet};
+ghost use Rattle.std.specs.Prelude.{◌≡◌, ◌≢◌, vec_len};
 ghost use Rattle.disk_kernel.specs.Outside.{outside};
-ghost use Rattle.file_drives.specs.Drives.{drive_views};
-ghost use Rattle.file_start.specs.Start.{HaveImages, HaveVolumes};
-ghost use Rattle.key_loading.specs.Loaded.{AreUnloaded};
-ghost use Rattle.os9_outer.specs.TerminalState.{terminal_states};
-ghost use Rattle.boot_run.specs.Machine.{MachineCall, setup_with};
+ghost use Rattle.boot_run.specs.Machine.{CanRun, MachineRuns};
 ghost use Rattle.boot_run.specs.RunEnd.{start_end};
-ghost use Rattle.boot_run.specs.World.{world_of};
+ghost use Rattle.boot_run.specs.World.{OnWorld};
 
 use crate::run::{RunFault, run_slices};
 use device_table::devices::Devices;
@@ -51,22 +46,13 @@ pub fn run_machine<H: Host>(
     host: &mut H,
     devices: &mut Devices,
 ) -> RunEnd
-    requires terminals { AreUnloaded
-        (terminal_states ⟦<dyn CharDriver as CharDriver>⟧ devices.old.terms.items) }
-    requires blocks { (8 ≤ config.blocks) × (config.blocks ≤ 256) }
-    requires time { is_time_packet config.time ≡ true }
-    requires drives { (config.images ≤ vec_len devices.old.drives)
-        × (vec_len devices.old.drives ≤ 4) }
-    requires volumes { HaveVolumes config.images
-        (drive_views ⟦<dyn BlockDriver as BlockDriver>⟧ devices.old.drives.items) }
-    requires few { length slices.now < LAST_TICK }
-    ensures call { (images : List (List ℕ)) → HaveImages config.images images
-        (drive_views ⟦<dyn BlockDriver as BlockDriver>⟧ devices.old.drives.items)
-        → MachineCall (setup_with config file.now images keys.now slices.now)
-        (world_of H.Host host.old (outside ⟦<dyn BlockDriver as BlockDriver>⟧
-        devices.old.drives.items ⟦<dyn CharDriver as CharDriver>⟧ devices.old.terms.items))
-        (world_of H.Host host.new (outside ⟦<dyn BlockDriver as BlockDriver>⟧
-        devices.new.drives.items ⟦<dyn CharDriver as CharDriver>⟧ devices.new.terms.items)) result }
+    requires { CanRun config slices.now
+        (outside ⟦<dyn BlockDriver as BlockDriver>⟧ devices.old.drives.items
+        ⟦<dyn CharDriver as CharDriver>⟧ devices.old.terms.items) }
+    ensures call { OnWorld (MachineRuns config file.now keys.now slices.now result)
+        H.Host host.old host.new
+        ⟦<dyn BlockDriver as BlockDriver>⟧ devices.old.drives.items devices.new.drives.items
+        ⟦<dyn CharDriver as CharDriver>⟧ devices.old.terms.items devices.new.terms.items }
     ensures err_kept { H.bytes_err host.new ≡ H.bytes_err host.old }
     ensures terminals { vec_len devices.new.terms ≡ vec_len devices.old.terms }
     ensures drives { vec_len devices.new.drives ≡ vec_len devices.old.drives }

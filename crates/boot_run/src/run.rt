@@ -2,7 +2,7 @@ ghost use Rattle.std.specs.Prelude.{◌≡◌, ◌+◌, ◌<◌, length, vec_len
 ghost use Rattle.disk_kernel.specs.Outside.{outside};
 ghost use Rattle.disk_kernel.specs.Tie.{Stands, ticks};
 ghost use Rattle.boot_run.specs.Slices.{RunsSlices};
-ghost use Rattle.boot_run.specs.World.{world_of};
+ghost use Rattle.boot_run.specs.World.{OnWorld};
 
 use crate::console::pass_on;
 use device_table::devices::Devices;
@@ -37,11 +37,10 @@ pub fn run_slices<H: Host>(
     requires stands { Stands kernel.old (outside
         ⟦<dyn BlockDriver as BlockDriver>⟧ devices.old.drives.items
         ⟦<dyn CharDriver as CharDriver>⟧ devices.old.terms.items) }
-    ensures ran { RunsSlices slices.now kernel.old kernel.new result
-        (world_of H.Host host.old (outside ⟦<dyn BlockDriver as BlockDriver>⟧
-        devices.old.drives.items ⟦<dyn CharDriver as CharDriver>⟧ devices.old.terms.items))
-        (world_of H.Host host.new (outside ⟦<dyn BlockDriver as BlockDriver>⟧
-        devices.new.drives.items ⟦<dyn CharDriver as CharDriver>⟧ devices.new.terms.items)) }
+    ensures ran { OnWorld (RunsSlices slices.now kernel.old kernel.new result)
+        H.Host host.old host.new
+        ⟦<dyn BlockDriver as BlockDriver>⟧ devices.old.drives.items devices.new.drives.items
+        ⟦<dyn CharDriver as CharDriver>⟧ devices.old.terms.items devices.new.terms.items }
     ensures err_kept { H.bytes_err host.new ≡ H.bytes_err host.old }
     ensures terminals { vec_len devices.new.terms ≡ vec_len devices.old.terms }
     ensures drives { vec_len devices.new.drives ≡ vec_len devices.old.drives }

@@ -1,5 +1,6 @@
-use Rattle.std.proofs.Common.{List, All, ap, subst, refl, sym, ◌∙◌, arith}
+use Rattle.std.proofs.Common.{◌≡◌, List, All, length, ap, subst, refl, sym, ◌∙◌, arith}
 use Rattle.std.specs.Vec.{vec_len}
+use Rattle.std.proofs.lemmas.List.{length-map}
 use Rattle.os9_outer.specs.TerminalState.{TerminalState, terminal_states}
 use Rattle.key_loading.specs.Loaded.{HasNoKeys, loaded}
 use Rattle.file_rules.specs.Files.{NoneFailed}
@@ -9,6 +10,12 @@ use Rattle.boot_run.specs.Machine.{MachineCall, setup_with}
 use Rattle.boot_run.specs.World.{world_of}
 use Rattle.boot_run.proofs.MachineLemmas.{called-nothing, called-output, called-refused, called-whole, called-without_memory, drives-counted, drives-started, images-there, stands-loaded, where-refused}
 use Rattle.boot_run.proofs.machine.run_machine.Goals as goal
+
+pub new-requires-clause-drives : goal.new-requires-clause-drives
+new-requires-clause-drives g c =
+    let drives = c.args.devices.now.drives in
+    let long : length (drive_views (λ table. (g.dyn-1.0.entry table).1) drives.items) ≡ vec_len drives = simp length-map (sym drives.ok.0) in
+    (omega (arith, long, c.requires.enough), omega (arith, long, c.requires.few_drives))
 
 pub load_keys-requires : goal.load_keys-requires
 load_keys-requires g c =
@@ -22,7 +29,7 @@ run_slices-requires-clause-stands g c =
     let before = world_of g.H.Host c.args.host.now (outside (λ table. (g.dyn-1.0.entry table).1) c.args.devices.now.drives.items (λ table. (g.dyn-2.0.entry table).1) c.args.devices.now.terms.items) in
     let drives = ap (λ drives. drive_views (λ table. (g.dyn-1.0.entry table).1) drives.items) c.in-Ok-load_keys.ensures.drives_kept in
     let terms = c.in-Ok-load_keys.ensures.loaded ∙ ap (λ terms. loaded c.args.keys.now terms) (ap (λ terms. terminal_states (λ table. (g.dyn-2.0.entry table).1) terms.items) c.in-Ok.ensures.terms_kept) in
-    stands-loaded setup c.in-Ok.kernel before (outside (λ table. (g.dyn-1.0.entry table).1) c.new.new.devices.drives.items (λ table. (g.dyn-2.0.entry table).1) c.new.new.devices.terms.items) (outside (λ table. (g.dyn-1.0.entry table).1) c.load_keys.new.devices.drives.items (λ table. (g.dyn-2.0.entry table).1) c.load_keys.new.devices.terms.items) c.requires.terminals c.requires.time c.in-Ok.ensures.drives.moves drives terms (c.in-Ok.ensures.start images have)
+    stands-loaded setup c.in-Ok.kernel before (outside (λ table. (g.dyn-1.0.entry table).1) c.new.new.devices.drives.items (λ table. (g.dyn-2.0.entry table).1) c.new.new.devices.terms.items) (outside (λ table. (g.dyn-1.0.entry table).1) c.load_keys.new.devices.drives.items (λ table. (g.dyn-2.0.entry table).1) c.load_keys.new.devices.terms.items) c.requires.terminals c.requires.time c.in-Ok.ensures.starts.drives.moves drives terms (c.in-Ok.ensures.starts.stands images have)
 
 pub returns-in-Err-clause-call : goal.returns-in-Err-clause-call
 returns-in-Err-clause-call g c = λ images have.
@@ -30,7 +37,7 @@ returns-in-Err-clause-call g c = λ images have.
     let before = world_of g.H.Host c.args.host.now (outside (λ table. (g.dyn-1.0.entry table).1) c.args.devices.now.drives.items (λ table. (g.dyn-2.0.entry table).1) c.args.devices.now.terms.items) in
     let started = outside (λ table. (g.dyn-1.0.entry table).1) c.new.new.devices.drives.items (λ table. (g.dyn-2.0.entry table).1) c.new.new.devices.terms.items in
     let untouched = where-refused c.in-Err.error (λ same. ap (λ devices. outside (λ table. (g.dyn-1.0.entry table).1) devices.drives.items (λ table. (g.dyn-2.0.entry table).1) devices.terms.items) same) c.in-Err.ensures.untouched in
-    subst (MachineCall setup before (world_of g.H.Host c.args.host.now started)) (sym c.end_of_start.ensures) (called-refused setup c.args.config before started c.in-Err.error refl c.in-Err.ensures.refused untouched c.in-Err.ensures.drives (drives-started c.args.config.images _ _ _ c.requires.volumes c.in-Err.ensures.drives) (ap (λ terms. terminal_states (λ table. (g.dyn-2.0.entry table).1) terms.items) c.in-Err.ensures.terms_kept))
+    subst (MachineCall setup before (world_of g.H.Host c.args.host.now started)) (sym c.end_of_start.ensures) (called-refused setup c.args.config before started c.in-Err.error refl c.in-Err.ensures.starts.refused untouched c.in-Err.ensures.starts.drives (drives-started c.args.config.images _ _ _ c.requires.volumes c.in-Err.ensures.starts.drives) (ap (λ terms. terminal_states (λ table. (g.dyn-2.0.entry table).1) terms.items) c.in-Err.ensures.terms_kept))
 
 pub returns-in-Err-load_keys-clause-call : goal.returns-in-Err-load_keys-clause-call
 returns-in-Err-load_keys-clause-call g c = λ images have.
@@ -38,7 +45,7 @@ returns-in-Err-load_keys-clause-call g c = λ images have.
     let before = world_of g.H.Host c.args.host.now (outside (λ table. (g.dyn-1.0.entry table).1) c.args.devices.now.drives.items (λ table. (g.dyn-2.0.entry table).1) c.args.devices.now.terms.items) in
     let terms = ap (λ devices. terminal_states (λ table. (g.dyn-2.0.entry table).1) devices.terms.items) c.in-Err-load_keys.ensures.kept ∙ ap (λ terms. terminal_states (λ table. (g.dyn-2.0.entry table).1) terms.items) c.in-Ok.ensures.terms_kept in
     let drives = ap (λ devices. drive_states (drive_views (λ table. (g.dyn-1.0.entry table).1) devices.drives.items)) c.in-Err-load_keys.ensures.kept in
-    called-nothing setup before (outside (λ table. (g.dyn-1.0.entry table).1) c.load_keys.new.devices.drives.items (λ table. (g.dyn-2.0.entry table).1) c.load_keys.new.devices.terms.items) (subst (NoneFailed (drive_states before.devices.drives)) (sym drives) c.in-Ok.ensures.drives.moves) terms
+    called-nothing setup before (outside (λ table. (g.dyn-1.0.entry table).1) c.load_keys.new.devices.drives.items (λ table. (g.dyn-2.0.entry table).1) c.load_keys.new.devices.terms.items) (subst (NoneFailed (drive_states before.devices.drives)) (sym drives) c.in-Ok.ensures.starts.drives.moves) terms
 
 pub returns-in-Ok-run_slices-clause-call : goal.returns-in-Ok-run_slices-clause-call
 returns-in-Ok-run_slices-clause-call g c = λ images have.
@@ -46,7 +53,7 @@ returns-in-Ok-run_slices-clause-call g c = λ images have.
     let before = world_of g.H.Host c.args.host.now (outside (λ table. (g.dyn-1.0.entry table).1) c.args.devices.now.drives.items (λ table. (g.dyn-2.0.entry table).1) c.args.devices.now.terms.items) in
     let drives = ap (λ drives. drive_views (λ table. (g.dyn-1.0.entry table).1) drives.items) c.in-Ok-load_keys.ensures.drives_kept in
     let terms = c.in-Ok-load_keys.ensures.loaded ∙ ap (λ terms. loaded c.args.keys.now terms) (ap (λ terms. terminal_states (λ table. (g.dyn-2.0.entry table).1) terms.items) c.in-Ok.ensures.terms_kept) in
-    called-whole setup c.in-Ok.kernel before (outside (λ table. (g.dyn-1.0.entry table).1) c.new.new.devices.drives.items (λ table. (g.dyn-2.0.entry table).1) c.new.new.devices.terms.items) (outside (λ table. (g.dyn-1.0.entry table).1) c.load_keys.new.devices.drives.items (λ table. (g.dyn-2.0.entry table).1) c.load_keys.new.devices.terms.items) c.requires.terminals c.requires.time c.in-Ok.ensures.drives.moves drives terms (c.in-Ok.ensures.start images have) _ _ _ c.living.result c.ticks.result c.run_end.result c.in-Ok-run_slices.ensures.ran (λ t tied. c.living.ensures _ t tied) (λ t tied. c.ticks.ensures.machine _ t tied) c.run_end.ensures.idle c.run_end.ensures.lives
+    called-whole setup c.in-Ok.kernel before (outside (λ table. (g.dyn-1.0.entry table).1) c.new.new.devices.drives.items (λ table. (g.dyn-2.0.entry table).1) c.new.new.devices.terms.items) (outside (λ table. (g.dyn-1.0.entry table).1) c.load_keys.new.devices.drives.items (λ table. (g.dyn-2.0.entry table).1) c.load_keys.new.devices.terms.items) c.requires.terminals c.requires.time c.in-Ok.ensures.starts.drives.moves drives terms (c.in-Ok.ensures.starts.stands images have) _ _ _ c.living.result c.ticks.result c.run_end.result c.in-Ok-run_slices.ensures.ran (λ t tied. c.living.ensures _ t tied) (λ t tied. c.ticks.ensures.machine _ t tied) c.run_end.ensures.idle c.run_end.ensures.lives
 
 pub returns-in-Err-Output-clause-call : goal.returns-in-Err-Output-clause-call
 returns-in-Err-Output-clause-call g c = λ images have.
@@ -54,7 +61,7 @@ returns-in-Err-Output-clause-call g c = λ images have.
     let before = world_of g.H.Host c.args.host.now (outside (λ table. (g.dyn-1.0.entry table).1) c.args.devices.now.drives.items (λ table. (g.dyn-2.0.entry table).1) c.args.devices.now.terms.items) in
     let drives = ap (λ drives. drive_views (λ table. (g.dyn-1.0.entry table).1) drives.items) c.in-Ok-load_keys.ensures.drives_kept in
     let terms = c.in-Ok-load_keys.ensures.loaded ∙ ap (λ terms. loaded c.args.keys.now terms) (ap (λ terms. terminal_states (λ table. (g.dyn-2.0.entry table).1) terms.items) c.in-Ok.ensures.terms_kept) in
-    called-output setup c.in-Ok.kernel before (outside (λ table. (g.dyn-1.0.entry table).1) c.new.new.devices.drives.items (λ table. (g.dyn-2.0.entry table).1) c.new.new.devices.terms.items) (outside (λ table. (g.dyn-1.0.entry table).1) c.load_keys.new.devices.drives.items (λ table. (g.dyn-2.0.entry table).1) c.load_keys.new.devices.terms.items) c.requires.terminals c.requires.time c.in-Ok.ensures.drives.moves drives terms (c.in-Ok.ensures.start images have) _ _ (rw c.in-Err-Output.field-0-is at c.in-Err-Output.ensures.ran)
+    called-output setup c.in-Ok.kernel before (outside (λ table. (g.dyn-1.0.entry table).1) c.new.new.devices.drives.items (λ table. (g.dyn-2.0.entry table).1) c.new.new.devices.terms.items) (outside (λ table. (g.dyn-1.0.entry table).1) c.load_keys.new.devices.drives.items (λ table. (g.dyn-2.0.entry table).1) c.load_keys.new.devices.terms.items) c.requires.terminals c.requires.time c.in-Ok.ensures.starts.drives.moves drives terms (c.in-Ok.ensures.starts.stands images have) _ _ (rw c.in-Err-Output.field-0-is at c.in-Err-Output.ensures.ran)
 
 pub returns-clause-call : goal.returns-clause-call
 returns-clause-call g c = λ images have.
@@ -62,26 +69,26 @@ returns-clause-call g c = λ images have.
     let before = world_of g.H.Host c.args.host.now (outside (λ table. (g.dyn-1.0.entry table).1) c.args.devices.now.drives.items (λ table. (g.dyn-2.0.entry table).1) c.args.devices.now.terms.items) in
     let drives = ap (λ drives. drive_views (λ table. (g.dyn-1.0.entry table).1) drives.items) c.in-Ok-load_keys.ensures.drives_kept in
     let terms = c.in-Ok-load_keys.ensures.loaded ∙ ap (λ terms. loaded c.args.keys.now terms) (ap (λ terms. terminal_states (λ table. (g.dyn-2.0.entry table).1) terms.items) c.in-Ok.ensures.terms_kept) in
-    called-without_memory setup c.in-Ok.kernel before (outside (λ table. (g.dyn-1.0.entry table).1) c.new.new.devices.drives.items (λ table. (g.dyn-2.0.entry table).1) c.new.new.devices.terms.items) (outside (λ table. (g.dyn-1.0.entry table).1) c.load_keys.new.devices.drives.items (λ table. (g.dyn-2.0.entry table).1) c.load_keys.new.devices.terms.items) c.requires.terminals c.requires.time c.in-Ok.ensures.drives.moves drives terms (c.in-Ok.ensures.start images have) _ _ (rw c.in-Err-NoMemory.field-0-is at c.in-Err-NoMemory.ensures.ran)
+    called-without_memory setup c.in-Ok.kernel before (outside (λ table. (g.dyn-1.0.entry table).1) c.new.new.devices.drives.items (λ table. (g.dyn-2.0.entry table).1) c.new.new.devices.terms.items) (outside (λ table. (g.dyn-1.0.entry table).1) c.load_keys.new.devices.drives.items (λ table. (g.dyn-2.0.entry table).1) c.load_keys.new.devices.terms.items) c.requires.terminals c.requires.time c.in-Ok.ensures.starts.drives.moves drives terms (c.in-Ok.ensures.starts.stands images have) _ _ (rw c.in-Err-NoMemory.field-0-is at c.in-Err-NoMemory.ensures.ran)
 
 -- ---- as many drives
 
 pub returns-in-Err-clause-drives : goal.returns-in-Err-clause-drives
 returns-in-Err-clause-drives g c =
-    omega (arith, drives-counted (λ table. (g.dyn-1.0.entry table).1) c.args.config.images _ c.args.devices.now.drives.items c.new.new.devices.drives.items c.requires.volumes c.in-Err.ensures.drives, c.args.devices.now.drives.ok.0, c.new.new.devices.drives.ok.0)
+    omega (arith, drives-counted (λ table. (g.dyn-1.0.entry table).1) c.args.config.images _ c.args.devices.now.drives.items c.new.new.devices.drives.items c.requires.volumes c.in-Err.ensures.starts.drives, c.args.devices.now.drives.ok.0, c.new.new.devices.drives.ok.0)
 
 pub returns-in-Err-load_keys-clause-drives : goal.returns-in-Err-load_keys-clause-drives
 returns-in-Err-load_keys-clause-drives g c =
-    omega (arith, drives-counted (λ table. (g.dyn-1.0.entry table).1) c.args.config.images _ c.args.devices.now.drives.items c.new.new.devices.drives.items c.requires.volumes c.in-Ok.ensures.drives, c.args.devices.now.drives.ok.0, c.new.new.devices.drives.ok.0, ap (λ devices. vec_len devices.drives) c.in-Err-load_keys.ensures.kept)
+    omega (arith, drives-counted (λ table. (g.dyn-1.0.entry table).1) c.args.config.images _ c.args.devices.now.drives.items c.new.new.devices.drives.items c.requires.volumes c.in-Ok.ensures.starts.drives, c.args.devices.now.drives.ok.0, c.new.new.devices.drives.ok.0, ap (λ devices. vec_len devices.drives) c.in-Err-load_keys.ensures.kept)
 
 pub returns-in-Ok-run_slices-clause-drives : goal.returns-in-Ok-run_slices-clause-drives
 returns-in-Ok-run_slices-clause-drives g c =
-    omega (arith, drives-counted (λ table. (g.dyn-1.0.entry table).1) c.args.config.images _ c.args.devices.now.drives.items c.new.new.devices.drives.items c.requires.volumes c.in-Ok.ensures.drives, c.args.devices.now.drives.ok.0, c.new.new.devices.drives.ok.0, ap vec_len c.in-Ok-load_keys.ensures.drives_kept, c.in-Ok-run_slices.ensures.drives)
+    omega (arith, drives-counted (λ table. (g.dyn-1.0.entry table).1) c.args.config.images _ c.args.devices.now.drives.items c.new.new.devices.drives.items c.requires.volumes c.in-Ok.ensures.starts.drives, c.args.devices.now.drives.ok.0, c.new.new.devices.drives.ok.0, ap vec_len c.in-Ok-load_keys.ensures.drives_kept, c.in-Ok-run_slices.ensures.drives)
 
 pub returns-in-Err-Output-clause-drives : goal.returns-in-Err-Output-clause-drives
 returns-in-Err-Output-clause-drives g c =
-    omega (arith, drives-counted (λ table. (g.dyn-1.0.entry table).1) c.args.config.images _ c.args.devices.now.drives.items c.new.new.devices.drives.items c.requires.volumes c.in-Ok.ensures.drives, c.args.devices.now.drives.ok.0, c.new.new.devices.drives.ok.0, ap vec_len c.in-Ok-load_keys.ensures.drives_kept, c.in-Err-Output.ensures.drives)
+    omega (arith, drives-counted (λ table. (g.dyn-1.0.entry table).1) c.args.config.images _ c.args.devices.now.drives.items c.new.new.devices.drives.items c.requires.volumes c.in-Ok.ensures.starts.drives, c.args.devices.now.drives.ok.0, c.new.new.devices.drives.ok.0, ap vec_len c.in-Ok-load_keys.ensures.drives_kept, c.in-Err-Output.ensures.drives)
 
 pub returns-clause-drives : goal.returns-clause-drives
 returns-clause-drives g c =
-    omega (arith, drives-counted (λ table. (g.dyn-1.0.entry table).1) c.args.config.images _ c.args.devices.now.drives.items c.new.new.devices.drives.items c.requires.volumes c.in-Ok.ensures.drives, c.args.devices.now.drives.ok.0, c.new.new.devices.drives.ok.0, ap vec_len c.in-Ok-load_keys.ensures.drives_kept, c.in-Err-NoMemory.ensures.drives)
+    omega (arith, drives-counted (λ table. (g.dyn-1.0.entry table).1) c.args.config.images _ c.args.devices.now.drives.items c.new.new.devices.drives.items c.requires.volumes c.in-Ok.ensures.starts.drives, c.args.devices.now.drives.ok.0, c.new.new.devices.drives.ok.0, ap vec_len c.in-Ok-load_keys.ensures.drives_kept, c.in-Err-NoMemory.ensures.drives)
