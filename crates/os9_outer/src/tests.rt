@@ -21,36 +21,58 @@ fn one_file(alloc: Global) -> Result<Vec<HostFile>, Fail> {
     Ok(vec![in alloc; HostFile { name, bytes }]?)
 }
 
+// A host with that file, whose calls of these numbers fail.
+fn host_with_a(alloc: Global, plan: &[u64]) -> Result<MemHost, Fail> {
+    let files = one_file(alloc)?;
+    Ok(MemHost::new(alloc, files, Vec::from_slice(alloc, plan)?))
+}
+
+// Does a host give these bytes for the file of this name?
+fn gives<H: Host>(host: &mut H, name: &str, bytes: &[u8]) -> bool {
+    match host.read_file(name) {
+        Ok(read) => read.as_slice() == bytes,
+        Err(_) => false,
+    }
+}
+
 #[test]
 fn mem_host_holds_files(rt: HostRuntime) -> Result<(), Fail> {
-    let alloc = rt.alloc();
-    let mut host = MemHost::new(alloc, one_file(alloc)?, Vec::new(alloc));
-    host.write_file("b", &[4, 5])?;
-    assert_eq!(rt; host.read_file("a")?.as_slice(), [1, 2].as_slice());
-    assert_eq!(rt; host.read_file("b")?.as_slice(), [4, 5].as_slice());
+    let mut host = host_with_a(rt.alloc(), &[])?;
+    assert_eq!(rt;
+        (
+            host.write_file("b", &[4, 5]),
+            gives(&mut host, "a", &[1, 2]),
+            gives(&mut host, "b", &[4, 5])
+        ),
+        (Ok(()), true, true)
+    );
     Ok(())
 }
 
 #[test]
 fn mem_host_holds_streams(rt: HostRuntime) -> Result<(), Fail> {
-    let alloc = rt.alloc();
-    let mut host = MemHost::new(alloc, Vec::new(alloc), Vec::new(alloc));
-    host.out(b"out")?;
-    host.err(b"err")?;
-    assert_eq!(rt; host.out_bytes.as_slice(), b"out".as_slice());
-    assert_eq!(rt; host.err_bytes.as_slice(), b"err".as_slice());
+    let mut host = host_with_a(rt.alloc(), &[])?;
+    let written = (host.out(b"out"), host.err(b"err"));
+    let out = host.out_bytes.as_slice() == b"out".as_slice();
+    let err = host.err_bytes.as_slice() == b"err".as_slice();
+    assert_eq!(rt; (written, out, err), ((Ok(()), Ok(())), true, true));
     Ok(())
 }
 
 #[test]
 fn mem_host_fails_as_planned(rt: HostRuntime) -> Result<(), Fail> {
-    let alloc = rt.alloc();
-    let plan = vec![in alloc; 1, 3]?;
-    let mut host = MemHost::new(alloc, one_file(alloc)?, plan);
-    assert_eq!(rt; host.read_file("a").err(), Some(HostFault::Failed));
-    host.write_file("b", &[3])?;
-    assert_eq!(rt; host.err(b"x"), Err(HostFault::Failed));
-    assert_eq!(rt; (host.calls, host.faults, host.err_faults), (3, 1, 1));
+    let mut host = host_with_a(rt.alloc(), &[1, 3])?;
+    let answers = (
+        host.read_file("a").err(),
+        host.write_file("b", &[3]),
+        host.err(b"x"),
+    );
+    let counts = (host.calls, host.faults, host.err_faults);
+    let failed = HostFault::Failed;
+    assert_eq!(rt;
+        (answers, counts),
+        ((Some(failed), Ok(()), Err(failed)), (3, 1, 1))
+    );
     Ok(())
 }
 
@@ -58,125 +80,228 @@ fn mem_host_fails_as_planned(rt: HostRuntime) -> Result<(), Fail> {
 fn sure_host_holds_files(rt: HostRuntime) -> Result<(), Fail> {
     let alloc = rt.alloc();
     let mut host = SureHost::new(alloc, one_file(alloc)?);
-    host.write_file("b", &[7])?;
-    host.out(b"out")?;
-    host.err(b"err")?;
-    assert_eq!(rt; host.read_file("a")?.as_slice(), [1, 2].as_slice());
-    assert_eq!(rt; host.read_file("b")?.as_slice(), [7].as_slice());
-    assert!(rt; host.read_file("missing")?.is_empty());
+    let written = (
+        host.write_file("b", &[7]),
+        host.out(b"out"),
+        host.err(b"err"),
+    );
+    let given = (
+        gives(&mut host, "a", &[1, 2]),
+        gives(&mut host, "b", &[7]),
+        gives(&mut host, "missing", &[]),
+    );
+    assert_eq!(rt;
+        (written, given),
+        ((Ok(()), Ok(()), Ok(())), (true, true, true))
+    );
     Ok(())
+}
+
+// The name of a file for temporary use that this process alone has.
+fn own_name(rt: &HostRuntime, what: &str) -> Result<String, Fail> {
+    let folder = env::temp_dir(rt)?;
+    let id = process::id(rt.process());
+    Ok(format!(in rt.alloc(); "{}/os9_outer_{what}_{id}", folder.as_str())?)
 }
 
 #[test]
 fn real_host_holds_files(rt: HostRuntime) -> Result<(), Fail> {
-    let alloc = rt.alloc();
-    let folder = env::temp_dir(&rt)?;
-    let id = process::id(rt.process());
-    let name = format!(in alloc; "{}/os9_outer_{id}", folder.as_str())?;
+    let name = own_name(&rt, "file")?;
     let mut host = RealHost::new(rt.clone()?);
-    host.write_file(&name, b"bytes")?;
-    assert_eq!(rt; host.read_file(&name)?.as_slice(), b"bytes".as_slice());
-    fs::remove_file(&rt, &name)?;
-    assert_eq!(rt; host.read_file(&name).err(), Some(HostFault::Failed));
-    host.out(b"out\n")?;
-    host.err(b"err\n")?;
-    assert_eq!(rt; host.err(&[255]), Err(HostFault::Failed));
+    let failed = HostFault::Failed;
+    let files = (
+        host.write_file(&name, b"bytes"),
+        gives(&mut host, &name, b"bytes"),
+        fs::remove_file(&rt, &name).is_ok(),
+        host.read_file(&name).err(),
+    );
+    let streams = (host.out(b"out\n"), host.err(b"err\n"), host.err(&[255]));
+    assert_eq!(rt;
+        (files, streams),
+        (
+            (Ok(()), true, true, Some(failed)),
+            (Ok(()), Ok(()), Err(failed))
+        )
+    );
     Ok(())
+}
+
+// The permissions of a file, if there is one of this name.
+fn mode_of(rt: &HostRuntime, name: &str) -> Option<u32> {
+    match fs::metadata(rt, name) {
+        Ok(found) => Some(found.permissions().mode() & 0o777),
+        Err(_) => None,
+    }
+}
+
+fn is_link(rt: &HostRuntime, name: &str) -> bool {
+    match fs::symlink_metadata(rt, name) {
+        Ok(found) => found.is_symlink(),
+        Err(_) => false,
+    }
 }
 
 #[test]
 fn real_host_replaces_files(rt: HostRuntime) -> Result<(), Fail> {
-    let alloc = rt.alloc();
-    let folder = env::temp_dir(&rt)?;
-    let id = process::id(rt.process());
-    let name = format!(in alloc; "{}/os9_outer_old_{id}", folder.as_str())?;
-    let link = format!(in alloc; "{}/os9_outer_link_{id}", folder.as_str())?;
-    let beside = format!(in alloc; "{name}.os9-new")?;
+    let name = own_name(&rt, "old")?;
+    let link = own_name(&rt, "link")?;
+    let beside = format!(in rt.alloc(); "{name}.os9-new")?;
     let mut host = RealHost::new(rt.clone()?);
-    host.write_file(&name, b"the old bytes")?;
-    fs::set_permissions(&rt, &name, Permissions::from_mode(0o640))?;
-    symlink(&rt, &name, &link)?;
-    host.write_file(&beside, b"what a broken run left")?;
-    host.write_file(&link, b"the new")?;
-    assert_eq!(rt; host.read_file(&name)?.as_slice(), b"the new".as_slice());
-    assert!(rt; fs::symlink_metadata(&rt, &link)?.is_symlink());
-    assert!(rt; !fs::exists(&rt, &beside)?);
-    assert_eq!(rt;
-        fs::metadata(&rt, &name)?.permissions().mode() & 0o777,
-        0o640
+    let written = (
+        host.write_file(&name, b"the old bytes"),
+        fs::set_permissions(&rt, &name, Permissions::from_mode(0o640)).is_ok(),
+        symlink(&rt, &name, &link).is_ok(),
+        host.write_file(&beside, b"what a broken run left"),
+        host.write_file(&link, b"the new"),
     );
-    fs::remove_file(&rt, &link)?;
-    fs::remove_file(&rt, &name)?;
+    let left = (
+        gives(&mut host, &name, b"the new"),
+        is_link(&rt, &link),
+        matches!(fs::exists(&rt, &beside), Ok(false)),
+        mode_of(&rt, &name),
+    );
+    let removed = (
+        fs::remove_file(&rt, &link).is_ok(),
+        fs::remove_file(&rt, &name).is_ok(),
+    );
+    assert_eq!(rt;
+        (written, left, removed),
+        (
+            (Ok(()), true, true, Ok(()), Ok(())),
+            (true, true, true, Some(0o640)),
+            (true, true)
+        )
+    );
     Ok(())
 }
 
+// What a read of a sector answers, if the drive has it.
+fn read<D: BlockDriver>(
+    drive: &mut D,
+    lsn: u32,
+    into: &mut [u8; 256],
+) -> Option<Result<(), DriveFault>> {
+    if lsn < drive.sectors() {
+        Some(drive.read(lsn, into))
+    } else {
+        None
+    }
+}
+
+// What a write of a sector answers, if the drive has it.
+fn write<D: BlockDriver>(
+    drive: &mut D,
+    lsn: u32,
+    from: &[u8; 256],
+) -> Option<Result<(), DriveFault>> {
+    if lsn < drive.sectors() {
+        Some(drive.write(lsn, from))
+    } else {
+        None
+    }
+}
+
+const DONE: Option<Result<(), DriveFault>> = Some(Ok(()));
+
 #[test]
 fn sure_drive_holds_an_image(rt: HostRuntime) -> Result<(), Fail> {
-    let alloc = rt.alloc();
     let mut drive = SureDrive::new();
-    assert_eq!(rt; drive.sectors(), 0);
-    drive.insert(vec![in alloc; 9; 600]?)?;
-    assert_eq!(rt; drive.sectors(), 2);
-    let mut buffer = [0; 256];
-    if drive.sectors() == 2 {
-        drive.write(1, &[5; 256])?;
-        drive.read(1, &mut buffer)?;
-        assert_eq!(rt; buffer, [5; 256]);
-        drive.read(0, &mut buffer)?;
-        assert_eq!(rt; buffer, [9; 256]);
-    }
-    assert_eq!(rt; drive.eject().map(|image| image.len()), Some(600));
+    let before = drive.sectors();
+    drive.insert(vec![in rt.alloc(); 9; 600]?)?;
+    let sectors = (before, drive.sectors());
+    let mut first = [0; 256];
+    let mut second = [0; 256];
+    let written = write(&mut drive, 1, &[5; 256]);
+    let read_second = read(&mut drive, 1, &mut second);
+    let read_first = read(&mut drive, 0, &mut first);
+    let out = drive.eject().map(|image| image.len());
+    assert_eq!(rt;
+        (sectors, (written, read_second, read_first), out),
+        ((0, 2), (DONE, DONE, DONE), Some(600))
+    );
+    assert_eq!(rt; (first, second), ([9; 256], [5; 256]));
     Ok(())
+}
+
+// The drive with an image of one sector of nines.
+fn with_nines(alloc: Global, drive: RamDrive) -> Result<RamDrive, Fail> {
+    let mut drive = drive;
+    drive.insert(vec![in alloc; 9; 256]?)?;
+    Ok(drive)
 }
 
 #[test]
 fn ram_drive_fails_as_planned(rt: HostRuntime) -> Result<(), Fail> {
     let alloc = rt.alloc();
     let fault = DriveFault::ReadFault;
-    let mut planned = RamDrive::new(vec![in alloc; PlannedFault { call: 2, fault }]?);
-    let mut stopping = RamDrive::stopping(2, fault);
-    planned.insert(vec![in alloc; 9; 256]?)?;
-    stopping.insert(vec![in alloc; 9; 256]?)?;
+    let plan = vec![in alloc; PlannedFault { call: 2, fault }]?;
+    let mut planned = with_nines(alloc, RamDrive::new(plan))?;
+    let mut stopping = with_nines(alloc, RamDrive::stopping(2, fault))?;
     let mut buffer = [0; 256];
     for (call, as_planned, stopped) in [
         (1, Ok(()), Ok(())),
         (2, Err(fault), Err(fault)),
         (3, Ok(()), Err(fault)),
     ] {
-        assert!(rt; planned.sectors() == 1 && stopping.sectors() == 1);
-        assert_eq!(rt; planned.read(0, &mut buffer), as_planned);
-        assert_eq!(rt; stopping.write(0, &buffer), stopped);
-        assert_eq!(rt; planned.calls(), call);
+        let read = read(&mut planned, 0, &mut buffer);
+        let written = write(&mut stopping, 0, &buffer);
+        assert_eq!(rt;
+            (read, written, planned.calls()),
+            (Some(as_planned), Some(stopped), call)
+        );
     }
-    assert_eq!(rt; buffer, [9; 256]);
-    assert_eq!(rt; fault.number(), 244);
+    assert_eq!(rt; (buffer, fault.number()), ([9; 256], 244));
     Ok(())
 }
 
+// Gives a terminal one key, for this tick. False where memory is short, or keys are left there.
+fn load_key<D: CharDriver>(alloc: Global, tty: &mut D, tick: u32) -> bool {
+    match vec![in alloc; Key { tick, byte: 65 }] {
+        Ok(keys) => tty.load(keys).is_ok(),
+        Err(_) => false,
+    }
+}
+
+// Are these the bytes that were put, and not taken yet?
+fn took<D: CharDriver>(tty: &mut D, bytes: &[u8]) -> bool {
+    tty.take().as_slice() == bytes
+}
+
 #[test]
-fn sure_tty_gives_keys_and_bytes(rt: HostRuntime) -> Result<(), Fail> {
+fn sure_tty_gives_keys_and_bytes(rt: HostRuntime) {
     let alloc = rt.alloc();
     let mut tty = SureTty::new(alloc);
-    tty.load(vec![in alloc; Key { tick: 2, byte: 65 }]?)?;
-    assert_eq!(rt; tty.key(1)?, None);
-    assert_eq!(rt; tty.key(2)?, Some(65));
-    assert_eq!(rt; tty.key(3)?, None);
-    tty.put(66)?;
-    tty.put(67)?;
-    assert_eq!(rt; tty.take().as_slice(), [66, 67].as_slice());
-    assert!(rt; tty.take().is_empty());
-    Ok(())
+    let loaded = load_key(alloc, &mut tty, 2);
+    let keys = (tty.key(1), tty.key(2), tty.key(3));
+    let put = (tty.put(66), tty.put(67));
+    let taken = (took(&mut tty, &[66, 67]), took(&mut tty, &[]));
+    assert_eq!(rt;
+        (loaded, keys, put, taken),
+        (
+            true,
+            (Ok(None), Ok(Some(65)), Ok(None)),
+            (Ok(()), Ok(())),
+            (true, true)
+        )
+    );
 }
 
 #[test]
 fn script_tty_fails_as_planned(rt: HostRuntime) -> Result<(), Fail> {
     let alloc = rt.alloc();
     let mut tty = ScriptTty::new(alloc, vec![in alloc; 1, 3]?);
-    tty.load(vec![in alloc; Key { tick: 1, byte: 65 }]?)?;
-    assert_eq!(rt; tty.key(1), Err(TermFault));
-    assert_eq!(rt; tty.key(1), Ok(Some(65)));
-    assert_eq!(rt; tty.put(66), Err(PutFault::Fault));
-    assert_eq!(rt; tty.put(67), Ok(()));
-    assert_eq!(rt; tty.take().as_slice(), [67].as_slice());
+    let loaded = load_key(alloc, &mut tty, 1);
+    let keys = (tty.key(1), tty.key(1));
+    let put = (tty.put(66), tty.put(67));
+    let taken = took(&mut tty, &[67]);
+    assert_eq!(rt;
+        (loaded, keys, put, taken),
+        (
+            true,
+            (Err(TermFault), Ok(Some(65))),
+            (Err(PutFault::Fault), Ok(())),
+            true
+        )
+    );
     Ok(())
 }
