@@ -62,6 +62,14 @@ have-volumes images drives enough all =
 pub have-images : (images : List (List ℕ)) (drives : List DriveView) → length images ≤ length drives → HaveImages (length images) images (holding images drives)
 have-images images drives enough = record { as_many = refl; each = holding-at images drives enough }
 
+-- ---- drives from which all images were taken
+
+empty-again : (new : List (List ℕ)) (before ran left : List DriveView) → length ran ≡ length before → TakesImages new ran left → AreEmptyAgain before left
+empty-again new before ran left many taken = record {
+  as_many = ap length taken.left ∙ length-map ran without_media ∙ many;
+  empty = subst (All IsEmpty) (sym taken.left) (empty-without ran);
+}
+
 -- ---- a world with other drives
 
 abbrev pub with_drives : World → List DriveView → World
@@ -225,6 +233,7 @@ module _ (setup : Setup) (before ran : World) (new : List (List ℕ)) (drives : 
   runs-images end call = record {
     gives = λ told. run-gives end (call.comes told);
     unrun = leaves-unrun end call.unrun;
+    drives = empty-again new before.devices.drives ran.devices.drives drives many taken;
     output_fault = call.output_fault;
     no_fault = call.no_fault;
     files_kept = call.files_kept;
@@ -239,9 +248,3 @@ module _ (setup given : Setup) (before ran : World) (inside left : Outside) (new
       let held_call = subst (λ (devices : Outside). MachineCall given (record before { devices = devices }) ran end) same_devices call in
       let set_up = subst (λ (by : Setup). MachineCall by (with_images_in setup.images before) ran end) same held_call in
       subst (λ (terms : List TerminalState). RunsImages setup new before (record ran { devices = record { drives = left.drives; terms = terms } }) end) (sym terms_left) (runs-images setup before ran new left.drives room as_many many taken end set_up)
-
-pub empty-again : (new : List (List ℕ)) (before ran left : List DriveView) → length ran ≡ length before → TakesImages new ran left → AreEmptyAgain before left
-empty-again new before ran left many taken = record {
-  as_many = ap length taken.left ∙ length-map ran without_media ∙ many;
-  empty = subst (All IsEmpty) (sym taken.left) (empty-without ran);
-}

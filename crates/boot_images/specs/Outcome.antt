@@ -15,6 +15,7 @@ use Rattle.boot_run.specs.Machine.{IsUnrun, LeavesUnrun, RunsFirst, Setup, Start
 use Rattle.boot_run.specs.World.{World, FailsToWrite, HasNoFault}
 use Rattle.boot_run.specs.declared.machine.RunEnd.{RunEnd}
 use Rattle.boot_run.specs.declared.machine.RunEnd.TheVariants.{Ended, Living, Refused, DriveFailed, OutputFailed, NoMemory}
+use Rattle.boot_images.specs.Ready.{AreEmptyAgain}
 use Rattle.boot_images.specs.declared.machine.Start.{Start}
 
 -- an image holds the volume of a drive: it is as long as the one that was put in, with its first sector and the bytes
@@ -68,6 +69,7 @@ RunGives setup images before after NoMemory = IsUnrun before after ⊎ RunsFirst
 pub record RunsImages (setup : Setup) (images : List (List ℕ)) (before after : World) (end : RunEnd) : Type 0 where
   pub gives : All IsObserved before.devices.terms → RunGives setup images before after end
   pub unrun : LeavesUnrun before after end
+  pub drives : AreEmptyAgain before.devices.drives after.devices.drives
   -- the host failed, and last at a write to the output; at every other end it did not fail
   pub output_fault : end ≡ OutputFailed → FailsToWrite before after
   pub no_fault : end ≢ OutputFailed → HasNoFault before after

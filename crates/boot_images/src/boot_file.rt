@@ -82,7 +82,8 @@ fn read_boot_file(alloc: Global, image: &[u8]) -> Result<Vec<u8>, BootFileFault>
     requires { IsVolume image.now }
     ensures volume { OnOk result (HasBootFile image.now) }
     ensures bytes { IfOk result (λ file. file.items ≡ boot_file_of image.now) }
-    ensures refused { IfErr result (λ fault. fault ≡ BootFileFault.Bounds → ¬ HasBootFile image.now) }
+    ensures refused { IfErr result
+        (λ fault. fault ≡ BootFileFault.Bounds → ¬ HasBootFile image.now) }
 {
     let ident = read_ident(&first_sector(image));
     let start = 256 * ident.boot as usize;

@@ -3,10 +3,9 @@
 ghost use Rattle.std.specs.Prelude.{◌≡◌, All, length, vec_len};
 ghost use Rattle.boot_images.specs.BootFile.{IsVolume};
 ghost use Rattle.boot_images.specs.Outcome.{RunsImages, setup_of};
-ghost use Rattle.boot_images.specs.Ready.{AreEmptyAgain, AreFree, CanStart};
-ghost use Rattle.boot_run.specs.World.{world_of};
+ghost use Rattle.boot_images.specs.Ready.{AreFree, CanStart};
+ghost use Rattle.boot_run.specs.World.{OnWorld};
 ghost use Rattle.disk_kernel.specs.Outside.{outside};
-ghost use Rattle.file_drives.specs.Drives.{drive_views};
 
 use crate::drives::{eject_images, insert_images};
 use crate::images::Images;
@@ -48,16 +47,13 @@ pub fn run_images<H: Host>(
         devices.old.drives.items ⟦<dyn CharDriver as CharDriver>⟧ devices.old.terms.items) }
     requires start { CanStart start.now }
     requires volumes { All IsVolume images.old }
-    ensures run { RunsImages (setup_of start.now images.old) images.new
-        (world_of H.Host host.old (outside ⟦<dyn BlockDriver as BlockDriver>⟧
-        devices.old.drives.items ⟦<dyn CharDriver as CharDriver>⟧ devices.old.terms.items))
-        (world_of H.Host host.new (outside ⟦<dyn BlockDriver as BlockDriver>⟧
-        devices.new.drives.items ⟦<dyn CharDriver as CharDriver>⟧ devices.new.terms.items)) result }
+    ensures run { OnWorld
+        (λ before after. RunsImages (setup_of start.now images.old) images.new before after result)
+        H.Host host.old host.new
+        ⟦<dyn BlockDriver as BlockDriver>⟧ devices.old.drives.items devices.new.drives.items
+        ⟦<dyn CharDriver as CharDriver>⟧ devices.old.terms.items devices.new.terms.items }
     ensures count { length images.new ≡ length images.old }
     ensures err_kept { H.bytes_err host.new ≡ H.bytes_err host.old }
-    ensures drives { AreEmptyAgain
-        (drive_views ⟦<dyn BlockDriver as BlockDriver>⟧ devices.old.drives.items)
-        (drive_views ⟦<dyn BlockDriver as BlockDriver>⟧ devices.new.drives.items) }
     ensures terminals { vec_len devices.new.terms ≡ vec_len devices.old.terms }
 {
     insert_images(alloc, images, devices);

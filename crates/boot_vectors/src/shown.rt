@@ -104,7 +104,8 @@ fn add_terminal(
     terms: &mut Vec<Box<dyn CharDriver>>,
     term: Box<dyn CharDriver>,
 ) -> Result<(), AllocError>
-    requires keys { All HasNoKeys (terminal_states ⟦<dyn CharDriver as CharDriver>⟧ terms.old.items) }
+    requires keys { All HasNoKeys
+        (terminal_states ⟦<dyn CharDriver as CharDriver>⟧ terms.old.items) }
     requires term { keys_left term ≡ [] }
     ensures keys { OnOk result
         (All HasNoKeys (terminal_states ⟦<dyn CharDriver as CharDriver>⟧ terms.new.items)) }

@@ -44,7 +44,8 @@ pub fn images_keep_their_ends()
     ensures volume { (old new : List ℕ) (v w : DiskVolume) → Vol old v → Vol new w
         → KeepsEnds v w → IsWrittenBack old new w }
     ensures run { (boot : Boot) (slices written : List ℕ) (s t : State) (states : List State)
-        → Starts boot s → Run slices s states written t → (n : ℕ) (old new : List ℕ) (w : DiskVolume)
+        → Starts boot s → Run slices s states written t
+        → (n : ℕ) (old new : List ℕ) (w : DiskVolume)
         → slice_get boot.images n ≡ Some old → volume_at t.files n ≡ Some w → Vol new w
         → IsWrittenBack old new w }
 {}

@@ -7,12 +7,27 @@ use Rattle.disk_kernel.specs.Outside.{outside}
 use Rattle.boot_run.specs.Machine.{Setup}
 use Rattle.boot_run.specs.World.{world_of}
 use Rattle.boot_images.specs.Outcome.{setup_of}
-use Rattle.boot_images.proofs.RunLemmas.{empty-again, have-images, have-volumes, runs-between}
+use Rattle.boot_images.proofs.RunLemmas.{have-images, have-volumes, runs-between}
 use Rattle.boot_images.proofs.machine.run_images.Goals as goal
 
-pub run_machine-end-requires-clause-volumes : goal.run_machine-end-requires-clause-volumes
-run_machine-end-requires-clause-volumes g c =
-    rw (c.len.ensures, c.insert_images.ensures.count, c.insert_images.ensures.held) (have-volumes c.args.images.now _ c.requires.devices.room.enough c.requires.volumes)
+pub run_machine-end-requires : goal.run_machine-end-requires
+run_machine-end-requires g c =
+    let was = c.args.devices.now.drives in
+    let now = c.insert_images.new.devices.drives in
+    let view = boxed_drive_view (λ table. (g.dyn-1.0.entry table).1) in
+    let items : length now.items ≡ length was.items = omega (arith, c.insert_images.ensures.drives, now.ok.0, was.ok.0) in
+    let many = length-map now.items view ∙ items ∙ sym (length-map was.items view) in
+    record {
+      least = c.requires.start.least;
+      most = c.requires.start.most;
+      time = c.requires.start.time;
+      few = rw c.as_slice-3.ensures.value c.requires.start.few;
+      terminals = rw c.insert_images.ensures.terms_kept c.requires.devices.terminals;
+      enough = omega (arith, c.len.ensures, c.insert_images.ensures.count, many, c.requires.devices.room.enough);
+      few_drives = omega (arith, many, c.requires.devices.room.few);
+      volumes =
+          rw (c.len.ensures, c.insert_images.ensures.count, c.insert_images.ensures.held) (have-volumes c.args.images.now _ c.requires.devices.room.enough c.requires.volumes);
+    }
 
 pub returns-clause-run : goal.returns-clause-run
 returns-clause-run g c =
@@ -28,9 +43,3 @@ returns-clause-run g c =
     let terms_put = ap (λ terms. terminal_states (λ table. (g.dyn-2.0.entry table).1) terms.items) c.insert_images.ensures.terms_kept in
     let terms_left = ap (λ terms. terminal_states (λ table. (g.dyn-2.0.entry table).1) terms.items) c.eject_images.ensures.terms_kept in
     runs-between (setup_of c.args.start.now c.args.images.now) given before ran inside left c.eject_images.new.images c.requires.devices.room (c.eject_images.ensures.count ∙ c.insert_images.ensures.count) many c.eject_images.ensures.taken c.run_machine-end.result same c.insert_images.ensures.held terms_put terms_left (c.run_machine-end.ensures.call c.args.images.now have)
-
-pub returns-clause-drives : goal.returns-clause-drives
-returns-clause-drives g c =
-    let items : length c.run_machine-end.new.devices.drives.items ≡ length c.args.devices.now.drives.items = omega (arith, c.run_machine-end.ensures.drives, c.insert_images.ensures.drives, c.run_machine-end.new.devices.drives.ok.0, c.args.devices.now.drives.ok.0) in
-    let many = length-map c.run_machine-end.new.devices.drives.items (boxed_drive_view (λ table. (g.dyn-1.0.entry table).1)) ∙ items ∙ sym (length-map c.args.devices.now.drives.items (boxed_drive_view (λ table. (g.dyn-1.0.entry table).1))) in
-    empty-again c.eject_images.new.images _ _ _ many c.eject_images.ensures.taken

@@ -21,3 +21,6 @@ returns-clause-call g c =
     let devices = outside (λ table. (g.dyn-1.0.entry table).1) c.args.devices.now.drives.items (λ table. (g.dyn-2.0.entry table).1) c.args.devices.now.terms.items in
     let count : c.len-terminals.result ≡ length (terminal_states (λ table. (g.dyn-2.0.entry table).1) c.args.devices.now.terms.items) = rw length-map (omega (arith, c.len-terminals.ensures, c.args.devices.now.terms.ok.0)) in
     rw c.end_of_run.ensures (run-ended _ c.args.run.now c.in-Ok.files c.in-Ok.ensures.contents c.in-Ok-read_texts.texts.keys.items c.in-Ok-read_texts.texts.slices.items (rw (c.as_slice.ensures.value, count) at c.in-Ok-read_texts.ensures.keys) (rw c.as_slice-2.ensures.value at c.in-Ok-read_texts.ensures.slices) _ _ c.run_images.result (runs-after _ _ _ _ _ _ (c.in-Ok.ensures.kept devices) (rw c.none-images.ensures at c.run_images.ensures.run)))
+
+pub returns-clause-drives : goal.returns-clause-drives
+returns-clause-drives g c = c.run_images.ensures.run.drives
