@@ -18,10 +18,13 @@ pub enum Dev {
 
 /// The drivers of a machine: its drives D0 and on, and its terminals TERM, T1 and on.
 #[derive(Drop)]
-pub struct Devices {
-    pub drives: Vec<Box<dyn BlockDriver>>,
-    pub terms: Vec<Box<dyn CharDriver>>,
+pub struct DeviceTable<B, C> {
+    pub drives: Vec<B>,
+    pub terms: Vec<C>,
 }
+
+/// The drivers of a machine, in boxes.
+pub type Devices = DeviceTable<Box<dyn BlockDriver>, Box<dyn CharDriver>>;
 
 impl Devices {
     /// The device of this name: `D0` to `D3`, `TERM`, `T1` to `T3` or `PIPE`, with the case of

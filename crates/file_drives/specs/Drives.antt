@@ -3,6 +3,7 @@
 use Rattle.std.specs.Prelude.{◌≡◌, ℕ, Option, Some, None, List, length, map, option_map, slice_get, slice_index_or, slice_set}
 use Rattle.std.specs.declared.alloc.Global.{Global}
 use Rattle.std.specs.declared.dyn_box.DynBox.{DynBox}
+use Rattle.device_table.specs.declared.devices.DeviceTable.{DeviceTable}
 use Rattle.os9_outer.specs.Drive.{sector_at}
 use Rattle.os9_outer.specs.declared.drive.BlockDriver.{Ghosts}
 use Rattle.rbf_access.specs.Drive.{DriveCounts, MovesCounts, drive_counts}
@@ -31,6 +32,22 @@ boxed_drive_view members drive = drive_view (members drive.vtable) drive.value
 abbrev pub drive_views : {Table : Type 0} {Driver : Table → Type 0} → ((table : Table) → Ghosts (Driver table))
     → List (DynBox Table Global Driver) → List DriveView
 drive_views members drives = map (boxed_drive_view members) drives
+
+-- the drive that is lent, as `lent_seen BlockDriver-dyn d.now`
+abbrev pub lent_seen : {Table : Type 0} {Driver : Table → Type 0}
+    → ((drive : (table : Table) × Driver table) → Ghosts (Driver drive.0)) → (table : Table) × Driver table → DriveView
+lent_seen members drive = drive_view (members drive) drive.1
+
+-- the drive in a box, as `boxed_seen BlockDriver-box driver.now`
+abbrev pub boxed_seen : {Table : Type 0} {Driver : Table → Type 0}
+    → ((drive : DynBox Table Global Driver) → Ghosts (Driver drive.vtable)) → DynBox Table Global Driver → DriveView
+boxed_seen members drive = drive_view (members drive) drive.value
+
+-- each drive of a table, as `drives_seen BlockDriver-box devices.now`
+abbrev pub drives_seen : {Table : Type 0} {Driver : Table → Type 0} {Terminals : Type 0}
+    → ((drive : DynBox Table Global Driver) → Ghosts (Driver drive.vtable))
+    → DeviceTable (DynBox Table Global Driver) Terminals → List DriveView
+drives_seen members devices = map (λ drive. drive_view (members drive) drive.value) devices.drives.items
 
 -- the bytes of the image that is in each drive
 abbrev pub media_of : List DriveView → List (Option (List ℕ))

@@ -1,6 +1,6 @@
 // The calls that change a file, over one drive in its box and what is kept for it.
 
-ghost use Rattle.file_drives.specs.Drives.{boxed_drive_view, lent_drive_view};
+ghost use Rattle.file_drives.specs.Drives.{boxed_seen, lent_seen};
 ghost use Rattle.file_drives.specs.SlotCalls.{SetsAttributesOn, SizesOn, WritesOn};
 ghost use Rattle.file_drives.specs.Slots.{HasDataFileOn, HasFileOn};
 
@@ -22,10 +22,10 @@ fn write_on(
     now: TimePacket,
 ) -> Result<(), FileFault>
     requires { HasDataFileOn kept.old
-        (lent_drive_view ⟦<dyn BlockDriver as BlockDriver>⟧ d.old) number }
+        (lent_seen BlockDriver-dyn d.old) number }
     ensures { WritesOn number at from.now now result
-        kept.old (lent_drive_view ⟦<dyn BlockDriver as BlockDriver>⟧ d.old)
-        kept.new (lent_drive_view ⟦<dyn BlockDriver as BlockDriver>⟧ d.new) }
+        kept.old (lent_seen BlockDriver-dyn d.old)
+        kept.new (lent_seen BlockDriver-dyn d.new) }
 {
     match kept {
         Some(volume) => write_at(volume, d, number, at, from, now),
@@ -43,10 +43,10 @@ pub fn write_in_box(
     now: TimePacket,
 ) -> Result<(), FileFault>
     requires { HasDataFileOn kept.old
-        (boxed_drive_view ⟦<dyn BlockDriver as BlockDriver>⟧ driver.old) number }
+        (boxed_seen BlockDriver-box driver.old) number }
     ensures { WritesOn number at from.now now result
-        kept.old (boxed_drive_view ⟦<dyn BlockDriver as BlockDriver>⟧ driver.old)
-        kept.new (boxed_drive_view ⟦<dyn BlockDriver as BlockDriver>⟧ driver.new) }
+        kept.old (boxed_seen BlockDriver-box driver.old)
+        kept.new (boxed_seen BlockDriver-box driver.new) }
 {
     write_on(kept, &mut **driver, number, at, from, now)
 }
@@ -60,10 +60,10 @@ fn set_size_on(
     now: TimePacket,
 ) -> Result<(), FileFault>
     requires { HasDataFileOn kept.old
-        (lent_drive_view ⟦<dyn BlockDriver as BlockDriver>⟧ d.old) number }
+        (lent_seen BlockDriver-dyn d.old) number }
     ensures { SizesOn number size now result
-        kept.old (lent_drive_view ⟦<dyn BlockDriver as BlockDriver>⟧ d.old)
-        kept.new (lent_drive_view ⟦<dyn BlockDriver as BlockDriver>⟧ d.new) }
+        kept.old (lent_seen BlockDriver-dyn d.old)
+        kept.new (lent_seen BlockDriver-dyn d.new) }
 {
     match kept {
         Some(volume) => set_size(volume, d, number, size, now),
@@ -80,10 +80,10 @@ pub fn set_size_in_box(
     now: TimePacket,
 ) -> Result<(), FileFault>
     requires { HasDataFileOn kept.old
-        (boxed_drive_view ⟦<dyn BlockDriver as BlockDriver>⟧ driver.old) number }
+        (boxed_seen BlockDriver-box driver.old) number }
     ensures { SizesOn number size now result
-        kept.old (boxed_drive_view ⟦<dyn BlockDriver as BlockDriver>⟧ driver.old)
-        kept.new (boxed_drive_view ⟦<dyn BlockDriver as BlockDriver>⟧ driver.new) }
+        kept.old (boxed_seen BlockDriver-box driver.old)
+        kept.new (boxed_seen BlockDriver-box driver.new) }
 {
     set_size_on(kept, &mut **driver, number, size, now)
 }
@@ -98,10 +98,10 @@ fn set_attr_on(
     now: TimePacket,
 ) -> Result<(), DirError>
     requires { HasFileOn kept.old
-        (lent_drive_view ⟦<dyn BlockDriver as BlockDriver>⟧ d.old) number }
+        (lent_seen BlockDriver-dyn d.old) number }
     ensures { SetsAttributesOn number attr user now result
-        kept.old (lent_drive_view ⟦<dyn BlockDriver as BlockDriver>⟧ d.old)
-        kept.new (lent_drive_view ⟦<dyn BlockDriver as BlockDriver>⟧ d.new) }
+        kept.old (lent_seen BlockDriver-dyn d.old)
+        kept.new (lent_seen BlockDriver-dyn d.new) }
 {
     match kept {
         Some(volume) => set_attr(volume, d, number, attr, user, now),
@@ -119,10 +119,10 @@ pub fn set_attr_in_box(
     now: TimePacket,
 ) -> Result<(), DirError>
     requires { HasFileOn kept.old
-        (boxed_drive_view ⟦<dyn BlockDriver as BlockDriver>⟧ driver.old) number }
+        (boxed_seen BlockDriver-box driver.old) number }
     ensures { SetsAttributesOn number attr user now result
-        kept.old (boxed_drive_view ⟦<dyn BlockDriver as BlockDriver>⟧ driver.old)
-        kept.new (boxed_drive_view ⟦<dyn BlockDriver as BlockDriver>⟧ driver.new) }
+        kept.old (boxed_seen BlockDriver-box driver.old)
+        kept.new (boxed_seen BlockDriver-box driver.new) }
 {
     set_attr_on(kept, &mut **driver, number, attr, user, now)
 }

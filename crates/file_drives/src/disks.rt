@@ -15,7 +15,7 @@ ghost use Rattle.file_rules.specs.Change.{writes, sizes, sets_attributes, create
 ghost use Rattle.file_rules.specs.Way.{root_of};
 ghost use Rattle.file_drives.specs.Calls.{deleting_calls, making_calls, sizing_calls, writing_calls};
 ghost use Rattle.file_drives.specs.Changed.{Asked, ChangesVolume, file_answer, numbered};
-ghost use Rattle.file_drives.specs.Drives.{DriveView, drive_views, ChangesOneDrive};
+ghost use Rattle.file_drives.specs.Drives.{DriveView, drives_seen, ChangesOneDrive};
 ghost use Rattle.file_drives.specs.Entries.{IsDeletableOn, IsDeletionOn, IsPlaceAt, IsPlaceOn, MayBeDeletedOn};
 ghost use Rattle.file_drives.specs.Mounted.{AgreesOnDrive, AreMounted, ArrivesOn, HasDataFileAt, HasFileAt, MountsAs, OnDisks, ReadsFile, ReadsToMount, kept_at, mounted_at, number_arrived};
 
@@ -84,12 +84,12 @@ impl Disks {
         requires drive { n < vec_len devices.old.drives }
         requires few { n < 4 }
         ensures mounted { MountsAs result n
-            self.old (drive_views ⟦<dyn BlockDriver as BlockDriver>⟧ devices.old.drives.items)
-            self.new (drive_views ⟦<dyn BlockDriver as BlockDriver>⟧ devices.new.drives.items) }
+            self.old (drives_seen BlockDriver-box devices.old)
+            self.new (drives_seen BlockDriver-box devices.new) }
         ensures others { (m : ℕ) → m ≢ n → kept_at self.new m ≡ kept_at self.old m }
         ensures drive { ChangesOneDrive (ReadsToMount result) n
-            (drive_views ⟦<dyn BlockDriver as BlockDriver>⟧ devices.old.drives.items)
-            (drive_views ⟦<dyn BlockDriver as BlockDriver>⟧ devices.new.drives.items) }
+            (drives_seen BlockDriver-box devices.old)
+            (drives_seen BlockDriver-box devices.new) }
         ensures terms_kept { devices.new.terms ≡ devices.old.terms }
     {
         mount_in_box(
@@ -118,14 +118,14 @@ impl Disks {
     /// `Device` if the drive's read fails.
     pub fn fd(&mut self, devices: &mut Devices, place: FilePlace) -> Result<Fd, FileFault>
         requires file { HasFileAt self.old
-            (drive_views ⟦<dyn BlockDriver as BlockDriver>⟧ devices.old.drives.items) place }
+            (drives_seen BlockDriver-box devices.old) place }
         ensures ok { OnDisks self.old
-            (drive_views ⟦<dyn BlockDriver as BlockDriver>⟧ devices.old.drives.items) place
+            (drives_seen BlockDriver-box devices.old) place
             (λ v file. IfOk result (IsFdOf file)) }
         ensures device { OnErr result (IsSome (file_fault result)) }
         ensures drive { ReadsFile place (file_fault result) (λ v file. 1)
-            self.old (drive_views ⟦<dyn BlockDriver as BlockDriver>⟧ devices.old.drives.items)
-            self.new (drive_views ⟦<dyn BlockDriver as BlockDriver>⟧ devices.new.drives.items) }
+            self.old (drives_seen BlockDriver-box devices.old)
+            self.new (drives_seen BlockDriver-box devices.new) }
         ensures terms_kept { devices.new.terms ≡ devices.old.terms }
     {
         fd_in_box(
@@ -149,15 +149,15 @@ impl Disks {
         into: &mut [u8],
     ) -> Result<u32, FileFault>
         requires file { HasFileAt self.old
-            (drive_views ⟦<dyn BlockDriver as BlockDriver>⟧ devices.old.drives.items) place }
+            (drives_seen BlockDriver-box devices.old) place }
         ensures ok { OnDisks self.old
-            (drive_views ⟦<dyn BlockDriver as BlockDriver>⟧ devices.old.drives.items) place
+            (drives_seen BlockDriver-box devices.old) place
             (λ v file. IfOk result (IsRead file at into.old into.new)) }
         ensures device { OnErr result (IsSome (file_fault result)) }
         ensures drive { ReadsFile place (file_fault result)
             (λ v file. read_calls file at (length into.old))
-            self.old (drive_views ⟦<dyn BlockDriver as BlockDriver>⟧ devices.old.drives.items)
-            self.new (drive_views ⟦<dyn BlockDriver as BlockDriver>⟧ devices.new.drives.items) }
+            self.old (drives_seen BlockDriver-box devices.old)
+            self.new (drives_seen BlockDriver-box devices.new) }
         ensures terms_kept { devices.new.terms ≡ devices.old.terms }
     {
         read_in_box(
@@ -186,17 +186,17 @@ impl Disks {
         execute: bool,
     ) -> Result<FilePlace, DirError>
         requires file { HasFileAt self.old
-            (drive_views ⟦<dyn BlockDriver as BlockDriver>⟧ devices.old.drives.items) place }
+            (drives_seen BlockDriver-box devices.old) place }
         ensures walked { OnDisks self.old
-            (drive_views ⟦<dyn BlockDriver as BlockDriver>⟧ devices.old.drives.items) place
+            (drives_seen BlockDriver-box devices.old) place
             (λ v file. AnswersWalk (step (Some file) user execute name.now)
             (number_arrived result)) }
         ensures file { IfOk result (ArrivesOn place.drive self.new
-            (drive_views ⟦<dyn BlockDriver as BlockDriver>⟧ devices.new.drives.items)) }
+            (drives_seen BlockDriver-box devices.new)) }
         ensures drive { ReadsFile place (directory_fault result)
             (λ v file. step_calls (Some file) user execute name.now)
-            self.old (drive_views ⟦<dyn BlockDriver as BlockDriver>⟧ devices.old.drives.items)
-            self.new (drive_views ⟦<dyn BlockDriver as BlockDriver>⟧ devices.new.drives.items) }
+            self.old (drives_seen BlockDriver-box devices.old)
+            self.new (drives_seen BlockDriver-box devices.new) }
         ensures terms_kept { devices.new.terms ≡ devices.old.terms }
     {
         let arrived = walk_in_box(
@@ -229,12 +229,12 @@ impl Disks {
         now: TimePacket,
     ) -> Result<(), FileFault>
         requires file { HasDataFileAt self.old
-            (drive_views ⟦<dyn BlockDriver as BlockDriver>⟧ devices.old.drives.items) place }
+            (drives_seen BlockDriver-box devices.old) place }
         ensures changed { (user : ℕ) → ChangesVolume place
             (record { change = writes place.number at from.now; user = user; now = now })
             (file_answer result) (writing_calls place.number at (length from.now) result)
-            self.old (drive_views ⟦<dyn BlockDriver as BlockDriver>⟧ devices.old.drives.items)
-            self.new (drive_views ⟦<dyn BlockDriver as BlockDriver>⟧ devices.new.drives.items) }
+            self.old (drives_seen BlockDriver-box devices.old)
+            self.new (drives_seen BlockDriver-box devices.new) }
         ensures terms_kept { devices.new.terms ≡ devices.old.terms }
     {
         write_in_box(
@@ -266,13 +266,13 @@ impl Disks {
         now: TimePacket,
     ) -> Result<(), FileFault>
         requires file { HasDataFileAt self.old
-            (drive_views ⟦<dyn BlockDriver as BlockDriver>⟧ devices.old.drives.items) place }
+            (drives_seen BlockDriver-box devices.old) place }
         ensures changed { (user : ℕ) → ChangesVolume place
             (record { change = sizes place.number size; user = user; now = now })
             (file_answer result)
             (sizing_calls (record { number = place.number; size = size; now = now }) result)
-            self.old (drive_views ⟦<dyn BlockDriver as BlockDriver>⟧ devices.old.drives.items)
-            self.new (drive_views ⟦<dyn BlockDriver as BlockDriver>⟧ devices.new.drives.items) }
+            self.old (drives_seen BlockDriver-box devices.old)
+            self.new (drives_seen BlockDriver-box devices.new) }
         ensures terms_kept { devices.new.terms ≡ devices.old.terms }
     {
         set_size_in_box(
@@ -300,12 +300,12 @@ impl Disks {
         now: TimePacket,
     ) -> Result<(), DirError>
         requires file { HasFileAt self.old
-            (drive_views ⟦<dyn BlockDriver as BlockDriver>⟧ devices.old.drives.items) place }
+            (drives_seen BlockDriver-box devices.old) place }
         ensures changed { ChangesVolume place
             (record { change = sets_attributes place.number attr; user = user; now = now })
             (numbered result) (λ v file left. attribute_calls file user)
-            self.old (drive_views ⟦<dyn BlockDriver as BlockDriver>⟧ devices.old.drives.items)
-            self.new (drive_views ⟦<dyn BlockDriver as BlockDriver>⟧ devices.new.drives.items) }
+            self.old (drives_seen BlockDriver-box devices.old)
+            self.new (drives_seen BlockDriver-box devices.new) }
         ensures terms_kept { devices.new.terms ≡ devices.old.terms }
     {
         set_attr_in_box(
@@ -335,17 +335,17 @@ impl Disks {
         execute: bool,
     ) -> Result<NewPlace, DirError>
         requires file { HasFileAt self.old
-            (drive_views ⟦<dyn BlockDriver as BlockDriver>⟧ devices.old.drives.items) dir }
+            (drives_seen BlockDriver-box devices.old) dir }
         ensures answer { OnDisks self.old
-            (drive_views ⟦<dyn BlockDriver as BlockDriver>⟧ devices.old.drives.items) dir
+            (drives_seen BlockDriver-box devices.old) dir
             (λ v file. AnswersPlace file name.now user execute (place_found result)) }
         ensures found { IfOk result (IsPlaceOn
-            (drive_views ⟦<dyn BlockDriver as BlockDriver>⟧ devices.new.drives.items)
+            (drives_seen BlockDriver-box devices.new)
             dir name.now user execute) }
         ensures drive { ReadsFile dir (directory_fault result)
             (λ v file. place_calls file name.now user execute)
-            self.old (drive_views ⟦<dyn BlockDriver as BlockDriver>⟧ devices.old.drives.items)
-            self.new (drive_views ⟦<dyn BlockDriver as BlockDriver>⟧ devices.new.drives.items) }
+            self.old (drives_seen BlockDriver-box devices.old)
+            self.new (drives_seen BlockDriver-box devices.new) }
         ensures terms_kept { devices.new.terms ≡ devices.old.terms }
     {
         find_place_in_box(
@@ -375,18 +375,18 @@ impl Disks {
         execute: bool,
     ) -> Result<Deletable, DirError>
         requires file { HasFileAt self.old
-            (drive_views ⟦<dyn BlockDriver as BlockDriver>⟧ devices.old.drives.items) dir }
+            (drives_seen BlockDriver-box devices.old) dir }
         ensures answer { OnDisks self.old
-            (drive_views ⟦<dyn BlockDriver as BlockDriver>⟧ devices.old.drives.items) dir
+            (drives_seen BlockDriver-box devices.old) dir
             (λ v file. AnswersWalk (deletion_end v.files file name.now user execute)
             (descriptor_found result)) }
         ensures found { IfOk result (IsDeletableOn
-            (drive_views ⟦<dyn BlockDriver as BlockDriver>⟧ devices.new.drives.items)
+            (drives_seen BlockDriver-box devices.new)
             dir name.now) }
         ensures drive { ReadsFile dir (directory_fault result)
             (λ v file. deletion_calls file name.now user execute)
-            self.old (drive_views ⟦<dyn BlockDriver as BlockDriver>⟧ devices.old.drives.items)
-            self.new (drive_views ⟦<dyn BlockDriver as BlockDriver>⟧ devices.new.drives.items) }
+            self.old (drives_seen BlockDriver-box devices.old)
+            self.new (drives_seen BlockDriver-box devices.new) }
         ensures terms_kept { devices.new.terms ≡ devices.old.terms }
     {
         find_deletable_in_box(
@@ -419,9 +419,9 @@ impl Disks {
         now: TimePacket,
     ) -> Result<u32, FileFault>
         requires file { HasFileAt self.old
-            (drive_views ⟦<dyn BlockDriver as BlockDriver>⟧ devices.old.drives.items) dir }
+            (drives_seen BlockDriver-box devices.old) dir }
         requires place { IsPlaceAt
-            (drive_views ⟦<dyn BlockDriver as BlockDriver>⟧ devices.old.drives.items)
+            (drives_seen BlockDriver-box devices.old)
             dir name.now found.now }
         requires attributes { attr < 128 }
         ensures changed { ChangesVolume dir (record {
@@ -430,8 +430,8 @@ impl Disks {
           now = now;
         })
             (widened result) (λ v file left. entering_calls v file 2 (widened result))
-            self.old (drive_views ⟦<dyn BlockDriver as BlockDriver>⟧ devices.old.drives.items)
-            self.new (drive_views ⟦<dyn BlockDriver as BlockDriver>⟧ devices.new.drives.items) }
+            self.old (drives_seen BlockDriver-box devices.old)
+            self.new (drives_seen BlockDriver-box devices.new) }
         ensures terms_kept { devices.new.terms ≡ devices.old.terms }
     {
         create_in_box(
@@ -461,9 +461,9 @@ impl Disks {
         now: TimePacket,
     ) -> Result<u32, FileFault>
         requires file { HasFileAt self.old
-            (drive_views ⟦<dyn BlockDriver as BlockDriver>⟧ devices.old.drives.items) dir }
+            (drives_seen BlockDriver-box devices.old) dir }
         requires place { IsPlaceAt
-            (drive_views ⟦<dyn BlockDriver as BlockDriver>⟧ devices.old.drives.items)
+            (drives_seen BlockDriver-box devices.old)
             dir name.now found.now }
         requires reading { found.now.execute ≡ false }
         ensures changed { ChangesVolume dir (record {
@@ -472,8 +472,8 @@ impl Disks {
           now = now;
         })
             (widened result) (making_calls (widened result))
-            self.old (drive_views ⟦<dyn BlockDriver as BlockDriver>⟧ devices.old.drives.items)
-            self.new (drive_views ⟦<dyn BlockDriver as BlockDriver>⟧ devices.new.drives.items) }
+            self.old (drives_seen BlockDriver-box devices.old)
+            self.new (drives_seen BlockDriver-box devices.new) }
         ensures terms_kept { devices.new.terms ≡ devices.old.terms }
     {
         make_dir_in_box(
@@ -501,15 +501,15 @@ impl Disks {
         found: &Deletable,
     ) -> Result<(), FileFault>
         requires file { HasFileAt self.old
-            (drive_views ⟦<dyn BlockDriver as BlockDriver>⟧ devices.old.drives.items) dir }
+            (drives_seen BlockDriver-box devices.old) dir }
         requires entry { MayBeDeletedOn
-            (drive_views ⟦<dyn BlockDriver as BlockDriver>⟧ devices.old.drives.items)
+            (drives_seen BlockDriver-box devices.old)
             dir found.now }
         ensures changed { (asked : Asked) → IsDeletionOn dir found.now asked
-            (drive_views ⟦<dyn BlockDriver as BlockDriver>⟧ devices.old.drives.items)
+            (drives_seen BlockDriver-box devices.old)
             → ChangesVolume dir asked (file_answer result) (deleting_calls found.now.descriptor)
-            self.old (drive_views ⟦<dyn BlockDriver as BlockDriver>⟧ devices.old.drives.items)
-            self.new (drive_views ⟦<dyn BlockDriver as BlockDriver>⟧ devices.new.drives.items) }
+            self.old (drives_seen BlockDriver-box devices.old)
+            self.new (drives_seen BlockDriver-box devices.new) }
         ensures terms_kept { devices.new.terms ≡ devices.old.terms }
     {
         delete_in_box(

@@ -3,7 +3,7 @@
 ghost use Rattle.std.specs.Prelude.{◌≡◌, ℕ, ◌<◌, false};
 ghost use Rattle.rbf_make.specs.Places.{IsPlaceFor};
 ghost use Rattle.rbf_dirs.specs.Deleted.{MayBeDeleted};
-ghost use Rattle.file_drives.specs.Drives.{boxed_drive_view, lent_drive_view};
+ghost use Rattle.file_drives.specs.Drives.{boxed_seen, lent_seen};
 ghost use Rattle.file_drives.specs.SlotCalls.{CreatesOn, DeletesOn, FindsDeletableOn, FindsPlaceOn, MakesDirectoryOn};
 ghost use Rattle.file_drives.specs.Slots.{HasFileOn};
 
@@ -28,10 +28,10 @@ fn find_place_on(
     execute: bool,
 ) -> Result<NewPlace, DirError>
     requires { HasFileOn kept.old
-        (lent_drive_view ⟦<dyn BlockDriver as BlockDriver>⟧ d.old) dir }
+        (lent_seen BlockDriver-dyn d.old) dir }
     ensures { FindsPlaceOn dir name.now user execute result
-        kept.old (lent_drive_view ⟦<dyn BlockDriver as BlockDriver>⟧ d.old)
-        kept.new (lent_drive_view ⟦<dyn BlockDriver as BlockDriver>⟧ d.new) }
+        kept.old (lent_seen BlockDriver-dyn d.old)
+        kept.new (lent_seen BlockDriver-dyn d.new) }
 {
     match kept {
         Some(volume) => find_place(volume, d, dir, name, user, execute),
@@ -49,10 +49,10 @@ pub fn find_place_in_box(
     execute: bool,
 ) -> Result<NewPlace, DirError>
     requires { HasFileOn kept.old
-        (boxed_drive_view ⟦<dyn BlockDriver as BlockDriver>⟧ driver.old) dir }
+        (boxed_seen BlockDriver-box driver.old) dir }
     ensures { FindsPlaceOn dir name.now user execute result
-        kept.old (boxed_drive_view ⟦<dyn BlockDriver as BlockDriver>⟧ driver.old)
-        kept.new (boxed_drive_view ⟦<dyn BlockDriver as BlockDriver>⟧ driver.new) }
+        kept.old (boxed_seen BlockDriver-box driver.old)
+        kept.new (boxed_seen BlockDriver-box driver.new) }
 {
     find_place_on(kept, &mut **driver, dir, name, user, execute)
 }
@@ -67,10 +67,10 @@ fn find_deletable_on(
     execute: bool,
 ) -> Result<Deletable, DirError>
     requires { HasFileOn kept.old
-        (lent_drive_view ⟦<dyn BlockDriver as BlockDriver>⟧ d.old) dir }
+        (lent_seen BlockDriver-dyn d.old) dir }
     ensures { FindsDeletableOn dir name.now user execute result
-        kept.old (lent_drive_view ⟦<dyn BlockDriver as BlockDriver>⟧ d.old)
-        kept.new (lent_drive_view ⟦<dyn BlockDriver as BlockDriver>⟧ d.new) }
+        kept.old (lent_seen BlockDriver-dyn d.old)
+        kept.new (lent_seen BlockDriver-dyn d.new) }
 {
     match kept {
         Some(volume) => find_deletable(volume, d, dir, name, user, execute),
@@ -88,10 +88,10 @@ pub fn find_deletable_in_box(
     execute: bool,
 ) -> Result<Deletable, DirError>
     requires { HasFileOn kept.old
-        (boxed_drive_view ⟦<dyn BlockDriver as BlockDriver>⟧ driver.old) dir }
+        (boxed_seen BlockDriver-box driver.old) dir }
     ensures { FindsDeletableOn dir name.now user execute result
-        kept.old (boxed_drive_view ⟦<dyn BlockDriver as BlockDriver>⟧ driver.old)
-        kept.new (boxed_drive_view ⟦<dyn BlockDriver as BlockDriver>⟧ driver.new) }
+        kept.old (boxed_seen BlockDriver-box driver.old)
+        kept.new (boxed_seen BlockDriver-box driver.new) }
 {
     find_deletable_on(kept, &mut **driver, dir, name, user, execute)
 }
@@ -106,12 +106,12 @@ fn create_on(
     now: TimePacket,
 ) -> Result<u32, FileFault>
     requires file { HasFileOn kept.old
-        (lent_drive_view ⟦<dyn BlockDriver as BlockDriver>⟧ d.old) found.now.dir.number }
+        (lent_seen BlockDriver-dyn d.old) found.now.dir.number }
     requires place { IsPlaceFor (media d.old) name.now found.now }
     requires attributes { attr < 128 }
     ensures { CreatesOn found.now name.now attr now result
-        kept.old (lent_drive_view ⟦<dyn BlockDriver as BlockDriver>⟧ d.old)
-        kept.new (lent_drive_view ⟦<dyn BlockDriver as BlockDriver>⟧ d.new) }
+        kept.old (lent_seen BlockDriver-dyn d.old)
+        kept.new (lent_seen BlockDriver-dyn d.new) }
 {
     match kept {
         Some(volume) => create_at(volume, d, found, name, attr, now),
@@ -129,12 +129,12 @@ pub fn create_in_box(
     now: TimePacket,
 ) -> Result<u32, FileFault>
     requires file { HasFileOn kept.old
-        (boxed_drive_view ⟦<dyn BlockDriver as BlockDriver>⟧ driver.old) found.now.dir.number }
+        (boxed_seen BlockDriver-box driver.old) found.now.dir.number }
     requires place { IsPlaceFor (media driver.old) name.now found.now }
     requires attributes { attr < 128 }
     ensures { CreatesOn found.now name.now attr now result
-        kept.old (boxed_drive_view ⟦<dyn BlockDriver as BlockDriver>⟧ driver.old)
-        kept.new (boxed_drive_view ⟦<dyn BlockDriver as BlockDriver>⟧ driver.new) }
+        kept.old (boxed_seen BlockDriver-box driver.old)
+        kept.new (boxed_seen BlockDriver-box driver.new) }
 {
     create_on(kept, &mut **driver, found, name, attr, now)
 }
@@ -149,12 +149,12 @@ fn make_dir_on(
     now: TimePacket,
 ) -> Result<u32, FileFault>
     requires file { HasFileOn kept.old
-        (lent_drive_view ⟦<dyn BlockDriver as BlockDriver>⟧ d.old) found.now.dir.number }
+        (lent_seen BlockDriver-dyn d.old) found.now.dir.number }
     requires place { IsPlaceFor (media d.old) name.now found.now }
     requires reading { found.now.execute ≡ false }
     ensures { MakesDirectoryOn found.now name.now attr now result
-        kept.old (lent_drive_view ⟦<dyn BlockDriver as BlockDriver>⟧ d.old)
-        kept.new (lent_drive_view ⟦<dyn BlockDriver as BlockDriver>⟧ d.new) }
+        kept.old (lent_seen BlockDriver-dyn d.old)
+        kept.new (lent_seen BlockDriver-dyn d.new) }
 {
     match kept {
         Some(volume) => make_dir_at(volume, d, found, name, attr, now),
@@ -172,12 +172,12 @@ pub fn make_dir_in_box(
     now: TimePacket,
 ) -> Result<u32, FileFault>
     requires file { HasFileOn kept.old
-        (boxed_drive_view ⟦<dyn BlockDriver as BlockDriver>⟧ driver.old) found.now.dir.number }
+        (boxed_seen BlockDriver-box driver.old) found.now.dir.number }
     requires place { IsPlaceFor (media driver.old) name.now found.now }
     requires reading { found.now.execute ≡ false }
     ensures { MakesDirectoryOn found.now name.now attr now result
-        kept.old (boxed_drive_view ⟦<dyn BlockDriver as BlockDriver>⟧ driver.old)
-        kept.new (boxed_drive_view ⟦<dyn BlockDriver as BlockDriver>⟧ driver.new) }
+        kept.old (boxed_seen BlockDriver-box driver.old)
+        kept.new (boxed_seen BlockDriver-box driver.new) }
 {
     make_dir_on(kept, &mut **driver, found, name, attr, now)
 }
@@ -189,11 +189,11 @@ fn delete_on(
     found: &Deletable,
 ) -> Result<(), FileFault>
     requires file { HasFileOn kept.old
-        (lent_drive_view ⟦<dyn BlockDriver as BlockDriver>⟧ d.old) found.now.descriptor }
+        (lent_seen BlockDriver-dyn d.old) found.now.descriptor }
     requires found { MayBeDeleted (media d.old) found.now }
     ensures { (dir : ℕ) → DeletesOn dir found.now result
-        kept.old (lent_drive_view ⟦<dyn BlockDriver as BlockDriver>⟧ d.old)
-        kept.new (lent_drive_view ⟦<dyn BlockDriver as BlockDriver>⟧ d.new) }
+        kept.old (lent_seen BlockDriver-dyn d.old)
+        kept.new (lent_seen BlockDriver-dyn d.new) }
 {
     match kept {
         Some(volume) => delete_at(volume, d, found),
@@ -208,11 +208,11 @@ pub fn delete_in_box(
     found: &Deletable,
 ) -> Result<(), FileFault>
     requires file { HasFileOn kept.old
-        (boxed_drive_view ⟦<dyn BlockDriver as BlockDriver>⟧ driver.old) found.now.descriptor }
+        (boxed_seen BlockDriver-box driver.old) found.now.descriptor }
     requires found { MayBeDeleted (media driver.old) found.now }
     ensures { (dir : ℕ) → DeletesOn dir found.now result
-        kept.old (boxed_drive_view ⟦<dyn BlockDriver as BlockDriver>⟧ driver.old)
-        kept.new (boxed_drive_view ⟦<dyn BlockDriver as BlockDriver>⟧ driver.new) }
+        kept.old (boxed_seen BlockDriver-box driver.old)
+        kept.new (boxed_seen BlockDriver-box driver.new) }
 {
     delete_on(kept, &mut **driver, found)
 }

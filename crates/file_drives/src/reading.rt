@@ -5,7 +5,7 @@ ghost use Rattle.rbf_model.specs.Volume.{DiskVolume};
 ghost use Rattle.rbf_access.specs.Faults.{file_fault};
 ghost use Rattle.rbf_access.specs.Mounted.{Represents};
 ghost use Rattle.rbf_access.specs.Reading.{IsFdOf, IsRead, read_calls};
-ghost use Rattle.file_drives.specs.Drives.{boxed_drive_view, lent_drive_view};
+ghost use Rattle.file_drives.specs.Drives.{boxed_seen, lent_seen};
 ghost use Rattle.file_drives.specs.Mounted.{AgreesOnDrive, ReadsToMount};
 ghost use Rattle.file_drives.specs.SlotCalls.{WalksOn};
 ghost use Rattle.file_drives.specs.Slots.{HasFileOn, OnMountedFile, ReadsMounted};
@@ -25,11 +25,11 @@ fn mount_on(
 ) -> Result<(), VolFault>
     ensures ok { OnOk result ((v : DiskVolume) → Represents (media d.old) v
         → AgreesOnDrive kept.new
-        (lent_drive_view ⟦<dyn BlockDriver as BlockDriver>⟧ d.new) (Some v)) }
+        (lent_seen BlockDriver-dyn d.new) (Some v)) }
     ensures kept { OnErr result (kept.new ≡ kept.old) }
     ensures drive { ReadsToMount result
-        (lent_drive_view ⟦<dyn BlockDriver as BlockDriver>⟧ d.old)
-        (lent_drive_view ⟦<dyn BlockDriver as BlockDriver>⟧ d.new) }
+        (lent_seen BlockDriver-dyn d.old)
+        (lent_seen BlockDriver-dyn d.new) }
 {
     match Volume::mount(alloc, d) {
         Ok(volume) => {
@@ -48,11 +48,11 @@ pub fn mount_in_box(
 ) -> Result<(), VolFault>
     ensures ok { OnOk result ((v : DiskVolume) → Represents (media driver.old) v
         → AgreesOnDrive kept.new
-        (boxed_drive_view ⟦<dyn BlockDriver as BlockDriver>⟧ driver.new) (Some v)) }
+        (boxed_seen BlockDriver-box driver.new) (Some v)) }
     ensures kept { OnErr result (kept.new ≡ kept.old) }
     ensures drive { ReadsToMount result
-        (boxed_drive_view ⟦<dyn BlockDriver as BlockDriver>⟧ driver.old)
-        (boxed_drive_view ⟦<dyn BlockDriver as BlockDriver>⟧ driver.new) }
+        (boxed_seen BlockDriver-box driver.old)
+        (boxed_seen BlockDriver-box driver.new) }
 {
     mount_on(alloc, kept, &mut **driver)
 }
@@ -60,14 +60,14 @@ pub fn mount_in_box(
 // The descriptor of a file.
 fn fd_on(kept: &mut Option<Volume>, d: &mut dyn BlockDriver, number: u32) -> Result<Fd, FileFault>
     requires { HasFileOn kept.old
-        (lent_drive_view ⟦<dyn BlockDriver as BlockDriver>⟧ d.old) number }
+        (lent_seen BlockDriver-dyn d.old) number }
     ensures ok { OnMountedFile kept.old
-        (lent_drive_view ⟦<dyn BlockDriver as BlockDriver>⟧ d.old) number
+        (lent_seen BlockDriver-dyn d.old) number
         (λ v file. IfOk result (IsFdOf file)) }
     ensures device { OnErr result (IsSome (file_fault result)) }
     ensures drive { ReadsMounted (file_fault result) 1
-        kept.old (lent_drive_view ⟦<dyn BlockDriver as BlockDriver>⟧ d.old)
-        kept.new (lent_drive_view ⟦<dyn BlockDriver as BlockDriver>⟧ d.new) }
+        kept.old (lent_seen BlockDriver-dyn d.old)
+        kept.new (lent_seen BlockDriver-dyn d.new) }
 {
     match kept {
         Some(volume) => volume.fd(d, number),
@@ -82,14 +82,14 @@ pub fn fd_in_box(
     number: u32,
 ) -> Result<Fd, FileFault>
     requires { HasFileOn kept.old
-        (boxed_drive_view ⟦<dyn BlockDriver as BlockDriver>⟧ driver.old) number }
+        (boxed_seen BlockDriver-box driver.old) number }
     ensures ok { OnMountedFile kept.old
-        (boxed_drive_view ⟦<dyn BlockDriver as BlockDriver>⟧ driver.old) number
+        (boxed_seen BlockDriver-box driver.old) number
         (λ v file. IfOk result (IsFdOf file)) }
     ensures device { OnErr result (IsSome (file_fault result)) }
     ensures drive { ReadsMounted (file_fault result) 1
-        kept.old (boxed_drive_view ⟦<dyn BlockDriver as BlockDriver>⟧ driver.old)
-        kept.new (boxed_drive_view ⟦<dyn BlockDriver as BlockDriver>⟧ driver.new) }
+        kept.old (boxed_seen BlockDriver-box driver.old)
+        kept.new (boxed_seen BlockDriver-box driver.new) }
 {
     fd_on(kept, &mut **driver, number)
 }
@@ -103,16 +103,16 @@ fn read_on(
     into: &mut [u8],
 ) -> Result<u32, FileFault>
     requires { HasFileOn kept.old
-        (lent_drive_view ⟦<dyn BlockDriver as BlockDriver>⟧ d.old) number }
+        (lent_seen BlockDriver-dyn d.old) number }
     ensures ok { OnMountedFile kept.old
-        (lent_drive_view ⟦<dyn BlockDriver as BlockDriver>⟧ d.old) number
+        (lent_seen BlockDriver-dyn d.old) number
         (λ v file. IfOk result (IsRead file at into.old into.new)) }
     ensures device { OnErr result (IsSome (file_fault result)) }
     ensures drive { OnMountedFile kept.old
-        (lent_drive_view ⟦<dyn BlockDriver as BlockDriver>⟧ d.old) number
+        (lent_seen BlockDriver-dyn d.old) number
         (λ v file. ReadsMounted (file_fault result) (read_calls file at (length into.old))
-        kept.old (lent_drive_view ⟦<dyn BlockDriver as BlockDriver>⟧ d.old)
-        kept.new (lent_drive_view ⟦<dyn BlockDriver as BlockDriver>⟧ d.new)) }
+        kept.old (lent_seen BlockDriver-dyn d.old)
+        kept.new (lent_seen BlockDriver-dyn d.new)) }
 {
     match kept {
         Some(volume) => volume.read_at(d, number, at, into),
@@ -129,16 +129,16 @@ pub fn read_in_box(
     into: &mut [u8],
 ) -> Result<u32, FileFault>
     requires { HasFileOn kept.old
-        (boxed_drive_view ⟦<dyn BlockDriver as BlockDriver>⟧ driver.old) number }
+        (boxed_seen BlockDriver-box driver.old) number }
     ensures ok { OnMountedFile kept.old
-        (boxed_drive_view ⟦<dyn BlockDriver as BlockDriver>⟧ driver.old) number
+        (boxed_seen BlockDriver-box driver.old) number
         (λ v file. IfOk result (IsRead file at into.old into.new)) }
     ensures device { OnErr result (IsSome (file_fault result)) }
     ensures drive { OnMountedFile kept.old
-        (boxed_drive_view ⟦<dyn BlockDriver as BlockDriver>⟧ driver.old) number
+        (boxed_seen BlockDriver-box driver.old) number
         (λ v file. ReadsMounted (file_fault result) (read_calls file at (length into.old))
-        kept.old (boxed_drive_view ⟦<dyn BlockDriver as BlockDriver>⟧ driver.old)
-        kept.new (boxed_drive_view ⟦<dyn BlockDriver as BlockDriver>⟧ driver.new)) }
+        kept.old (boxed_seen BlockDriver-box driver.old)
+        kept.new (boxed_seen BlockDriver-box driver.new)) }
 {
     read_on(kept, &mut **driver, number, at, into)
 }
@@ -153,10 +153,10 @@ fn walk_on(
     execute: bool,
 ) -> Result<u32, DirError>
     requires { HasFileOn kept.old
-        (lent_drive_view ⟦<dyn BlockDriver as BlockDriver>⟧ d.old) number }
+        (lent_seen BlockDriver-dyn d.old) number }
     ensures { WalksOn number user execute name.now result
-        kept.old (lent_drive_view ⟦<dyn BlockDriver as BlockDriver>⟧ d.old)
-        kept.new (lent_drive_view ⟦<dyn BlockDriver as BlockDriver>⟧ d.new) }
+        kept.old (lent_seen BlockDriver-dyn d.old)
+        kept.new (lent_seen BlockDriver-dyn d.new) }
 {
     match kept {
         Some(volume) => walk(volume, d, number, &[*name], user, execute),
@@ -174,10 +174,10 @@ pub fn walk_in_box(
     execute: bool,
 ) -> Result<u32, DirError>
     requires { HasFileOn kept.old
-        (boxed_drive_view ⟦<dyn BlockDriver as BlockDriver>⟧ driver.old) number }
+        (boxed_seen BlockDriver-box driver.old) number }
     ensures { WalksOn number user execute name.now result
-        kept.old (boxed_drive_view ⟦<dyn BlockDriver as BlockDriver>⟧ driver.old)
-        kept.new (boxed_drive_view ⟦<dyn BlockDriver as BlockDriver>⟧ driver.new) }
+        kept.old (boxed_seen BlockDriver-box driver.old)
+        kept.new (boxed_seen BlockDriver-box driver.new) }
 {
     walk_on(kept, &mut **driver, number, name, user, execute)
 }
