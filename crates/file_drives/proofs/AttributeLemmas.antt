@@ -54,7 +54,7 @@ module _ (slot : Option Volume) (volume new : Volume) (before after : DriveView)
   leaves (Err NotAllowed) ok written answer stayed counts v file was there = record {
     left = v;
     answers = record { forbidden = answer v file was.on there; same = refl };
-    on = mounted-still volume new before.media after.media v kept_same stayed was;
+    on = mounted-still volume new before.media after.media v kept_same stayed mounted.cached was;
     counts = counts v file was.on there;
     refused = λ _. stayed;
     disk = (tt, stayed);
@@ -65,7 +65,7 @@ module _ (slot : Option Volume) (volume new : Volume) (before after : DriveView)
   leaves (Err (File (Device number))) ok written answer stayed counts v file was there = record {
     left = v;
     answers = record { may_be = refl; refused = λ _. refl };
-    on = mounted-still volume new before.media after.media v kept_same stayed was;
+    on = mounted-still volume new before.media after.media v kept_same stayed mounted.cached was;
     counts = counts v file was.on there;
     refused = λ _. stayed;
     disk = (tt, stayed);

@@ -1,6 +1,7 @@
 -- What is found in a directory on a volume that is mounted.
 use Rattle.std.proofs.Common.{◌≡◌, ℕ, Bool, Option, Some, IfOk, List, Result, Ok, Err, slice_get, sym, subst}
 use Rattle.rbf_change.specs.Names.{deletion_end}
+use Rattle.rbf_access.specs.Mounted.{IsMounted}
 use Rattle.rbf_access.specs.Drive.{MovesCounts}
 use Rattle.rbf_access.specs.Mounted.{HasFile, Represents}
 use Rattle.rbf_access.specs.Mounted as access
@@ -37,25 +38,25 @@ place-for media n user execute name (Err error) has answer read = tt
 on-media : {A : Type 0} (before after : Option (List ℕ)) (result : Result A DirError) (fact : Option (List ℕ) → A → Type 0) → after ≡ before → IfOk result (fact before) → IfOk result (fact after)
 on-media before after result fact same holds = subst (λ media. IfOk result (fact media)) (sym same) holds
 
-pub finds-place : (slot : Option Volume) (volume new : Volume) (before after : DriveView) (n : ℕ) (name : List ℕ) (user : ℕ) (execute : Bool) (result : Result NewPlace DirError) → slot ≡ Some volume → HasFileOn slot before n → OnFile before.media n (λ file. AnswersPlace file name user execute (place_found result)) → IfOk result (IsFoundFor before.media n user execute) → after.media ≡ before.media → access.kept new ≡ access.kept volume → OnFile before.media n (λ file. MovesCounts (directory_fault result) (place_calls file name user execute) before.counts after.counts) → FindsPlaceOn n name user execute result slot before (Some new) after
-finds-place slot volume new before after n name user execute result is has answer read same kept_same counts = record {
+pub finds-place : (slot : Option Volume) (volume new : Volume) (before after : DriveView) (n : ℕ) (name : List ℕ) (user : ℕ) (execute : Bool) (result : Result NewPlace DirError) → slot ≡ Some volume → HasFileOn slot before n → OnFile before.media n (λ file. AnswersPlace file name user execute (place_found result)) → IfOk result (IsFoundFor before.media n user execute) → after.media ≡ before.media → access.kept new ≡ access.kept volume → IsMounted new after.media → OnFile before.media n (λ file. MovesCounts (directory_fault result) (place_calls file name user execute) before.counts after.counts) → FindsPlaceOn n name user execute result slot before (Some new) after
+finds-place slot volume new before after n name user execute result is has answer read same kept_same mounted counts = record {
   answer = on-file slot volume before n (λ file. AnswersPlace file name user execute (place_found result)) is answer;
   read = on-media before.media after.media result (λ media found. IsFoundFor media n user execute found) same read;
   place = on-media before.media after.media result (λ media found. IsPlaceFor media name found) same (place-for before.media n user execute name result (has-file slot volume before n is has) answer read);
   drive = record {
     holds = λ v file agrees there.
-        reads-mounted slot volume new before after (directory_fault result) (place_calls file name user execute) is same kept_same
+        reads-mounted slot volume new before after (directory_fault result) (place_calls file name user execute) is same kept_same mounted
         (counts v file (mounted-as slot volume before v is agrees).on there);
   };
 }
 
-pub finds-deletable : (slot : Option Volume) (volume new : Volume) (before after : DriveView) (n : ℕ) (name : List ℕ) (user : ℕ) (execute : Bool) (result : Result Deletable DirError) → slot ≡ Some volume → OnVolumeFile before.media n (λ v file. AnswersWalk (deletion_end v.files file name user execute) (descriptor_found result)) → IfOk result (IsDeletable before.media n name) → after.media ≡ before.media → access.kept new ≡ access.kept volume → OnFile before.media n (λ file. MovesCounts (directory_fault result) (deletion_calls file name user execute) before.counts after.counts) → FindsDeletableOn n name user execute result slot before (Some new) after
-finds-deletable slot volume new before after n name user execute result is answer entry same kept_same counts = record {
+pub finds-deletable : (slot : Option Volume) (volume new : Volume) (before after : DriveView) (n : ℕ) (name : List ℕ) (user : ℕ) (execute : Bool) (result : Result Deletable DirError) → slot ≡ Some volume → OnVolumeFile before.media n (λ v file. AnswersWalk (deletion_end v.files file name user execute) (descriptor_found result)) → IfOk result (IsDeletable before.media n name) → after.media ≡ before.media → access.kept new ≡ access.kept volume → IsMounted new after.media → OnFile before.media n (λ file. MovesCounts (directory_fault result) (deletion_calls file name user execute) before.counts after.counts) → FindsDeletableOn n name user execute result slot before (Some new) after
+finds-deletable slot volume new before after n name user execute result is answer entry same kept_same mounted counts = record {
   answer = on-volume_file slot volume before n (λ v file. AnswersWalk (deletion_end v.files file name user execute) (descriptor_found result)) is answer;
   entry = on-media before.media after.media result (λ media found. IsDeletable media n name found) same entry;
   drive = record {
     holds = λ v file agrees there.
-        reads-mounted slot volume new before after (directory_fault result) (deletion_calls file name user execute) is same kept_same
+        reads-mounted slot volume new before after (directory_fault result) (deletion_calls file name user execute) is same kept_same mounted
         (counts v file (mounted-as slot volume before v is agrees).on there);
   };
 }

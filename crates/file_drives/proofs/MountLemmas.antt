@@ -6,6 +6,7 @@ use Rattle.std.specs.declared.alloc.Global.{Global}
 use Rattle.std.specs.declared.dyn_box.DynBox.{DynBox}
 use Rattle.os9_outer.specs.declared.drive.BlockDriver.{Ghosts}
 use Rattle.rbf_model.specs.Volume.{DiskVolume}
+use Rattle.rbf_access.specs.Cached.{IsCacheOf}
 use Rattle.rbf_access.specs.Mounted.{Represents}
 use Rattle.rbf_access.specs.declared.faults.VolFault.{VolFault}
 use Rattle.rbf_access.specs.declared.volume.Volume.{Volume}
@@ -19,7 +20,7 @@ agrees-still : (kept : Option Volume) (before after : DriveView) (o : Option Dis
 agrees-still None before after None same agrees = agrees
 agrees-still None before after (Some v) same agrees = agrees
 agrees-still (Some volume) before after None same agrees = agrees
-agrees-still (Some volume) before after (Some v) same agrees = mounted-still volume volume before.media after.media v refl same agrees
+agrees-still (Some volume) before after (Some v) same agrees = mounted-still volume volume before.media after.media v refl same (subst (λ m. IsCacheOf m volume.cache) (sym same) agrees.cached) agrees
 
 -- an attempt to mount the volume of a drive
 module _ {Driver : Type 0} (view : Driver → DriveView) (items disks : List (Option Volume)) (drivers : List Driver) (n : ℕ) (kept new : Option Volume) (driver after : Driver) (same : items ≡ disks) (there : n < length items)

@@ -4,6 +4,7 @@ use Rattle.std.proofs.lemmas.Option.{same_Some}
 use Rattle.rbf_model.specs.File.{DiskFile}
 use Rattle.rbf_model.specs.Volume.{DiskVolume}
 use Rattle.rbf_change.specs.Agrees.{Agrees}
+use Rattle.rbf_access.specs.Cached.{IsCacheOf}
 use Rattle.rbf_access.specs.Drive.{MovesCounts}
 use Rattle.rbf_access.specs.Mounted.{HasFile, IsMounted, IsVolumeOf, Represents}
 use Rattle.rbf_access.specs.Mounted as access
@@ -20,7 +21,7 @@ mounted-as slot volume view v is agrees = subst (λ k. AgreesOnDrive k view (Som
 
 pub is-mounted : (slot : Option Volume) (volume : Volume) (view : DriveView) (n : ℕ) → slot ≡ Some volume → HasFileOn slot view n → IsMounted volume view.media
 is-mounted slot volume view n is has =
-    let it = mounted-as slot volume view has.volume is has.on in record { content = has.volume; on = it.on; agrees = it.agrees }
+    let it = mounted-as slot volume view has.volume is has.on in record { content = has.volume; on = it.on; agrees = it.agrees; cached = it.cached }
 
 pub has-file : (slot : Option Volume) (volume : Volume) (view : DriveView) (n : ℕ) → slot ≡ Some volume → HasFileOn slot view n → HasFile view.media n
 has-file slot volume view n is has = record {
@@ -55,17 +56,18 @@ pub on-volume_file : (slot : Option Volume) (volume : Volume) (view : DriveView)
 on-volume_file slot volume view n fact is holds = record { holds = λ v file agrees there. holds v file (mounted-as slot volume view v is agrees).on there }
 
 -- a volume that is kept as it was on media that stayed
-pub mounted-still : (volume new : Volume) (media after : Option (List ℕ)) (v : DiskVolume) → access.kept new ≡ access.kept volume → after ≡ media → IsMountedAs volume media v → IsMountedAs new after v
-mounted-still volume new media after v kept_same media_same it = record {
+pub mounted-still : (volume new : Volume) (media after : Option (List ℕ)) (v : DiskVolume) → access.kept new ≡ access.kept volume → after ≡ media → IsCacheOf after new.cache → IsMountedAs volume media v → IsMountedAs new after v
+mounted-still volume new media after v kept_same media_same cached it = record {
   on = record { image = it.on.image; is = media_same ∙ it.on.is; vol = it.on.vol };
   agrees = subst (λ k. Agrees k it.on.image) (sym kept_same) it.agrees;
+  cached = cached;
 }
 
 -- a call that only read
-pub reads-mounted : (slot : Option Volume) (volume new : Volume) (before after : DriveView) (fault : Option ℕ) (most : ℕ) → slot ≡ Some volume → after.media ≡ before.media → access.kept new ≡ access.kept volume → MovesCounts fault most before.counts after.counts → ReadsMounted fault most slot before (Some new) after
-reads-mounted slot volume new before after fault most is media_same kept_same counts = record {
+pub reads-mounted : (slot : Option Volume) (volume new : Volume) (before after : DriveView) (fault : Option ℕ) (most : ℕ) → slot ≡ Some volume → after.media ≡ before.media → access.kept new ≡ access.kept volume → IsMounted new after.media → MovesCounts fault most before.counts after.counts → ReadsMounted fault most slot before (Some new) after
+reads-mounted slot volume new before after fault most is media_same kept_same mounted counts = record {
   reads = record { media_kept = media_same; counts = counts };
-  stays = λ v agrees. mounted-still volume new before.media after.media v kept_same media_same (mounted-as slot volume before v is agrees);
+  stays = λ v agrees. mounted-still volume new before.media after.media v kept_same media_same mounted.cached (mounted-as slot volume before v is agrees);
 }
 
 -- what is kept of the volume that a mount found
@@ -75,10 +77,11 @@ mounts-as volume media after v same it on =
     record {
       on = record { image = on.image; is = same ∙ on.is; vol = on.vol };
       agrees = subst (λ i. Agrees (access.kept volume) i) image_same it.agrees;
+      cached = it.cached;
     }
 
 -- a volume that is mounted and that the media represents
 pub mounted-left : (volume : Volume) (media : Option (List ℕ)) (v : DiskVolume) → IsMounted volume media → Represents media v → IsMountedAs volume media v
 mounted-left volume media v it on =
     let image_same : it.on.image ≡ on.image = same_Some it.on.image on.image (sym it.on.is ∙ on.is) in
-    record { on = on; agrees = subst (λ i. Agrees (access.kept volume) i) image_same it.agrees }
+    record { on = on; agrees = subst (λ i. Agrees (access.kept volume) i) image_same it.agrees; cached = it.cached }

@@ -57,7 +57,7 @@ walks-on slot volume new before after n user execute name result is walked file 
   file = arrived-on new before.media after result same mounted file;
   drive = record {
     holds = λ v file agrees there.
-        reads-mounted slot volume new before after (directory_fault result) (step_calls (Some file) user execute name) is same kept_same
+        reads-mounted slot volume new before after (directory_fault result) (step_calls (Some file) user execute name) is same kept_same mounted
         (subst (λ most. MovesCounts (directory_fault result) most before.counts after.counts) (one-name_calls v file n user execute name there)
         (counts v (mounted-as slot volume before v is agrees).on));
   };

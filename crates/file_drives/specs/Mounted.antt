@@ -4,6 +4,7 @@ use Rattle.std.specs.Prelude.{◌≡◌, ℕ, ◌≤◌, false, Option, Some, No
 use Rattle.rbf_model.specs.File.{DiskFile, is_directory}
 use Rattle.rbf_model.specs.Volume.{DiskVolume}
 use Rattle.rbf_change.specs.Agrees.{Agrees}
+use Rattle.rbf_access.specs.Cached.{IsCacheOf}
 use Rattle.rbf_access.specs.Faults.{volume_fault}
 use Rattle.rbf_access.specs.Mounted.{HoldsVolume, Represents, kept, media_calls}
 use Rattle.rbf_access.specs.declared.faults.VolFault.{VolFault}
@@ -13,10 +14,11 @@ use Rattle.rbf_walk.specs.declared.error.DirError.{DirError}
 use Rattle.file_rules.specs.declared.places.FilePlace.{FilePlace}
 use Rattle.file_drives.specs.Drives.{DriveView, Reads, ReadsDrive}
 
--- the media represents this volume, and what is kept is that of the media
+-- the media represents this volume, and what is kept and what is cached is that of the media
 pub record IsMountedAs (volume : Volume) (media : Option (List ℕ)) (v : DiskVolume) : Type 0 where
   pub on : Represents media v
   pub agrees : Agrees (kept volume) on.image
+  pub cached : IsCacheOf media volume.cache
 
 -- what is kept for a drive, and the volume that is mounted there, if there is one
 abbrev pub AgreesOnDrive : Option Volume → DriveView → Option DiskVolume → Type 0

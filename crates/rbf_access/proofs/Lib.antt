@@ -1,4 +1,6 @@
+pub mod Caching
 pub mod Counting
+pub mod Using
 pub mod Mounting
 pub mod Reading
 pub mod ReadPieces

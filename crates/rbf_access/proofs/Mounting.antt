@@ -21,6 +21,7 @@ use Rattle.rbf_change.proofs.LawfulWrites.{shape-image}
 use Rattle.rbf_sector.specs.Ident.{geometry_of}
 use Rattle.rbf_sector.specs.declared.ident.Ident.{Ident}
 use Rattle.rbf_access.specs.Drive.{DriveCounts, MovesCounts, Made}
+use Rattle.rbf_access.proofs.Caching.{none_cached}
 use Rattle.rbf_access.proofs.Counting.{no_calls, counts_then, counts_most, made_then}
 use Rattle.rbf_access.specs.Mounted.{FitsDrive, HoldsVolume, IsIdentOf, IsMapOf, IsVolumeOf, IsMounted, Represents, kept, map_bytes, media_calls}
 use Rattle.rbf_access.specs.declared.volume.Volume.{Volume}
@@ -202,11 +203,12 @@ pub cluster_count_is : (g : Geometry) (clusters k : ℕ) → 1 ≤ g.cluster →
 cluster_count_is g clusters k positive cluster is = is ∙ ap (div_ceil g.total) cluster ∙ sym (ceil_is g.total g.cluster positive)
 
 -- an identification and a map of the media are what is kept of its volume
-pub volume_of : (old mid now : Option (List ℕ)) (volume : Volume) → mid ≡ old → now ≡ mid → IsIdentOf old volume.ident → IsMapOf mid volume.map → IsVolumeOf now volume
-volume_of old mid now volume first then_kept known map =
+pub volume_of : (old mid now : Option (List ℕ)) (volume : Volume) → mid ≡ old → now ≡ mid → IsIdentOf old volume.ident → IsMapOf mid volume.map → volume.cache ≡ [] → IsVolumeOf now volume
+volume_of old mid now volume first then_kept known map none =
     let there : IsVolumeOf old volume = record {
       holds = known.holds;
       agrees = record { sizes_are = known.sizes; map = map known.holds.image (first ∙ known.holds.is) };
+      cached = none_cached old volume.cache none;
     } in
     subst (λ m. IsVolumeOf m volume) (sym (then_kept ∙ first)) there
 
@@ -249,4 +251,5 @@ mounted_of old now volume v same known on =
       content = v;
       on = record { image = on.image; is = there; vol = on.vol };
       agrees = subst P (one_image now known.holds.image on.image known.holds.is there) known.agrees;
+      cached = known.cached;
     }

@@ -110,6 +110,14 @@ module _ (media : Option (List ℕ)) (v : DiskVolume) (on : Represents media v) 
         ∙ ap (λ b. bytes_from b at (length buffer)) (sym contents_are) in
         ap (λ b. b ++ drop count buffer) front ∙ ap (λ n. bytes_from file.contents at (length buffer) ++ drop n buffer) (count_is buffer at count is)
 
+    -- of how many sectors
+    pub span_read : (buffer : List ℕ) (at count : ℕ) → count ≡ min (length buffer) (fd.size - at)
+        → sector_span at (at + length (take count buffer)) ≡ sector_span at (min (at + length buffer) (length file.contents))
+    span_read buffer at count is =
+        let taken : length (take count buffer) ≡ count = omega (arith, length-take count buffer) in
+        let few : count ≡ min (length buffer) (length file.contents - at) = is ∙ ap (λ s. min (length buffer) (s - at)) known.size_is in
+        ap (λ n. sector_span at (at + n)) (taken ∙ few) ∙ same_span at (length buffer) (length file.contents)
+
     -- and how many calls that takes
     pub calls_are : (buffer : List ℕ) (at count : ℕ) (f : Option ℕ) (s t u : DriveCounts) → count ≡ min (length buffer) (fd.size - at) → MovesCounts None 1 s t
         → MovesCounts f (sector_span at (at + length (take count buffer))) t u → MovesCounts f (1 + sector_span at (min (at + length buffer) (length file.contents))) s u

@@ -10,6 +10,7 @@ use Rattle.rbf_model.proofs.SectorBytes.{length_of_file}
 use Rattle.rbf_sector.specs.declared.fd.Fd.{Fd}
 use Rattle.rbf_change.specs.Agrees.{KeptVolume, Agrees}
 use Rattle.rbf_access.specs.declared.volume.Volume.{Volume}
+use Rattle.rbf_access.specs.Cached.{IsCacheOf}
 use Rattle.rbf_access.specs.Mounted.{kept, Represents, IsMounted, HasFile}
 use Rattle.rbf_access.specs.Reading.{IsFdOf, OnFile}
 
@@ -29,13 +30,14 @@ number_on media n has =
     below_total media has.content on n (omega arith)
 
 -- a volume stays mounted where nothing that is kept and nothing on the media has changed
-pub mounted_still : (old new : Volume) (before now : Option (List ℕ)) → kept new ≡ kept old → now ≡ before → IsMounted old before → IsMounted new now
-mounted_still old new before now same media_same mounted =
+pub mounted_still : (old new : Volume) (before now : Option (List ℕ)) → kept new ≡ kept old → now ≡ before → IsCacheOf now new.cache → IsMounted old before → IsMounted new now
+mounted_still old new before now same media_same cached mounted =
     let P : KeptVolume → Type 0 = λ k. Agrees k mounted.on.image in
     record {
       content = mounted.content;
       on = record { image = mounted.on.image; is = media_same ∙ mounted.on.is; vol = mounted.on.vol };
       agrees = subst P (sym same) mounted.agrees;
+      cached = cached;
     }
 
 -- the fields of a descriptor are those of these bytes

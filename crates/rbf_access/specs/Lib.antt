@@ -1,3 +1,4 @@
+pub mod Cached
 pub mod Drive
 pub mod Faults
 pub mod Mounted

@@ -7,6 +7,7 @@ use Rattle.rbf_sector.specs.Ident.{geometry_of}
 use Rattle.rbf_sector.specs.declared.ident.Ident.{Ident}
 use Rattle.rbf_change.specs.Agrees.{KeptVolume, AgreesOnMap, Agrees}
 use Rattle.rbf_map.specs.Map.{ClusterMap}
+use Rattle.rbf_access.specs.Cached.{IsCacheOf}
 use Rattle.rbf_access.specs.declared.volume.Volume.{Volume}
 
 -- the media holds the volume of which its sector 0 speaks, and that volume has a map for its clusters
@@ -44,6 +45,7 @@ kept volume = record { sizes = geometry_of volume.ident; map = volume.map }
 pub record IsVolumeOf (media : Option (List ℕ)) (volume : Volume) : Type 0 where
   pub holds : HoldsVolume media
   pub agrees : Agrees (kept volume) holds.image
+  pub cached : IsCacheOf media volume.cache
 
 -- how many calls of the drive mount it: one for its identification sector, and one for each sector of the map
 abbrev pub media_calls : Option (List ℕ) → ℕ
@@ -59,11 +61,17 @@ pub record Represents (media : Option (List ℕ)) (v : DiskVolume) : Type 0 wher
   pub is : media ≡ Some image
   pub vol : Vol image v
 
--- the volume is mounted: what is kept of it is that of the media, which represents a volume
+-- it represents a volume
+abbrev pub IsSound : Option (List ℕ) → Type 0
+IsSound media = (v : DiskVolume) × Represents media v
+
+-- the volume is mounted: what is kept of it is that of the media, which represents a volume, and so is each sector that
+-- its cache holds
 pub record IsMounted (volume : Volume) (media : Option (List ℕ)) : Type 0 where
   pub content : DiskVolume
   pub on : Represents media content
   pub agrees : Agrees (kept volume) on.image
+  pub cached : IsCacheOf media volume.cache
 
 -- the media represents a volume with a file of this number
 pub record HasFile (media : Option (List ℕ)) (n : ℕ) : Type 0 where

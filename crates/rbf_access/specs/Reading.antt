@@ -1,11 +1,13 @@
 -- What is read of a file.
-use Rattle.std.specs.Prelude.{◌≡◌, true, ℕ, ◌+◌, ◌<◌, Option, Some, List, ◌++◌, length, min, drop}
+use Rattle.std.specs.Prelude.{◌≡◌, true, ℕ, ◌+◌, ◌/◌, ◌<◌, Option, Some, List, ◌++◌, length, min, drop}
 use Rattle.os9_outer.specs.Drive.{sector_count as drive_sectors}
 use Rattle.rbf_model.specs.Segments.{has}
 use Rattle.rbf_model.specs.File.{DiskFile}
 use Rattle.rbf_model.specs.Volume.{DiskVolume}
 use Rattle.rbf_sector.specs.declared.fd.Fd.{Fd}
 use Rattle.rbf_change.specs.Contents.{bytes_from, sector_span}
+use Rattle.sector_cache.specs.declared.sector.Sector.{Sector}
+use Rattle.rbf_access.specs.Cached.{AreHeld, IsHeld}
 use Rattle.rbf_access.specs.Mounted.{Represents}
 
 -- the fields of a descriptor are those of a file
@@ -46,3 +48,9 @@ read_calls file at room = 1 + sector_span at (min (at + room) (length file.conte
 -- the drive has each of the sectors
 abbrev pub AreOnDrive : Option (List ℕ) → List ℕ → Type 0
 AreOnDrive media sectors = (s : ℕ) → has sectors s ≡ true → s < drive_sectors media
+
+-- all sectors of a read are cached: the descriptor, and those of which it reads a byte
+pub record AreCached (held : List Sector) (fd : ℕ) (file : DiskFile) (at room : ℕ) : Type 0 where
+  pub descriptor : IsHeld held fd
+  pub sectors : AreHeld held file.segments (at / 256)
+      (at / 256 + sector_span at (min (at + room) (length file.contents)))

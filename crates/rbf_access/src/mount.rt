@@ -13,6 +13,7 @@ use crate::volume::Volume;
 use os9_outer::drive::BlockDriver;
 use rbf_map::RbfMap;
 use rbf_sector::{Ident, has_map, is_header, read_ident, system_sectors};
+use sector_cache::SectorCache;
 use std::alloc::Global;
 
 impl Volume {
@@ -37,7 +38,8 @@ impl Volume {
     {
         let ident = read_identification(d)?;
         let map = read_map(alloc, d, &ident)?;
-        Ok(Volume { ident, map })
+        let cache = SectorCache::new(alloc)?;
+        Ok(Volume { ident, map, cache })
     }
 }
 

@@ -1,20 +1,24 @@
-ghost use Rattle.std.specs.Prelude.{◌≡◌, ◌<◌, IfOk, OnOk, OnErr, IsSome, List, ℕ, length};
+ghost use Rattle.std.specs.Prelude.{◌≡◌, ℕ, ◌<◌, IfOk, OnOk, OnErr, IsSome};
 ghost use Rattle.os9_outer.specs.Drive.{sector_count, sector_at, with_sector};
 ghost use Rattle.rbf_access.specs.Drive.{Counts};
 ghost use Rattle.rbf_access.specs.Faults.{file_fault};
-ghost use Rattle.rbf_access.specs.Mounted.{kept};
+ghost use Rattle.rbf_access.specs.Cached.{IsCacheOf, IsHeld, IsUsed};
+ghost use Rattle.rbf_access.specs.Mounted.{kept, IsSound};
 
 use crate::faults::FileFault;
 use crate::sector::{read_sector, write_sector};
 use os9_outer::drive::BlockDriver;
 use rbf_map::RbfMap;
 use rbf_sector::Ident;
+use sector_cache::SectorCache;
 
-/// A mounted volume: what its identification sector says, and its allocation map.
-#[derive(Debug, Drop)]
+/// A mounted volume: what its identification sector says, its allocation map, and the sectors that
+/// were used last.
+#[derive(Drop)]
 pub struct Volume {
     pub ident: Ident,
     pub map: RbfMap,
+    pub cache: SectorCache,
 }
 
 impl Volume {
@@ -24,16 +28,29 @@ impl Volume {
     ///
     /// `Device` if the drive's read fails.
     pub fn load(&mut self, d: &mut dyn BlockDriver, lsn: u32) -> Result<[u8; 256], FileFault>
-        requires { lsn < sector_count (media d.old) }
+        requires on { lsn < sector_count (media d.old) }
+        requires cached { IsCacheOf (media d.old) self.old.cache }
         ensures bytes { IfOk result (λ bytes. bytes ≡ sector_at (media d.old) lsn) }
         ensures device { OnErr result (IsSome (file_fault result)) }
         ensures media_kept { media d.new ≡ media d.old }
         ensures volume_kept { kept self.new ≡ kept self.old }
+        ensures cached { IsCacheOf (media d.new) self.new.cache }
+        ensures hit { IsHeld self.old.cache lsn → drive_calls d.new ≡ drive_calls d.old }
+        ensures used { OnOk result (IsUsed lsn self.old.cache self.new.cache) }
+        ensures still { (m : ℕ) → IsHeld self.old.cache lsn → IsHeld self.old.cache m
+            → IsHeld self.new.cache m }
         ensures counts { Counts ⟦<dyn BlockDriver as BlockDriver>⟧
             (file_fault result) 1 d.old d.new }
     {
+        let mut bytes = [0; 256];
+        if self.cache.get(0, lsn, &mut bytes) {
+            return Ok(bytes);
+        }
         match read_sector(d, lsn) {
-            Ok(bytes) => Ok(bytes),
+            Ok(bytes) => {
+                self.cache.keep(0, lsn, &bytes);
+                Ok(bytes)
+            }
             Err(fault) => Err(FileFault::Device(fault.number())),
         }
     }
@@ -49,17 +66,26 @@ impl Volume {
         lsn: u32,
         from: &[u8; 256],
     ) -> Result<(), FileFault>
-        requires { lsn < sector_count (media d.old) }
+        requires on { lsn < sector_count (media d.old) }
+        requires cached { IsCacheOf (media d.old) self.old.cache }
+        requires sound { IsSound (with_sector (media d.old) lsn from.now) }
         ensures written { OnOk result (media d.new ≡ with_sector (media d.old) lsn from.now) }
         ensures media_kept { OnErr result (media d.new ≡ media d.old) }
         ensures device { OnErr result (IsSome (file_fault result)) }
         ensures volume_kept { kept self.new ≡ kept self.old }
+        ensures cached { IsCacheOf (media d.new) self.new.cache }
         ensures counts { Counts ⟦<dyn BlockDriver as BlockDriver>⟧
             (file_fault result) 1 d.old d.new }
     {
         match write_sector(d, lsn, from) {
-            Ok(()) => Ok(()),
-            Err(fault) => Err(FileFault::Device(fault.number())),
+            Ok(()) => {
+                self.cache.keep(0, lsn, from);
+                Ok(())
+            }
+            Err(fault) => {
+                self.cache.forget(0, lsn);
+                Err(FileFault::Device(fault.number()))
+            }
         }
     }
 }

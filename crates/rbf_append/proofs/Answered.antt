@@ -14,7 +14,8 @@ use Rattle.rbf_change.specs.Calls.{cluster_size, is_free_in}
 use Rattle.rbf_change.specs.Growth.{uses, with_clusters, clusters_needed}
 use Rattle.rbf_access.specs.Drive.{DriveCounts, MovesCounts}
 use Rattle.rbf_access.specs.Faults.{file_fault}
-use Rattle.rbf_access.specs.Mounted.{kept, Represents, IsMounted}
+use Rattle.rbf_access.specs.Cached.{IsCacheOf}
+use Rattle.rbf_access.specs.Mounted.{kept, Represents, IsMounted, IsSound}
 use Rattle.rbf_access.specs.Reading.{IsFdOf}
 use Rattle.rbf_access.specs.declared.faults.FileFault.{FileFault}
 use Rattle.rbf_access.specs.declared.faults.FileFault.TheVariants.{Device, NoCluster, TooManyRuns}
@@ -25,7 +26,7 @@ use Rattle.rbf_growth.specs.Grown.{IsGrown, Grows}
 use Rattle.rbf_growth.proofs.Chosen.{length-with}
 use Rattle.rbf_growth.proofs.Growing.{agrees_on, k_is}
 use Rattle.rbf_update.specs.Becomes.{with_piece}
-use Rattle.rbf_update.proofs.Stored.{mounted_now}
+use Rattle.rbf_update.proofs.Stored.{mounted_now, stored_sound}
 use Rattle.rbf_walk.proofs.Stepping.{same_content}
 use Rattle.rbf_write.specs.declared.loaded.Loaded.{Loaded}
 use Rattle.rbf_write.specs.Files.{IsLoaded}
@@ -155,8 +156,11 @@ module _ (m0 : Option (List ℕ)) (a : EntryWrite) (may : MayAppend m0 a.directo
             written_at : m2 ≡ with_piece mid at (32 * (a.place % 8)) a.entry
             written_at = written ∙ ap (λ s. with_piece mid s (32 * (a.place % 8)) a.entry) lsn_is
 
-            pub put_mounted : (old new : Volume) → kept new ≡ kept old → IsMounted old mid → IsMounted new m2
+            pub put_mounted : (old new : Volume) → kept new ≡ kept old → IsCacheOf m2 new.cache → IsMounted old mid → IsMounted new m2
             put_mounted = mounted_now mid m2 _ _ (put_stored m0 a may whole count counted mid longer grown m2 written_at)
+
+            pub put_sound : IsSound m2
+            put_sound = stored_sound mid m2 _ _ (put_stored m0 a may whole count counted mid longer grown m2 written_at)
 
             pub store_on_drive : a.directory < drive_sectors m2
             store_on_drive = descriptor_on_drive m0 a may whole count counted mid longer grown m2 written_at
@@ -169,5 +173,8 @@ module _ (m0 : Option (List ℕ)) (a : EntryWrite) (may : MayAppend m0 a.directo
               pub done_answers : (v : DiskVolume) (file : DiskFile) → Represents m0 v → v.files a.directory ≡ Some file → AnswersEntry v file a m0 m3 (Ok tt)
               done_answers = any_file m3 (Ok tt) (appended m0 a may whole count counted mid longer grown m2 written_at loaded says is_loaded.bytes_are bytes resized m3 stored)
 
-              pub done_mounted : (old new : Volume) → kept new ≡ kept old → IsMounted old m2 → IsMounted new m3
+              pub done_mounted : (old new : Volume) → kept new ≡ kept old → IsCacheOf m3 new.cache → IsMounted old m2 → IsMounted new m3
               done_mounted = mounted_now m2 m3 _ _ (descriptor_stored m0 a may whole count counted mid longer grown m2 written_at loaded says is_loaded.bytes_are bytes resized m3 stored)
+
+              pub store_sound : IsSound m3
+              store_sound = stored_sound m2 m3 _ _ (descriptor_stored m0 a may whole count counted mid longer grown m2 written_at loaded says is_loaded.bytes_are bytes resized m3 stored)

@@ -25,7 +25,8 @@ use Rattle.rbf_change.specs.Growth.{with_clusters, clusters_needed, IsChoice}
 use Rattle.rbf_change.specs.Parts.{EntryIsPut}
 use Rattle.rbf_change.proofs.LawfulWrites.{shape-image}
 use Rattle.rbf_access.specs.Faults.{file_fault}
-use Rattle.rbf_access.specs.Mounted.{kept, Represents, IsMounted}
+use Rattle.rbf_access.specs.Cached.{IsCacheOf}
+use Rattle.rbf_access.specs.Mounted.{kept, Represents, IsMounted, IsSound}
 use Rattle.rbf_access.specs.Reading.{IsFdOf}
 use Rattle.rbf_access.specs.declared.faults.FileFault.{FileFault}
 use Rattle.rbf_access.specs.declared.volume.Volume.{Volume}
@@ -35,7 +36,7 @@ use Rattle.rbf_access.proofs.ReadPieces.{place_on}
 use Rattle.rbf_update.specs.Becomes.{with_piece}
 use Rattle.rbf_update.specs.Entries.{MayFill, sector_of_entry, with_entry_bytes}
 use Rattle.rbf_update.proofs.Puts.{filled, fill_stored, fill_changes, listed_place, entry_lsn}
-use Rattle.rbf_update.proofs.Stored.{IsStored, mounted_now}
+use Rattle.rbf_update.proofs.Stored.{IsStored, mounted_now, stored_sound}
 use Rattle.rbf_walk.proofs.Stepping.{same_content}
 use Rattle.rbf_write.specs.declared.loaded.Loaded.{Loaded}
 use Rattle.rbf_write.specs.Files.{IsLoaded}
@@ -135,7 +136,10 @@ module _ (m0 : Option (List ℕ)) (d place : ℕ) (entry : List ℕ) (may : MayF
         stored : IsStored m0 m1 v after
         stored = fill_stored m0 m1 d place entry may whole entry_at
 
-        fill_mounted : (old new : Volume) → kept new ≡ kept old → IsMounted old m0 → IsMounted new m1
+        pub fill_sound : IsSound m1
+        fill_sound = stored_sound m0 m1 v after stored
+
+        fill_mounted : (old new : Volume) → kept new ≡ kept old → IsCacheOf m1 new.cache → IsMounted old m0 → IsMounted new m1
         fill_mounted = mounted_now m0 m1 v after stored
 
         abbrev at : ℕ
@@ -236,6 +240,6 @@ module _ (m0 : Option (List ℕ)) (d place : ℕ) (entry : List ℕ) (may : MayF
   entry_answers now loaded is_loaded lsn there m1 (Err e) written_to still device = unfilled_answers now m1 e device still
 
   pub entry_mounted : (loaded : Loaded) → IsLoaded m0 d loaded → (lsn : ℕ) → slice_get (sectors_of loaded.file.segs) (place / 8) ≡ Some lsn → (m1 : Option (List ℕ)) (r : Result (Unit {0}) FileFault)
-      → OnOk r (m1 ≡ with_piece m0 lsn (32 * (place % 8)) entry) → OnErr r (m1 ≡ m0) → (old new : Volume) → kept new ≡ kept old → IsMounted old m0 → IsMounted new m1
-  entry_mounted loaded is_loaded lsn there m1 (Ok x) written_to still old new same mounted = fill_mounted loaded is_loaded lsn there m1 written_to old new same mounted
-  entry_mounted loaded is_loaded lsn there m1 (Err e) written_to still old new same mounted = mounted_still _ _ _ _ same still mounted
+      → OnOk r (m1 ≡ with_piece m0 lsn (32 * (place % 8)) entry) → OnErr r (m1 ≡ m0) → (old new : Volume) → kept new ≡ kept old → IsCacheOf m1 new.cache → IsMounted old m0 → IsMounted new m1
+  entry_mounted loaded is_loaded lsn there m1 (Ok x) written_to still old new same cached mounted = fill_mounted loaded is_loaded lsn there m1 written_to old new same cached mounted
+  entry_mounted loaded is_loaded lsn there m1 (Err e) written_to still old new same cached mounted = mounted_still _ _ _ _ same still cached mounted

@@ -3,9 +3,10 @@ ghost use Rattle.os9_outer.specs.Drive.{sector_count};
 ghost use Rattle.rbf_model.specs.Fields.{segments_field};
 ghost use Rattle.rbf_model.specs.Segments.{sectors_of};
 ghost use Rattle.rbf_model.specs.Writes.{put_at};
+ghost use Rattle.rbf_access.specs.Cached.{IsCacheOf};
 ghost use Rattle.rbf_access.specs.Drive.{Counts};
 ghost use Rattle.rbf_access.specs.Faults.{file_fault};
-ghost use Rattle.rbf_access.specs.Mounted.{kept};
+ghost use Rattle.rbf_access.specs.Mounted.{IsSound, kept};
 ghost use Rattle.rbf_update.specs.Becomes.{with_piece};
 ghost use Rattle.rbf_write.specs.Finished.{IsResized};
 
@@ -25,12 +26,15 @@ pub fn put_entry(
     place: u32,
     entry: &[u8; 32],
 ) -> Result<(), FileFault>
-    requires { lsn < sector_count (media d.old) }
+    requires on { lsn < sector_count (media d.old) }
+    requires cached { IsCacheOf (media d.old) v.old.cache }
+    requires sound { IsSound (with_piece (media d.old) lsn (32 * (place % 8)) entry.now) }
     ensures written { OnOk result
         (media d.new ≡ with_piece (media d.old) lsn (32 * (place % 8)) entry.now) }
     ensures media_kept { OnErr result (media d.new ≡ media d.old) }
     ensures device { OnErr result (IsSome (file_fault result)) }
     ensures volume_kept { kept v.new ≡ kept v.old }
+    ensures cached { IsCacheOf (media d.new) v.new.cache }
     ensures counts { Counts ⟦<dyn BlockDriver as BlockDriver>⟧ (file_fault result) 2 d.old d.new }
 {
     let mut bytes = v.load(d, lsn)?;

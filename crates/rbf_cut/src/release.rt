@@ -1,5 +1,6 @@
 ghost use Rattle.std.specs.Prelude.{◌≡◌, ℕ, List, OnOk, OnErr, IsSome};
 ghost use Rattle.rbf_model.specs.Volume.{DiskVolume};
+ghost use Rattle.rbf_access.specs.Cached.{IsCacheOf};
 ghost use Rattle.rbf_access.specs.Drive.{Counts};
 ghost use Rattle.rbf_access.specs.Faults.{file_fault};
 ghost use Rattle.rbf_access.specs.MapMarks.{marking_sectors};
@@ -28,7 +29,8 @@ pub fn release_rest(
     d: &mut dyn BlockDriver,
     cut: &CutSectors,
 ) -> Result<(), FileFault>
-    requires { MayRelease volume.old.ident.cluster cut.now (media d.old) (kept volume.old) }
+    requires may { MayRelease volume.old.ident.cluster cut.now (media d.old) (kept volume.old) }
+    requires cached { IsCacheOf (media d.old) volume.old.cache }
     ensures ok { (v : DiskVolume) (old : List ℕ)
         → IsReleasing v old volume.old.ident.cluster cut.now (media d.old) (kept volume.old)
         → OnOk result (IsCleared v old (in_rest volume.old.ident.cluster cut.now)
@@ -38,6 +40,7 @@ pub fn release_rest(
         → OnErr result (ReleaseEnds v old (in_rest volume.old.ident.cluster cut.now)
         (media d.new) (kept volume.new)) }
     ensures device { OnErr result (IsSome (file_fault result)) }
+    ensures cached { IsCacheOf (media d.new) volume.new.cache }
     ensures counts { Counts ⟦<dyn BlockDriver as BlockDriver>⟧ (file_fault result)
         (marking_sectors (kept volume.old).sizes (in_rest volume.old.ident.cluster cut.now))
         d.old d.new }
@@ -57,13 +60,15 @@ fn release_in(
     cut: &CutSectors,
     place: u16,
 ) -> Result<(), FileFault>
-    requires { MayGoOn (in_rest volume.old.ident.cluster cut.now) place (media d.old)
+    requires go { MayGoOn (in_rest volume.old.ident.cluster cut.now) place (media d.old)
         (kept volume.old) }
+    requires cached { IsCacheOf (media d.old) volume.old.cache }
     ensures ok { OnOk result (ClearsNext (in_rest volume.old.ident.cluster cut.now) place
         (media d.old) (media d.new) (kept volume.old) (kept volume.new)) }
     ensures fault { OnErr result (IsStopped (in_rest volume.old.ident.cluster cut.now) place
         (media d.old) (media d.new) (kept volume.old) (kept volume.new)) }
     ensures device { OnErr result (IsSome (file_fault result)) }
+    ensures cached { IsCacheOf (media d.new) volume.new.cache }
     ensures sizes { (kept volume.new).sizes ≡ (kept volume.old).sizes }
     ensures counts { Counts ⟦<dyn BlockDriver as BlockDriver>⟧ (file_fault result) 1 d.old d.new }
     ensures none { NoneHere (in_rest volume.old.ident.cluster cut.now) place

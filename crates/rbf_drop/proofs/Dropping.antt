@@ -18,6 +18,7 @@ use Rattle.rbf_change.specs.Agrees.{KeptVolume, Agrees}
 use Rattle.rbf_change.specs.Calls.{shape}
 use Rattle.rbf_change.proofs.LawfulWrites.{shape-image}
 use Rattle.rbf_access.specs.declared.volume.Volume.{Volume}
+use Rattle.rbf_access.specs.Cached.{IsCacheOf}
 use Rattle.rbf_access.specs.Drive.{DriveCounts, MovesCounts}
 use Rattle.rbf_access.specs.Mounted.{kept, Represents, IsMounted}
 use Rattle.rbf_access.specs.MapMarks.{has_mark_of, marking_sectors}
@@ -226,11 +227,12 @@ module _ (media : Option (List ℕ)) (n : ℕ) (segs : List (ℕ × ℕ)) (segs_
         drop_goes_on (in_own k owner) place kv kv_now media mid first half far v image gone.on.is gone.on.vol may agrees (subst (λ h. place < map_sectors h) agrees.sizes_are within)
 
     -- the volume is mounted
-    pub mounted_so_far : (volume : Volume) → kept volume ≡ kv_now → IsMounted volume mid
-    mounted_so_far volume same = record {
+    pub mounted_so_far : (volume : Volume) → kept volume ≡ kv_now → IsCacheOf mid volume.cache → IsMounted volume mid
+    mounted_so_far volume same cached = record {
       content = with_lost v (λ c. v.lost c && not (before (in_own k owner) place c));
       on = record { image = state.now; is = state.is; vol = state.vol };
       agrees = subst (λ x. Agrees x state.now) (sym same) state.agrees;
+      cached = cached;
     }
 
     -- all clusters have been given back
@@ -328,8 +330,8 @@ module _ (media : Option (List ℕ)) (n : ℕ) (segs : List (ℕ × ℕ)) (segs_
         subst (DropEnds v n file media) (sym stop.media_kept)
         (drop_ended some.0 parts.0 (false_from_ne_true (nat_lt (some.0 / 2048) place) (λ h. let low = ltb-true (some.0 / 2048) place h in absurd (omega arith))))
 
-    pub mounted_stopped : (volume : Volume) (now : Option (List ℕ)) → IsStopped (in_own k owner) place mid now kv_now (kept volume) → IsMounted volume now
-    mounted_stopped volume now stop = subst (IsMounted volume) (sym stop.media_kept) (mounted_so_far volume stop.volume_kept)
+    pub mounted_stopped : (volume : Volume) (now : Option (List ℕ)) → IsStopped (in_own k owner) place mid now kv_now (kept volume) → IsCacheOf now volume.cache → IsMounted volume now
+    mounted_stopped volume now stop cached = subst (IsMounted volume) (sym stop.media_kept) (mounted_so_far volume stop.volume_kept (subst (λ m. IsCacheOf m volume.cache) stop.media_kept cached))
 
 -- what holds whatever the answer is
 pub on_err : {A E : Type 0} (r : Result A E) (P : Type 0) → P → OnErr r P

@@ -22,6 +22,7 @@ use Rattle.rbf_change.specs.Calls.{shape}
 use Rattle.rbf_change.proofs.LawfulWrites.{shape-image}
 use Rattle.rbf_access.specs.Mounted.{Represents}
 use Rattle.rbf_access.proofs.Reading.{below_total}
+use Rattle.rbf_access.specs.Mounted.{IsSound}
 use Rattle.rbf_drop.specs.Own.{here, NoneHere, AreInMap, sector_mark, ClearsIn, ClearsMarks}
 use Rattle.rbf_drop.specs.Cleared.{IsCleared, IsClearing, MayGoOn, ClearsNext}
 
@@ -174,6 +175,14 @@ module _ (v : DiskVolume) (old : List ℕ) (cleared gone : ℕ → Bool) (place 
           };
         }
 
+    -- the media is sound once the sector is written
+    pub sound_then : IsSound (with_sector media (1 + place) bytes)
+    sound_then = (_, record {
+      image = put_sector now (1 + place) bytes;
+      is = ap (λ m. with_sector m (1 + place) bytes) state.far.is;
+      vol = frees_image now left state.far.vol (1 + place) bytes (here gone place) whole frees;
+    })
+
     -- the sector has been written, and then what is kept has the marks no more
     pub cleared_then : (media_now : Option (List ℕ)) (kept_now : KeptVolume) (map : ClusterMap) → media_now ≡ with_sector media (1 + place) bytes → ClearsMarks kept.map map (here gone place)
         → kept_now ≡ record { sizes = kept.sizes; map = map } → IsCleared v old (λ c. cleared c || here gone place c) media_now kept_now
@@ -210,6 +219,11 @@ pub clears_next : (gone : ℕ → Bool) (place p : ℕ) (media now : Option (Lis
     → ClearsNext gone place media now kept kept_now
 clears_next gone place p media now kept kept_now first bytes map of_map whole without same written freed is v old cleared state =
     cleared_then v old cleared gone place media kept state first bytes of_map whole without now kept_now map (written ∙ ap (λ q. with_sector media (1 + q) bytes) same) freed is
+
+pub go_sound : (gone : ℕ → Bool) (place p : ℕ) (media : Option (List ℕ)) (kept : KeptVolume) (first bytes : List ℕ) → IsSectorOf kept.map.bytes place first → length bytes ≡ 256
+    → ClearsIn place first bytes gone → p ≡ place → MayGoOn gone place media kept → IsSound (with_sector media (1 + p) bytes)
+go_sound gone place p media kept first bytes of_map whole without same go =
+    subst (λ q. IsSound (with_sector media (1 + q) bytes)) (sym same) (sound_then go.volume go.old go.cleared gone place media kept go.is first bytes of_map whole without)
 
 -- an answer that is none
 pub none_if : (o : Option ℕ) (P : Type 0) (Q : ℕ → Type 0) → is_some o ≡ false → MatchOption o P Q → P

@@ -1,4 +1,5 @@
 ghost use Rattle.std.specs.Prelude.{◌≡◌, OnOk, OnErr, IsSome};
+ghost use Rattle.rbf_access.specs.Cached.{IsCacheOf};
 ghost use Rattle.rbf_access.specs.Drive.{Counts};
 ghost use Rattle.rbf_access.specs.Faults.{file_fault};
 ghost use Rattle.rbf_access.specs.Mounted.{kept};
@@ -19,13 +20,15 @@ pub fn release_in(
     own: &OwnSectors,
     place: u16,
 ) -> Result<(), FileFault>
-    requires { MayGoOn (in_own volume.old.ident.cluster own.now) place (media d.old)
+    requires go { MayGoOn (in_own volume.old.ident.cluster own.now) place (media d.old)
         (kept volume.old) }
+    requires cached { IsCacheOf (media d.old) volume.old.cache }
     ensures ok { OnOk result (ClearsNext (in_own volume.old.ident.cluster own.now) place
         (media d.old) (media d.new) (kept volume.old) (kept volume.new)) }
     ensures fault { OnErr result (IsStopped (in_own volume.old.ident.cluster own.now) place
         (media d.old) (media d.new) (kept volume.old) (kept volume.new)) }
     ensures device { OnErr result (IsSome (file_fault result)) }
+    ensures cached { IsCacheOf (media d.new) volume.new.cache }
     ensures sizes { (kept volume.new).sizes ≡ (kept volume.old).sizes }
     ensures counts { Counts ⟦<dyn BlockDriver as BlockDriver>⟧ (file_fault result) 1 d.old d.new }
     ensures none { NoneHere (in_own volume.old.ident.cluster own.now) place

@@ -17,7 +17,9 @@ use Rattle.rbf_growth.proofs.Growing.{agrees_on}
 use Rattle.rbf_files.proofs.Described.{agrees_beside}
 use Rattle.rbf_change.specs.Contents.{sector_span}
 use Rattle.rbf_access.specs.Drive.{DriveCounts, MovesCounts}
-use Rattle.rbf_access.specs.Mounted.{kept, Represents, IsMounted}
+use Rattle.sector_cache.specs.declared.sector.Sector.{Sector}
+use Rattle.rbf_access.specs.Cached.{IsCacheOf}
+use Rattle.rbf_access.specs.Mounted.{kept, Represents, IsMounted, IsSound}
 use Rattle.rbf_access.proofs.Counting.{no_calls, counts_then, counts_most}
 use Rattle.rbf_access.proofs.ReadPieces.{span_is}
 use Rattle.rbf_files.specs.Laid.{HasData, IsDataOf, IsLaid, IsPartLaid, LaysSector, laid_byte, laid_bytes, laid_front}
@@ -29,10 +31,11 @@ abbrev pub first_bytes : Option (List ℕ) → List (ℕ × ℕ) → List ℕ
 first_bytes media segments = segment_bytes (sector_at media) segments
 
 -- the sectors before this one have been laid over
-pub record IsFillSoFar (segments : List (ℕ × ℕ)) (size at : ℕ) (from : List ℕ) (first place : ℕ) (kept kept_now : KeptVolume) (old mid : Option (List ℕ)) (before half : DriveCounts) : Type 0 where
+pub record IsFillSoFar (segments : List (ℕ × ℕ)) (size at : ℕ) (from : List ℕ) (first place : ℕ) (kept kept_now : KeptVolume) (old mid : Option (List ℕ)) (held : List Sector) (before half : DriveCounts) : Type 0 where
   pub laid : (u : DiskVolume) (n : ℕ) (file : DiskFile) → Represents old u → IsDataOf u n file segments size
       → IsLaid u n file segments old mid (laid_front (laid_bytes (first_bytes old segments) size at from) (first_bytes old segments) place)
   pub same : kept_now ≡ kept
+  pub cached : IsCacheOf mid held
   pub moved : MovesCounts None (2 * (place - first)) before half
 
 module _ (segments : List (ℕ × ℕ)) (size at : ℕ) (from : List ℕ) (room : at + length from ≤ 256 * length (sectors_of segments)) (old : Option (List ℕ)) where
@@ -77,14 +80,15 @@ module _ (segments : List (ℕ × ℕ)) (size at : ℕ) (from : List ℕ) (room 
         subst (IsLaid u n file segments old after) (front_more whole size at from e.0 (omega arith) place lays.bytes (omega arith) lays.whole each)
         (laid_then u n file segments size known old mid after bytes laid place low lays.bytes lays.whole written)
 
-  pub none_filled : (first : ℕ) (kept : KeptVolume) (before : DriveCounts) → first ≡ min size at / 256 → IsFillSoFar segments size at from first first kept kept old old before before
-  none_filled first kept before is = record {
+  pub none_filled : (first : ℕ) (kept : KeptVolume) (held : List Sector) (before : DriveCounts) → IsCacheOf old held → first ≡ min size at / 256 → IsFillSoFar segments size at from first first kept kept old old held before before
+  none_filled first kept held before cached is = record {
     laid = λ u n file on known. first_laid u n file on known first is;
     same = refl;
+    cached = cached;
     moved = counts_most None 0 (2 * (first - first)) before before (omega arith) (no_calls before);
   }
 
-  module _ (first place : ℕ) (kept kept_now : KeptVolume) (mid : Option (List ℕ)) (before half : DriveCounts) (far : IsFillSoFar segments size at from first place kept kept_now old mid before half) where
+  module _ (first place : ℕ) (kept kept_now : KeptVolume) (mid : Option (List ℕ)) (held : List Sector) (before half : DriveCounts) (far : IsFillSoFar segments size at from first place kept kept_now old mid held before half) where
     -- the next sector is on the drive
     pub place_on : (lsn : ℕ) → place < length (sectors_of segments) → slice_get (sectors_of segments) place ≡ Some lsn → HasData old segments size → lsn < sector_count mid
     place_on lsn low there has =
@@ -92,12 +96,20 @@ module _ (segments : List (ℕ × ℕ)) (size at : ℕ) (from : List ℕ) (room 
         subst (λ x. x < sector_count mid) s
         (on_drive_at has.volume has.number has.file segments size has.is old mid _ (far.laid has.volume has.number has.file has.on has.is) place low)
 
-    pub more_filled : (lsn : ℕ) (now_kept : KeptVolume) (after : Option (List ℕ)) (then_counts : DriveCounts) → first ≤ place → place < length (sectors_of segments) → slice_get (sectors_of segments) place ≡ Some lsn
-        → LaysSector size at from (256 * place) lsn mid after → now_kept ≡ kept_now → MovesCounts None 2 half then_counts
-        → IsFillSoFar segments size at from first (place + 1) kept now_kept old after before then_counts
-    more_filled lsn now_kept after then_counts begun low there lays same counts = record {
+    -- and the media is sound once it has been laid over
+    pub place_sound : (lsn : ℕ) → place < length (sectors_of segments) → slice_get (sectors_of segments) place ≡ Some lsn → HasData old segments size → (after : Option (List ℕ))
+        → LaysSector size at from (256 * place) lsn mid after → IsSound after
+    place_sound lsn low there has after lays =
+        let laid = next_laid has.volume has.number has.file has.on has.is mid after place lsn low there lays (far.laid has.volume has.number has.file has.on has.is) in
+        (_, record { image = laid.now; is = laid.is; vol = laid.vol })
+
+    pub more_filled : (lsn : ℕ) (now_kept : KeptVolume) (after : Option (List ℕ)) (news : List Sector) (then_counts : DriveCounts) → first ≤ place → place < length (sectors_of segments) → slice_get (sectors_of segments) place ≡ Some lsn
+        → LaysSector size at from (256 * place) lsn mid after → now_kept ≡ kept_now → IsCacheOf after news → MovesCounts None 2 half then_counts
+        → IsFillSoFar segments size at from first (place + 1) kept now_kept old after news before then_counts
+    more_filled lsn now_kept after news then_counts begun low there lays same cached counts = record {
       laid = λ u n file on known. next_laid u n file on known mid after place lsn low there lays (far.laid u n file on known);
       same = same ∙ far.same;
+      cached = cached;
       moved = counts_most None (2 * (place - first) + 2) (2 * (place + 1 - first)) before then_counts (omega arith) (counts_then None (2 * (place - first)) 2 before half then_counts far.moved counts);
     }
 
@@ -137,15 +149,15 @@ module _ (segments : List (ℕ × ℕ)) (size at : ℕ) (from : List ℕ) (room 
             ap (sector_span (min size at)) (sym split) ∙ span_is (min size at) (at + length from - min size at) (omega arith) ∙ ap (λ e. (e + 255) / 256 - min size at / 256) split
 
 -- the same with the first place as it is computed
-pub first_as : (segments : List (ℕ × ℕ)) (size at : ℕ) (from : List ℕ) → at + length from ≤ 256 * length (sectors_of segments) → (old : Option (List ℕ)) (first place : ℕ) (kept : KeptVolume) (before : DriveCounts)
-    → first ≡ min size at / 256 → place ≡ first → IsFillSoFar segments size at from first place kept kept old old before before
-first_as segments size at from room old first place kept before is same =
-    subst (λ p. IsFillSoFar segments size at from first p kept kept old old before before) (sym same) (none_filled segments size at from room old first kept before is)
+pub first_as : (segments : List (ℕ × ℕ)) (size at : ℕ) (from : List ℕ) → at + length from ≤ 256 * length (sectors_of segments) → (old : Option (List ℕ)) (first place : ℕ) (kept : KeptVolume) (held : List Sector) (before : DriveCounts) → IsCacheOf old held
+    → first ≡ min size at / 256 → place ≡ first → IsFillSoFar segments size at from first place kept kept old old held before before
+first_as segments size at from room old first place kept held before cached is same =
+    subst (λ p. IsFillSoFar segments size at from first p kept kept old old held before before) (sym same) (none_filled segments size at from room old first kept held before cached is)
 
 -- a volume stays mounted where a file has been laid over
 pub laid_mounted : (old volume : Volume) (before after : Option (List ℕ)) (u : DiskVolume) (n : ℕ) (file : DiskFile) (segments : List (ℕ × ℕ)) (size : ℕ) (bytes : List ℕ) → IsMounted old before → Represents before u
-    → IsDataOf u n file segments size → IsLaid u n file segments before after bytes → kept volume ≡ kept old → IsMounted volume after
-laid_mounted old volume before after u n file segments size bytes mounted on known laid same =
+    → IsDataOf u n file segments size → IsLaid u n file segments before after bytes → kept volume ≡ kept old → IsCacheOf after volume.cache → IsMounted volume after
+laid_mounted old volume before after u n file segments size bytes mounted on known laid same cached =
     let both : Some on.image ≡ Some laid.image = sym on.is ∙ laid.was in
     let image : on.image ≡ laid.image = cc in
     let agrees : Agrees (kept old) laid.image = subst (λ i. Agrees (kept old) i) image (agrees_on old before u mounted on) in
@@ -156,4 +168,5 @@ laid_mounted old volume before after u n file segments size bytes mounted on kno
       agrees = subst (λ kv. Agrees kv laid.now) (sym same)
           (agrees_beside (kept old) laid.image laid.now agrees
           (λ s low. laid.others s (false_from_ne_true (has (sectors_of segments) s) (λ h. let past = known.past_map s h in absurd (omega arith)))));
+      cached = cached;
     }

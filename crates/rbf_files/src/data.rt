@@ -1,12 +1,13 @@
-ghost use Rattle.std.specs.Prelude.{◌≡◌, ℕ, ◌+◌, ◌-◌, ◌*◌, ◌/◌, ◌^◌, ◌<◌, ◌≤◌, length, min, slice_index, OnOk, OnErr, IsSome};
+ghost use Rattle.std.specs.Prelude.{◌≡◌, ℕ, List, Option, ◌+◌, ◌-◌, ◌*◌, ◌/◌, ◌^◌, ◌<◌, ◌≤◌, length, min, slice_index, OnOk, OnErr, IsSome};
 ghost use Rattle.os9_outer.specs.Drive.{sector_count, sector_at};
 ghost use Rattle.rbf_model.specs.File.{DiskFile, segment_bytes};
 ghost use Rattle.rbf_model.specs.Segments.{sectors_of};
 ghost use Rattle.rbf_model.specs.Volume.{DiskVolume};
 ghost use Rattle.rbf_change.specs.Contents.{sector_span};
+ghost use Rattle.rbf_access.specs.Cached.{IsCacheOf};
 ghost use Rattle.rbf_access.specs.Drive.{Counts};
 ghost use Rattle.rbf_access.specs.Faults.{file_fault};
-ghost use Rattle.rbf_access.specs.Mounted.{IsMounted, Represents, kept};
+ghost use Rattle.rbf_access.specs.Mounted.{IsMounted, IsSound, Represents, kept};
 ghost use Rattle.rbf_files.specs.Laid.{MayLay, IsDataOf, Fills, LaysSector, laid_byte};
 
 use os9_outer::drive::BlockDriver;
@@ -58,12 +59,16 @@ fn fill_sector(
     at: u32,
     from: &[u8],
 ) -> Result<(), FileFault>
-    requires { lsn < sector_count (media d.old) }
+    requires on { lsn < sector_count (media d.old) }
+    requires cached { IsCacheOf (media d.old) volume.old.cache }
+    requires sound { (after : Option (List ℕ))
+        → LaysSector size at from.now start lsn (media d.old) after → IsSound after }
     ensures lays { OnOk result
         (LaysSector size at from.now start lsn (media d.old) (media d.new)) }
     ensures media_kept { OnErr result (media d.new ≡ media d.old) }
     ensures device { OnErr result (IsSome (file_fault result)) }
     ensures volume_kept { kept volume.new ≡ kept volume.old }
+    ensures cached { IsCacheOf (media d.new) volume.new.cache }
     ensures counts { Counts ⟦<dyn BlockDriver as BlockDriver>⟧ (file_fault result) 2 d.old d.new }
 {
     let mut bytes = volume.load(d, lsn)?;

@@ -23,6 +23,7 @@ use Rattle.rbf_access.specs.declared.faults.FileFault.{FileFault}
 use Rattle.rbf_access.specs.declared.volume.Volume.{Volume}
 use Rattle.rbf_access.specs.Drive.{DriveCounts, MovesCounts}
 use Rattle.rbf_access.specs.MapMarks.{has_mark_of}
+use Rattle.rbf_access.specs.Cached.{IsCacheOf}
 use Rattle.rbf_access.specs.Mounted.{kept, Represents, IsMounted}
 use Rattle.rbf_access.proofs.Counting.{counts_most}
 use Rattle.rbf_access.proofs.MapMarks.{below, below_of, below_all, mark_there}
@@ -42,8 +43,8 @@ agrees_on volume media v mounted on =
     subst (λ i. Agrees (kept volume) i) same mounted.agrees
 
 -- it stays mounted where the marks of its map are the same
-pub mounted_same : (volume : Volume) (media : Option (List ℕ)) (new : ClusterMap) (other : Volume) → IsMounted volume media → SameMap volume.map new → kept other ≡ record { sizes = (kept volume).sizes; map = new } → IsMounted other media
-mounted_same volume media new other mounted same is =
+pub mounted_same : (volume : Volume) (media : Option (List ℕ)) (new : ClusterMap) (other : Volume) → IsMounted volume media → SameMap volume.map new → kept other ≡ record { sizes = (kept volume).sizes; map = new } → IsCacheOf media other.cache → IsMounted other media
+mounted_same volume media new other mounted same is cached =
     let agrees = mounted.agrees in
     let sizes = same.bytes in
     let there : Agrees (record { sizes = (kept volume).sizes; map = new }) mounted.on.image = record {
@@ -55,7 +56,7 @@ mounted_same volume media new other mounted same is =
         marks = λ c low. agrees.map.marks c (omega arith) ∙ ap (λ m. m == 1) (sym (same.marks c));
       };
     } in
-    record { content = mounted.content; on = mounted.on; agrees = subst (λ kv. Agrees kv mounted.on.image) (sym is) there }
+    record { content = mounted.content; on = mounted.on; agrees = subst (λ kv. Agrees kv mounted.on.image) (sym is) there; cached = cached }
 
 -- the sizes of a volume that is mounted
 module _ (volume : Volume) (image : List ℕ) (v : DiskVolume) (vol : Vol image v) (agrees : Agrees (kept volume) image) where
@@ -386,9 +387,9 @@ pub at_most_wanted : (f : Option ℕ) (count n : ℕ) (s t : DriveCounts) → Mo
 at_most_wanted f count n s t calls = counts_most f (min count n) n s t (omega arith) calls
 
 -- a volume is mounted that agrees with the media
-pub mounted_where : (volume : Volume) (media : Option (List ℕ)) (v : DiskVolume) (image : List ℕ) (kv : KeptVolume) → media ≡ Some image → Vol image v → Agrees kv image → kept volume ≡ kv → IsMounted volume media
-mounted_where volume media v image kv is vol agrees same =
-    record { content = v; on = record { image = image; is = is; vol = vol }; agrees = subst (λ x. Agrees x image) (sym same) agrees }
+pub mounted_where : (volume : Volume) (media : Option (List ℕ)) (v : DiskVolume) (image : List ℕ) (kv : KeptVolume) → media ≡ Some image → Vol image v → Agrees kv image → kept volume ≡ kv → IsCacheOf media volume.cache → IsMounted volume media
+mounted_where volume media v image kv is vol agrees same cached =
+    record { content = v; on = record { image = image; is = is; vol = vol }; agrees = subst (λ x. Agrees x image) (sym same) agrees; cached = cached }
 
 -- the count that a refusal compares
 pub full_is : (P : Type 0) (free total count : ℕ) → P ↔ (free < count) → free ≡ total → P ↔ (total < count)

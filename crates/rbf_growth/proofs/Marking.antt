@@ -22,7 +22,7 @@ use Rattle.rbf_map.specs.Map.{ClusterMap, mark, IsSectorOf}
 use Rattle.rbf_change.specs.Agrees.{KeptVolume}
 use Rattle.rbf_change.specs.Calls.{is_free_in}
 use Rattle.rbf_change.proofs.LawfulWrites.{shape-image}
-use Rattle.rbf_access.specs.Mounted.{Represents}
+use Rattle.rbf_access.specs.Mounted.{Represents, IsSound}
 use Rattle.rbf_access.proofs.Reading.{below_total}
 use Rattle.rbf_growth.specs.Gained.{is_written}
 use Rattle.rbf_growth.specs.Marked.{is_new_mark, IsAhead, IsMarkedTo, IsMarkedOn, IsMarking, WritesMapSector}
@@ -191,3 +191,12 @@ sector_on kept media written cluster n place low marking =
     let room = on.marked.vol.sound.shape.map.fits in
     let sectors : map_sectors (image_geometry on.now) ≡ map_sectors (image_geometry marking.old) = ap map_sectors same in
     below_total media _ on_now (1 + n) (omega arith)
+
+-- the media is sound once the sector is written
+pub mark_sound : (kept : KeptVolume) (media : Option (List ℕ)) (written : List Bool) (cluster n : ℕ) → n ≡ cluster / 2048 → n < length written → is_written written cluster ≡ false
+    → cluster < kept.map.whole → IsMarking kept media written → (bytes : List ℕ) → IsSectorOf kept.map.bytes n bytes → IsSound (with_sector media (1 + n) bytes)
+mark_sound kept media written cluster n place room not_yet low marking bytes of_map =
+    let on =
+        write_on marking.volume marking.old media (with_sector media (1 + n) bytes) kept written (set written n true) cluster n place room not_yet low refl
+        (record { bytes = bytes; of_map = of_map; media = refl }) marking.on in
+    (with_lost marking.volume (λ c. marking.volume.lost c || (is_new_mark marking.volume kept.map c && is_written (set written n true) c)), record { image = on.now; is = on.is; vol = on.marked.vol })

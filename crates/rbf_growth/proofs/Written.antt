@@ -6,6 +6,8 @@ use Rattle.std.proofs.lemmas.List.FromFn.{map-range_with_len_more}
 use Rattle.rbf_model.specs.Segments.{has}
 use Rattle.rbf_model.specs.Volume.{DiskVolume}
 use Rattle.rbf_change.specs.Agrees.{KeptVolume}
+use Rattle.sector_cache.specs.declared.sector.Sector.{Sector}
+use Rattle.rbf_access.specs.Cached.{IsCacheOf}
 use Rattle.rbf_access.specs.Drive.{DriveCounts, MovesCounts}
 use Rattle.rbf_access.proofs.Counting.{no_calls, counts_then, counts_most, counts_within}
 use Rattle.rbf_access.proofs.MapMarks.{below_one}
@@ -76,24 +78,26 @@ cost_most written c = least (is_written written c)
     least false = omega arith
 
 -- those of the places before this one have been written
-pub record IsMarkedSoFar (k : ℕ) (segments : List (ℕ × ℕ)) (first i : ℕ) (kept kept_now : KeptVolume) (media now : Option (List ℕ)) (written written_now : List Bool) (before after : DriveCounts) : Type 0 where
+pub record IsMarkedSoFar (k : ℕ) (segments : List (ℕ × ℕ)) (first i : ℕ) (kept kept_now : KeptVolume) (media now : Option (List ℕ)) (written written_now : List Bool) (held : List Sector) (before after : DriveCounts) : Type 0 where
   pub on : (v : DiskVolume) (old : List ℕ) → IsMarkedOn v old media kept written → IsMarkedOn v old now kept written_now
   pub all : AllWritten (clusters_from k segments first i) written_now
   pub same : kept_now ≡ kept
+  pub cached : IsCacheOf now held
   pub moved : MovesCounts None i before after
   pub left : (wanted : ℕ → Bool) (n : ℕ) → AreWanted k segments first i wanted n → after.calls + unwritten wanted written_now n ≤ before.calls + unwritten wanted written n
 
-pub none_marked : (k : ℕ) (segments : List (ℕ × ℕ)) (first : ℕ) (kept : KeptVolume) (media : Option (List ℕ)) (written : List Bool) (before : DriveCounts)
-    → IsMarkedSoFar k segments first 0 kept kept media media written written before before
-none_marked k segments first kept media written before = record {
+pub none_marked : (k : ℕ) (segments : List (ℕ × ℕ)) (first : ℕ) (kept : KeptVolume) (media : Option (List ℕ)) (written : List Bool) (held : List Sector) (before : DriveCounts) → IsCacheOf media held
+    → IsMarkedSoFar k segments first 0 kept kept media media written written held before before
+none_marked k segments first kept media written held before cached = record {
   on = λ v old is. is;
   all = λ c h. absurd (both_ways false refl h);
   same = refl;
+  cached = cached;
   moved = no_calls before;
   left = λ wanted n are. omega arith;
 }
 
-module _ (k : ℕ) (segments : List (ℕ × ℕ)) (first i : ℕ) (kept mid_kept : KeptVolume) (media mid : Option (List ℕ)) (written mid_written : List Bool) (before half : DriveCounts) (far : IsMarkedSoFar k segments first i kept mid_kept media mid written mid_written before half) where
+module _ (k : ℕ) (segments : List (ℕ × ℕ)) (first i : ℕ) (kept mid_kept : KeptVolume) (media mid : Option (List ℕ)) (written mid_written : List Bool) (mid_held : List Sector) (before half : DriveCounts) (far : IsMarkedSoFar k segments first i kept mid_kept media mid written mid_written mid_held before half) where
   pub still_marking : IsMarking kept media written → IsMarking mid_kept mid mid_written
   still_marking marking = subst (λ kv. IsMarking kv mid mid_written) (sym far.same) (record { volume = marking.volume; old = marking.old; on = far.on marking.volume marking.old marking.on })
 
@@ -106,12 +110,12 @@ module _ (k : ℕ) (segments : List (ℕ × ℕ)) (first i : ℕ) (kept mid_kept
       → (v : DiskVolume) (old : List ℕ) → IsMarkedOn v old media kept written → IsMarkedOn v old now kept now_written
   on_at_fault = on_then
 
-  pub marked_more : (c : ℕ) (now_kept : KeptVolume) (now : Option (List ℕ)) (now_written : List Bool) (after : DriveCounts)
+  pub marked_more : (c : ℕ) (now_kept : KeptVolume) (now : Option (List ℕ)) (now_written : List Bool) (held : List Sector) (after : DriveCounts)
       → ((v : DiskVolume) (old : List ℕ) → IsMarkedOn v old mid mid_kept mid_written → IsMarkedOn v old now mid_kept now_written)
       → is_written now_written c ≡ true → now_written ≡ set mid_written (c / 2048) true
-      → c ≡ cluster_at k segments (first + i * k) → now_kept ≡ mid_kept → MovesCounts None (cost mid_written c) half after
-      → IsMarkedSoFar k segments first (i + 1) kept now_kept media now written now_written before after
-  marked_more c now_kept now now_written after next there news is same counts = record {
+      → c ≡ cluster_at k segments (first + i * k) → now_kept ≡ mid_kept → IsCacheOf now held → MovesCounts None (cost mid_written c) half after
+      → IsMarkedSoFar k segments first (i + 1) kept now_kept media now written now_written held before after
+  marked_more c now_kept now now_written held after next there news is same cached counts = record {
     on = on_then now now_written next;
     all = λ d h.
         let more : clusters_from k segments first (i + 1) ≡ clusters_from k segments first i ++ c ∷ [] =
@@ -121,6 +125,7 @@ module _ (k : ℕ) (segments : List (ℕ × ℕ)) (first i : ℕ) (kept mid_kept
         (λ here. subst (λ e. is_written now_written e ≡ true) (eqb-true c d here) there)
         (or_cases (has (clusters_from k segments first i) d) (c == d) (sym (ap (λ xs. has xs d) more ∙ has_more (clusters_from k segments first i) c d) ∙ h));
     same = same ∙ far.same;
+    cached = cached;
     moved = counts_most None (i + cost mid_written c) (i + 1) before after (let most = cost_most mid_written c in omega arith) (counts_then None i (cost mid_written c) before half after far.moved counts);
     left = λ wanted n are.
         let his = are i (omega arith) in

@@ -28,7 +28,8 @@ use Rattle.rbf_access.specs.declared.faults.FileFault.TheVariants.{Device, NoClu
 use Rattle.rbf_access.specs.MapMarks.{marking_sectors}
 use Rattle.rbf_access.specs.Drive.{DriveCounts, MovesCounts}
 use Rattle.rbf_access.specs.Faults.{file_fault}
-use Rattle.rbf_access.specs.Mounted.{kept, Represents, IsMounted}
+use Rattle.rbf_access.specs.Cached.{IsCacheOf}
+use Rattle.rbf_access.specs.Mounted.{kept, Represents, IsMounted, IsSound}
 use Rattle.rbf_access.specs.Reading.{IsFdOf}
 use Rattle.rbf_access.proofs.Counting.{counts_then}
 use Rattle.rbf_access.proofs.ReadFile.{room_for}
@@ -160,6 +161,10 @@ module _ (media mid : Option (List ℕ)) (loaded : Loaded) (size : ℕ) (now : T
     may = subst (MayClear lessened middle) (sym gone_is) (may_clear image v on.vol n old new is not_directory bytes stored.says.whole list_is inside);
   }
 
+  -- the media is sound once the descriptor is written
+  pub cut_sound : IsSound mid
+  cut_sound = (lessened, record { image = middle; is = releasing.is; vol = releasing.vol })
+
   pub may_release : MayRelease half.ident.cluster sectors mid (kept half)
   may_release = record { volume = lessened; old = middle; is = releasing }
 
@@ -207,11 +212,12 @@ module _ (media mid : Option (List ℕ)) (loaded : Loaded) (size : ℕ) (now : T
         let was : loaded.descriptor ≡ sector image n = is_loaded.bytes_are ∙ ap (λ m. sector_at m n) on.is in
         subst (λ b. KeepsListEnd (sector image n) b) (sym here) (subst (λ b. KeepsListEnd b bytes) was stored.says.end)
 
-    pub cut_mounted : (other : Volume) → kept other ≡ last → IsMounted other after
-    cut_mounted other same = record {
+    pub cut_mounted : (other : Volume) → kept other ≡ last → IsCacheOf after other.cache → IsMounted other after
+    cut_mounted other same cached = record {
       content = with_lost lessened (λ c. lessened.lost c && not (cleared c));
       on = record { image = clear.now; is = clear.is; vol = clear.vol };
       agrees = subst (λ kv. Agrees kv clear.now) (sym same) clear.agrees;
+      cached = cached;
     }
 
   -- all have been given back
@@ -325,5 +331,5 @@ module _ (media mid : Option (List ℕ)) (loaded : Loaded) (size : ℕ) (now : T
     cut_stopped NoCluster is_fault = absurd (both_ways false refl is_fault)
     cut_stopped TooManyRuns is_fault = absurd (both_ways false refl is_fault)
 
-    pub stopped_mounted : (other : Volume) → kept other ≡ last → IsMounted other after
-    stopped_mounted other same = cut_mounted (before gone place) after last so_far other same
+    pub stopped_mounted : (other : Volume) → kept other ≡ last → IsCacheOf after other.cache → IsMounted other after
+    stopped_mounted other same cached = cut_mounted (before gone place) after last so_far other same cached

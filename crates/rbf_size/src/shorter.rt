@@ -1,10 +1,11 @@
-ghost use Rattle.std.specs.Prelude.{◌≡◌, ◌+◌, ◌<◌, length, OnOk, OnErr, IsSome};
+ghost use Rattle.std.specs.Prelude.{◌≡◌, ℕ, List, Option, ◌+◌, ◌<◌, length, OnOk, OnErr, IsSome};
 ghost use Rattle.os9_outer.specs.Drive.{sector_count};
 ghost use Rattle.rbf_model.specs.Fields.{segments_field};
 ghost use Rattle.rbf_model.specs.Segments.{sectors_of};
+ghost use Rattle.rbf_access.specs.Cached.{IsCacheOf};
 ghost use Rattle.rbf_access.specs.Drive.{Counts};
 ghost use Rattle.rbf_access.specs.Faults.{file_fault};
-ghost use Rattle.rbf_access.specs.Mounted.{IsMounted, kept};
+ghost use Rattle.rbf_access.specs.Mounted.{IsMounted, IsSound, kept};
 ghost use Rattle.rbf_write.specs.Files.{HasDataFile, IsLoaded, OnVolumeFile};
 ghost use Rattle.rbf_write.specs.Sizes.{AnswersSize, giving_calls};
 ghost use Rattle.rbf_size.specs.Kept.{IsStored};
@@ -76,11 +77,15 @@ fn store_cut(
     requires list { segments_field loaded.now.descriptor ≡ loaded.now.file.segs }
     requires same { length (sectors_of segs.now) ≡ length (sectors_of loaded.now.file.segs)
         → segs.now ≡ loaded.now.file.segs }
+    requires cached { IsCacheOf (media d.old) volume.old.cache }
+    requires sound { (after : Option (List ℕ))
+        → IsStored loaded.now segs.now size now (media d.old) after → IsSound after }
     ensures stored { OnOk result
         (IsStored loaded.now segs.now size now (media d.old) (media d.new)) }
     ensures media_kept { OnErr result (media d.new ≡ media d.old) }
     ensures device { OnErr result (IsSome (file_fault result)) }
     ensures volume_kept { kept volume.new ≡ kept volume.old }
+    ensures cached { IsCacheOf (media d.new) volume.new.cache }
     ensures counts { Counts ⟦<dyn BlockDriver as BlockDriver>⟧ (file_fault result) 1 d.old d.new }
 {
     let file = Fd {

@@ -19,7 +19,8 @@ use Rattle.rbf_change.specs.Names.{may_change, may_delete, deletion_of, deletion
 use Rattle.rbf_sector.specs.declared.fd.Fd.{Fd}
 use Rattle.rbf_access.specs.Drive.{DriveCounts, MovesCounts}
 use Rattle.rbf_access.specs.declared.volume.Volume.{Volume}
-use Rattle.rbf_access.specs.Mounted.{kept, Represents, HasFile, IsMounted}
+use Rattle.rbf_access.specs.Cached.{IsCacheOf}
+use Rattle.rbf_access.specs.Mounted.{kept, Represents, HasFile, IsMounted, IsSound}
 use Rattle.rbf_access.specs.Reading.{IsFdOf, OnFile}
 use Rattle.rbf_access.proofs.Counting.{counts_then, counts_most, counts_within}
 use Rattle.rbf_access.proofs.ReadFile.{room_for}
@@ -38,7 +39,7 @@ use Rattle.rbf_update.specs.Entries.{sector_of_entry}
 use Rattle.rbf_update.specs.Deletions.{IsDeletable, FreesName, FreesOn, deletion_calls}
 use Rattle.rbf_update.specs.declared.deletion.Deletable.{Deletable}
 use Rattle.rbf_update.proofs.Puts.{entry_lsn, freed_below, without, free_stored, free_changes}
-use Rattle.rbf_update.proofs.Stored.{becomes_now, mounted_now}
+use Rattle.rbf_update.proofs.Stored.{becomes_now, mounted_now, stored_sound}
 
 -- The first two entries of a directory name directories.
 module _ (g : Geometry) (files : ℕ → Option DiskFile) (tree : IsTree g files) where
@@ -255,10 +256,16 @@ module _ (media now : Option (List ℕ)) (d : ℕ) (name : List ℕ) (found : De
       (becomes_now media now may.place.content (without media now d found.place may frees.written) (free_stored media now d found.place may frees.written) (λ v w. EntryIsFreed v w d found.place)
       (free_changes media now d found.place may frees.written))
 
-  pub freed_mounted : (old new : Volume) → kept new ≡ kept old → IsMounted old media → IsMounted new now
+  pub freed_mounted : (old new : Volume) → kept new ≡ kept old → IsCacheOf now new.cache → IsMounted old media → IsMounted new now
   freed_mounted =
       let may = frees.at.free in
       mounted_now media now may.place.content (without media now d found.place may frees.written) (free_stored media now d found.place may frees.written)
+
+-- so the media is sound
+pub freed_sound : (media now : Option (List ℕ)) (d : ℕ) (name : List ℕ) (found : Deletable) → FreesOn media now d name found → IsSound now
+freed_sound media now d name found frees =
+    let may = frees.at.free in
+    stored_sound media now may.place.content (without media now d found.place may frees.written) (free_stored media now d found.place may frees.written)
 
 -- its sector is on the drive
 pub entry_on_drive : (media mid : Option (List ℕ)) (d : ℕ) (name : List ℕ) (found : Deletable) → IsDeletable media d name found → mid ≡ media → found.lsn < sector_count mid

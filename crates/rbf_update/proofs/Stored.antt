@@ -11,7 +11,8 @@ use Rattle.rbf_model.proofs.Lifted.{sector_put}
 use Rattle.rbf_map.specs.Map.{ClusterMap}
 use Rattle.rbf_change.specs.Agrees.{KeptVolume, Agrees, AgreesOnMap}
 use Rattle.rbf_access.specs.declared.volume.Volume.{Volume}
-use Rattle.rbf_access.specs.Mounted.{kept, Represents, IsMounted}
+use Rattle.rbf_access.specs.Cached.{IsCacheOf}
+use Rattle.rbf_access.specs.Mounted.{kept, Represents, IsMounted, IsSound}
 use Rattle.rbf_walk.proofs.Stepping.{same_content}
 use Rattle.rbf_update.specs.Becomes.{RepresentsOne, Becomes}
 
@@ -61,13 +62,13 @@ module _ (media now : Option (List ℕ)) (v w : DiskVolume) (stored : IsStored m
   now_is : now ≡ Some (put_sector stored.on.image stored.lsn stored.bytes)
   now_is = stored.is ∙ ap (λ m. with_sector m stored.lsn stored.bytes) stored.on.is
 
-  represents_now : Represents now w
+  pub represents_now : Represents now w
   represents_now = record { image = put_sector stored.on.image stored.lsn stored.bytes; is = now_is; vol = stored.vol }
 
   -- the volume stays mounted
-  pub mounted_now : (old new : Volume) → kept new ≡ kept old → IsMounted old media → IsMounted new now
+  pub mounted_now : (old new : Volume) → kept new ≡ kept old → IsCacheOf now new.cache → IsMounted old media → IsMounted new now
   unfolding represents_now
-  mounted_now old new same mounted = record {
+  mounted_now old new same cached mounted = record {
     content = w;
     on = represents_now;
     agrees =
@@ -75,6 +76,7 @@ module _ (media now : Option (List ℕ)) (v w : DiskVolume) (stored : IsStored m
         let here : Agrees (kept old) stored.on.image = subst (Agrees (kept old)) images mounted.agrees in
         let still = agrees_still stored.on.image v stored.on.vol stored.lsn stored.bytes stored.whole stored.past stored.below (kept old) here in
         subst (λ k. Agrees k (put_sector stored.on.image stored.lsn stored.bytes)) (sym same) still;
+    cached = cached;
   }
     where
       one_image : (a b : List ℕ) → Some a ≡ Some b → a ≡ b
@@ -84,3 +86,7 @@ module _ (media now : Option (List ℕ)) (v w : DiskVolume) (stored : IsStored m
   pub becomes_now : (change : DiskVolume → DiskVolume → Type 0) → change v w → Becomes media now change
   becomes_now change done u on =
       subst (λ x. RepresentsOne now (change x)) (same_content media v u stored.on on) (record { volume = w; on = represents_now; changed = done })
+
+-- so it is sound
+pub stored_sound : (media now : Option (List ℕ)) (v w : DiskVolume) → IsStored media now v w → IsSound now
+stored_sound media now v w stored = (w, represents_now media now v w stored)

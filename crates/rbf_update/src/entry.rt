@@ -1,8 +1,9 @@
 ghost use Rattle.std.specs.Prelude.{◌≡◌, ◌*◌, ◌%◌, ◌<◌, [], ◌∷◌, OnOk, OnErr, IsSome};
 ghost use Rattle.os9_outer.specs.Drive.{sector_count};
+ghost use Rattle.rbf_access.specs.Cached.{IsCacheOf};
 ghost use Rattle.rbf_access.specs.Drive.{Counts};
 ghost use Rattle.rbf_access.specs.Faults.{file_fault};
-ghost use Rattle.rbf_access.specs.Mounted.{kept};
+ghost use Rattle.rbf_access.specs.Mounted.{kept, IsSound};
 ghost use Rattle.rbf_update.specs.Becomes.{with_piece};
 
 use crate::deletion::Deletable;
@@ -22,12 +23,16 @@ pub fn free_entry(
     d: &mut dyn BlockDriver,
     found: &Deletable,
 ) -> Result<(), FileFault>
-    requires { found.now.lsn < sector_count (media d.old) }
+    requires on { found.now.lsn < sector_count (media d.old) }
+    requires cached { IsCacheOf (media d.old) v.old.cache }
+    requires sound { IsSound
+        (with_piece (media d.old) found.now.lsn (32 * (found.now.place % 8)) (0 ∷ [])) }
     ensures written { OnOk result (media d.new
         ≡ with_piece (media d.old) found.now.lsn (32 * (found.now.place % 8)) (0 ∷ [])) }
     ensures media_kept { OnErr result (media d.new ≡ media d.old) }
     ensures device { OnErr result (IsSome (file_fault result)) }
     ensures volume_kept { kept v.new ≡ kept v.old }
+    ensures cached { IsCacheOf (media d.new) v.new.cache }
     ensures counts { Counts ⟦<dyn BlockDriver as BlockDriver>⟧ (file_fault result) 2 d.old d.new }
 {
     let mut bytes = v.load(d, found.lsn)?;

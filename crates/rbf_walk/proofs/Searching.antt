@@ -14,6 +14,8 @@ use Rattle.rbf_model.proofs.SectorBytes.{piece_of_piece, entry_in_take}
 use Rattle.rbf_change.specs.Agrees.{KeptVolume}
 use Rattle.rbf_change.specs.Contents.{sector_count}
 use Rattle.rbf_sector.specs.declared.fd.Fd.{Fd}
+use Rattle.sector_cache.specs.declared.sector.Sector.{Sector}
+use Rattle.rbf_access.specs.Cached.{IsCacheOf}
 use Rattle.rbf_access.specs.Drive.{DriveCounts, MovesCounts}
 use Rattle.rbf_access.specs.Mounted.{Represents}
 use Rattle.rbf_access.specs.Reading.{IsFdOf}
@@ -83,20 +85,22 @@ free_more whole sector place entries count None now is counted more none same ot
         (first_more (λ entry. not (is_used entry)) whole sector place entries count is counted more (at - 8 * place) (min (8 * (place + 1)) entries) (omega arith) none h.1)
 
 -- the sectors before a place have been searched
-pub record IsSearchedTo (name whole : List ℕ) (entries place : ℕ) (free : Option ℕ) (media media_now : Option (List ℕ)) (volume volume_now : KeptVolume) (before now : DriveCounts) : Type 0 where
+pub record IsSearchedTo (name whole : List ℕ) (entries place : ℕ) (free : Option ℕ) (media media_now : Option (List ℕ)) (volume volume_now : KeptVolume) (held : List Sector) (before now : DriveCounts) : Type 0 where
   pub absent : NonePasses (entry_has_name name) whole (min (8 * place) entries)
   pub free_is : IsFirstFree whole (min (8 * place) entries) free
   pub same_media : media_now ≡ media
   pub same_volume : volume_now ≡ volume
+  pub cached : IsCacheOf media_now held
   pub moved : MovesCounts None place before now
 
-pub none_searched : (name whole : List ℕ) (entries : ℕ) (free : Option ℕ) (media : Option (List ℕ)) (volume : KeptVolume) (before : DriveCounts) → free ≡ None
-    → IsSearchedTo name whole entries 0 free media media volume volume before before
-none_searched name whole entries free media volume before none = record {
+pub none_searched : (name whole : List ℕ) (entries : ℕ) (free : Option ℕ) (media : Option (List ℕ)) (volume : KeptVolume) (held : List Sector) (before : DriveCounts) → free ≡ None → IsCacheOf media held
+    → IsSearchedTo name whole entries 0 free media media volume volume held before before
+none_searched name whole entries free media volume held before none cached = record {
   absent = λ k low. absurd (omega arith);
   free_is = subst (IsFirstFree whole (min (8 * 0) entries)) (sym none) (λ k low. absurd (omega arith));
   same_media = refl;
   same_volume = refl;
+  cached = cached;
   moved = no_calls before;
 }
 

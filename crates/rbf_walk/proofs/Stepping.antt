@@ -14,6 +14,8 @@ use Rattle.rbf_model.proofs.Unique.{vol_is_unique}
 use Rattle.rbf_model.proofs.Walked.{walk_file}
 use Rattle.rbf_change.specs.Contents.{sector_count}
 use Rattle.rbf_sector.specs.declared.fd.Fd.{Fd}
+use Rattle.sector_cache.specs.declared.sector.Sector.{Sector}
+use Rattle.rbf_access.specs.Cached.{IsCacheOf}
 use Rattle.rbf_access.specs.Drive.{DriveCounts, MovesCounts}
 use Rattle.rbf_access.specs.Faults.{file_fault}
 use Rattle.rbf_access.specs.Mounted.{Represents, HasFile}
@@ -131,20 +133,22 @@ arrives_on media dir n user execute name has leads =
     record { content = has.content; on = has.on; file = w.0; is = w.1 }
 
 -- a walk that has gone along the first names
-pub record IsWalkedTo (media : Option (List ℕ)) (user : ℕ) (execute : Bool) (from : ℕ) (names : List (List ℕ)) (at i : ℕ) (media_now : Option (List ℕ)) (volume volume_now : KeptVolume) (before now : DriveCounts) : Type 0 where
+pub record IsWalkedTo (media : Option (List ℕ)) (user : ℕ) (execute : Bool) (from : ℕ) (names : List (List ℕ)) (at i : ℕ) (media_now : Option (List ℕ)) (volume volume_now : KeptVolume) (held : List Sector) (before now : DriveCounts) : Type 0 where
   pub file : HasFile media at
   pub same_media : media_now ≡ media
   pub same_volume : volume_now ≡ volume
+  pub cached : IsCacheOf media_now held
   pub rest : (v : DiskVolume) → Represents media v → walk v.files user execute from names ≡ walk v.files user execute at (drop i names)
   pub called : (v : DiskVolume) → Represents media v
       → (k : ℕ) × MovesCounts None k before now × (k + walk_calls v.files user execute at (drop i names) ≤ walk_calls v.files user execute from names)
 
-pub not_begun : (media : Option (List ℕ)) (user : ℕ) (execute : Bool) (from : ℕ) (names : List (List ℕ)) (volume : KeptVolume) (before : DriveCounts) → HasFile media from
-    → IsWalkedTo media user execute from names from 0 media volume volume before before
-not_begun media user execute from names volume before has = record {
+pub not_begun : (media : Option (List ℕ)) (user : ℕ) (execute : Bool) (from : ℕ) (names : List (List ℕ)) (volume : KeptVolume) (held : List Sector) (before : DriveCounts) → HasFile media from → IsCacheOf media held
+    → IsWalkedTo media user execute from names from 0 media volume volume held before before
+not_begun media user execute from names volume held before has cached = record {
   file = has;
   same_media = refl;
   same_volume = refl;
+  cached = cached;
   rest = λ v on. refl;
   called = λ v on. (0, no_calls before, omega arith);
 }
@@ -160,7 +164,7 @@ stops_walked end next (File NoCluster) ends = ends
 stops_walked end next (File TooManyRuns) ends = ends
 
 module _ (media : Option (List ℕ)) (user : ℕ) (execute : Bool) (from : ℕ) (names : List (List ℕ)) (at i : ℕ) (mid : Option (List ℕ)) (volume half : KeptVolume) (before then_counts : DriveCounts)
-    (so_far : IsWalkedTo media user execute from names at i mid volume half before then_counts) (name : List ℕ) (low : i < length names) (item : name ≡ get_or names i name) where
+    (held : List Sector) (so_far : IsWalkedTo media user execute from names at i mid volume half held before then_counts) (name : List ℕ) (low : i < length names) (item : name ≡ get_or names i name) where
   more : drop i names ≡ name ∷ drop (i + 1) names
   more =
       let next : suc i ≡ i + 1 = omega arith in
@@ -191,14 +195,15 @@ module _ (media : Option (List ℕ)) (user : ℕ) (execute : Bool) (from : ℕ) 
       subst (λ f. MovesCounts f (walk_calls v.files user execute from names) before now) (sym (ap directory_fault is))
       (counts_most (directory_fault {A = ℕ} (Err e)) (w.0 + step_calls (v.files at) user execute name) (walk_calls v.files user execute from names) before now (omega arith) here)
 
-  pub one_more : (n : ℕ) (now : Option (List ℕ)) (after : KeptVolume) (counts : DriveCounts) → HasFile mid n → now ≡ mid → after ≡ half
+  pub one_more : (n : ℕ) (now : Option (List ℕ)) (after : KeptVolume) (counts : DriveCounts) (news : List Sector) → HasFile mid n → now ≡ mid → after ≡ half → IsCacheOf now news
       → ((v : DiskVolume) → Represents mid v → step (v.files at) user execute name ≡ arrives n)
       → ((v : DiskVolume) → Represents mid v → MovesCounts None (step_calls (v.files at) user execute name) then_counts counts)
-      → IsWalkedTo media user execute from names n (i + 1) now volume after before counts
-  one_more n now after counts has same kept leads moved = record {
+      → IsWalkedTo media user execute from names n (i + 1) now volume after news before counts
+  one_more n now after counts news has same kept cached leads moved = record {
     file = subst (λ m. HasFile m n) so_far.same_media has;
     same_media = same ∙ so_far.same_media;
     same_volume = kept ∙ so_far.same_volume;
+    cached = cached;
     rest = λ v on. walk_is v on ∙ ap (λ end. go_on end (λ m. walk v.files user execute m (drop (i + 1) names))) (leads v (represents_still media mid v so_far.same_media on));
     called = λ v on.
         let w = so_far.called v on in
@@ -210,7 +215,7 @@ module _ (media : Option (List ℕ)) (user : ℕ) (execute : Bool) (from : ℕ) 
 
 -- all names have been gone along
 module _ (media : Option (List ℕ)) (user : ℕ) (execute : Bool) (from : ℕ) (names : List (List ℕ)) (at i : ℕ) (mid : Option (List ℕ)) (volume half : KeptVolume) (before counts : DriveCounts)
-    (so_far : IsWalkedTo media user execute from names at i mid volume half before counts) (past : length names ≤ i) where
+    (held : List Sector) (so_far : IsWalkedTo media user execute from names at i mid volume half held before counts) (past : length names ≤ i) where
   pub ended_walked : (v : DiskVolume) → Represents media v → walk v.files user execute from names ≡ arrives at
   ended_walked v on = so_far.rest v on ∙ ap (walk v.files user execute at) (drop_all i names past)
 

@@ -29,7 +29,8 @@ use Rattle.rbf_change.specs.Tidy.{KeepsListEnd}
 use Rattle.rbf_change.specs.Contents.{sector_count}
 use Rattle.rbf_change.proofs.LawfulWrites.{shape-image}
 use Rattle.rbf_access.specs.declared.volume.Volume.{Volume}
-use Rattle.rbf_access.specs.Mounted.{kept, Represents, IsMounted}
+use Rattle.rbf_access.specs.Cached.{IsCacheOf}
+use Rattle.rbf_access.specs.Mounted.{kept, Represents, IsMounted, IsSound}
 use Rattle.rbf_access.specs.Reading.{IsFdOf}
 use Rattle.rbf_access.proofs.ReadFile.{contents_are, room_for}
 use Rattle.rbf_growth.specs.Grown.{ChangesMap, IsChosen, IsGrown, GrowthEnds}
@@ -507,12 +508,17 @@ module _ (before : Option (List ℕ)) (v : DiskVolume) (on : Represents before v
               list_then;
         }
 
+        -- the media is sound
+        pub sound_last : IsSound last
+        sound_last = (_, record { image = put_sector now n new; is = last_is; vol = vol_last })
+
         -- the volume stays mounted
-        pub mounted_last : (volume later_volume : Volume) → IsMounted volume after → kept later_volume ≡ kept volume → IsMounted later_volume last
-        mounted_last volume later_volume mounted same =
+        pub mounted_last : (volume later_volume : Volume) → IsMounted volume after → kept later_volume ≡ kept volume → IsCacheOf last later_volume.cache → IsMounted later_volume last
+        mounted_last volume later_volume mounted same cached =
             let agrees : Agrees (kept volume) now = agrees_on volume after (with_lost volume_then lost) mounted (record { image = now; is = laid.is; vol = laid.vol }) in
             record {
               content = replaced v n (Some (laid_file old laying segments));
               on = record { image = put_sector now n new; is = last_is; vol = vol_last };
               agrees = agrees_put now (with_lost volume_then lost) laid.vol n file_then is_then new resized.whole (kept later_volume) (subst (λ kv. Agrees kv now) (sym same) agrees);
+              cached = cached;
             }

@@ -31,7 +31,8 @@ use Rattle.rbf_access.specs.declared.faults.FileFault.TheVariants.{Device, NoClu
 use Rattle.rbf_access.specs.Drive.{DriveCounts, MovesCounts}
 use Rattle.rbf_access.specs.Faults.{file_fault}
 use Rattle.rbf_access.specs.MapMarks.{marking_sectors}
-use Rattle.rbf_access.specs.Mounted.{kept, Represents, IsMounted, HasFile}
+use Rattle.rbf_access.specs.Cached.{IsCacheOf}
+use Rattle.rbf_access.specs.Mounted.{kept, Represents, IsMounted, IsSound, HasFile}
 use Rattle.rbf_access.specs.Reading.{IsFdOf}
 use Rattle.rbf_access.proofs.Counting.{counts_most, counts_then, counts_within}
 use Rattle.rbf_access.proofs.MapMarks.{marking_most}
@@ -48,7 +49,7 @@ use Rattle.rbf_write.specs.Files.{HasDataFile, IsLoaded, IsClusterCount, IsPastV
 use Rattle.rbf_write.specs.Finished.{IsFinished, stays, resized}
 use Rattle.rbf_write.specs.Laying.{Laying, laid_file, laying_needs, IsLaidOver, LayingEnds, AnswersLaying}
 use Rattle.rbf_write.specs.Outcomes.{AreMarked, laying_calls}
-use Rattle.rbf_write.proofs.Laid.{needs_is, growth_ends, volume_grown, has_room_then, known, on_grown, part_ends, all_ends, done_inside, done_longer, list_inside, list_longer, mounted_last}
+use Rattle.rbf_write.proofs.Laid.{needs_is, growth_ends, volume_grown, has_room_then, known, on_grown, part_ends, all_ends, done_inside, done_longer, list_inside, list_longer, mounted_last, sound_last}
 
 -- a file that is no directory, in whichever volume the media represents
 pub data_in : (media : Option (List ℕ)) (n : ℕ) → HasDataFile media n → (v : DiskVolume) (file : DiskFile) → Represents media v → v.files n ≡ Some file → is_directory file ≡ false
@@ -330,12 +331,25 @@ module _ (before : Option (List ℕ)) (loaded : Loaded) (at : ℕ) (from : List 
             are m.0 m.1 m.2 m.3 ∙ ap (λ xs. marking_sectors (shape v) (is_gained (cluster_size v) old.segments xs)) list ∙ ap (λ xs. marking_sectors (shape v) (is_gained (cluster_size v) xs longer)) (sym (says v old on is).segments_are) in
             omega arith
 
-        pub done_mounted : (last : Option (List ℕ)) → IsFinished loaded longer end now after last → (one other : Volume) → IsMounted one after → kept other ≡ kept one → IsMounted other last
-        done_mounted last (stays inside same) one other is_mounted kept_same = mounted_still one other after last kept_same same is_mounted
-        done_mounted last (resized {bytes = new} later is_new written) one other is_mounted kept_same =
+        pub done_mounted : (last : Option (List ℕ)) → IsFinished loaded longer end now after last → (one other : Volume) → IsMounted one after → kept other ≡ kept one → IsCacheOf last other.cache → IsMounted other last
+        done_mounted last (stays inside same) one other is_mounted kept_same cached = mounted_still one other after last kept_same same cached is_mounted
+        done_mounted last (resized {bytes = new} later is_new written) one other is_mounted kept_same cached =
             let v = has.content in
             let old = has.file in
             let on = has.on in
             let is = has.is in
             mounted_last before v on laying old is count (count_on v old on is) mid longer (grown v old on is) (not_directory v old on is) after (laid_then v old on is) loaded (says v old on is) is_loaded.bytes_are new is_new
-            (subst (λ s. s < end) (says v old on is).size_is later) last written one other is_mounted kept_same
+            (subst (λ s. s < end) (says v old on is).size_is later) last written one other is_mounted kept_same cached
+
+        -- the media is sound at that write
+        pub done_sound : (last : Option (List ℕ)) → IsFinished loaded longer end now after last → IsSound last
+        done_sound last (stays inside same) =
+            let laid = laid_then has.content has.file has.on has.is in
+            (_, record { image = laid.now; is = same ∙ laid.is; vol = laid.vol })
+        done_sound last (resized {bytes = new} later is_new written) =
+            let v = has.content in
+            let old = has.file in
+            let on = has.on in
+            let is = has.is in
+            sound_last before v on laying old is count (count_on v old on is) mid longer (grown v old on is) (not_directory v old on is) after (laid_then v old on is) loaded (says v old on is) is_loaded.bytes_are new is_new
+            (subst (λ s. s < end) (says v old on is).size_is later) last written

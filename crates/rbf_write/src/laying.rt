@@ -1,10 +1,11 @@
-ghost use Rattle.std.specs.Prelude.{◌≡◌, ℕ, ◌+◌, ◌*◌, ◌^◌, ◌<◌, ◌≤◌, nat_lt, length, min, if◌then◌else◌, OnOk, OnErr, IsSome};
+ghost use Rattle.std.specs.Prelude.{◌≡◌, ℕ, ◌+◌, ◌*◌, ◌^◌, ◌<◌, ◌≤◌, nat_lt, length, min, if◌then◌else◌, List, Option, OnOk, OnErr, IsSome};
 ghost use Rattle.os9_outer.specs.Drive.{sector_count};
 ghost use Rattle.rbf_model.specs.Fields.{segments_field};
 ghost use Rattle.rbf_model.specs.Segments.{sectors_of};
+ghost use Rattle.rbf_access.specs.Cached.{IsCacheOf};
 ghost use Rattle.rbf_access.specs.Drive.{Counts};
 ghost use Rattle.rbf_access.specs.Faults.{file_fault};
-ghost use Rattle.rbf_access.specs.Mounted.{IsMounted, kept};
+ghost use Rattle.rbf_access.specs.Mounted.{IsMounted, IsSound, kept};
 ghost use Rattle.rbf_write.specs.Files.{HasDataFile, IsLoaded, OnVolumeFile};
 ghost use Rattle.rbf_write.specs.Finished.{IsFinished};
 ghost use Rattle.rbf_write.specs.Laying.{AnswersLaying};
@@ -72,12 +73,16 @@ fn finish(
     requires list { segments_field loaded.now.descriptor ≡ loaded.now.file.segs }
     requires same { length (sectors_of longer.now) ≡ length (sectors_of loaded.now.file.segs)
         → longer.now ≡ loaded.now.file.segs }
+    requires cached { IsCacheOf (media d.old) volume.old.cache }
+    requires sound { (after : Option (List ℕ))
+        → IsFinished loaded.now longer.now end now (media d.old) after → IsSound after }
     ensures done { OnOk result
         (IsFinished loaded.now longer.now end now (media d.old) (media d.new)) }
     ensures media_kept { OnErr result (media d.new ≡ media d.old) }
     ensures later { OnErr result (loaded.now.file.size < end) }
     ensures device { OnErr result (IsSome (file_fault result)) }
     ensures volume_kept { kept volume.new ≡ kept volume.old }
+    ensures cached { IsCacheOf (media d.new) volume.new.cache }
     ensures counts { Counts ⟦<dyn BlockDriver as BlockDriver>⟧ (file_fault result)
         (if nat_lt loaded.now.file.size end then 1 else 0) d.old d.new }
 {

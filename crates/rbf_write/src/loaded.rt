@@ -1,4 +1,5 @@
 ghost use Rattle.std.specs.Prelude.{◌≡◌, IfOk, OnErr, IsSome};
+ghost use Rattle.rbf_access.specs.Cached.{IsCacheOf};
 ghost use Rattle.rbf_access.specs.Drive.{Counts};
 ghost use Rattle.rbf_access.specs.Faults.{file_fault};
 ghost use Rattle.rbf_access.specs.Mounted.{HasFile, kept};
@@ -23,10 +24,12 @@ pub struct Loaded {
 /// `Device` if the drive's read fails.
 pub fn load_file(volume: &mut Volume, d: &mut dyn BlockDriver, fd: u32) -> Result<Loaded, FileFault>
     requires file { HasFile (media d.old) fd }
+    requires cached { IsCacheOf (media d.old) volume.old.cache }
     ensures ok { IfOk result (IsLoaded (media d.old) fd) }
     ensures device { OnErr result (IsSome (file_fault result)) }
     ensures media_kept { media d.new ≡ media d.old }
     ensures volume_kept { kept volume.new ≡ kept volume.old }
+    ensures cached { IsCacheOf (media d.new) volume.new.cache }
     ensures counts { Counts ⟦<dyn BlockDriver as BlockDriver>⟧ (file_fault result) 1 d.old d.new }
 {
     let descriptor = volume.load(d, fd)?;

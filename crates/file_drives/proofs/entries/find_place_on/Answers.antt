@@ -11,4 +11,4 @@ find_place-requires-clause-file g c = has-file c.args.kept.now c.in-Some.volume 
 pub returns : goal.returns
 returns g c =
     finds-place c.args.kept.now c.in-Some.volume c.find_place.new.v _ _ c.args.dir c.args.name.now c.args.user c.args.execute c.find_place.result c.in-Some.is c.requires
-    c.find_place.ensures.answer c.find_place.ensures.read c.find_place.ensures.media_kept c.find_place.ensures.volume_kept c.find_place.ensures.counts
+    c.find_place.ensures.answer c.find_place.ensures.read c.find_place.ensures.media_kept c.find_place.ensures.volume_kept c.find_place.ensures.mounted c.find_place.ensures.counts

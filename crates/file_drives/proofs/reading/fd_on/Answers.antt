@@ -16,4 +16,4 @@ returns-clause-ok g c =
 
 pub returns-clause-drive : goal.returns-clause-drive
 returns-clause-drive g c =
-    reads-mounted c.args.kept.now c.in-Some.volume c.fd.new.self _ _ (file_fault c.fd.result) 1 c.in-Some.is c.fd.ensures.media_kept c.fd.ensures.volume_kept c.fd.ensures.counts
+    reads-mounted c.args.kept.now c.in-Some.volume c.fd.new.self _ _ (file_fault c.fd.result) 1 c.in-Some.is c.fd.ensures.media_kept c.fd.ensures.volume_kept c.fd.ensures.mounted c.fd.ensures.counts

@@ -2,7 +2,7 @@ use Rattle.std.proofs.Common.{IsSome, refl, subst, sym, ◌∙◌, arith}
 use Rattle.std.proofs.lemmas.Result.{err_from_is_err_and}
 use Rattle.rbf_access.proofs.Reading.{mounted_still}
 use Rattle.rbf_growth.proofs.Growing.{sizes_are}
-use Rattle.rbf_append.proofs.Answered.{appending, few_listed, apart_all, place_low, grow_device, grow_answers, calls_grow, calls_put, calls_store, lsn_there, same_list, put_on_drive, put_answers, put_mounted, store_on_drive, store_answers, done_answers, done_mounted}
+use Rattle.rbf_append.proofs.Answered.{appending, few_listed, apart_all, place_low, grow_device, grow_answers, calls_grow, calls_put, calls_store, lsn_there, same_list, put_on_drive, put_answers, put_mounted, put_sound, store_on_drive, store_sound, store_answers, done_answers, done_mounted}
 use Rattle.rbf_append.proofs.append.append_entry.Goals as goal
 
 pub clusters_for_place-count-requires : goal.clusters_for_place-count-requires
@@ -37,8 +37,15 @@ pub unwrap-lsn-requires : goal.unwrap-lsn-requires
 unwrap-lsn-requires g c =
     subst IsSome (sym c.lsn_of.ensures) (lsn_there _ (appending c.args.dir.now.number c.args.place c.args.entry.now c.args.now) c.requires.place (omega arith) _ refl c.args.dir.now c.requires.read c.args.v.now c.requires.mounted c.clusters_for_place-count.result c.clusters_for_place-count.ensures.count _ c.in_ok-longer.longer c.in_ok-longer.ensures.grows)
 
-pub put_entry-requires : goal.put_entry-requires
-put_entry-requires g c =
+pub put_entry-requires-clause-cached : goal.put_entry-requires-clause-cached
+put_entry-requires-clause-cached g c = c.in_ok-longer.ensures.mounted.cached
+
+pub put_entry-requires-clause-sound : goal.put_entry-requires-clause-sound
+put_entry-requires-clause-sound g c =
+    put_sound _ (appending c.args.dir.now.number c.args.place c.args.entry.now c.args.now) c.requires.place (omega arith) _ refl c.args.dir.now c.requires.read c.args.v.now c.requires.mounted c.clusters_for_place-count.result c.clusters_for_place-count.ensures.count _ c.in_ok-longer.longer c.in_ok-longer.ensures.grows c.unwrap-lsn.result (sym c.lsn_of.ensures ∙ c.unwrap-lsn.ensures) _ refl
+
+pub put_entry-requires-clause-on : goal.put_entry-requires-clause-on
+put_entry-requires-clause-on g c =
     put_on_drive _ (appending c.args.dir.now.number c.args.place c.args.entry.now c.args.now) c.requires.place (omega arith) _ refl c.args.dir.now c.requires.read c.args.v.now c.requires.mounted c.clusters_for_place-count.result c.clusters_for_place-count.ensures.count _ c.in_ok-longer.longer c.in_ok-longer.ensures.grows c.unwrap-lsn.result (sym c.lsn_of.ensures ∙ c.unwrap-lsn.ensures)
 
 pub returns-in_err-put_entry-clause-answer : goal.returns-in_err-put_entry-clause-answer
@@ -48,7 +55,7 @@ returns-in_err-put_entry-clause-answer g c v file on is =
 
 pub returns-in_err-put_entry-clause-mounted : goal.returns-in_err-put_entry-clause-mounted
 returns-in_err-put_entry-clause-mounted g c =
-    mounted_still _ _ _ _ c.in_err-put_entry.ensures.volume_kept c.in_err-put_entry.ensures.media_kept c.in_ok-longer.ensures.mounted
+    mounted_still _ _ _ _ c.in_err-put_entry.ensures.volume_kept c.in_err-put_entry.ensures.media_kept c.in_err-put_entry.ensures.cached c.in_ok-longer.ensures.mounted
 
 pub returns-in_err-put_entry-clause-counts : goal.returns-in_err-put_entry-clause-counts
 returns-in_err-put_entry-clause-counts g c v file on is =
@@ -67,8 +74,15 @@ pub longer_descriptor-bytes-requires-clause-same : goal.longer_descriptor-bytes-
 longer_descriptor-bytes-requires-clause-same g c =
     same_list _ (appending c.args.dir.now.number c.args.place c.args.entry.now c.args.now) c.requires.place (omega arith) _ refl c.args.dir.now c.requires.read c.args.v.now c.requires.mounted c.clusters_for_place-count.result c.clusters_for_place-count.ensures.count _ c.in_ok-longer.longer c.in_ok-longer.ensures.grows
 
-pub store-requires : goal.store-requires
-store-requires g c =
+pub store-requires-clause-cached : goal.store-requires-clause-cached
+store-requires-clause-cached g c = c.in_ok-put_entry.ensures.cached
+
+pub store-requires-clause-sound : goal.store-requires-clause-sound
+store-requires-clause-sound g c =
+    store_sound _ (appending c.args.dir.now.number c.args.place c.args.entry.now c.args.now) c.requires.place (omega arith) _ refl c.args.dir.now c.requires.read c.args.v.now c.requires.mounted c.clusters_for_place-count.result c.clusters_for_place-count.ensures.count _ c.in_ok-longer.longer c.in_ok-longer.ensures.grows c.unwrap-lsn.result (sym c.lsn_of.ensures ∙ c.unwrap-lsn.ensures) _ c.in_ok-put_entry.ensures.written c.longer_descriptor-bytes.result c.longer_descriptor-bytes.ensures _ refl
+
+pub store-requires-clause-on : goal.store-requires-clause-on
+store-requires-clause-on g c =
     store_on_drive _ (appending c.args.dir.now.number c.args.place c.args.entry.now c.args.now) c.requires.place (omega arith) _ refl c.args.dir.now c.requires.read c.args.v.now c.requires.mounted c.clusters_for_place-count.result c.clusters_for_place-count.ensures.count _ c.in_ok-longer.longer c.in_ok-longer.ensures.grows c.unwrap-lsn.result (sym c.lsn_of.ensures ∙ c.unwrap-lsn.ensures) _ c.in_ok-put_entry.ensures.written
 
 pub returns-in_err-store-clause-answer : goal.returns-in_err-store-clause-answer
@@ -78,8 +92,8 @@ returns-in_err-store-clause-answer g c v file on is =
 
 pub returns-in_err-store-clause-mounted : goal.returns-in_err-store-clause-mounted
 returns-in_err-store-clause-mounted g c =
-    mounted_still c.put_entry.new.v _ _ _ c.in_err-store.ensures.volume_kept c.in_err-store.ensures.media_kept
-    (put_mounted _ (appending c.args.dir.now.number c.args.place c.args.entry.now c.args.now) c.requires.place (omega arith) _ refl c.args.dir.now c.requires.read c.args.v.now c.requires.mounted c.clusters_for_place-count.result c.clusters_for_place-count.ensures.count _ c.in_ok-longer.longer c.in_ok-longer.ensures.grows c.unwrap-lsn.result (sym c.lsn_of.ensures ∙ c.unwrap-lsn.ensures) _ c.in_ok-put_entry.ensures.written _ _ c.in_ok-put_entry.ensures.volume_kept c.in_ok-longer.ensures.mounted)
+    mounted_still c.put_entry.new.v _ _ _ c.in_err-store.ensures.volume_kept c.in_err-store.ensures.media_kept c.in_err-store.ensures.cached
+    (put_mounted _ (appending c.args.dir.now.number c.args.place c.args.entry.now c.args.now) c.requires.place (omega arith) _ refl c.args.dir.now c.requires.read c.args.v.now c.requires.mounted c.clusters_for_place-count.result c.clusters_for_place-count.ensures.count _ c.in_ok-longer.longer c.in_ok-longer.ensures.grows c.unwrap-lsn.result (sym c.lsn_of.ensures ∙ c.unwrap-lsn.ensures) _ c.in_ok-put_entry.ensures.written _ _ c.in_ok-put_entry.ensures.volume_kept c.in_ok-put_entry.ensures.cached c.in_ok-longer.ensures.mounted)
 
 pub returns-in_err-store-clause-counts : goal.returns-in_err-store-clause-counts
 returns-in_err-store-clause-counts g c v file on is =
@@ -92,8 +106,8 @@ returns-clause-answer g c v file on is =
 
 pub returns-clause-mounted : goal.returns-clause-mounted
 returns-clause-mounted g c =
-    done_mounted _ (appending c.args.dir.now.number c.args.place c.args.entry.now c.args.now) c.requires.place (omega arith) _ refl c.args.dir.now c.requires.read c.args.v.now c.requires.mounted c.clusters_for_place-count.result c.clusters_for_place-count.ensures.count _ c.in_ok-longer.longer c.in_ok-longer.ensures.grows c.unwrap-lsn.result (sym c.lsn_of.ensures ∙ c.unwrap-lsn.ensures) _ c.in_ok-put_entry.ensures.written c.longer_descriptor-bytes.result c.longer_descriptor-bytes.ensures _ c.in_ok-store.ensures.written c.put_entry.new.v _ c.in_ok-store.ensures.volume_kept
-    (put_mounted _ (appending c.args.dir.now.number c.args.place c.args.entry.now c.args.now) c.requires.place (omega arith) _ refl c.args.dir.now c.requires.read c.args.v.now c.requires.mounted c.clusters_for_place-count.result c.clusters_for_place-count.ensures.count _ c.in_ok-longer.longer c.in_ok-longer.ensures.grows c.unwrap-lsn.result (sym c.lsn_of.ensures ∙ c.unwrap-lsn.ensures) _ c.in_ok-put_entry.ensures.written _ _ c.in_ok-put_entry.ensures.volume_kept c.in_ok-longer.ensures.mounted)
+    done_mounted _ (appending c.args.dir.now.number c.args.place c.args.entry.now c.args.now) c.requires.place (omega arith) _ refl c.args.dir.now c.requires.read c.args.v.now c.requires.mounted c.clusters_for_place-count.result c.clusters_for_place-count.ensures.count _ c.in_ok-longer.longer c.in_ok-longer.ensures.grows c.unwrap-lsn.result (sym c.lsn_of.ensures ∙ c.unwrap-lsn.ensures) _ c.in_ok-put_entry.ensures.written c.longer_descriptor-bytes.result c.longer_descriptor-bytes.ensures _ c.in_ok-store.ensures.written c.put_entry.new.v _ c.in_ok-store.ensures.volume_kept c.in_ok-store.ensures.cached
+    (put_mounted _ (appending c.args.dir.now.number c.args.place c.args.entry.now c.args.now) c.requires.place (omega arith) _ refl c.args.dir.now c.requires.read c.args.v.now c.requires.mounted c.clusters_for_place-count.result c.clusters_for_place-count.ensures.count _ c.in_ok-longer.longer c.in_ok-longer.ensures.grows c.unwrap-lsn.result (sym c.lsn_of.ensures ∙ c.unwrap-lsn.ensures) _ c.in_ok-put_entry.ensures.written _ _ c.in_ok-put_entry.ensures.volume_kept c.in_ok-put_entry.ensures.cached c.in_ok-longer.ensures.mounted)
 
 pub returns-clause-counts : goal.returns-clause-counts
 returns-clause-counts g c v file on is =

@@ -1,8 +1,8 @@
-use Rattle.std.proofs.Common.{Err, IsSome, ap, sym, subst, ◌∙◌}
+use Rattle.std.proofs.Common.{Err, IsSome, refl, ap, sym, subst, ◌∙◌}
 use Rattle.std.proofs.lemmas.Result.{err_from_is_err_and}
 use Rattle.rbf_growth.proofs.Growing.{sizes_are}
 use Rattle.rbf_access.proofs.Reading.{mounted_still}
-use Rattle.rbf_update.proofs.Stored.{mounted_now}
+use Rattle.rbf_update.proofs.Stored.{mounted_now, stored_sound}
 use Rattle.rbf_create.proofs.Making.{number_is, number_on_drive, stored, is_made, unwritten, makes_ok, makes_fault, makes_refused, empty_grows, first_there, number_few, kept_cluster, fd_as, refused_as}
 use Rattle.rbf_create.proofs.made.create_fd.Goals as goal
 
@@ -35,8 +35,19 @@ first_segs-segs-requires-clause-low g c =
     number_few _ _ m.content m.on c.args.attr c.args.owner c.args.now c.in_ok-space.space grown c.unwrap-n.result
     (number_is _ m.content m.on c.args.attr c.args.owner c.args.now grown.taken grown.chosen c.in_ok-space.space c.unwrap-n.result grown.segments (sym c.lsn_of.ensures ∙ c.unwrap-n.ensures))
 
-pub store-requires : goal.store-requires
-store-requires g c =
+pub store-requires-clause-cached : goal.store-requires-clause-cached
+store-requires-clause-cached g c = c.in_ok-space.ensures.mounted.cached
+
+pub store-requires-clause-sound : goal.store-requires-clause-sound
+store-requires-clause-sound g c =
+    let m = c.requires.mounted in
+    let grows = empty_grows m.content _ _ c.empty.result _ c.empty.ensures (c.in_ok-space.ensures.grows m.content m.on) in
+    let grown = grows.grown in
+    let number = number_is _ m.content m.on c.args.attr c.args.owner c.args.now grown.taken grown.chosen c.in_ok-space.space c.unwrap-n.result grown.segments (sym c.lsn_of.ensures ∙ c.unwrap-n.ensures) in
+    stored_sound _ _ _ _ (stored _ _ m.content m.on c.args.attr c.args.owner c.args.now c.in_ok-space.space grown c.unwrap-n.result number c.descriptor.result c.descriptor.ensures.whole _ refl)
+
+pub store-requires-clause-on : goal.store-requires-clause-on
+store-requires-clause-on g c =
     let m = c.requires.mounted in
     let grows = empty_grows m.content _ _ c.empty.result _ c.empty.ensures (c.in_ok-space.ensures.grows m.content m.on) in
     let grown = grows.grown in
@@ -54,7 +65,7 @@ returns-in_err-store-clause-makes g c v on =
     (number_is _ v on c.args.attr c.args.owner c.args.now grown.taken grown.chosen c.in_ok-space.space c.unwrap-n.result grown.segments (sym c.lsn_of.ensures ∙ c.unwrap-n.ensures)) _ c.in_err-store.ensures.media_kept)
 
 pub returns-in_err-store-clause-mounted : goal.returns-in_err-store-clause-mounted
-returns-in_err-store-clause-mounted g c = mounted_still _ _ _ _ c.in_err-store.ensures.volume_kept c.in_err-store.ensures.media_kept c.in_ok-space.ensures.mounted
+returns-in_err-store-clause-mounted g c = mounted_still _ _ _ _ c.in_err-store.ensures.volume_kept c.in_err-store.ensures.media_kept c.in_err-store.ensures.cached c.in_ok-space.ensures.mounted
 
 pub returns-clause-makes : goal.returns-clause-makes
 returns-clause-makes g c v on =
@@ -74,4 +85,4 @@ returns-clause-mounted g c =
     let grown = grows.grown in
     let number = number_is _ m.content m.on c.args.attr c.args.owner c.args.now grown.taken grown.chosen c.in_ok-space.space c.unwrap-n.result grown.segments (sym c.lsn_of.ensures ∙ c.unwrap-n.ensures) in
     mounted_now _ _ _ _ (stored _ _ m.content m.on c.args.attr c.args.owner c.args.now c.in_ok-space.space grown c.unwrap-n.result number c.descriptor.result c.descriptor.ensures.whole _ c.in_ok-store.ensures.written)
-    c.grow.new.volume c.store.new.self c.in_ok-store.ensures.volume_kept c.in_ok-space.ensures.mounted
+    c.grow.new.volume c.store.new.self c.in_ok-store.ensures.volume_kept c.in_ok-store.ensures.cached c.in_ok-space.ensures.mounted

@@ -2,29 +2,29 @@ use Rattle.std.proofs.Common.{ap, sym, subst, arith}
 use Rattle.rbf_change.specs.Agrees.{KeptVolume}
 use Rattle.rbf_access.specs.Mounted.{kept}
 use Rattle.rbf_drop.specs.Own.{here, AreInMap, ClearsMarks}
-use Rattle.rbf_drop.proofs.Releasing.{go_sector, go_in_map, go_positive, clears_nothing, clears_next, none_if}
+use Rattle.rbf_drop.proofs.Releasing.{go_sector, go_in_map, go_positive, clears_nothing, clears_next, go_sound, none_if}
 use Rattle.rbf_cut.specs.Rest.{in_rest}
 use Rattle.rbf_cut.proofs.release.release_in.Goals as goal
 
 pub first_in-requires : goal.first_in-requires
-first_in-requires g c = go_positive _ c.args.place _ (kept c.args.volume.now) c.requires
+first_in-requires g c = go_positive _ c.args.place _ (kept c.args.volume.now) c.requires.go
 
 pub returns-then-is_none-clause-ok : goal.returns-then-is_none-clause-ok
 returns-then-is_none-clause-ok g c = clears_nothing _ c.args.place _ (kept c.args.volume.now) (none_if c.first_in.result _ _ c.if-is_none.ensures c.first_in.ensures)
 
 pub clear_rest-requires : goal.clear_rest-requires
-clear_rest-requires g c = go_positive _ c.args.place _ (kept c.args.volume.now) c.requires
+clear_rest-requires g c = go_positive _ c.args.place _ (kept c.args.volume.now) c.requires.go
 
-pub store-requires : goal.store-requires
-store-requires g c =
-    let there = go_sector _ c.args.place _ (kept c.args.volume.now) c.requires in
+pub store-requires-clause-on : goal.store-requires-clause-on
+store-requires-clause-on g c =
+    let there = go_sector _ c.args.place _ (kept c.args.volume.now) c.requires.go in
     let place = c.from.ensures in
     omega arith
 
 pub free_rest-requires-clause-in_map : goal.free_rest-requires-clause-in_map
 free_rest-requires-clause-in_map g c =
     let same = ap (λ (kv : KeptVolume). kv.map) c.in_ok-store.ensures.volume_kept in
-    subst (AreInMap (in_rest c.args.volume.now.ident.cluster c.args.cut.now)) (sym same) (go_in_map _ c.args.place _ (kept c.args.volume.now) c.requires)
+    subst (AreInMap (in_rest c.args.volume.now.ident.cluster c.args.cut.now)) (sym same) (go_in_map _ c.args.place _ (kept c.args.volume.now) c.requires.go)
 
 pub returns-clause-ok : goal.returns-clause-ok
 returns-clause-ok g c =
@@ -34,3 +34,8 @@ returns-clause-ok g c =
     c.from.ensures c.in_ok-store.ensures.written
     (subst (λ m. ClearsMarks m c.free_rest.new.map (here gone c.args.place)) (ap (λ (kv : KeptVolume). kv.map) same) c.free_rest.ensures)
     (ap (λ (kv : KeptVolume). record { sizes = kv.sizes; map = c.free_rest.new.map }) same)
+
+pub store-requires-clause-sound : goal.store-requires-clause-sound
+store-requires-clause-sound g c =
+    go_sound (in_rest c.args.volume.now.ident.cluster c.args.cut.now) c.args.place _ _ (kept c.args.volume.now) c.sector.new.into c.clear_rest.new.bytes c.sector.ensures (c.clear_rest.array_long) c.clear_rest.ensures
+    c.from.ensures c.requires.go

@@ -1,4 +1,5 @@
 -- So far the sectors of the map before this one have been written, without the marks.
+use Rattle.rbf_access.specs.Cached.{IsCacheOf}
 use Rattle.rbf_access.specs.Drive.{drive_counts}
 use Rattle.rbf_access.specs.Mounted.{kept}
 use Rattle.rbf_cut.specs.Rest.{in_rest}
@@ -7,6 +8,7 @@ use Rattle.rbf_cut.proofs.release.release_rest.Given as goal
 
 abbrev pub invariant-loop-place : goal.invariant-loop-place
 invariant-loop-place g l =
-    IsReleaseSoFar (in_rest l.fn.volume.ident.cluster l.cut) l.place (kept l.fn.volume) (kept l.volume)
+    (IsReleaseSoFar (in_rest l.fn.volume.ident.cluster l.cut) l.place (kept l.fn.volume) (kept l.volume)
     ((goal.BlockDriver-dyn g l.fn.d.now).media l.fn.d.now.1) ((goal.BlockDriver-dyn g l.d.now).media l.d.now.1)
-    (drive_counts (goal.BlockDriver-dyn g l.fn.d.now) l.fn.d.now.1) (drive_counts (goal.BlockDriver-dyn g l.d.now) l.d.now.1)
+    (drive_counts (goal.BlockDriver-dyn g l.fn.d.now) l.fn.d.now.1) (drive_counts (goal.BlockDriver-dyn g l.d.now) l.d.now.1))
+    × IsCacheOf ((goal.BlockDriver-dyn g l.d.now).media l.d.now.1) l.volume.cache

@@ -2,13 +2,21 @@ use Rattle.std.proofs.Common.{refl, inl, inr, arith}
 use Rattle.std.proofs.lemmas.Result.{err_from_is_err_and}
 use Rattle.rbf_access.proofs.Counting.{counts_then, counts_most}
 use Rattle.rbf_access.proofs.Reading.{mounted_still}
-use Rattle.rbf_update.proofs.Deleting.{entry_on_drive, frees_on, freed_mounted}
+use Rattle.rbf_update.proofs.Deleting.{entry_on_drive, frees_on, freed_mounted, freed_sound}
 use Rattle.rbf_dirs.proofs.Ends.{stopped_answer}
 use Rattle.rbf_dirs.proofs.Gone.{has_gone, list_there, deleted_on, half_deleted_on, calls_on_file}
 use Rattle.rbf_dirs.proofs.found.delete_at.Goals as goal
 
-pub free_entry-requires : goal.free_entry-requires
-free_entry-requires g c = entry_on_drive _ _ c.requires.found.directory c.requires.found.name c.args.found.now c.requires.found.is refl
+pub free_entry-requires-clause-cached : goal.free_entry-requires-clause-cached
+free_entry-requires-clause-cached g c = c.requires.mounted.cached
+
+pub free_entry-requires-clause-sound : goal.free_entry-requires-clause-sound
+free_entry-requires-clause-sound g c =
+    freed_sound _ _ c.requires.found.directory c.requires.found.name c.args.found.now
+    (frees_on _ _ _ c.requires.found.directory c.requires.found.name c.args.found.now c.requires.found.is refl refl)
+
+pub free_entry-requires-clause-on : goal.free_entry-requires-clause-on
+free_entry-requires-clause-on g c = entry_on_drive _ _ c.requires.found.directory c.requires.found.name c.args.found.now c.requires.found.is refl
 
 pub returns-in_err-free_entry-clause-answer : goal.returns-in_err-free_entry-clause-answer
 returns-in_err-free_entry-clause-answer g c dir name u at on =
@@ -16,7 +24,7 @@ returns-in_err-free_entry-clause-answer g c dir name u at on =
     rw (p.1, p.2) (stopped_answer u dir c.args.found.now.descriptor name _ _ c.in_err-free_entry.field-0.0 c.in_err-free_entry.ensures.device (inl c.in_err-free_entry.ensures.media_kept))
 
 pub returns-in_err-free_entry-clause-mounted : goal.returns-in_err-free_entry-clause-mounted
-returns-in_err-free_entry-clause-mounted g c = mounted_still _ _ _ _ c.in_err-free_entry.ensures.volume_kept c.in_err-free_entry.ensures.media_kept c.requires.mounted
+returns-in_err-free_entry-clause-mounted g c = mounted_still _ _ _ _ c.in_err-free_entry.ensures.volume_kept c.in_err-free_entry.ensures.media_kept c.in_err-free_entry.ensures.cached c.requires.mounted
 
 pub returns-in_err-free_entry-clause-counts : goal.returns-in_err-free_entry-clause-counts
 returns-in_err-free_entry-clause-counts g c v file on is =
@@ -27,7 +35,7 @@ pub drop_own-requires-clause-mounted : goal.drop_own-requires-clause-mounted
 drop_own-requires-clause-mounted g c =
     freed_mounted _ _ c.requires.found.directory c.requires.found.name c.args.found.now
     (frees_on _ _ _ c.requires.found.directory c.requires.found.name c.args.found.now c.requires.found.is refl c.in_ok-free_entry.ensures.written)
-    _ _ c.in_ok-free_entry.ensures.volume_kept c.requires.mounted
+    _ _ c.in_ok-free_entry.ensures.volume_kept c.in_ok-free_entry.ensures.cached c.requires.mounted
 
 pub drop_own-requires-clause-gone : goal.drop_own-requires-clause-gone
 drop_own-requires-clause-gone g c =

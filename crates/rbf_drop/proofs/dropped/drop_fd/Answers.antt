@@ -8,15 +8,18 @@ use Rattle.rbf_access.proofs.Reading.{mounted_still}
 use Rattle.rbf_drop.proofs.Dropping.{agrees_on, drop_unread, on_err, still_gone, still_has_gone, dropped_before, ended_before, calls_before}
 use Rattle.rbf_drop.proofs.dropped.drop_fd.Goals as goal
 
+pub load-requires-clause-cached : goal.load-requires-clause-cached
+load-requires-clause-cached g c = c.requires.mounted.cached
+
 pub returns-in_err-bytes-clause-fault : goal.returns-in_err-bytes-clause-fault
 returns-in_err-bytes-clause-fault g c v file gone =
     on_err _ _ (drop_unread _ c.args.fd v file gone (kept c.args.volume.now) (agrees_on c.args.volume.now _ v c.requires.mounted gone.on) _ c.in_err-bytes.ensures.media_kept)
 
 pub returns-in_err-bytes-clause-mounted : goal.returns-in_err-bytes-clause-mounted
-returns-in_err-bytes-clause-mounted g c = mounted_still _ _ _ _ c.in_err-bytes.ensures.volume_kept c.in_err-bytes.ensures.media_kept c.requires.mounted
+returns-in_err-bytes-clause-mounted g c = mounted_still _ _ _ _ c.in_err-bytes.ensures.volume_kept c.in_err-bytes.ensures.media_kept c.in_err-bytes.ensures.cached c.requires.mounted
 
 pub drop_own-requires-clause-mounted : goal.drop_own-requires-clause-mounted
-drop_own-requires-clause-mounted g c = mounted_still _ _ _ _ c.in_ok-bytes.ensures.volume_kept c.in_ok-bytes.ensures.media_kept c.requires.mounted
+drop_own-requires-clause-mounted g c = mounted_still _ _ _ _ c.in_ok-bytes.ensures.volume_kept c.in_ok-bytes.ensures.media_kept c.in_ok-bytes.ensures.cached c.requires.mounted
 
 pub drop_own-requires-clause-gone : goal.drop_own-requires-clause-gone
 drop_own-requires-clause-gone g c = still_has_gone _ _ c.args.fd c.in_ok-bytes.ensures.media_kept c.requires.gone

@@ -1,11 +1,11 @@
-use Rattle.std.proofs.Common.{◌≡◌, ℕ, List, Err, IsSome, ◌+◌, ap, sym, subst, ◌∙◌, arith}
+use Rattle.std.proofs.Common.{◌≡◌, ℕ, List, Err, IsSome, refl, ◌+◌, ap, sym, subst, ◌∙◌, arith}
 use Rattle.std.proofs.lemmas.Result.{err_from_is_err_and}
 use Rattle.rbf_change.specs.Calls.{cluster_size}
 use Rattle.rbf_change.specs.NewFiles.{file_clusters}
 use Rattle.rbf_access.proofs.Counting.{counts_then}
 use Rattle.rbf_access.proofs.Reading.{mounted_still}
 use Rattle.rbf_growth.proofs.Growing.{sizes_are}
-use Rattle.rbf_update.proofs.Stored.{mounted_now}
+use Rattle.rbf_update.proofs.Stored.{mounted_now, stored_sound}
 use Rattle.rbf_create.proofs.Making.{refused_as}
 use Rattle.rbf_folder.proofs.Counted.{fault_calls, made_calls}
 use Rattle.rbf_folder.proofs.Making.{kept_size, empty_grows, folder_refused, folder_fault, taken_or, number_there, first_there, m_low, f_low, f_on_drive, listed_stored, unlisted, ends_undescribed, m_on_drive, described_stored, made_as, marks_as}
@@ -40,8 +40,17 @@ listing-requires-clause-number g c =
     let low = m_low _ _ m.content m.on c.args.parent c.args.attr c.args.owner c.args.now c.in_ok-space.space grows.grown c.unwrap-n.result c.unwrap-first.result (sym c.lsn_of.ensures ∙ c.unwrap-n.ensures) (sym c.lsn_of-2.ensures ∙ c.unwrap-first.ensures) in
     omega arith
 
-pub store-requires : goal.store-requires
-store-requires g c =
+pub store-requires-clause-cached : goal.store-requires-clause-cached
+store-requires-clause-cached g c = c.in_ok-space.ensures.mounted.cached
+
+pub store-requires-clause-sound : goal.store-requires-clause-sound
+store-requires-clause-sound g c =
+    let m = c.requires.mounted in
+    let grows = empty_grows m.content _ _ c.empty.result c.args.volume.now.ident.cluster c.new_clusters.result _ c.empty.ensures c.new_clusters.ensures.value (kept_size c.args.volume.now _ m.content c.requires.mounted m.on) (c.in_ok-space.ensures.grows m.content m.on) in
+    stored_sound _ _ _ _ (listed_stored _ _ m.content m.on c.args.parent c.args.attr c.args.owner c.args.now c.in_ok-space.space grows.grown c.unwrap-n.result c.unwrap-first.result (sym c.lsn_of.ensures ∙ c.unwrap-n.ensures) (sym c.lsn_of-2.ensures ∙ c.unwrap-first.ensures) c.listing.result c.listing.ensures _ refl)
+
+pub store-requires-clause-on : goal.store-requires-clause-on
+store-requires-clause-on g c =
     let m = c.requires.mounted in
     let grows = empty_grows m.content _ _ c.empty.result c.args.volume.now.ident.cluster c.new_clusters.result _ c.empty.ensures c.new_clusters.ensures.value (kept_size c.args.volume.now _ m.content c.requires.mounted m.on) (c.in_ok-space.ensures.grows m.content m.on) in
     f_on_drive _ _ m.content m.on c.args.parent c.args.attr c.args.owner c.args.now c.in_ok-space.space grows.grown c.unwrap-n.result c.unwrap-first.result (sym c.lsn_of.ensures ∙ c.unwrap-n.ensures) (sym c.lsn_of-2.ensures ∙ c.unwrap-first.ensures) c.listing.result c.listing.ensures
@@ -55,7 +64,7 @@ returns-in_err-store-clause-makes g c v on =
 
 pub returns-in_err-store-clause-mounted : goal.returns-in_err-store-clause-mounted
 returns-in_err-store-clause-mounted g c =
-    mounted_still _ _ _ _ c.in_err-store.ensures.volume_kept c.in_err-store.ensures.media_kept c.in_ok-space.ensures.mounted
+    mounted_still _ _ _ _ c.in_err-store.ensures.volume_kept c.in_err-store.ensures.media_kept c.in_err-store.ensures.cached c.in_ok-space.ensures.mounted
 
 pub returns-in_err-store-clause-counts : goal.returns-in_err-store-clause-counts
 returns-in_err-store-clause-counts g c v on =
@@ -74,8 +83,17 @@ first_segs-requires-clause-low g c =
     let grows = empty_grows m.content _ _ c.empty.result c.args.volume.now.ident.cluster c.new_clusters.result _ c.empty.ensures c.new_clusters.ensures.value (kept_size c.args.volume.now _ m.content c.requires.mounted m.on) (c.in_ok-space.ensures.grows m.content m.on) in
     f_low _ _ m.content m.on c.args.parent c.args.attr c.args.owner c.args.now c.in_ok-space.space grows.grown c.unwrap-n.result c.unwrap-first.result (sym c.lsn_of.ensures ∙ c.unwrap-n.ensures) (sym c.lsn_of-2.ensures ∙ c.unwrap-first.ensures)
 
-pub store-requires-2 : goal.store-requires-2
-store-requires-2 g c =
+pub store-requires-2-clause-cached : goal.store-requires-2-clause-cached
+store-requires-2-clause-cached g c = c.in_ok-store.ensures.cached
+
+pub store-requires-2-clause-sound : goal.store-requires-2-clause-sound
+store-requires-2-clause-sound g c =
+    let m = c.requires.mounted in
+    let grows = empty_grows m.content _ _ c.empty.result c.args.volume.now.ident.cluster c.new_clusters.result _ c.empty.ensures c.new_clusters.ensures.value (kept_size c.args.volume.now _ m.content c.requires.mounted m.on) (c.in_ok-space.ensures.grows m.content m.on) in
+    stored_sound _ _ _ _ (described_stored _ _ m.content m.on c.args.parent c.args.attr c.args.owner c.args.now c.in_ok-space.space grows.grown c.unwrap-n.result c.unwrap-first.result (sym c.lsn_of.ensures ∙ c.unwrap-n.ensures) (sym c.lsn_of-2.ensures ∙ c.unwrap-first.ensures) c.listing.result c.listing.ensures _ c.in_ok-store.ensures.written c.descriptor.result c.descriptor.ensures.whole _ refl)
+
+pub store-requires-2-clause-on : goal.store-requires-2-clause-on
+store-requires-2-clause-on g c =
     let m = c.requires.mounted in
     let grows = empty_grows m.content _ _ c.empty.result c.args.volume.now.ident.cluster c.new_clusters.result _ c.empty.ensures c.new_clusters.ensures.value (kept_size c.args.volume.now _ m.content c.requires.mounted m.on) (c.in_ok-space.ensures.grows m.content m.on) in
     m_on_drive _ _ m.content m.on c.args.parent c.args.attr c.args.owner c.args.now c.in_ok-space.space grows.grown c.unwrap-n.result c.unwrap-first.result (sym c.lsn_of.ensures ∙ c.unwrap-n.ensures) (sym c.lsn_of-2.ensures ∙ c.unwrap-first.ensures) c.listing.result c.listing.ensures _ c.in_ok-store.ensures.written c.descriptor.result c.descriptor.ensures.whole
@@ -91,8 +109,8 @@ pub returns-in_err-store-2-clause-mounted : goal.returns-in_err-store-2-clause-m
 returns-in_err-store-2-clause-mounted g c =
     let m = c.requires.mounted in
     let grows = empty_grows m.content _ _ c.empty.result c.args.volume.now.ident.cluster c.new_clusters.result _ c.empty.ensures c.new_clusters.ensures.value (kept_size c.args.volume.now _ m.content c.requires.mounted m.on) (c.in_ok-space.ensures.grows m.content m.on) in
-    mounted_still _ _ _ _ c.in_err-store-2.ensures.volume_kept c.in_err-store-2.ensures.media_kept
-    (mounted_now _ _ _ _ (listed_stored _ _ m.content m.on c.args.parent c.args.attr c.args.owner c.args.now c.in_ok-space.space grows.grown c.unwrap-n.result c.unwrap-first.result (sym c.lsn_of.ensures ∙ c.unwrap-n.ensures) (sym c.lsn_of-2.ensures ∙ c.unwrap-first.ensures) c.listing.result c.listing.ensures _ c.in_ok-store.ensures.written) c.grow.new.volume c.store.new.self c.in_ok-store.ensures.volume_kept c.in_ok-space.ensures.mounted)
+    mounted_still _ _ _ _ c.in_err-store-2.ensures.volume_kept c.in_err-store-2.ensures.media_kept c.in_err-store-2.ensures.cached
+    (mounted_now _ _ _ _ (listed_stored _ _ m.content m.on c.args.parent c.args.attr c.args.owner c.args.now c.in_ok-space.space grows.grown c.unwrap-n.result c.unwrap-first.result (sym c.lsn_of.ensures ∙ c.unwrap-n.ensures) (sym c.lsn_of-2.ensures ∙ c.unwrap-first.ensures) c.listing.result c.listing.ensures _ c.in_ok-store.ensures.written) c.grow.new.volume c.store.new.self c.in_ok-store.ensures.volume_kept c.in_ok-store.ensures.cached c.in_ok-space.ensures.mounted)
 
 pub returns-in_err-store-2-clause-counts : goal.returns-in_err-store-2-clause-counts
 returns-in_err-store-2-clause-counts g c v on =
@@ -111,8 +129,8 @@ returns-clause-mounted g c =
     let m = c.requires.mounted in
     let grows = empty_grows m.content _ _ c.empty.result c.args.volume.now.ident.cluster c.new_clusters.result _ c.empty.ensures c.new_clusters.ensures.value (kept_size c.args.volume.now _ m.content c.requires.mounted m.on) (c.in_ok-space.ensures.grows m.content m.on) in
     mounted_now _ _ _ _ (described_stored _ _ m.content m.on c.args.parent c.args.attr c.args.owner c.args.now c.in_ok-space.space grows.grown c.unwrap-n.result c.unwrap-first.result (sym c.lsn_of.ensures ∙ c.unwrap-n.ensures) (sym c.lsn_of-2.ensures ∙ c.unwrap-first.ensures) c.listing.result c.listing.ensures _ c.in_ok-store.ensures.written c.descriptor.result c.descriptor.ensures.whole _ c.in_ok-store-2.ensures.written)
-    c.store.new.self c.store-2.new.self c.in_ok-store-2.ensures.volume_kept
-    (mounted_now _ _ _ _ (listed_stored _ _ m.content m.on c.args.parent c.args.attr c.args.owner c.args.now c.in_ok-space.space grows.grown c.unwrap-n.result c.unwrap-first.result (sym c.lsn_of.ensures ∙ c.unwrap-n.ensures) (sym c.lsn_of-2.ensures ∙ c.unwrap-first.ensures) c.listing.result c.listing.ensures _ c.in_ok-store.ensures.written) c.grow.new.volume c.store.new.self c.in_ok-store.ensures.volume_kept c.in_ok-space.ensures.mounted)
+    c.store.new.self c.store-2.new.self c.in_ok-store-2.ensures.volume_kept c.in_ok-store-2.ensures.cached
+    (mounted_now _ _ _ _ (listed_stored _ _ m.content m.on c.args.parent c.args.attr c.args.owner c.args.now c.in_ok-space.space grows.grown c.unwrap-n.result c.unwrap-first.result (sym c.lsn_of.ensures ∙ c.unwrap-n.ensures) (sym c.lsn_of-2.ensures ∙ c.unwrap-first.ensures) c.listing.result c.listing.ensures _ c.in_ok-store.ensures.written) c.grow.new.volume c.store.new.self c.in_ok-store.ensures.volume_kept c.in_ok-store.ensures.cached c.in_ok-space.ensures.mounted)
 
 pub returns-in_err-space-clause-counts : goal.returns-in_err-space-clause-counts
 returns-in_err-space-clause-counts g c v on =

@@ -34,7 +34,7 @@ returns-in_err-longer-clause-grows g c v on =
     }
 
 pub returns-in_err-longer-clause-mounted : goal.returns-in_err-longer-clause-mounted
-returns-in_err-longer-clause-mounted g c = mounted_same c.args.volume.now _ c.gain.new.map _ c.requires.mounted c.in_err-longer.ensures.back refl
+returns-in_err-longer-clause-mounted g c = mounted_same c.args.volume.now _ c.gain.new.map _ c.requires.mounted c.in_err-longer.ensures.back refl c.requires.mounted.cached
 
 pub write_marks-requires-clause-marking : goal.write_marks-requires-clause-marking
 write_marks-requires-clause-marking g c =
@@ -91,7 +91,7 @@ returns-in-Ok-clause-mounted g c =
     mounted_where c.write_marks.new.volume _ _ marked.now _ marked.is marked.marked.vol
     (grown_agrees c.args.volume.now m.on.image m.content m.on.vol m.agrees c.gain.new.map c.args.count c.args.segs.now c.in_ok-longer.longer c.in_ok-longer.ensures.ok _ _ m.on.is c.write_marks.new.written marked
     (subst (λ xs. AllWritten xs c.write_marks.new.written) those c.in-Ok.ensures.all))
-    c.in-Ok.ensures.volume_kept
+    c.in-Ok.ensures.volume_kept c.in-Ok.ensures.cached
 
 pub returns-in-Err-clause-grows : goal.returns-in-Err-clause-grows
 returns-in-Err-clause-grows g c v on =
@@ -123,7 +123,7 @@ returns-in-Err-clause-mounted g c =
     (back_agrees c.args.volume.now m.on.image m.content m.on.vol m.agrees c.gain.new.map c.args.count c.args.segs.now c.in_ok-longer.longer c.in_ok-longer.ensures.ok _ _ m.on.is c.write_marks.new.written marked
     c.give_back.new.map c.sectors-first.result those
     (subst (λ n. IsGivenBack c.args.volume.now.ident.cluster c.in_ok-longer.longer c.sectors-first.result c.args.count c.write_marks.new.written n c.give_back.new.map) same c.give_back.ensures))
-    (ap (λ s. record { sizes = s; map = c.give_back.new.map }) sizes_same)
+    (ap (λ s. record { sizes = s; map = c.give_back.new.map }) sizes_same) c.in-Err.ensures.cached
 
 pub returns-in-Ok-clause-counts : goal.returns-in-Ok-clause-counts
 returns-in-Ok-clause-counts g c =
@@ -166,3 +166,6 @@ returns-in-Err-clause-marks g c v on =
     let those = those_gained c.args.volume.now.ident.cluster c.args.count c.args.volume.now.map c.gain.new.map c.args.segs.now c.in_ok-longer.longer c.in_ok-longer.ensures.ok sizes.some c.sectors-first.result c.sectors-first.ensures.count in
     at_most_all _ _ _ _ _ (wanted_calls _ c.args.count (λ p. true) (replicate 256 false) (map_sectors (shape v)) _ _
     (c.in-Err.ensures.counts (λ p. true) (map_sectors (shape v)) (wanted_all c.args.volume.now on.image v on.vol agrees c.gain.new.map c.args.count c.args.segs.now c.in_ok-longer.longer c.in_ok-longer.ensures.ok c.sectors-first.result places those)))
+
+pub write_marks-requires-clause-cached : goal.write_marks-requires-clause-cached
+write_marks-requires-clause-cached g c = c.requires.mounted.cached

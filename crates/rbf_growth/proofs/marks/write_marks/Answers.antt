@@ -22,10 +22,10 @@ overflow_add-first g c =
     omega arith
 
 pub loop-i-init : goal.loop-i-init
-loop-i-init g c = none_marked _ _ _ _ _ _ _
+loop-i-init g c = none_marked _ _ _ _ _ _ _ _ c.requires.cached
 
 pub write_mark-requires-clause-marking : goal.write_mark-requires-clause-marking
-write_mark-requires-clause-marking g c = still_marking _ _ _ _ _ _ _ _ _ _ _ _ c.loop-i.invariant c.requires.marking
+write_mark-requires-clause-marking g c = still_marking _ _ _ _ _ _ _ _ _ _ _ _ _ c.loop-i.invariant c.requires.marking
 
 pub write_mark-requires-clause-in_map : goal.write_mark-requires-clause-in_map
 write_mark-requires-clause-in_map g c =
@@ -35,13 +35,13 @@ write_mark-requires-clause-in_map g c =
     omega (arith, place, low, same)
 
 pub returns-in_err-write_mark-clause-on : goal.returns-in_err-write_mark-clause-on
-returns-in_err-write_mark-clause-on g c = on_at_fault _ _ _ _ _ _ _ _ _ _ _ _ c.loop-i.invariant _ _ c.in_err-write_mark.ensures.on
+returns-in_err-write_mark-clause-on g c = on_at_fault _ _ _ _ _ _ _ _ _ _ _ _ _ c.loop-i.invariant _ _ c.in_err-write_mark.ensures.on
 
 pub loop-i-preserved : goal.loop-i-preserved
 loop-i-preserved g c =
     let step = c.in_ok-write_mark.ensures in
-    marked_more _ _ _ _ _ _ _ _ _ _ _ _ c.loop-i.invariant c.cluster_of-cluster.result _ _ _ _ step.on step.there step.marked
-    (c.cluster_of-cluster.ensures ∙ ap (λ k. cluster_at c.args.volume.now.ident.cluster c.args.segs.now (c.args.first + c.loop-i.i * k)) c.from.ensures) step.volume_kept step.counts
+    marked_more _ _ _ _ _ _ _ _ _ _ _ _ _ c.loop-i.invariant c.cluster_of-cluster.result _ _ _ _ _ step.on step.there step.marked
+    (c.cluster_of-cluster.ensures ∙ ap (λ k. cluster_at c.args.volume.now.ident.cluster c.args.segs.now (c.args.first + c.loop-i.i * k)) c.from.ensures) step.volume_kept step.cached step.counts
 
 pub returns-clause-all : goal.returns-clause-all
 returns-clause-all g c =
@@ -52,8 +52,11 @@ pub returns-in_err-write_mark-clause-counts : goal.returns-in_err-write_mark-cla
 returns-in_err-write_mark-clause-counts g c =
     let p = err_from_is_err_and c.from_residual.result c.from_residual.ensures.1 in
     rw (p.1, p.2)
-    (calls_at_fault _ _ _ _ _ _ _ _ _ _ _ _ c.loop-i.invariant _ c.cluster_of-cluster.result c.args.count _ (omega arith)
+    (calls_at_fault _ _ _ _ _ _ _ _ _ _ _ _ _ c.loop-i.invariant _ c.cluster_of-cluster.result c.args.count _ (omega arith)
     (c.cluster_of-cluster.ensures ∙ ap (λ k. cluster_at c.args.volume.now.ident.cluster c.args.segs.now (c.args.first + c.loop-i.i * k)) c.from.ensures) c.in_err-write_mark.ensures.counts)
 
 pub returns-clause-counts : goal.returns-clause-counts
-returns-clause-counts g c = calls_of_all _ _ _ _ _ _ _ _ _ _ _ _ c.loop-i.invariant c.args.count (omega arith)
+returns-clause-counts g c = calls_of_all _ _ _ _ _ _ _ _ _ _ _ _ _ c.loop-i.invariant c.args.count (omega arith)
+
+pub write_mark-requires-clause-cached : goal.write_mark-requires-clause-cached
+write_mark-requires-clause-cached g c = c.loop-i.invariant.cached

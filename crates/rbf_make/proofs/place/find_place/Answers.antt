@@ -66,14 +66,17 @@ pub returns-then-not-may_change-clause-counts : goal.returns-then-not-may_change
 returns-then-not-may_change-clause-counts g c v file on is =
     one_look file c.args.name.now c.args.user c.args.execute (sym c.is_dots.ensures.value ∙ c.if-is_dots.false) _ _ _ c.in_ok-loaded.ensures.counts
 
+pub load_file-requires-clause-cached : goal.load_file-requires-clause-cached
+load_file-requires-clause-cached g c = c.requires.mounted.cached
+
 pub returns-in_err-loaded-clause-mounted : goal.returns-in_err-loaded-clause-mounted
-returns-in_err-loaded-clause-mounted g c = mounted_still _ _ _ _ c.in_err-loaded.ensures.volume_kept c.in_err-loaded.ensures.media_kept c.requires.mounted
+returns-in_err-loaded-clause-mounted g c = mounted_still _ _ _ _ c.in_err-loaded.ensures.volume_kept c.in_err-loaded.ensures.media_kept c.in_err-loaded.ensures.cached c.requires.mounted
 
 pub returns-then-not-may_change-clause-mounted : goal.returns-then-not-may_change-clause-mounted
-returns-then-not-may_change-clause-mounted g c = mounted_still _ _ _ _ c.in_ok-loaded.ensures.volume_kept c.in_ok-loaded.ensures.media_kept c.requires.mounted
+returns-then-not-may_change-clause-mounted g c = mounted_still _ _ _ _ c.in_ok-loaded.ensures.volume_kept c.in_ok-loaded.ensures.media_kept c.in_ok-loaded.ensures.cached c.requires.mounted
 
 pub search-requires-clause-mounted : goal.search-requires-clause-mounted
-search-requires-clause-mounted g c = mounted_still _ _ _ _ c.in_ok-loaded.ensures.volume_kept c.in_ok-loaded.ensures.media_kept c.requires.mounted
+search-requires-clause-mounted g c = mounted_still _ _ _ _ c.in_ok-loaded.ensures.volume_kept c.in_ok-loaded.ensures.media_kept c.in_ok-loaded.ensures.cached c.requires.mounted
 
 pub returns-in-Absent-clause-read : goal.returns-in-Absent-clause-read
 returns-in-Absent-clause-read g c = record { read = c.in_ok-loaded.ensures.ok; user_is = refl; execute_is = refl }

@@ -4,7 +4,7 @@ use Rattle.rbf_access.proofs.Counting.{counts_most}
 use Rattle.rbf_access.proofs.Reading.{number_on, mounted_still}
 use Rattle.rbf_write.proofs.Sized.{unread_ends}
 use Rattle.rbf_write.proofs.Steps.{has_file}
-use Rattle.rbf_size.proofs.CutAnswers.{cut_room, cut_same, cut_calls, releasing, may_release, cut_done, cut_mounted, cut_stopped, stopped_mounted}
+use Rattle.rbf_size.proofs.CutAnswers.{cut_room, cut_same, cut_calls, releasing, cut_sound, may_release, cut_done, cut_mounted, cut_stopped, stopped_mounted}
 use Rattle.rbf_size.proofs.shorter.cut.Goals as goal
 
 pub kept_segments-segs-requires-clause-room : goal.kept_segments-segs-requires-clause-room
@@ -22,15 +22,26 @@ returns-in_err-store_cut-clause-answer g c v file on is =
     rw (p.1, p.2) (unread_ends _ v file on _ is _ _ c.in_err-store_cut.ensures.device c.in_err-store_cut.ensures.media_kept)
 
 pub returns-in_err-store_cut-clause-mounted : goal.returns-in_err-store_cut-clause-mounted
-returns-in_err-store_cut-clause-mounted g c = mounted_still _ _ _ _ c.in_err-store_cut.ensures.volume_kept c.in_err-store_cut.ensures.media_kept c.requires.mounted
+returns-in_err-store_cut-clause-mounted g c = mounted_still _ _ _ _ c.in_err-store_cut.ensures.volume_kept c.in_err-store_cut.ensures.media_kept c.in_err-store_cut.ensures.cached c.requires.mounted
 
 pub returns-in_err-store_cut-clause-counts : goal.returns-in_err-store_cut-clause-counts
 returns-in_err-store_cut-clause-counts g c v file on is =
     let p = err_from_is_err_and c.from_residual.result c.from_residual.ensures.1 in
     rw (p.1, p.2) (counts_most _ 1 _ _ _ (omega arith) c.in_err-store_cut.ensures.counts)
 
-pub release_rest-requires : goal.release_rest-requires
-release_rest-requires g c =
+pub store_cut-requires-clause-cached : goal.store_cut-requires-clause-cached
+store_cut-requires-clause-cached g c = c.requires.mounted.cached
+
+pub store_cut-requires-clause-sound : goal.store_cut-requires-clause-sound
+store_cut-requires-clause-sound g c after stored =
+    cut_sound _ after c.args.loaded.now c.args.size c.args.now c.requires.loaded c.requires.file c.args.volume.now c.args.volume.now c.requires.mounted refl c.requires.shorter c.kept_segments-segs.result c.kept_segments-segs.ensures stored
+    c.requires.file.content c.requires.file.file c.requires.file.on c.requires.file.is
+
+pub release_rest-requires-clause-cached : goal.release_rest-requires-clause-cached
+release_rest-requires-clause-cached g c = c.in_ok-store_cut.ensures.cached
+
+pub release_rest-requires-clause-may : goal.release_rest-requires-clause-may
+release_rest-requires-clause-may g c =
     may_release _ _ c.args.loaded.now c.args.size c.args.now c.requires.loaded c.requires.file c.args.volume.now c.store_cut.new.volume c.requires.mounted c.in_ok-store_cut.ensures.volume_kept c.requires.shorter c.kept_segments-segs.result c.kept_segments-segs.ensures c.in_ok-store_cut.ensures.stored
     c.requires.file.content c.requires.file.file c.requires.file.on c.requires.file.is
 
@@ -48,7 +59,7 @@ returns-in_err-release_rest-clause-mounted g c =
     stopped_mounted _ _ c.args.loaded.now c.args.size c.args.now c.requires.loaded c.requires.file c.args.volume.now c.store_cut.new.volume c.requires.mounted c.in_ok-store_cut.ensures.volume_kept c.requires.shorter c.kept_segments-segs.result c.kept_segments-segs.ensures c.in_ok-store_cut.ensures.stored
     c.requires.file.content c.requires.file.file c.requires.file.on c.requires.file.is _ _
     (c.in_err-release_rest.ensures.fault _ _ (releasing _ _ c.args.loaded.now c.args.size c.args.now c.requires.loaded c.requires.file c.args.volume.now c.store_cut.new.volume c.requires.mounted c.in_ok-store_cut.ensures.volume_kept c.requires.shorter c.kept_segments-segs.result c.kept_segments-segs.ensures c.in_ok-store_cut.ensures.stored
-    c.requires.file.content c.requires.file.file c.requires.file.on c.requires.file.is)) c.release_rest.new.volume refl
+    c.requires.file.content c.requires.file.file c.requires.file.on c.requires.file.is)) c.release_rest.new.volume refl c.in_err-release_rest.ensures.cached
 
 pub returns-in_err-release_rest-clause-counts : goal.returns-in_err-release_rest-clause-counts
 returns-in_err-release_rest-clause-counts g c v file on is =
@@ -69,7 +80,7 @@ returns-clause-mounted g c =
     cut_mounted _ _ c.args.loaded.now c.args.size c.args.now c.requires.loaded c.requires.file c.args.volume.now c.store_cut.new.volume c.requires.mounted c.in_ok-store_cut.ensures.volume_kept c.requires.shorter c.kept_segments-segs.result c.kept_segments-segs.ensures c.in_ok-store_cut.ensures.stored
     c.requires.file.content c.requires.file.file c.requires.file.on c.requires.file.is _ _ _
     (c.in_ok-release_rest.ensures.ok _ _ (releasing _ _ c.args.loaded.now c.args.size c.args.now c.requires.loaded c.requires.file c.args.volume.now c.store_cut.new.volume c.requires.mounted c.in_ok-store_cut.ensures.volume_kept c.requires.shorter c.kept_segments-segs.result c.kept_segments-segs.ensures c.in_ok-store_cut.ensures.stored
-    c.requires.file.content c.requires.file.file c.requires.file.on c.requires.file.is)) c.release_rest.new.volume refl
+    c.requires.file.content c.requires.file.file c.requires.file.on c.requires.file.is)) c.release_rest.new.volume refl c.in_ok-release_rest.ensures.cached
 
 pub returns-clause-counts : goal.returns-clause-counts
 returns-clause-counts g c v file on is =

@@ -6,13 +6,16 @@ use Rattle.rbf_write.proofs.Sized.{unread_ends, size_stays, stays_calls}
 use Rattle.rbf_size.proofs.SetSizes.{never_refused, refused_later, cut_answers, cut_counts, longer_answers, longer_counts}
 use Rattle.rbf_size.proofs.size.set_size.Goals as goal
 
+pub load_file-requires-clause-cached : goal.load_file-requires-clause-cached
+load_file-requires-clause-cached g c = c.requires.mounted.cached
+
 pub returns-in_err-loaded-clause-answer : goal.returns-in_err-loaded-clause-answer
 returns-in_err-loaded-clause-answer g c v file on is =
     let p = err_from_is_err_and c.from_residual.result c.from_residual.ensures.1 in
     rw (p.1, p.2) (unread_ends _ v file on _ is _ _ c.in_err-loaded.ensures.device c.in_err-loaded.ensures.media_kept)
 
 pub returns-in_err-loaded-clause-mounted : goal.returns-in_err-loaded-clause-mounted
-returns-in_err-loaded-clause-mounted g c = mounted_still _ _ _ _ c.in_err-loaded.ensures.volume_kept c.in_err-loaded.ensures.media_kept c.requires.mounted
+returns-in_err-loaded-clause-mounted g c = mounted_still _ _ _ _ c.in_err-loaded.ensures.volume_kept c.in_err-loaded.ensures.media_kept c.in_err-loaded.ensures.cached c.requires.mounted
 
 pub returns-in_err-loaded-clause-counts : goal.returns-in_err-loaded-clause-counts
 returns-in_err-loaded-clause-counts g c v file on is marks are =
@@ -26,14 +29,14 @@ returns-then-size-loaded-clause-answer g c v file on is =
     size_stays _ v file on _ is (omega arith) _ c.in_ok-loaded.ensures.media_kept
 
 pub returns-then-size-loaded-clause-mounted : goal.returns-then-size-loaded-clause-mounted
-returns-then-size-loaded-clause-mounted g c = mounted_still _ _ _ _ c.in_ok-loaded.ensures.volume_kept c.in_ok-loaded.ensures.media_kept c.requires.mounted
+returns-then-size-loaded-clause-mounted g c = mounted_still _ _ _ _ c.in_ok-loaded.ensures.volume_kept c.in_ok-loaded.ensures.media_kept c.in_ok-loaded.ensures.cached c.requires.mounted
 
 pub returns-then-size-loaded-clause-counts : goal.returns-then-size-loaded-clause-counts
 returns-then-size-loaded-clause-counts g c v file on is marks are =
     counts_most _ 1 _ _ _ (stays_calls v file marks (record { number = c.args.fd; size = c.args.size; now = c.args.now })) c.in_ok-loaded.ensures.counts
 
 pub cut-requires-clause-mounted : goal.cut-requires-clause-mounted
-cut-requires-clause-mounted g c = mounted_still _ _ _ _ c.in_ok-loaded.ensures.volume_kept c.in_ok-loaded.ensures.media_kept c.requires.mounted
+cut-requires-clause-mounted g c = mounted_still _ _ _ _ c.in_ok-loaded.ensures.volume_kept c.in_ok-loaded.ensures.media_kept c.in_ok-loaded.ensures.cached c.requires.mounted
 
 pub returns-then-size-loaded-2-clause-answer : goal.returns-then-size-loaded-2-clause-answer
 returns-then-size-loaded-2-clause-answer g c v file on is =
@@ -47,7 +50,7 @@ returns-then-size-loaded-2-clause-counts g c v file on is marks are =
     marks _ _ _ _ (omega arith) c.in_ok-loaded.ensures.counts c.cut.ensures.counts
 
 pub lay_over-requires-clause-mounted : goal.lay_over-requires-clause-mounted
-lay_over-requires-clause-mounted g c = mounted_still _ _ _ _ c.in_ok-loaded.ensures.volume_kept c.in_ok-loaded.ensures.media_kept c.requires.mounted
+lay_over-requires-clause-mounted g c = mounted_still _ _ _ _ c.in_ok-loaded.ensures.volume_kept c.in_ok-loaded.ensures.media_kept c.in_ok-loaded.ensures.cached c.requires.mounted
 
 pub returns-clause-answer : goal.returns-clause-answer
 returns-clause-answer g c v file on is =

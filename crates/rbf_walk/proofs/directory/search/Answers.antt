@@ -12,7 +12,7 @@ use Rattle.rbf_walk.proofs.Searching.{none_searched, none_more, first_more, free
 use Rattle.rbf_walk.proofs.directory.search.Goals as goal
 
 pub loop-place-init : goal.loop-place-init
-loop-place-init g c = none_searched c.args.name.now _ (c.args.dir.now.size / 32) _ _ _ _ refl
+loop-place-init g c = none_searched c.args.name.now _ (c.args.dir.now.size / 32) _ _ _ _ _ refl c.requires.mounted.cached
 
 pub unwrap-requires : goal.unwrap-requires
 unwrap-requires g c =
@@ -21,8 +21,11 @@ unwrap-requires g c =
     let low = place_low _ c.args.dir.now has.content has.number has.file has.on has.is has.fields c.loop-place.place more in
     ap is_some (c.lsn_of.ensures ∙ slice_get-get_or (sectors_of c.args.dir.now.segs) c.loop-place.place 0 low)
 
-pub load-requires : goal.load-requires
-load-requires g c =
+pub load-requires-clause-cached : goal.load-requires-clause-cached
+load-requires-clause-cached g c = c.loop-place.invariant.cached
+
+pub load-requires-clause-on : goal.load-requires-clause-on
+load-requires-clause-on g c =
     let has = c.requires.directory in
     let on_drive = listed_on _ has.content has.on has.number has.file has.is c.args.dir.now has.fields _ refl in
     let more = next_place (c.args.dir.now.size / 32) c.loop-place.place _ c.div_ceil-place-end.ensures c.loop-place-test.true in
@@ -31,7 +34,7 @@ load-requires g c =
 
 pub returns-in_err-bytes-clause-mounted : goal.returns-in_err-bytes-clause-mounted
 returns-in_err-bytes-clause-mounted g c =
-    mounted_still _ _ _ _ (c.in_err-bytes.ensures.volume_kept ∙ c.loop-place.invariant.same_volume) (c.in_err-bytes.ensures.media_kept ∙ c.loop-place.invariant.same_media) c.requires.mounted
+    mounted_still _ _ _ _ (c.in_err-bytes.ensures.volume_kept ∙ c.loop-place.invariant.same_volume) (c.in_err-bytes.ensures.media_kept ∙ c.loop-place.invariant.same_media) c.in_err-bytes.ensures.cached c.requires.mounted
 
 pub returns-in_err-bytes-clause-media_kept : goal.returns-in_err-bytes-clause-media_kept
 returns-in_err-bytes-clause-media_kept g c = c.in_err-bytes.ensures.media_kept ∙ c.loop-place.invariant.same_media
@@ -61,7 +64,7 @@ returns-in-Some-clause-ok g c v n file on is known =
 
 pub returns-in-Some-clause-mounted : goal.returns-in-Some-clause-mounted
 returns-in-Some-clause-mounted g c =
-    mounted_still _ _ _ _ (c.in_ok-bytes.ensures.volume_kept ∙ c.loop-place.invariant.same_volume) (c.in_ok-bytes.ensures.media_kept ∙ c.loop-place.invariant.same_media) c.requires.mounted
+    mounted_still _ _ _ _ (c.in_ok-bytes.ensures.volume_kept ∙ c.loop-place.invariant.same_volume) (c.in_ok-bytes.ensures.media_kept ∙ c.loop-place.invariant.same_media) c.in_ok-bytes.ensures.cached c.requires.mounted
 
 pub returns-in-Some-clause-media_kept : goal.returns-in-Some-clause-media_kept
 returns-in-Some-clause-media_kept g c = c.in_ok-bytes.ensures.media_kept ∙ c.loop-place.invariant.same_media
@@ -88,6 +91,7 @@ loop-place-preserved g c =
       free_is = free_more _ _ c.loop-place.place (c.args.dir.now.size / 32) c.entries_in-count.result c.loop-place.free c.first_free-free.result there c.entries_in-count.ensures more before.free_is c.first_free-free.ensures.kept c.first_free-free.ensures.none;
       same_media = read.media_kept ∙ before.same_media;
       same_volume = read.volume_kept ∙ before.same_volume;
+      cached = read.cached;
       moved = counts_then _ c.loop-place.place 1 _ _ _ before.moved read.counts;
     }
 
@@ -98,7 +102,7 @@ returns-clause-ok g c v n file on is known =
     absent_on _ c.args.dir.now v n file on is known c.args.name.now _ c.unwrap_or.result c.loop-place.free all before.absent before.free_is c.unwrap_or.ensures
 
 pub returns-clause-mounted : goal.returns-clause-mounted
-returns-clause-mounted g c = mounted_still _ _ _ _ c.loop-place.invariant.same_volume c.loop-place.invariant.same_media c.requires.mounted
+returns-clause-mounted g c = mounted_still _ _ _ _ c.loop-place.invariant.same_volume c.loop-place.invariant.same_media c.loop-place.invariant.cached c.requires.mounted
 
 pub returns-clause-media_kept : goal.returns-clause-media_kept
 returns-clause-media_kept g c = c.loop-place.invariant.same_media

@@ -10,5 +10,5 @@ use Rattle.rbf_walk.proofs.directory.search.Given as goal
 abbrev pub invariant-loop-place : goal.invariant-loop-place
 invariant-loop-place g l =
     IsSearchedTo l.name (segment_bytes (sector_at ((goal.BlockDriver-dyn g l.fn.d.now).media l.fn.d.now.1)) l.dir.segs) (l.dir.size / 32) l.place l.free
-    ((goal.BlockDriver-dyn g l.fn.d.now).media l.fn.d.now.1) ((goal.BlockDriver-dyn g l.d.now).media l.d.now.1) (kept l.fn.v) (kept l.v)
+    ((goal.BlockDriver-dyn g l.fn.d.now).media l.fn.d.now.1) ((goal.BlockDriver-dyn g l.d.now).media l.d.now.1) (kept l.fn.v) (kept l.v) l.v.cache
     (drive_counts (goal.BlockDriver-dyn g l.fn.d.now) l.fn.d.now.1) (drive_counts (goal.BlockDriver-dyn g l.d.now) l.d.now.1)

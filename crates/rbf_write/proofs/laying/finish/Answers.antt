@@ -1,4 +1,4 @@
-use Rattle.std.proofs.Common.{arith, ◌∙◌}
+use Rattle.std.proofs.Common.{arith, refl, ◌∙◌}
 use Rattle.rbf_write.specs.Finished.{resized}
 use Rattle.rbf_write.proofs.laying.finish.Goals as goal
 
@@ -22,3 +22,24 @@ returns-clause-done g c =
       end = w.end;
     })
     c.in_ok-store.ensures.written
+
+pub store-requires-clause-sound : goal.store-requires-clause-sound
+store-requires-clause-sound g c =
+    let w = c.with_descriptor-bytes.ensures in
+    let f = w.fields in
+    let dated = c.minute.ensures in
+    c.requires.sound _ (resized {bytes = c.with_descriptor-bytes.result} (omega arith)
+    (record {
+      whole = w.whole;
+      fields = record {
+        attributes_are = f.attributes_are;
+        owner_is = f.owner_is;
+        modified_is = f.modified_is ∙ dated;
+        links_are = f.links_are;
+        size_is = f.size_is;
+        created_is = f.created_is;
+      };
+      list = w.list;
+      end = w.end;
+    })
+    refl)

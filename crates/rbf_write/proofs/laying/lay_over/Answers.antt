@@ -1,7 +1,7 @@
 use Rattle.std.proofs.Common.{◌≤◌, length, subst}
 use Rattle.std.proofs.lemmas.Result.{err_from_is_err_and}
 use Rattle.rbf_access.proofs.Reading.{number_on, mounted_still}
-use Rattle.rbf_write.proofs.Steps.{few_segments, past_answers, apart_all, growth_answers, calls_growth, calls_fill, calls_finish, may_lay, same_list, fill_answers, file_after, finish_answers, done_answers, done_mounted, all_marks, most_marks, marks_then}
+use Rattle.rbf_write.proofs.Steps.{few_segments, past_answers, apart_all, growth_answers, calls_growth, calls_fill, calls_finish, may_lay, same_list, fill_answers, file_after, finish_answers, done_answers, done_mounted, done_sound, all_marks, most_marks, marks_then}
 use Rattle.rbf_write.proofs.laying.lay_over.Goals as goal
 
 pub returns-in_default-clause-answer : goal.returns-in_default-clause-answer
@@ -39,6 +39,12 @@ returns-in_err-fill-clause-counts g c v file on is marks are =
 pub finish-requires-clause-number : goal.finish-requires-clause-number
 finish-requires-clause-number g c = number_on _ c.args.loaded.now.number (file_after _ c.args.loaded.now c.args.at c.args.from.now c.args.now c.requires.loaded c.requires.file c.args.volume.now c.requires.mounted c.in-Some.count c.in-Some.ensures _ c.in_ok-longer.longer c.in_ok-longer.ensures.grows _ c.in_ok-fill.ensures.fills)
 
+pub finish-requires-clause-cached : goal.finish-requires-clause-cached
+finish-requires-clause-cached g c = c.in_ok-fill.ensures.mounted.cached
+
+pub finish-requires-clause-sound : goal.finish-requires-clause-sound
+finish-requires-clause-sound g c = done_sound _ c.args.loaded.now c.args.at c.args.from.now c.args.now c.requires.loaded c.requires.file c.args.volume.now c.requires.mounted c.in-Some.count c.in-Some.ensures _ c.in_ok-longer.longer c.in_ok-longer.ensures.grows _ c.in_ok-fill.ensures.fills
+
 pub finish-requires-clause-same : goal.finish-requires-clause-same
 finish-requires-clause-same g c = same_list _ c.args.loaded.now c.args.at c.args.from.now c.args.now c.requires.loaded c.requires.file c.args.volume.now c.requires.mounted c.in-Some.count c.in-Some.ensures _ c.in_ok-longer.longer c.in_ok-longer.ensures.grows
 
@@ -48,7 +54,7 @@ returns-in_err-finish-clause-answer g c v file on is =
     rw (p.1, p.2) (finish_answers _ c.args.loaded.now c.args.at c.args.from.now c.args.now c.requires.loaded c.requires.file c.args.volume.now c.requires.mounted c.in-Some.count c.in-Some.ensures _ c.in_ok-longer.longer c.in_ok-longer.ensures.grows _ c.in_ok-fill.ensures.fills _ _ c.in_err-finish.ensures.media_kept c.in_err-finish.ensures.later c.in_err-finish.ensures.device v file on is)
 
 pub returns-in_err-finish-clause-mounted : goal.returns-in_err-finish-clause-mounted
-returns-in_err-finish-clause-mounted g c = mounted_still _ _ _ _ c.in_err-finish.ensures.volume_kept c.in_err-finish.ensures.media_kept c.in_ok-fill.ensures.mounted
+returns-in_err-finish-clause-mounted g c = mounted_still _ _ _ _ c.in_err-finish.ensures.volume_kept c.in_err-finish.ensures.media_kept c.in_err-finish.ensures.cached c.in_ok-fill.ensures.mounted
 
 pub returns-in_err-finish-clause-counts : goal.returns-in_err-finish-clause-counts
 returns-in_err-finish-clause-counts g c v file on is marks are =
@@ -59,7 +65,7 @@ pub returns-clause-answer : goal.returns-clause-answer
 returns-clause-answer g c v file on is = done_answers _ c.args.loaded.now c.args.at c.args.from.now c.args.now c.requires.loaded c.requires.file c.args.volume.now c.requires.mounted c.in-Some.count c.in-Some.ensures _ c.in_ok-longer.longer c.in_ok-longer.ensures.grows _ c.in_ok-fill.ensures.fills _ c.in_ok-finish.ensures.done v file on is
 
 pub returns-clause-mounted : goal.returns-clause-mounted
-returns-clause-mounted g c = done_mounted _ c.args.loaded.now c.args.at c.args.from.now c.args.now c.requires.loaded c.requires.file c.args.volume.now c.requires.mounted c.in-Some.count c.in-Some.ensures _ c.in_ok-longer.longer c.in_ok-longer.ensures.grows _ c.in_ok-fill.ensures.fills _ c.in_ok-finish.ensures.done _ _ c.in_ok-fill.ensures.mounted c.in_ok-finish.ensures.volume_kept
+returns-clause-mounted g c = done_mounted _ c.args.loaded.now c.args.at c.args.from.now c.args.now c.requires.loaded c.requires.file c.args.volume.now c.requires.mounted c.in-Some.count c.in-Some.ensures _ c.in_ok-longer.longer c.in_ok-longer.ensures.grows _ c.in_ok-fill.ensures.fills _ c.in_ok-finish.ensures.done _ _ c.in_ok-fill.ensures.mounted c.in_ok-finish.ensures.volume_kept c.in_ok-finish.ensures.cached
 
 pub returns-clause-counts : goal.returns-clause-counts
 returns-clause-counts g c v file on is marks are =

@@ -2,8 +2,8 @@ use Rattle.std.proofs.Common.{sym, refl}
 use Rattle.rbf_access.proofs.Reading.{number_on, fd_of}
 use Rattle.rbf_write.proofs.loaded.load_file.Goals as goal
 
-pub load-requires : goal.load-requires
-load-requires g c = number_on _ c.args.fd c.requires.file
+pub load-requires-clause-on : goal.load-requires-clause-on
+load-requires-clause-on g c = number_on _ c.args.fd c.requires.file
 
 pub returns-clause-ok : goal.returns-clause-ok
 returns-clause-ok g c =

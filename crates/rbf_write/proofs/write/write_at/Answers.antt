@@ -11,6 +11,9 @@ pub returns-then-is_empty-clause-answer : goal.returns-then-is_empty-clause-answ
 returns-then-is_empty-clause-answer g c v file on is =
     nothing_written _ v file on _ is (nil_from_length c.args.from.now (eqb-true (length c.args.from.now) 0 (sym c.is_empty.ensures ∙ c.if-is_empty.true)))
 
+pub load_file-requires-clause-cached : goal.load_file-requires-clause-cached
+load_file-requires-clause-cached g c = c.requires.mounted.cached
+
 pub returns-in_err-loaded-clause-answer : goal.returns-in_err-loaded-clause-answer
 returns-in_err-loaded-clause-answer g c v file on is =
     let p = err_from_is_err_and c.from_residual.result c.from_residual.ensures.1 in
@@ -18,10 +21,10 @@ returns-in_err-loaded-clause-answer g c v file on is =
     (load_answers _ v file on _ is (some_room c.args.from.now c.is_empty.result c.if-is_empty.false c.is_empty.ensures) _ _ c.in_err-loaded.ensures.device c.in_err-loaded.ensures.media_kept)
 
 pub returns-in_err-loaded-clause-mounted : goal.returns-in_err-loaded-clause-mounted
-returns-in_err-loaded-clause-mounted g c = mounted_still _ _ _ _ c.in_err-loaded.ensures.volume_kept c.in_err-loaded.ensures.media_kept c.requires.mounted
+returns-in_err-loaded-clause-mounted g c = mounted_still _ _ _ _ c.in_err-loaded.ensures.volume_kept c.in_err-loaded.ensures.media_kept c.in_err-loaded.ensures.cached c.requires.mounted
 
 pub lay_over-requires-clause-mounted : goal.lay_over-requires-clause-mounted
-lay_over-requires-clause-mounted g c = mounted_still _ _ _ _ c.in_ok-loaded.ensures.volume_kept c.in_ok-loaded.ensures.media_kept c.requires.mounted
+lay_over-requires-clause-mounted g c = mounted_still _ _ _ _ c.in_ok-loaded.ensures.volume_kept c.in_ok-loaded.ensures.media_kept c.in_ok-loaded.ensures.cached c.requires.mounted
 
 pub returns-in_err-lay_over-clause-answer : goal.returns-in_err-lay_over-clause-answer
 returns-in_err-lay_over-clause-answer g c v file on is =

@@ -1,12 +1,14 @@
 use Rattle.std.proofs.Common.{◌+◌, ◌-◌, ◌/◌, ◌<◌, length, ap, sym, ◌∙◌, arith}
 use Rattle.os9_outer.specs.Drive.{sector_at}
 use Rattle.rbf_model.specs.Segments.{sectors_of}
+use Rattle.rbf_change.specs.Contents.{sector_span}
 use Rattle.rbf_access.proofs.Counting.{counts_then, counts_most}
-use Rattle.rbf_access.proofs.ReadPieces.{copied_more, some_room, place_on, sector_at_place, whole_length}
+use Rattle.rbf_access.proofs.Using.{one_hit, one_used}
+use Rattle.rbf_access.proofs.ReadPieces.{none_read, span_is, copied_more, some_room, place_on, sector_at_place, whole_length}
 use Rattle.rbf_access.proofs.volume.Volume.read_bytes.Goals as goal
 
-pub load-requires : goal.load-requires
-load-requires g c =
+pub load-requires-clause-on : goal.load-requires-clause-on
+load-requires-clause-on g c =
     let some = some_room c.args.into.now c.is_empty.result c.if-is_empty.false c.is_empty.ensures in
     let low : c.loop-place.place < length (sectors_of c.args.segs.now) = omega arith in
     place_on _ c.args.segs.now c.requires.on_drive c.loop-place.place c.unwrap.result _ (sym c.lsn_of.ensures ∙ c.unwrap.ensures) low c.loop-place.invariant.same_media
@@ -27,5 +29,23 @@ loop-place-preserved g c =
           before.bytes_are (omega arith) c.copy_piece.ensures;
       same_media = read.media_kept ∙ before.same_media;
       same_volume = read.volume_kept ∙ before.same_volume;
+      cached = read.cached;
+      hits = one_hit c.args.segs.now c.args.self.now.cache (c.args.at / 256) c.loop-place.place c.unwrap.result c.loop-place.self.cache c.load.new.self.cache _ _ _ (sym c.lsn_of.ensures ∙ c.unwrap.ensures) (omega arith) before.hits read.hit read.still;
+      stay = one_used c.args.segs.now (c.args.at / 256) c.loop-place.place c.unwrap.result c.args.self.now.cache c.loop-place.self.cache c.load.new.self.cache (sym c.lsn_of.ensures ∙ c.unwrap.ensures) (omega arith) before.stay read.used;
       moved = counts_most _ (c.loop-place.place - c.args.at / 256 + 1) (c.loop-place.place + 1 - c.args.at / 256) _ _ (omega arith) counted;
     }
+
+pub load-requires-clause-cached : goal.load-requires-clause-cached
+load-requires-clause-cached g c = c.loop-place.invariant.cached
+
+pub loop-place-init : goal.loop-place-init
+loop-place-init g c = none_read _ _ c.args.at _ _ _ _ _ c.requires.cached
+
+pub returns-in_err-bytes-clause-hits : goal.returns-in_err-bytes-clause-hits
+returns-in_err-bytes-clause-hits g c all =
+    let before = c.loop-place.invariant in
+    let read = c.in_err-bytes.ensures in
+    let some = some_room c.args.into.now c.is_empty.result c.if-is_empty.false c.is_empty.ensures in
+    let span = span_is c.args.at (length c.args.into.now) some in
+    (one_hit c.args.segs.now c.args.self.now.cache (c.args.at / 256) c.loop-place.place c.unwrap.result c.loop-place.self.cache c.load.new.self.cache _ _ _ (sym c.lsn_of.ensures ∙ c.unwrap.ensures) (omega arith)
+    before.hits read.hit read.still (c.args.at / 256 + sector_span c.args.at (c.args.at + length c.args.into.now)) (omega (arith, span)) all).0

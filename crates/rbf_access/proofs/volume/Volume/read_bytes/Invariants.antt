@@ -9,5 +9,5 @@ use Rattle.rbf_access.proofs.volume.Volume.read_bytes.Given as goal
 abbrev pub invariant-loop-place : goal.invariant-loop-place
 invariant-loop-place g l =
     IsReadTo (segment_bytes (sector_at ((goal.BlockDriver-dyn g l.fn.d.now).media l.fn.d.now.1)) l.segs) l.fn.into l.at l.place l.into
-    ((goal.BlockDriver-dyn g l.fn.d.now).media l.fn.d.now.1) ((goal.BlockDriver-dyn g l.d.now).media l.d.now.1) (kept l.fn.self) (kept l.self)
+    ((goal.BlockDriver-dyn g l.fn.d.now).media l.fn.d.now.1) ((goal.BlockDriver-dyn g l.d.now).media l.d.now.1) (kept l.fn.self) (kept l.self) l.segs l.fn.self.cache l.self.cache
     (drive_counts (goal.BlockDriver-dyn g l.fn.d.now) l.fn.d.now.1) (drive_counts (goal.BlockDriver-dyn g l.d.now) l.d.now.1)

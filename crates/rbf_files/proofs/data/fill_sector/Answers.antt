@@ -1,0 +1,14 @@
+use Rattle.std.proofs.Common.{◌+◌, slice_index, ap, ◌∙◌, arith}
+use Rattle.os9_outer.specs.Drive.{with_sector}
+use Rattle.rbf_files.specs.Laid.{laid_byte}
+use Rattle.rbf_files.proofs.data.fill_sector.Goals as goal
+
+pub store-requires-clause-sound : goal.store-requires-clause-sound
+store-requires-clause-sound g c =
+    c.requires.sound _
+    (record {
+      bytes = c.lay.new.bytes;
+      whole = omega arith;
+      each = λ q low. c.lay.ensures q low ∙ ap (λ b. laid_byte c.args.size c.args.at c.args.from.now (c.args.start + q) (slice_index b q)) c.in_ok-bytes.ensures.bytes;
+      media = ap (λ m. with_sector m c.args.lsn c.lay.new.bytes) c.in_ok-bytes.ensures.media_kept;
+    })
