@@ -171,7 +171,7 @@ module _ (s : State) (p code : ℕ) (next : act_of s.inner p ≡ attempts code) 
   program-drives service serves by start entered_is None unnamed result files it come =
       drives-come service serves result files (subst (λ (reached : Option ℕ). NoneFailed s.files.drives files.drives ⊎ FaultAnswers reached s.files result files) (sym (by ∙ ap drive_by_name unnamed)) come)
   program-drives service serves by start entered_is (Some entered) named result files (is, same) come =
-      inl (ap (λ (files : Files). map (λ (drive : DriveState). drive.faults) files.drives) same)
+      inl (ap (λ (files : Files). files.drives) same)
 
   -- ---- a call on paths
 

@@ -19,19 +19,8 @@ drives-then a b c first next = record {
 
 -- ---- where none failed
 
-count-at : (drives : List DriveState) (n : ℕ) → slice_index_or (map (λ (drive : DriveState). drive.faults) drives) n 0 ≡ (drive_at drives n).faults
-count-at [] n = refl
-count-at (drive ∷ drives) zero = refl
-count-at (drive ∷ drives) (suc n) = count-at drives n
-
 pub none-gains : (before now : List DriveState) → NoneFailed before now → DrivesOnlyGain before now
-none-gains before now none = record {
-  as_many =
-      sym (length-map now (λ (drive : DriveState). drive.faults)) ∙ ap (λ (counts : List ℕ). length counts) none ∙ length-map before (λ (drive : DriveState). drive.faults);
-  faults = λ drive.
-      let still : (drive_at now drive).faults ≡ (drive_at before drive).faults = sym (count-at now drive) ∙ ap (λ (counts : List ℕ). slice_index_or counts drive 0) none ∙ count-at before drive in
-      omega arith;
-}
+none-gains before now none = subst (DrivesOnlyGain before) (sym none) (drives-same before)
 
 -- ---- where one failed
 
@@ -43,7 +32,7 @@ one-gains drive number before now failed =
     by_drive other (inl same) =
         subst (λ (n : ℕ). (drive_at before n).faults ≤ (drive_at now n).faults) (sym same) failed.never_falls
     by_drive other (inr apart) =
-        let still : (drive_at now other).faults ≡ (drive_at before other).faults = failed.others other apart in
+        let still : (drive_at now other).faults ≡ (drive_at before other).faults = ap (λ (drive : DriveState). drive.faults) (failed.others other apart) in
         omega arith
 
 -- ---- what calls leave

@@ -116,7 +116,7 @@ call-drives files p (waits t) = refl
 call-drives files p (ends status) = refl
 
 pub same-drives : (old new : List DriveState) → new ≡ old → NoneFailed old new
-same-drives old new same = ap (map (λ (drive : DriveState). drive.faults)) same
+same-drives old new same = same
 
 module _ (s : State) (p : ℕ) (can : CanGo s) where
   record SomeService (service : Service) (now : TimePacket) : Type 0 where

@@ -169,7 +169,7 @@ module _ (call : PathCall) (asker : Asker) (files : Files) (terms : List Termina
               subst (λ (d : DriveState). (drive_at files.drives drive).faults ≤ d.faults) (sym now) (omega arith);
           last = ap (λ (d : DriveState). option_map drive_error d.last) now;
           others =
-              λ other differ. ap (λ (d : DriveState). d.faults) (get_or-set_other files.drives drive other (with-fault drive) new_drive differ);
+              λ other differ. get_or-set_other files.drives drive other (with-fault drive) new_drive differ;
           as_many = simp length-set;
         }
 

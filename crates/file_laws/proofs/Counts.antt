@@ -1,7 +1,7 @@
 -- The same drives have volumes, and there are as many drives and directories, where something of the state changes.
 use Rattle.std.proofs.Common.{◌≡◌, ℕ, Bool, true, Some, is_some, List, length, refl, sym, ap, ◌∙◌, inl, inr, ◌⊎◌}
 use Rattle.std.proofs.lemmas.Bool.{cases_eq}
-use Rattle.std.proofs.lemmas.List.{length-map, length-set}
+use Rattle.std.proofs.lemmas.List.{length-set}
 use Rattle.rbf_model.specs.Volume.{DiskVolume}
 use Rattle.io_rules.specs.Io.{Io}
 use Rattle.file_rules.specs.Files.{Files, DriveState, NoneFailed, volume_at, with_directories_of, with_drives, with_io, with_volume}
@@ -51,8 +51,7 @@ many-volume files drive v w is = record {
     by_drive other (inr apart) = ap is_some (volume-other files drive v w is other apart)
 
 pub none-many : (old new : List DriveState) → NoneFailed old new → length new ≡ length old
-none-many old new none =
-    sym (length-map new (λ (drive : DriveState). drive.faults)) ∙ ap (λ (counts : List ℕ). length counts) none ∙ length-map old (λ (drive : DriveState). drive.faults)
+none-many old new none = ap (λ (drives : List DriveState). length drives) none
 
 -- ---- both: what paths and directories are on, and how many there are
 

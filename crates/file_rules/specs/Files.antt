@@ -1,6 +1,6 @@
 -- The state that the calls on files read and change (Level Two manual, "I/O system"; OS-9 Technical Reference, Random
 -- Block File Manager): that of paths, terminals and pipes, the directories of each process, and the drives.
-use Rattle.std.specs.Prelude.{◌≡◌, ◌≢◌, ℕ, ◌≤◌, Bool, Option, Some, None, option_map, option_and_then, List, map, length, slice_index_or, slice_set, if◌then◌else◌}
+use Rattle.std.specs.Prelude.{◌≡◌, ◌≢◌, ℕ, ◌≤◌, Bool, Option, Some, None, option_map, option_and_then, List, length, slice_index_or, slice_set, if◌then◌else◌}
 use Rattle.os9_base.specs.Count.{Rose}
 use Rattle.os9_base.specs.declared.registers.TimePacket.{TimePacket}
 use Rattle.os9_outer.specs.Drive.{drive_error}
@@ -125,14 +125,14 @@ new_drive = record { faults = 0; last = None }
 abbrev pub drive_at : List DriveState → ℕ → DriveState
 drive_at drives n = slice_index_or drives n new_drive
 
--- no drive failed: each count stands as it stood
+-- no drive failed: each count stands as it stood, and so does each last fault
 abbrev pub NoneFailed : List DriveState → List DriveState → Type 0
-NoneFailed before now = map (λ drive. drive.faults) now ≡ map (λ drive. drive.faults) before
+NoneFailed before now = now ≡ before
 
 -- a drive failed, and no other one: its count rose, and the error of its last fault is this number
 pub record OneFailed (drive number : ℕ) (before now : List DriveState) : Type 0 where
   pub rose : Rose (drive_at before drive).faults (drive_at now drive).faults
   pub never_falls : (drive_at before drive).faults ≤ (drive_at now drive).faults
   pub last : option_map drive_error (drive_at now drive).last ≡ Some number
-  pub others : (other : ℕ) → other ≢ drive → (drive_at now other).faults ≡ (drive_at before other).faults
+  pub others : (other : ℕ) → other ≢ drive → drive_at now other ≡ drive_at before other
   pub as_many : length now ≡ length before

@@ -91,6 +91,7 @@ module _ (call : PathCall) (asker : Asker) (files : Files) (terms : ℕ) where
             left =
                 λ n. begun begins number free (File found.place.drive n) (record { drive = found.place.drive; number = n }) refl list;
             answer = λ n. (opened_regs asker.caller.regs list number, refl);
+            fixed = inl tt;
           })))))
 
       makes-split : S (makes_in asker files list name found)
@@ -103,6 +104,7 @@ module _ (call : PathCall) (asker : Asker) (files : Files) (terms : ℕ) where
             may = may;
             left = λ n. answered-same call asker files 0 [] (past_list asker.caller.regs list);
             answer = λ n. (past_list asker.caller.regs list, refl);
+            fixed = inr (λ m n. refl);
           })))
 
       deletes-split : (execute : Bool) → S (deletes_in asker files execute list name found)
@@ -119,6 +121,7 @@ module _ (call : PathCall) (asker : Asker) (files : Files) (terms : ℕ) where
                 may = may;
                 left = λ new. answered-same call asker files 0 [] (past_list asker.caller.regs list);
                 answer = λ new. (past_list asker.caller.regs list, refl);
+                fixed = inr (λ m n. refl);
               }))
 
 -- ---- the calls

@@ -78,7 +78,7 @@ module _ (call : PathCall) (asker : Asker) (files : Files) (terms : ℕ) where
     change-splits : may_change_volume call ≡ true → (change : Change) (size : ℕ) (regs : Regs) (new : Files) → Leaves call asker files (leaves (answers regs) new) → S (changes_file files found change size regs new)
     change-splits may change size regs new left =
         refuses-by On not-on (nat_lt (free_total found.volume) (clusters_needed (cluster_size found.volume) found.file.segments size)) E_FULL (comes (changes (record { drive = found.place.drive; change = change; effect = λ n. leaves (answers regs) new })))
-        (record { reaches = refl; may = may; left = λ n. left; answer = λ n. (regs, refl) })
+        (record { reaches = refl; may = may; left = λ n. left; answer = λ n. (regs, refl); fixed = inr (λ m n. refl) })
 
     module _ (moves : moves_position call ≡ true) (may : may_change_volume call ≡ true) where
       write-splits : (bytes : List ℕ) (regs : Regs) → S (writes_bytes files found bytes regs)
@@ -135,6 +135,7 @@ module _ (call : PathCall) (asker : Asker) (files : Files) (terms : ℕ) where
             may = may;
             left = λ n. answered-same call asker files 0 [] asker.caller.regs;
             answer = λ n. (asker.caller.regs, refl);
+            fixed = inr (λ m n. refl);
           })
 
       set-by : (size attributes : Bool) → S (if size then sets_size asker files found else (if attributes then sets_attributes_of asker files found else refused E_UNKSVC))

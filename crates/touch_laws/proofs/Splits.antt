@@ -13,6 +13,7 @@ use Rattle.io_rules.specs.Io.{with_paths}
 use Rattle.io_rules.specs.PathList.{PathList}
 use Rattle.io_rules.specs.Step.{IoEffect, IoStep, answers, fails}
 use Rattle.io_rules.specs.declared.io_call.IoCall.{IoCall}
+use Rattle.file_rules.specs.Change.{TakesClusters}
 use Rattle.file_rules.specs.Files.{Files, Asker, OpenFile, directories_at, no_directories, open_file, volume_at, with_position}
 use Rattle.file_rules.specs.OnFile.{by_kind, on_file}
 use Rattle.file_rules.specs.Step.{Step, refused, comes, reaches, needs, refuses, refuses_so, FileEffect, FileStep, Deed, leaves_so, as_io, changes, deed_of, drive_of, VolumeChange, done}
@@ -102,6 +103,7 @@ module _ (call : PathCall) (asker : Asker) (files : Files) (terms : ℕ) where
     pub may : may_change_volume call ≡ true
     pub left : (n : ℕ) → Leaves call asker files (it.effect n)
     pub answer : (n : ℕ) → (regs : Regs) × ((it.effect n).end ≡ answers regs)
+    pub fixed : TakesClusters it.change ⊎ ((m n : ℕ) → it.effect m ≡ it.effect n)
 
   -- what is done where this drive was reached, or none
   abbrev pub Splits : Option ℕ → Deed → Type 0

@@ -8,7 +8,7 @@ use Rattle.file_rules.specs.Rows.{volume_e, d0_failed, four_drives}
 use Rattle.file_rules.proofs.fault_rows.a_creation_may_be_broken.Goals as goal
 
 -- D0 alone has failed
-others_stand : (other : ℕ) → other ≢ 0 → (drive_at d0_failed other).faults ≡ (drive_at four_drives other).faults
+others_stand : (other : ℕ) → other ≢ 0 → drive_at d0_failed other ≡ drive_at four_drives other
 others_stand zero ne = absurd (ne refl)
 others_stand (suc n) ne = refl
 
