@@ -7,3 +7,4 @@ pub mod RunLemmas
 pub mod BootLemmas
 pub mod RoomLemmas
 pub mod Completeness
+pub mod Accepted

@@ -4,6 +4,7 @@ pub mod Commands
 pub mod Completeness
 pub mod Devices
 pub mod End
+pub mod Headline
 pub mod Host
 pub mod Images
 pub mod Reading

@@ -1,11 +1,18 @@
 //! Calls in which nothing failed, as laws over all of them.
 
-ghost use Rattle.std.specs.Prelude.{ℕ, List, Option};
+ghost use Rattle.std.specs.Prelude.{◌≡◌, ℕ, List, Option, Some, All, length};
+ghost use Rattle.os9_base.specs.Count.{Rose};
+ghost use Rattle.os9_outer.specs.Host.{Files};
+ghost use Rattle.os9_words.specs.Command.{command_of};
 ghost use Rattle.os9_words.specs.declared.command.Command.{Command};
+ghost use Rattle.os9_words.specs.declared.command.Command.TheVariants.{Boot};
+ghost use Rattle.os9_words.specs.declared.command.RunWords.{RunWords};
+ghost use Rattle.boot_run.specs.Console.{IsObserved};
 ghost use Rattle.boot_run.specs.World.{World};
 ghost use Rattle.os9_boot.specs.declared.status.End.{End};
 ghost use Rattle.os9_boot.specs.Commands.{CommandCall};
 ghost use Rattle.os9_boot.specs.Completeness.{IsNoFault, NoneRose, TellsNoFault};
+ghost use Rattle.os9_boot.specs.Headline.{BootIsOneRun, IsAccepted};
 ghost use Rattle.os9_boot.specs.TopCall.{TopCall};
 
 /// A call in which no count of faults rose, neither the host's nor a drive's, ends as the words, the
@@ -18,4 +25,17 @@ pub fn calls_without_faults_tell_none()
         (err_before err_after : Option (List ℕ)) (status : ℕ)
         → TopCall words before after err_before err_after status → NoneRose before after
         → IsNoFault status }
+{}
+
+/// The headline: a boot of a host whose files are observed, over terminals whose bytes are, of which the
+/// texts, the images and the boot file are accepted, and in which the host did not fail, is one run of
+/// the machine of disk images; or memory was out, or a drive failed when its image was mounted.
+pub fn a_boot_is_one_run()
+    ensures { (words : List (List ℕ)) (boot : RunWords) (files : Files) (before after : World)
+        (err_before err_after : Option (List ℕ)) (status : ℕ)
+        → command_of words ≡ Some (Boot boot)
+        → TopCall words before after err_before err_after status
+        → before.files ≡ Some files → All IsObserved before.devices.terms
+        → IsAccepted files boot (length before.devices.terms) → ¬ Rose before.faults after.faults
+        → BootIsOneRun files boot before after status }
 {}

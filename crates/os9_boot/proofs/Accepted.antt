@@ -1,0 +1,112 @@
+-- A boot of which all is accepted is one run of the machine.
+use Rattle.std.proofs.Common.{◌≡◌, ◌⊎◌, ℕ, zero, suc, Bool, true, false, Option, None, Some, Result, Ok, Err, List, [], ◌∷◌, length, slice_get, sym, ◌∙◌, ap, subst, inl, inr, All}
+use Rattle.std.proofs.lemmas.List.Elements.{All-head, All-tail}
+use Rattle.std.proofs.lemmas.Option.{none-some, same_Some}
+use Rattle.std.specs.Prelude.{IfSome, MatchOption, if◌then◌else◌}
+use Rattle.os9_base.specs.Count.{Rose}
+use Rattle.os9_outer.specs.Host.{Files}
+use Rattle.os9_words.specs.declared.command.Command.{Command}
+use Rattle.os9_words.specs.declared.command.Command.TheVariants.{Boot as BootCommand}
+use Rattle.os9_words.specs.declared.command.RunWords.{RunWords}
+use Rattle.os9_words.specs.Command.{command_of}
+use Rattle.machine_model.specs.Start.{Refuses}
+use Rattle.machine_model.specs.declared.ends.BootFault.{BootFault}
+use Rattle.disk_machine.specs.Run.{status_of}
+use Rattle.disk_machine.specs.State.{State, has_living}
+use Rattle.rbf_model.proofs.Images.{no_image_breach}
+use Rattle.boot_images.specs.BootFile.{HasBootFile, IsVolume, boot_file_of}
+use Rattle.boot_images.specs.Images.{images_of}
+use Rattle.boot_run.specs.Console.{IsObserved}
+use Rattle.boot_run.specs.Machine.{Setup}
+use Rattle.boot_run.specs.World.{World}
+use Rattle.os9_boot.specs.declared.status.End.{End}
+use Rattle.os9_boot.specs.declared.status.End.TheVariants.{Ended, Living, CannotRead, CannotWrite, CannotWriteImage, NoMemory, BadImage, BadText, BadBounds, BadModule, NoFirst, TooLarge, DriveFailed}
+use Rattle.os9_boot.specs.declared.status.Input.TheVariants.{Script, Slices, Modules, Image}
+use Rattle.os9_boot.specs.Boots.{BootComesTo, RunsToEnd}
+use Rattle.os9_boot.specs.End.{status_number}
+use Rattle.os9_boot.specs.Headline.{BootIsOneRun, IsAccepted, IsOneRun}
+use Rattle.os9_boot.specs.Host.{FailsAsTold}
+use Rattle.os9_boot.specs.Setup.{SetsUpBoot}
+use Rattle.os9_boot.specs.TopCall.{CommandReport, TopCall, WordsReport}
+
+ok-err : {A E : Type 0} (a : A) (e : E) → ◌≡◌ {A = Result A E} (Ok a) (Err e) → ⊥
+ok-err a e is = cc
+
+-- each of images that all represent volumes does
+volume-at : (n : ℕ) (images : List (List ℕ)) (image : List ℕ) → slice_get images n ≡ Some image → All IsVolume images → IsVolume image
+volume-at n [] image here volumes = absurd (none-some image here)
+volume-at zero (one ∷ images) image here volumes = subst IsVolume (same_Some one image here) (All-head IsVolume one images volumes)
+volume-at (suc n) (one ∷ images) image here volumes = volume-at n images image here (All-tail IsVolume one images volumes)
+
+-- the status of a run
+lives-status : (t : State) (lives : Bool) → has_living t ≡ lives → status_of t ≡ (if lives then 5 else 0)
+lives-status t lives is = ap (λ (lives : Bool). if lives then 5 else 0) is
+
+module _ (files : Files) (boot : RunWords) (before after : World) (accepted : IsAccepted files boot (length before.devices.terms)) where
+  -- the first image is one
+  first-image : (image : List ℕ) → slice_get (images_of files boot.files) 0 ≡ Some image → image ≡ accepted.sets.file.image
+  first-image image first =
+      same_Some image accepted.sets.file.image (sym first ∙ subst (λ (images : List (List ℕ)). slice_get images 0 ≡ Some accepted.sets.file.image) accepted.sets.images accepted.sets.file.first)
+
+  -- and so is the boot file
+  one-file : (other : Setup) → SetsUpBoot files boot (length before.devices.terms) other → other.file ≡ accepted.setup.file
+  one-file other it =
+      it.file.is ∙ ap boot_file_of (first-image it.file.image (subst (λ (images : List (List ℕ)). slice_get images 0 ≡ Some it.file.image) it.images it.file.first)) ∙ sym accepted.sets.file.is
+
+  not-refused : (other : Setup) → SetsUpBoot files boot (length before.devices.terms) other → (fault : BootFault) → Refuses other.file other.blocks fault → ⊥
+  not-refused other it fault refuses =
+      accepted.starts fault (subst (λ (file : List ℕ). Refuses file accepted.setup.blocks fault) (one-file other it) (subst (λ (blocks : ℕ). Refuses other.file blocks fault) (it.words.blocks ∙ sym accepted.sets.words.blocks) refuses))
+
+  one-run : (setup : Setup) (lives : Bool) → SetsUpBoot files boot (length before.devices.terms) setup → (ran : RunsToEnd setup boot.files lives before after) → (status : ℕ) → status ≡ (if lives then 5 else 0) → IsOneRun files boot before after status
+  one-run setup lives sets ran status is = record {
+    setup = setup;
+    sets = sets;
+    s = ran.outcome.s;
+    starts = ran.outcome.starts;
+    states = ran.outcome.states;
+    written = ran.written;
+    t = ran.t;
+    run = ran.outcome.run;
+    output = ran.output;
+    images = ran.images;
+    volumes = ran.outcome.volumes;
+    disks = ran.files;
+    terminals = ran.outcome.terminals;
+    drives = ran.outcome.drives;
+    lives = is ∙ sym (lives-status ran.t lives ran.living);
+  }
+
+  module _ (kept : ¬ Rose before.faults after.faults) (status : ℕ) where
+    by-end : (end : End) → FailsAsTold (BootCommand boot) end before after → BootComesTo files boot before after end → status ≡ status_number end → BootIsOneRun files boot before after status
+    by-end Ended host comes is = inl (one-run comes.0 false comes.1 comes.2 status is)
+    by-end Living host comes is = inl (one-run comes.0 true comes.1 comes.2 status is)
+    by-end NoMemory host comes is = inr (inl is)
+    by-end (DriveFailed drive number) host comes is = inr (inr is)
+    by-end (CannotRead input) host comes is = absurd (kept host.2.0)
+    by-end CannotWrite host comes is = absurd (kept host.0)
+    by-end (CannotWriteImage number) host comes is = absurd (kept host.2.0)
+    by-end (BadText Script line) host comes is = absurd (ok-err accepted.setup.keys line (sym accepted.sets.words.texts.script ∙ comes))
+    by-end (BadText Slices line) host comes is = absurd (broken line comes)
+      where
+        broken : (line : ℕ) → BootComesTo files boot before after (BadText Slices line) → ⊥
+        broken line comes = ok-err accepted.setup.slices line (sym accepted.sets.words.texts.slice_text ∙ comes.refused)
+    by-end (BadText Modules line) host comes is = absurd comes
+    by-end (BadText (Image number) line) host comes is = absurd comes
+    by-end (BadImage number fault) host comes is =
+        let volume : IsVolume comes.1.image = volume-at number (images_of files boot.files) comes.1.image comes.1.is (subst (λ (images : List (List ℕ)). All IsVolume images) accepted.sets.images accepted.sets.volumes) in
+        absurd (no_image_breach comes.1.image volume.0 volume.1 comes.1.broken.broken)
+    by-end BadBounds host comes is =
+        absurd (comes.1.1.2 (subst HasBootFile (sym (first-image comes.1.1.0 comes.1.1.1)) accepted.sets.file.has))
+    by-end (BadModule at error) host comes is = absurd (not-refused comes.0 comes.1 comes.2.0 comes.2.1)
+    by-end NoFirst host comes is = absurd (not-refused comes.0 comes.1 comes.2.0 comes.2.1)
+    by-end TooLarge host comes is = absurd (not-refused comes.0 comes.1 comes.2.0 comes.2.1)
+
+pub is-one-run : (words : List (List ℕ)) (boot : RunWords) (files : Files) (before after : World) (err_before err_after : Option (List ℕ)) (status : ℕ) → command_of words ≡ Some (BootCommand boot) → TopCall words before after err_before err_after status → before.files ≡ Some files → All IsObserved before.devices.terms → IsAccepted files boot (length before.devices.terms) → ¬ Rose before.faults after.faults → BootIsOneRun files boot before after status
+is-one-run words boot files before after err_before err_after status spelled call told observed accepted kept =
+    by-end files boot before after accepted kept status report.end report.call.host (comes observed) report.status_is
+  where
+    report : CommandReport (BootCommand boot) before after err_before err_after status
+    report = subst (λ (found : Option Command). MatchOption found (WordsReport before after err_before err_after status) (λ command. CommandReport command before after err_before err_after status)) spelled call
+
+    comes : IfSome (Some files) (λ (files : Files). All IsObserved before.devices.terms → BootComesTo files boot before after report.end)
+    comes = subst (λ (some : Option Files). IfSome some (λ (files : Files). All IsObserved before.devices.terms → BootComesTo files boot before after report.end)) told report.call.comes

@@ -1,0 +1,45 @@
+-- The headline of a boot, in one place (this project's own).
+use Rattle.std.specs.Prelude.{◌≡◌, ◌⊎◌, ℕ, List, length}
+use Rattle.os9_outer.specs.Host.{Files, IfObserved}
+use Rattle.os9_outer.specs.Stream.{stream_with}
+use Rattle.os9_words.specs.declared.command.RunWords.{RunWords}
+use Rattle.machine_model.specs.Start.{Refuses}
+use Rattle.machine_model.specs.declared.ends.BootFault.{BootFault}
+use Rattle.disk_machine.specs.Run.{Run, status_of}
+use Rattle.disk_machine.specs.State.{State}
+use Rattle.file_drives.specs.Drives.{drive_states}
+use Rattle.boot_run.specs.Machine.{Setup, StartsLoaded}
+use Rattle.boot_run.specs.World.{World}
+use Rattle.boot_images.specs.Images.{WritesAll}
+use Rattle.boot_images.specs.Outcome.{AreImagesOf}
+use Rattle.os9_boot.specs.Setup.{SetsUpBoot}
+
+-- the texts and the images are accepted, the first image has a boot file, and that is not refused
+pub record IsAccepted (files : Files) (boot : RunWords) (terminals : ℕ) : Type 0 where
+  pub setup : Setup
+  pub sets : SetsUpBoot files boot terminals setup
+  pub starts : (fault : BootFault) → ¬ Refuses setup.file setup.blocks fault
+
+-- A boot is one run of the machine: it has put out what that writes, its images hold the volumes of the last state, and
+-- the status says whether a process lives then. Terminals and drives have failed as often as in that run.
+pub record IsOneRun (files : Files) (boot : RunWords) (before after : World) (status : ℕ) : Type 0 where
+  pub setup : Setup
+  pub sets : SetsUpBoot files boot (length before.devices.terms) setup
+  pub s : State
+  pub starts : StartsLoaded setup before s
+  pub states : List State
+  pub written : List ℕ
+  pub t : State
+  pub run : Run setup.slices s states written t
+  pub output : after.out ≡ stream_with before.out written
+  pub images : List (List ℕ)
+  pub volumes : AreImagesOf t setup.images images
+  pub disks : IfObserved (WritesAll boot.files images) before.files after.files
+  pub terminals : after.devices.terms ≡ t.terms
+  pub drives : drive_states after.devices.drives ≡ t.files.drives
+  pub lives : status ≡ status_of t
+
+-- or memory was out, or a drive failed when its image was mounted
+abbrev pub BootIsOneRun : Files → RunWords → World → World → ℕ → Type 0
+BootIsOneRun files boot before after status =
+    IsOneRun files boot before after status ⊎ ((status ≡ 4) ⊎ (status ≡ 9))
