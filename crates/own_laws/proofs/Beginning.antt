@@ -7,7 +7,6 @@ use Rattle.std.proofs.lemmas.List.{get_or-set_other, get_or-replicate, get_or_pa
 use Rattle.std.proofs.lemmas.List.FromFn.{length-range_with_len}
 use Rattle.std.proofs.lemmas.List.Quantifiers.{position-Some}
 use Rattle.std.proofs.lemmas.Option.{none-some, same_Some}
-use Rattle.os9_outer.specs.TerminalState.{TerminalState}
 use Rattle.proc_model.specs.declared.module.ModuleInfo.{ModuleInfo}
 use Rattle.proc_model.specs.Loading.{EntersModules, at_end, broken, refused, entered, with_module}
 use Rattle.proc_model.specs.Memory.{MemoryState, map_at}
@@ -16,11 +15,12 @@ use Rattle.proc_model.specs.ModuleList.{ModuleEntry, module_entry_at, free_numbe
 use Rattle.proc_model.specs.Objects.{file_blocks, file_objects, zero_object}
 use Rattle.proc_model.specs.Slots.{Slots, NamesBlock, block_at, no_slots}
 use Rattle.call_rules.specs.Program.{area_pages, blocks_of_pages}
-use Rattle.machine_model.specs.Start.{Starts, boot_group, boot_memory, first_start, only_process}
-use Rattle.machine_model.specs.State.{State}
+use Rattle.machine_model.specs.Start.{boot_group, boot_memory, first_start, only_process}
+use Rattle.disk_machine.specs.Start.{Boot, Starts}
+use Rattle.disk_machine.specs.State.{State}
 use Rattle.own_laws.specs.Own.{IsOfArea, IsOwn, NameAppeared}
 use Rattle.isolation_laws.specs.Objects.{IsOfModule}
-use Rattle.own_laws.proofs.Appearing.{was-shared}
+use Rattle.own_laws.proofs.Groups.{was-shared}
 use Rattle.isolation_laws.proofs.Lists.{range-below, has-none}
 use Rattle.isolation_laws.proofs.MemoryKept.{Started, started-is, begun-names, low-new}
 use Rattle.isolation_laws.proofs.ModulesKept.{entry-put, entry-other, keeps-more, more-linked}
@@ -58,24 +58,24 @@ entered-group {group = group} {is_boot = is_boot} {entries = entries} (entered {
 
 -- ---- the start
 
-module _ (file : List ℕ) (blocks drives : ℕ) (terms : List TerminalState) (s : State) (starts : Starts file blocks drives terms s) where
+module _ (boot : Boot) (s : State) (starts : Starts boot s) where
   abbrev booted : MemoryState
-  booted = boot_memory file blocks starts.entries
+  booted = boot_memory boot.file boot.blocks starts.entries
 
   abbrev count : ℕ
   count = blocks_of_pages (area_pages starts.entry 0 0)
 
-  all-grouped : AreOfGroup (boot_group file) starts.entries
+  all-grouped : AreOfGroup (boot_group boot.file) starts.entries
   all-grouped =
       entered-group starts.has.entered (λ number entry is. absurd (none-some entry (sym (no-entry 64 number) ∙ is)))
 
   -- the objects of the file
   shared-below : (object : ℕ) → IsOfModule booted object → object < length booted.objects
   shared-below object grouped =
-      let group : grouped.entry.group ≡ boot_group file = all-grouped grouped.number grouped.entry grouped.is in
-      let there : slice_get (range_with_len 0 (file_blocks file)) grouped.stands.0 ≡ Some object = ap (λ group. slice_get group grouped.stands.0) (sym group) ∙ grouped.stands.1 in
-      let below : object < 0 + file_blocks file = range-below 0 (file_blocks file) grouped.stands.0 object there in
-      let long : length (file_objects file) ≡ file_blocks file = simp length-map (length-range_with_len 0 (file_blocks file)) in
+      let group : grouped.entry.group ≡ boot_group boot.file = all-grouped grouped.number grouped.entry grouped.is in
+      let there : slice_get (range_with_len 0 (file_blocks boot.file)) grouped.stands.0 ≡ Some object = ap (λ group. slice_get group grouped.stands.0) (sym group) ∙ grouped.stands.1 in
+      let below : object < 0 + file_blocks boot.file = range-below 0 (file_blocks boot.file) grouped.stands.0 object there in
+      let long : length (file_objects boot.file) ≡ file_blocks boot.file = simp length-map (length-range_with_len 0 (file_blocks boot.file)) in
       omega arith
 
   begins : Started booted 2 starts.number count starts.memory
@@ -143,11 +143,8 @@ module _ (file : List ℕ) (blocks drives : ℕ) (terms : List TerminalState) (s
         let late = low-new booted 2 count begins.entry.group begins.fits slot object (let long = low-long in omega (arith, within)) is in omega arith);
   }
 
-  pub start-area : (object : ℕ) → IsOfArea s.inner 2 object → IsOwn s.inner 2 object
-  start-area object =
+  pub start-own : (object : ℕ) → IsOfArea s.inner 2 object → IsOwn s.inner 2 object
+  start-own object =
       subst (λ (s : State). IsOfArea s.inner 2 object → IsOwn s.inner 2 object) (sym starts.is)
       (subst (λ memory. IsOfArea (only_process memory (first_start starts.number starts.entry)) 2 object → IsOwn (only_process memory (first_start starts.number starts.entry)) 2 object) (sym begins.memory)
       (λ of. area-own object of.0 of.1 of.2))
-
-pub start-own : (file : List ℕ) (blocks drives : ℕ) (terms : List TerminalState) (s : State) → Starts file blocks drives terms s → (object : ℕ) → IsOfArea s.inner 2 object → IsOwn s.inner 2 object
-start-own file blocks drives terms s starts object = start-area file blocks drives terms s starts object

@@ -1,4 +1,7 @@
-pub mod Appearing
+pub mod Areas
 pub mod Beginning
-pub mod OwnKept
+pub mod Groups
+pub mod Modules
 pub mod OwnRows
+pub mod Owning
+pub mod Slices

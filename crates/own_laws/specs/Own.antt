@@ -4,7 +4,7 @@ use Rattle.proc_model.specs.Memory.{map_at}
 use Rattle.proc_model.specs.Slots.{NamesBlock, block_at}
 use Rattle.proc_rules.specs.Records.{IsLiving}
 use Rattle.call_rules.specs.Inner.{Inner}
-use Rattle.isolation_laws.specs.Objects.{IsOfModule}
+use Rattle.isolation_laws.specs.Objects.{Appears, IsOfModule}
 use Rattle.isolation_laws.specs.Others.{HasRecord}
 
 -- the maps of processes and the groups of modules name objects that have appeared
@@ -23,6 +23,12 @@ pub record IsOwn (m : Inner) (p object : ℕ) : Type 0 where
 abbrev pub IsOfArea : Inner → ℕ → ℕ → Type 0
 IsOfArea m p object =
     (slot : ℕ) × (slot < (map_at m.memory p).low) × (block_at (map_at m.memory p) slot ≡ Some object)
+
+-- an object appears in the map of a process from one state to the next
+pub record AppearsIn (m : Inner) (p object : ℕ) (n : Inner) : Type 0 where
+  pub has : HasRecord n p
+  pub named : NamesBlock (map_at n.memory p) object
+  pub appears : Appears m.memory n.memory object
 
 -- a process that lives still lives, the object is its own still, and has the same bytes
 pub record KeepsOwnObject (m : Inner) (p object : ℕ) (n : Inner) : Type 0 where

@@ -1,33 +1,42 @@
 //! Blocks that are a process's own: what they are, and that they stay so.
 
-ghost use Rattle.std.specs.Prelude.{◌≡◌, ◌≢◌, ℕ, List, Some};
-ghost use Rattle.machine_model.specs.declared.ends.EventEnd.{EventEnd};
-ghost use Rattle.machine_model.specs.declared.ends.SliceEnd.{SliceEnd};
-ghost use Rattle.proc_rules.specs.Records.{IsLiving};
-ghost use Rattle.machine_model.specs.Event.{Event};
-ghost use Rattle.machine_model.specs.Run.{Slice};
-ghost use Rattle.machine_model.specs.Start.{Starts};
-ghost use Rattle.machine_model.specs.State.{State};
-ghost use Rattle.os9_outer.specs.TerminalState.{TerminalState};
-ghost use Rattle.own_laws.specs.Own.{IsOfArea, IsOwn, KeepsOwnObject, NameAppeared};
-ghost use Rattle.isolation_laws.specs.Objects.{Appears};
-ghost use Rattle.isolation_laws.specs.Others.{HasRecord};
+ghost use Rattle.std.specs.Prelude.{◌≡◌, ◌≢◌, ◌⊎◌, ℕ, Some, List};
+ghost use Rattle.os9_base.specs.declared.calls.TheConstants.{F_LOAD};
+ghost use Rattle.os9_base.specs.declared.registers.Regs.{Regs};
 ghost use Rattle.proc_model.specs.Memory.{map_at};
 ghost use Rattle.proc_model.specs.Slots.{NamesBlock};
-ghost use Rattle.os9_base.specs.declared.registers.Regs.{Regs};
+ghost use Rattle.proc_rules.specs.Records.{IsLiving};
+ghost use Rattle.call_rules.specs.Ready.{act_of, attempts};
 ghost use Rattle.call_rules.specs.Rows.{two_processes};
+ghost use Rattle.isolation_laws.specs.Modules.{KeepsModules};
+ghost use Rattle.isolation_laws.specs.Objects.{Appears, IsOfModule};
+ghost use Rattle.isolation_laws.specs.Others.{HasRecord};
+ghost use Rattle.own_laws.specs.Own.{AppearsIn, IsOfArea, IsOwn, KeepsOwnObject, NameAppeared};
+ghost use Rattle.machine_model.specs.declared.ends.EventEnd.{EventEnd};
+ghost use Rattle.machine_model.specs.declared.ends.SliceEnd.{SliceEnd};
+ghost use Rattle.disk_machine.specs.Event.{Event};
+ghost use Rattle.disk_machine.specs.Run.{Slice};
+ghost use Rattle.disk_machine.specs.Start.{Boot, Starts};
+ghost use Rattle.disk_machine.specs.State.{State};
 
-/// From the start on maps and groups name none but objects that have appeared, and an object that
-/// appears in the map of a process is its own at once: so the blocks that F$Fork, F$Chain and F$Mem
-/// give a process are its own until it gives them up.
+/// From the start on, maps and groups name only objects that have appeared. An object that appears in
+/// the map of a process is its own at once, or belongs to the group of a module, as the blocks of a
+/// loaded file do; if no module is entered, it is its own. An object that appears in its data area is
+/// its own in every event except F$Load, which maps a group and gives no area: so the blocks that
+/// F$Fork, F$Chain and F$Mem give a process are its own until it gives them up.
 pub fn what_appears_is_its_own()
-    ensures own { (s t : State) (end : EventEnd) (p object : ℕ) → Event s end t
-        → NameAppeared s.inner → HasRecord t.inner p → NamesBlock (map_at t.inner.memory p) object
+    ensures own { (s t : State) (end : EventEnd) (p object : ℕ) → Event s end t → NameAppeared s.inner
+        → AppearsIn s.inner p object t.inner → IsOwn t.inner p object ⊎ IsOfModule t.inner.memory object }
+    ensures unless_entered { (s t : State) (end : EventEnd) (p object : ℕ) → Event s end t
+        → NameAppeared s.inner → KeepsModules s.inner.memory.modules t.inner.memory.modules
+        → AppearsIn s.inner p object t.inner → IsOwn t.inner p object }
+    ensures area { (s t : State) (end : EventEnd) (p object : ℕ) → Event s end t
+        → NameAppeared s.inner → ((q : ℕ) → s.chosen ≡ Some q → act_of s.inner q ≢ attempts F_LOAD)
+        → HasRecord t.inner p → IsOfArea t.inner p object
         → Appears s.inner.memory t.inner.memory object → IsOwn t.inner p object }
     ensures appeared { (s t : State) (end : EventEnd) → Event s end t → NameAppeared s.inner
         → NameAppeared t.inner }
-    ensures start { (file : List ℕ) (blocks drives : ℕ) (terms : List TerminalState)
-        (s : State) → Starts file blocks drives terms s → NameAppeared s.inner }
+    ensures start { (boot : Boot) (s : State) → Starts boot s → NameAppeared s.inner }
 {}
 
 /// What is a process's own, as a block of its data area, stays its own with the same bytes in each
@@ -48,10 +57,9 @@ pub fn what_is_its_own_is_left_to_a_process()
 
 /// The blocks of data areas are their processes' own: other processes, of any number, do not name
 /// them, nor does a module. That holds of the first process from the start on, and of two processes
-/// beside each other.
+/// side by side.
 pub fn data_areas_are_own()
-    ensures start { (file : List ℕ) (blocks drives : ℕ) (terms : List TerminalState)
-        (s : State) → Starts file blocks drives terms s
+    ensures start { (boot : Boot) (s : State) → Starts boot s
         → (object : ℕ) → IsOfArea s.inner 2 object → IsOwn s.inner 2 object }
     ensures first { (bytes : List ℕ) (one other : Regs)
         → IsOwn (two_processes bytes one other) 2 0 }

@@ -1,5 +1,5 @@
-use Rattle.own_laws.proofs.Appearing.{own-acting}
-use Rattle.own_laws.proofs.OwnKept.{own-event, own-slice}
+use Rattle.own_laws.proofs.Owning.{own-acting, own-event}
+use Rattle.own_laws.proofs.Slices.{own-slice}
 use Rattle.own_laws.proofs.own.what_is_its_own_is_left_to_a_process.Goals as goal
 
 pub returns : goal.returns

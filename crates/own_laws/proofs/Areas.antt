@@ -43,7 +43,6 @@ use Rattle.isolation_laws.proofs.EventsKept.{broken-left, by-end, instruction-le
 use Rattle.isolation_laws.proofs.ForksKept.{HasRoom, attempt-left, chain-done, fork-done}
 use Rattle.isolation_laws.proofs.MemoryKept.{Started, low-new, map-other, started-is}
 use Rattle.own_laws.specs.Own.{IsOfArea, NameAppeared}
-use Rattle.own_laws.proofs.Appearing.{was-shared}
 use Rattle.disk_machine.specs.Event.{Acts, before_delivery}
 use Rattle.disk_machine.specs.Services.{Serves, Service, loads, no_call, on_paths, on_processes, on_time, service_of}
 use Rattle.disk_machine.specs.State.{Rest, State}
@@ -53,7 +52,7 @@ use Rattle.disk_isolation.proofs.EventsKept.{time-left}
 use Rattle.disk_isolation.proofs.FileKept.{is-loaded, shared-comes, with-file}
 use Rattle.disk_isolation.proofs.Loaded.{map-same, more-objects}
 use Rattle.disk_isolation.proofs.Programs.{room}
-use Rattle.disk_own.proofs.Groups.{goes-on, has-read}
+use Rattle.own_laws.proofs.Groups.{goes-on, has-read, was-shared}
 
 -- a process may gain an area: it acts, or begins by F$Fork
 abbrev pub MayGain : Inner → ℕ → ℕ → Type 0

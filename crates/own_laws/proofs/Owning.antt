@@ -10,19 +10,19 @@ use Rattle.proc_rules.specs.Records.{IsLiving, has_ended, record_at, record_of}
 use Rattle.call_rules.specs.Inner.{Inner}
 use Rattle.call_rules.specs.Ready.{act_of, attempts}
 use Rattle.machine_model.specs.declared.ends.EventEnd.{EventEnd}
+use Rattle.isolation_laws.specs.Modules.{KeepsModules}
 use Rattle.isolation_laws.specs.Objects.{Appears, IsNewOrShared, IsOfModule, KeepsObjects, KeepsSizes, KeepsToItself}
 use Rattle.isolation_laws.specs.Others.{Begins, ComesOf, HasRecord, Stays}
 use Rattle.isolation_laws.proofs.OthersKept.{living-record}
 use Rattle.kept_laws.proofs.KeptEvents.{lives-runs, there-lives}
-use Rattle.own_laws.specs.Own.{IsOfArea, IsOwn, KeepsOwnObject, NameAppeared}
-use Rattle.own_laws.proofs.Appearing.{longer}
+use Rattle.own_laws.specs.Own.{AppearsIn, IsOfArea, IsOwn, KeepsOwnObject, NameAppeared}
 use Rattle.disk_machine.specs.Event.{Event}
 use Rattle.disk_machine.specs.State.{State}
 use Rattle.disk_isolation.specs.Isolation.{LeavesOthers}
 use Rattle.disk_isolation.proofs.EventsKept.{event-leaves}
-use Rattle.disk_own.proofs.Areas.{AreasApart, MayGain, acts-apart}
-use Rattle.disk_own.proofs.Groups.{KeepsGroups, event-groups}
-use Rattle.disk_own.proofs.Modules.{of-module}
+use Rattle.own_laws.proofs.Areas.{AreasApart, MayGain, acts-apart}
+use Rattle.own_laws.proofs.Groups.{KeepsGroups, event-groups, longer, was-shared}
+use Rattle.own_laws.proofs.Modules.{of-module}
 
 -- what an event of a process that lives leaves, as far as it decides what is its own
 record Leaves (m : Inner) (q : ℕ) (end : EventEnd) (n : Inner) : Type 0 where
@@ -206,9 +206,21 @@ module _ (m n : Inner) (q : ℕ) (end : EventEnd) (left : Leaves m q end n) wher
 
 -- ---- an event
 
-pub own-at_once : (s t : State) (end : EventEnd) (p object : ℕ) → Event s end t → NameAppeared s.inner → HasRecord t.inner p → NamesBlock (map_at t.inner.memory p) object → Appears s.inner.memory t.inner.memory object → IsOwn t.inner p object ⊎ IsOfModule t.inner.memory object
-own-at_once s t end p object (q, chosen, lives, acts) names has named appears =
-    own-then s.inner t.inner q end (left-so s t end q chosen (q, chosen, lives, acts)) names p object has named appears
+pub own-at_once : (s t : State) (end : EventEnd) (p object : ℕ) → Event s end t → NameAppeared s.inner → AppearsIn s.inner p object t.inner → IsOwn t.inner p object ⊎ IsOfModule t.inner.memory object
+own-at_once s t end p object (q, chosen, lives, acts) names it =
+    own-then s.inner t.inner q end (left-so s t end q chosen (q, chosen, lives, acts)) names p object it.has it.named it.appears
+
+-- a group that appears is of a module that is entered
+pub own-unless_entered : (s t : State) (end : EventEnd) (p object : ℕ) → Event s end t → NameAppeared s.inner → KeepsModules s.inner.memory.modules t.inner.memory.modules → AppearsIn s.inner p object t.inner → IsOwn t.inner p object
+own-unless_entered s t end p object event names keeps it =
+    by_module (own-at_once s t end p object event names it)
+  where
+    by_module : IsOwn t.inner p object ⊎ IsOfModule t.inner.memory object → IsOwn t.inner p object
+    by_module (inl own) = own
+    by_module (inr shared) =
+        let below = names.groups object (was-shared s.inner.memory t.inner.memory object keeps shared) in
+        let late = it.appears.0 in
+        absurd (omega arith)
 
 pub own-area : (s t : State) (end : EventEnd) (p object : ℕ) → Event s end t → NameAppeared s.inner → ((q : ℕ) → s.chosen ≡ Some q → act_of s.inner q ≢ attempts F_LOAD) → HasRecord t.inner p → IsOfArea t.inner p object → Appears s.inner.memory t.inner.memory object → IsOwn t.inner p object
 own-area s t end p object (q, chosen, lives, acts) names other has (slot, below, at) appears =

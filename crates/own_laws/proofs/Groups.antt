@@ -1,12 +1,14 @@
 -- The groups of modules are of objects that appear, as those of a file that is loaded, or were groups before.
-use Rattle.std.proofs.Common.{◌≡◌, ℕ, ◌-◌, ◌==◌, not, nat_le, nat_lt, Bool, true, false, Option, Some, None, Result, Ok, Err, List, length, refl, sym, subst, inl, inr}
-use Rattle.std.specs.Prelude.{MatchOption}
+use Rattle.std.proofs.Common.{◌≡◌, ℕ, ◌-◌, ◌≤◌, ◌==◌, not, nat_le, nat_lt, Bool, true, false, Option, Some, None, Result, Ok, Err, List, [], length, slice_get, refl, sym, ap, ◌∙◌, subst, inl, inr, arith}
+use Rattle.std.specs.Prelude.{MatchOption, option_map}
+use Rattle.std.proofs.lemmas.Bool.{cases_lt}
+use Rattle.std.proofs.lemmas.Option.{none-some, slice_get-get_or, slice_get_past}
 use Rattle.os9_base.specs.declared.calls.TheConstants.{F_LOAD}
 use Rattle.os9_base.specs.declared.errors.TheConstants.{E_MEMFUL, E_NEMOD, E_PRCFUL, E_UNKSVC}
 use Rattle.os9_base.specs.declared.registers.TimePacket.{TimePacket}
 use Rattle.proc_model.specs.Memory.{MemoryState}
 use Rattle.proc_model.specs.MemoryChanges.{linked, started}
-use Rattle.proc_model.specs.ModuleList.{ModuleEntry}
+use Rattle.proc_model.specs.ModuleList.{ModuleEntry, module_entry_at}
 use Rattle.proc_model.specs.declared.memory.TheConstants.{MOST_LINKS}
 use Rattle.proc_rules.specs.Records.{IsLiving, free_process}
 use Rattle.call_rules.specs.Attempts.{after_attempt, attempted}
@@ -30,7 +32,7 @@ use Rattle.time_rules.specs.Attempts.{result_of, time_step}
 use Rattle.machine_model.specs.Event.{next_instruction}
 use Rattle.machine_model.specs.declared.ends.EventEnd.{EventEnd}
 use Rattle.isolation_laws.specs.Isolation.{LeavesOthers}
-use Rattle.isolation_laws.specs.Modules.{KeepsModules}
+use Rattle.isolation_laws.specs.Modules.{KeepsModules, ModuleComesOf, StaysEntered}
 use Rattle.isolation_laws.specs.Objects.{IsNewOrShared, IsOfModule, KeepsSizes}
 use Rattle.isolation_laws.specs.Others.{AttemptsCall}
 use Rattle.isolation_laws.proofs.CallsKept.{AttemptLeft, ended-left, left-refused, of-changes, of-needs, of-refuses}
@@ -38,7 +40,6 @@ use Rattle.isolation_laws.proofs.EventsKept.{broken-left, by-end, instruction-le
 use Rattle.isolation_laws.proofs.ForksKept.{HasRoom, attempt-left, chain-done, fork-done}
 use Rattle.isolation_laws.proofs.MemoryKept.{Grows, mapped-grows, mapped-modules}
 use Rattle.isolation_laws.proofs.ModulesKept.{HaveMore, keeps-more, more-linked}
-use Rattle.own_laws.proofs.Appearing.{longer, was-shared}
 use Rattle.disk_machine.specs.Event.{Acts, Event}
 use Rattle.disk_machine.specs.Services.{Serves, Service, loads, no_call, on_paths, on_processes, on_time, service_of}
 use Rattle.disk_machine.specs.State.{Rest, State}
@@ -49,6 +50,28 @@ use Rattle.disk_isolation.proofs.FileKept.{is-loaded, shared-comes, with-file}
 use Rattle.disk_isolation.proofs.FileRead.{HasRead, file-found, program-found}
 use Rattle.disk_isolation.proofs.Loaded.{first-there}
 use Rattle.disk_isolation.proofs.Programs.{room}
+
+-- objects never go
+pub longer : (m n : MemoryState) → KeepsSizes m n → length m.objects ≤ length n.objects
+longer m n sizes =
+    elim (cases_lt (length n.objects) (length m.objects)) [
+      | inl less ↦
+          (let before : slice_get m.objects (length n.objects) ≡ Some _ = slice_get-get_or m.objects (length n.objects) [] less in
+          let now : slice_get n.objects (length n.objects) ≡ None = slice_get_past n.objects (length n.objects) (omega arith) in
+          absurd (none-some _ (sym (ap (option_map length) now) ∙ sizes (length n.objects) less ∙ ap (option_map length) before)))
+      | inr more ↦ more
+    ]
+
+-- a group that an entered module has now, one had before
+pub was-shared : (m n : MemoryState) (object : ℕ) → KeepsModules m.modules n.modules → IsOfModule n object → IsOfModule m object
+was-shared m n object keeps grouped = by_old (module_entry_at m.modules grouped.number) refl (subst (ModuleComesOf m.modules (module_entry_at m.modules grouped.number)) grouped.is (keeps grouped.number))
+  where
+    by_old : (old : Option ModuleEntry) → module_entry_at m.modules grouped.number ≡ old → ModuleComesOf m.modules (module_entry_at m.modules grouped.number) (Some grouped.entry) → IsOfModule m object
+    by_old (Some old) was comes =
+        let stays : StaysEntered old grouped.entry = subst (λ old. ModuleComesOf m.modules old (Some grouped.entry)) was comes in
+        let groups : grouped.entry.group ≡ old.group = ap (λ (e : ModuleEntry). e.group) stays.same in
+        record { number = grouped.number; entry = old; is = was; stands = (grouped.stands.0, sym (ap (λ group. slice_get group grouped.stands.0) groups) ∙ grouped.stands.1) }
+    by_old None was comes = absurd (subst (λ old. ModuleComesOf m.modules old (Some grouped.entry)) was comes)
 
 abbrev pub KeepsGroups : MemoryState → MemoryState → Type 0
 KeepsGroups m n = (object : ℕ) → IsOfModule n object → IsNewOrShared m n object

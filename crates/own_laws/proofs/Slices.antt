@@ -1,18 +1,22 @@
 -- What is a process's own stays its own, and as it is, in a slice of another one.
-use Rattle.std.proofs.Common.{◌≡◌, ◌≢◌, ℕ, ◌-◌, Bool, true, false, Option, Some, None, List, [], ◌∷◌, refl, sym, ap, ◌∙◌, subst}
+use Rattle.std.proofs.Common.{◌≡◌, ◌≢◌, ℕ, ◌-◌, ◌<◌, Bool, true, false, Option, Some, None, List, [], ◌∷◌, length, slice_get, refl, sym, ap, ◌∙◌, subst}
 use Rattle.std.specs.Prelude.{MatchBool, MatchOption}
+use Rattle.proc_model.specs.Memory.{MemoryState, map_at}
+use Rattle.proc_model.specs.Slots.{NamesBlock}
 use Rattle.proc_rules.specs.Records.{IsLiving}
+use Rattle.call_rules.specs.Inner.{Inner}
 use Rattle.call_rules.specs.Ready.{Act, act_of, attempts, delivers, executes}
 use Rattle.machine_model.specs.declared.ends.EventEnd.{EventEnd}
 use Rattle.machine_model.specs.declared.ends.SliceEnd.{SliceEnd}
 use Rattle.machine_model.specs.declared.ends.SliceEnd.TheVariants.{Idle, Ran}
 use Rattle.machine_model.specs.State.{State as Older}
+use Rattle.kept_laws.proofs.RunningLaws.{SignalsLeave, tick-leaves}
+use Rattle.isolation_laws.specs.Objects.{IsOfModule}
 use Rattle.own_laws.specs.Own.{IsOwn, KeepsOwnObject}
-use Rattle.own_laws.proofs.OwnKept.{own-same, own-then, own-tick as older-tick}
 use Rattle.disk_machine.specs.Event.{Acts, Event, cost}
 use Rattle.disk_machine.specs.Run.{Choose, Slice, Steps, Tick, is_going}
 use Rattle.disk_machine.specs.State.{State}
-use Rattle.disk_own.proofs.Owning.{own-event}
+use Rattle.own_laws.proofs.Owning.{own-event}
 
 -- ---- the chosen process stays chosen
 
@@ -35,6 +39,13 @@ steps-chosen left s (m ∷ ms) t (some, end, event, steps) =
 
 -- ---- the events of a slice
 
+own-then : (m n o : Inner) (p object : ℕ) → KeepsOwnObject m p object n → KeepsOwnObject n p object o → KeepsOwnObject m p object o
+own-then m n o p object first next =
+    record { lives = next.lives; own = next.own; bytes = next.bytes ∙ first.bytes }
+
+own-same : (m : Inner) (p object : ℕ) → IsLiving m.records p → IsOwn m p object → KeepsOwnObject m p object m
+own-same m p object lives own = record { lives = lives; own = own; bytes = refl }
+
 own-steps : (left : ℕ) (s : State) (states : List State) (t : State) (q p object : ℕ) → s.chosen ≡ Some q → p ≢ q → Steps left s states t → IsLiving s.inner.records p → IsOwn s.inner p object → KeepsOwnObject s.inner p object t.inner
 own-steps left s [] t q p object chosen differ (over, is) lives own =
     subst (λ (t : State). KeepsOwnObject s.inner p object t.inner) (sym is) (own-same s.inner p object lives own)
@@ -49,13 +60,28 @@ own-steps left s (m ∷ ms) t q p object chosen differ (some, end, event, steps)
 
 -- ---- a slice
 
--- a tick is one of the machine of terminals and pipes alone
+-- as the signals of keys see a state
 abbrev older : State → Older
 older s = record { inner = s.inner; io = s.files.io; chosen = s.chosen; drives = 0; terms = s.terms }
 
+-- keys that arrive change no memory, and make no record
 own-tick : (s t : State) (p object : ℕ) → Tick s t → IsLiving s.inner.records p → IsOwn s.inner p object → KeepsOwnObject s.inner p object t.inner
 own-tick s t p object (desk, arrives, is) lives own =
-    older-tick (older s) (older t) p object (desk, arrives, ap older is) lives own
+    let left : SignalsLeave s.inner t.inner = tick-leaves (older s) (older t) (desk, arrives, ap older is) in
+    record {
+      lives = left.lives p lives;
+      own = record {
+        appeared =
+            subst (λ (memory : MemoryState). object < length memory.objects) (sym left.memory) own.appeared;
+        named =
+            subst (λ (memory : MemoryState). NamesBlock (map_at memory p) object) (sym left.memory) own.named;
+        alone =
+            λ q differ has names. own.alone q differ (left.had q has.0 has.1) (subst (λ (memory : MemoryState). NamesBlock (map_at memory q) object) left.memory names);
+        in_no_module =
+            λ shared. own.in_no_module (subst (λ (memory : MemoryState). IsOfModule memory object) left.memory shared);
+      };
+      bytes = ap (λ (memory : MemoryState). slice_get memory.objects object) left.memory;
+    }
 
 -- the choice of a process changes no memory and no record
 own-choice : (s t : State) (p object : ℕ) → Choose s t → IsLiving s.inner.records p → IsOwn s.inner p object → KeepsOwnObject s.inner p object t.inner
