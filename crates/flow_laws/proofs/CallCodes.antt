@@ -54,13 +54,3 @@ none-delivering act signal next code call is coded = delivers-attempts signal co
 
 pub none-executing : (act : Act) → act ≡ executes → AttemptsNone act
 none-executing act next code call is coded = executes-attempts code (sym next ∙ is)
-
--- the code is that of a call on processes and modules
-pub none-of-process : (act : Act) (code : ℕ) (call : ProcCall) → act ≡ attempts code → call_of code ≡ Some call → AttemptsNone act
-none-of-process act code call next coded other on_path is there =
-    not-both code call on_path coded (ap io_call_of (same-code code other (sym next ∙ is)) ∙ there)
-
--- the code is no call's on a path
-pub none-of-path : (act : Act) (code : ℕ) → act ≡ attempts code → io_call_of code ≡ None → AttemptsNone act
-none-of-path act code next coded other on_path is there =
-    none-some on_path (sym coded ∙ ap io_call_of (same-code code other (sym next ∙ is)) ∙ there)

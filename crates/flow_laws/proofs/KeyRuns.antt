@@ -1,11 +1,8 @@
 -- What becomes of the keys of a terminal in a tick, in a slice and in a run.
-use Rattle.std.proofs.Common.{◌≡◌, ◌≢◌, ◌⊎◌, ℕ, zero, suc, ◌+◌, ◌-◌, ◌<◌, ◌≤◌, Bool, true, false, Option, Some, None, List, [], ◌∷◌, ◌++◌, length, slice_get, slice_set, take, refl, sym, ap, ◌∙◌, subst, inl, inr, arith, append_assoc, append-nil}
+use Rattle.std.proofs.Common.{◌≡◌, ℕ, ◌+◌, ◌-◌, ◌<◌, ◌≤◌, Bool, true, false, Option, Some, None, List, [], ◌∷◌, ◌++◌, length, take, refl, sym, ap, ◌∙◌, subst, inl, inr, arith, append_assoc, append-nil}
 use Rattle.std.specs.Prelude.{MatchBool, MatchOption}
 use Rattle.std.specs.List.{AllByRecursion, filter_map, flat_map}
-use Rattle.std.proofs.lemmas.Bool.{cases_eq}
-use Rattle.std.proofs.lemmas.List.{get_or-replicate, get_or-set_same, get_or-set_other, length-append, length-set, length-take}
-use Rattle.std.proofs.lemmas.Option.{none-some, same_Some}
-use Rattle.std.proofs.Math.Seq.{take-append-add}
+use Rattle.std.proofs.lemmas.List.{get_or-replicate, length-append, length-take}
 use Rattle.os9_outer.specs.TerminalState.{TerminalState}
 use Rattle.os9_outer.specs.declared.terminal.Key.{Key}
 use Rattle.proc_rules.specs.declared.turn.Turn.{Turn}
@@ -14,159 +11,22 @@ use Rattle.io_model.specs.Pipe.{Flows}
 use Rattle.io_model.proofs.PipeLemmas.{flows-in_order}
 use Rattle.io_model.specs.Terminal.{Terminal, key_bytes, new_terminal, typed_bytes}
 use Rattle.io_model.specs.declared.terminal.TheConstants.{TYPE_AHEAD}
-use Rattle.io_rules.specs.Arrivals.{ArrivesAt, ArrivesFrom, Desk}
 use Rattle.io_rules.specs.Io.{Io, first_io, terminal_at}
+use Rattle.file_rules.specs.Files.{Files}
 use Rattle.machine_model.specs.declared.ends.EventEnd.{EventEnd}
 use Rattle.machine_model.specs.declared.ends.SliceEnd.{SliceEnd}
 use Rattle.machine_model.specs.declared.ends.SliceEnd.TheVariants.{Idle, Ran}
 use Rattle.machine_model.specs.Console.{console_bytes, terminals_emptied}
-use Rattle.machine_model.specs.Event.{Event, cost}
-use Rattle.machine_model.specs.Run.{Choose, Run, Slice, Steps, Tick, desk_of, is_going}
-use Rattle.machine_model.specs.Start.{Starts}
-use Rattle.machine_model.specs.State.{State, has_living}
-use Rattle.flow_laws.specs.Keys.{EventKeys, FollowOn, HasAhead, IsKeyStep, KeyMove, KeyStep, KeysArrive, KeysPass, LineStays, Stands, after_event, ahead_at, ahead_moves, arrive, arrived_by, keys_to_come, stay, use_up}
-use Rattle.flow_laws.proofs.KeyEvents.{come_of, event-keys}
+use Rattle.flow_laws.specs.Keys.{KeyMove, arrive, arrived_by, stay, use_up, EventKeys, FollowOn, HasAhead, IsKeyStep, KeyStep, KeysArrive, KeysPass, Stands, after_event, ahead_at, ahead_moves, keys_to_come}
+use Rattle.flow_laws.proofs.KeyAttempts.{come_of}
+use Rattle.flow_laws.proofs.KeyArrivals.{Polled, arrivals-polled, come-emptied}
+use Rattle.disk_machine.specs.Event.{Event, cost}
+use Rattle.disk_machine.specs.Run.{Choose, Run, Slice, Steps, Tick, desk_of, is_going}
+use Rattle.disk_machine.specs.Start.{Boot, Starts}
+use Rattle.disk_machine.specs.State.{State, has_living}
+use Rattle.flow_laws.proofs.KeyEvents.{event-keys}
 
 -- ---- a tick
-
-take-none : {A : Type 0} (k : ℕ) → take k (let none : List A = [] in none) ≡ []
-take-none zero = refl
-take-none (suc k) = refl
-
--- the keys of another terminal stay to come
-come-other : (terms : List TerminalState) (m n : ℕ) (new : TerminalState) → n ≢ m → come_of (slice_set terms m new) n ≡ come_of terms n
-come-other [] m n new apart = refl
-come-other (x ∷ terms) zero zero new apart = absurd (apart refl)
-come-other (x ∷ terms) zero (suc n) new apart = refl
-come-other (x ∷ terms) (suc m) zero new apart = refl
-come-other (x ∷ terms) (suc m) (suc n) new apart = come-other terms m n new (λ same. apart (ap suc same))
-
--- those of this one
-come-found : (terms : List TerminalState) (n : ℕ) (old : TerminalState) → slice_get terms n ≡ Some old → come_of terms n ≡ old.keys
-come-found [] n old is = absurd (none-some old is)
-come-found (x ∷ terms) zero old is = ap (λ (t : TerminalState). t.keys) (same_Some x old is)
-come-found (x ∷ terms) (suc n) old is = come-found terms n old is
-
-come-put : (terms : List TerminalState) (n : ℕ) (old new : TerminalState) → slice_get terms n ≡ Some old → come_of (slice_set terms n new) n ≡ new.keys
-come-put [] n old new is = absurd (none-some old is)
-come-put (x ∷ terms) zero old new is = refl
-come-put (x ∷ terms) (suc n) old new is = come-put terms n old new is
-
--- what fits of keys that arrive
-fits : (ahead typed : List ℕ) → length ahead ≤ TYPE_AHEAD → take TYPE_AHEAD (ahead ++ typed) ≡ ahead ++ take (TYPE_AHEAD - length ahead) typed
-fits ahead typed few =
-    ap (λ (k : ℕ). take k (ahead ++ typed)) (room (length ahead) few) ∙ take-append-add ahead typed (TYPE_AHEAD - length ahead)
-  where
-    room : (k : ℕ) → k ≤ TYPE_AHEAD → TYPE_AHEAD ≡ k + (TYPE_AHEAD - k)
-    room k few = omega arith
-
-module _ (n tick : ℕ) where
-  -- another terminal is polled
-  record Apart (old new : Desk) : Type 0 where
-    pub terminal : terminal_at new.io n ≡ terminal_at old.io n
-    pub come : come_of new.terms n ≡ come_of old.terms n
-    pub places : length new.io.terminals ≡ length old.io.terminals
-
-  poll-places : (m : ℕ) (old new : Desk) → ArrivesAt tick m old new → length new.io.terminals ≡ length old.io.terminals
-  poll-places m old new here =
-      ap (λ (io : Io). length io.terminals) here.io ∙ length-set old.io.terminals m here.terminal
-
-  poll-apart : (m : ℕ) (old new : Desk) → n ≢ m → ArrivesAt tick m old new → Apart old new
-  poll-apart m old new apart here = record {
-    terminal =
-        ap (λ (io : Io). terminal_at io n) here.io ∙ get_or-set_other old.io.terminals m n here.terminal new_terminal apart;
-    come =
-        ap (λ (terms : List TerminalState). come_of terms n) here.device.3 ∙ come-other old.terms m n here.device.1 apart;
-    places = poll-places m old new here;
-  }
-
-  later-apart : (m count : ℕ) (old new : Desk) → n < m → ArrivesFrom tick m count old new → Apart old new
-  later-apart m zero old new less is = record {
-    terminal = ap (λ (desk : Desk). terminal_at desk.io n) is;
-    come = ap (λ (desk : Desk). come_of desk.terms n) is;
-    places = ap (λ (desk : Desk). length desk.io.terminals) is;
-  }
-  later-apart m (suc count) old new less (between, here, later) =
-      let first : Apart old between = poll-apart m old between (λ same. absurd (differs same)) here in
-      let rest : Apart between new = later-apart (m + 1) count between new (omega arith) later in
-      record {
-        terminal = rest.terminal ∙ first.terminal;
-        come = rest.come ∙ first.come;
-        places = rest.places ∙ first.places;
-      }
-    where
-      differs : n ≡ m → ⊥
-      differs same = omega arith
-
-  -- what arrives at this one
-  pub record Polled (old new : Desk) : Type 0 where
-    pub keys : List Key
-    pub come : come_of old.terms n ≡ keys ++ come_of new.terms n
-    pub line : LineStays (terminal_at old.io n) (terminal_at new.io n)
-    pub ahead : (terminal_at new.io n).ahead ≡ (terminal_at old.io n).ahead ++ take (TYPE_AHEAD - length (terminal_at old.io n).ahead) (typed_bytes (key_bytes keys))
-    pub places : length new.io.terminals ≡ length old.io.terminals
-
-  poll-here : (old new : Desk) → n < length old.io.terminals → length (terminal_at old.io n).ahead ≤ TYPE_AHEAD → ArrivesAt tick n old new → Polled old new
-  poll-here old new within few here =
-      let it = here.device.4 in
-      let at : terminal_at new.io n ≡ here.terminal = ap (λ (io : Io). terminal_at io n) here.io ∙ get_or-set_same old.io.terminals n here.terminal new_terminal within in
-      record {
-        keys = it.taken;
-        come =
-            come-found old.terms n here.device.0 here.device.2 ∙ it.in_order ∙ ap (λ (keys : List Key). it.taken ++ keys) (sym (ap (λ (terms : List TerminalState). come_of terms n) here.device.3 ∙ come-put old.terms n here.device.0 here.device.1 here.device.2));
-        line = record {
-          line = ap (λ (t : Terminal). t.line) (at ∙ it.kept);
-          reading = ap (λ (t : Terminal). t.reading) (at ∙ it.kept);
-        };
-        ahead =
-            ap (λ (t : Terminal). t.ahead) (at ∙ it.kept) ∙ fits (terminal_at old.io n).ahead (typed_bytes (key_bytes it.taken)) few;
-        places = poll-places n old new here;
-      }
-
-  pub arrivals-polled : (m count : ℕ) (old new : Desk) → n < length old.io.terminals → length (terminal_at old.io n).ahead ≤ TYPE_AHEAD → ArrivesFrom tick m count old new → Polled old new
-  arrivals-polled m zero old new within few is = record {
-    keys = [];
-    come = ap (λ (desk : Desk). come_of desk.terms n) (sym is);
-    line = record {
-      line = ap (λ (desk : Desk). (terminal_at desk.io n).line) is;
-      reading = ap (λ (desk : Desk). (terminal_at desk.io n).reading) is;
-    };
-    ahead =
-        ap (λ (desk : Desk). (terminal_at desk.io n).ahead) is ∙ sym (append-nil (terminal_at old.io n).ahead) ∙ ap (λ (none : List ℕ). (terminal_at old.io n).ahead ++ none) (sym (take-none (TYPE_AHEAD - length (terminal_at old.io n).ahead)));
-    places = ap (λ (desk : Desk). length desk.io.terminals) is;
-  }
-  arrivals-polled m (suc count) old new within few (between, here, later) =
-      by_place (cases_eq n m) (λ within few. arrivals-polled (m + 1) count between new within few later)
-    where
-      by_place : (n ≡ m) ⊎ (n ≢ m) → (n < length between.io.terminals → length (terminal_at between.io n).ahead ≤ TYPE_AHEAD → Polled between new) → Polled old new
-      by_place (inl same) others =
-          let first : Polled old between = poll-here old between within few (subst (λ (m : ℕ). ArrivesAt tick m old between) (sym same) here) in
-          let rest : Apart between new = later-apart (m + 1) count between new (omega (arith, same)) later in
-          record {
-            keys = first.keys;
-            come = first.come ∙ ap (λ (keys : List Key). first.keys ++ keys) (sym rest.come);
-            line = record {
-              line = ap (λ (t : Terminal). t.line) rest.terminal ∙ first.line.line;
-              reading = ap (λ (t : Terminal). t.reading) rest.terminal ∙ first.line.reading;
-            };
-            ahead = ap (λ (t : Terminal). t.ahead) rest.terminal ∙ first.ahead;
-            places = rest.places ∙ first.places;
-          }
-      by_place (inr apart) others =
-          let first : Apart old between = poll-apart m old between apart here in
-          let same : (terminal_at between.io n).ahead ≡ (terminal_at old.io n).ahead = ap (λ (t : Terminal). t.ahead) first.terminal in
-          let rest : Polled between new = others (subst (λ (k : ℕ). n < k) (sym first.places) within) (subst (λ (ahead : List ℕ). length ahead ≤ TYPE_AHEAD) (sym same) few) in
-          record {
-            keys = rest.keys;
-            come = sym first.come ∙ rest.come;
-            line = record {
-              line = rest.line.line ∙ ap (λ (t : Terminal). t.line) first.terminal;
-              reading = rest.line.reading ∙ ap (λ (t : Terminal). t.reading) first.terminal;
-            };
-            ahead =
-                rest.ahead ∙ ap (λ (ahead : List ℕ). ahead ++ take (TYPE_AHEAD - length ahead) (typed_bytes (key_bytes rest.keys))) same;
-            places = rest.places ∙ first.places;
-          }
 
 pub tick-keys : (s t : State) (n : ℕ) → Tick s t → HasAhead n s → (keys : List Key) × KeysArrive n s keys t × HasAhead n t
 tick-keys s t n (desk, arrives, is) has =
@@ -177,13 +37,13 @@ tick-keys s t n (desk, arrives, is) has =
             it.come ∙ ap (λ (terms : List TerminalState). it.keys ++ come_of terms n) (sym (ap (λ (t : State). t.terms) is));
         kept = ap (λ (t : State). ahead_at t n) is ∙ it.ahead;
         line = record {
-          line = ap (λ (t : State). (terminal_at t.io n).line) is ∙ it.line.line;
-          reading = ap (λ (t : State). (terminal_at t.io n).reading) is ∙ it.line.reading;
+          line = ap (λ (t : State). (terminal_at t.files.io n).line) is ∙ it.line.line;
+          reading = ap (λ (t : State). (terminal_at t.files.io n).reading) is ∙ it.line.reading;
         };
       },
       record {
         within =
-            subst (λ (k : ℕ). n < k) (sym (ap (λ (t : State). length t.io.terminals) is ∙ it.places)) has.within;
+            subst (λ (k : ℕ). n < k) (sym (ap (λ (t : State). length t.files.io.terminals) is ∙ it.places)) has.within;
         few = subst (λ (ahead : List ℕ). length ahead ≤ TYPE_AHEAD) (sym (ap (λ (t : State). ahead_at t n) is ∙ it.ahead)) (few-then (ahead_at s n) (typed_bytes (key_bytes it.keys)) has.few);
       },
     )
@@ -206,7 +66,7 @@ stands-then s m t one two = record {
 
 stands-choice : (s t : State) → Choose s t → Stands s t
 stands-choice s t is = record {
-  io = ap (λ (t : State). t.io) is;
+  io = ap (λ (t : State). t.files.io) is;
   come = λ n. ap (λ (t : State). keys_to_come t n) is;
   inner = by_choice t is;
 }
@@ -295,7 +155,7 @@ slice-keep n size s states end m later t (ticked, chosen, ticks, chooses, events
     let ahead : ahead_at chosen n ≡ ahead_at ticked n = ap (λ (t : State). ahead_at t n) chooses in
     let there : HasAhead n chosen = record {
       within =
-          subst (λ (k : ℕ). n < k) (sym (ap (λ (t : State). length t.io.terminals) chooses)) first.2.within;
+          subst (λ (k : ℕ). n < k) (sym (ap (λ (t : State). length t.files.io.terminals) chooses)) first.2.within;
       few = subst (λ (ahead : List ℕ). length ahead ≤ TYPE_AHEAD) (sym ahead) first.2.few;
     } in
     keeps-tick n s ticked (states ++ later) t first.0 ticks first.1
@@ -304,11 +164,6 @@ slice-keep n size s states end m later t (ticked, chosen, ticks, chooses, events
 pub slice-keys : (size : ℕ) (s t : State) (states : List State) (end : SliceEnd) (n : ℕ) → Slice size s states end t → HasAhead n s → KeysPass n s states t × HasAhead n t
 slice-keys size s t states end n slice has =
     subst (λ (states : List State). Keeps n s states t) (append-nil states) (slice-keep n size s states end t [] t slice has (λ has. keeps-none n t has))
-
-pub come-emptied : (terms : List TerminalState) (n : ℕ) → come_of (terminals_emptied terms) n ≡ come_of terms n
-come-emptied [] n = refl
-come-emptied (x ∷ terms) zero = refl
-come-emptied (x ∷ terms) (suc n) = come-emptied terms n
 
 stands-emptied : (m : State) → Stands m (record m { terms = terminals_emptied m.terms })
 stands-emptied m = record { io = refl; come = λ n. come-emptied m.terms n; inner = refl }
@@ -332,9 +187,18 @@ run-keys (size ∷ sizes) written s t states n run has =
 -- ---- the start
 
 -- the kernel has four terminals, and no key has arrived
-pub start-ahead : (file : List ℕ) (blocks drives : ℕ) (terms : List TerminalState) (s : State) (n : ℕ) → Starts file blocks drives terms s → n < 4 → HasAhead n s × (ahead_at s n ≡ [])
-start-ahead file blocks drives terms s n starts within =
-    subst (λ (s : State). HasAhead n s × (ahead_at s n ≡ [])) (sym starts.is) (record { within = within; few = rw none (omega arith) }, ap (λ (t : Terminal). t.ahead) none)
+pub start-ahead : (boot : Boot) (s : State) (n : ℕ) → Starts boot s → n < 4 → HasAhead n s × (ahead_at s n ≡ [])
+start-ahead boot s n starts within =
+    let same : terminal_at s.files.io n ≡ new_terminal = ap (λ (io : Io). terminal_at io n) first ∙ none in (
+      record {
+        within = subst (λ (io : Io). n < length io.terminals) (sym first) within;
+        few = subst (λ (t : Terminal). length t.ahead ≤ TYPE_AHEAD) (sym same) (omega arith);
+      },
+      ap (λ (t : Terminal). t.ahead) same,
+    )
   where
     none : terminal_at first_io n ≡ new_terminal
     none = get_or-replicate 4 n new_terminal new_terminal within
+
+    first : s.files.io ≡ first_io
+    first = ap (λ (s : State). s.files.io) starts.is ∙ ap (λ (files : Files). files.io) starts.mounted.is

@@ -1,8 +1,15 @@
+pub mod Aside
+pub mod Asked
 pub mod CallCodes
+pub mod GoesOn
+pub mod KeyArrivals
+pub mod KeyAttempts
 pub mod KeyEvents
 pub mod KeyReads
 pub mod KeyRuns
 pub mod KeyWrites
+pub mod PipeArrivals
+pub mod PipeAttempts
 pub mod PipeBreaks
 pub mod PipeEvents
 pub mod PipeRuns

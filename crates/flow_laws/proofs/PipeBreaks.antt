@@ -20,14 +20,15 @@ use Rattle.io_rules.specs.Io.{target_of}
 use Rattle.io_rules.specs.Waiting.{count_by, interrupted_count}
 use Rattle.machine_model.specs.declared.ends.EventEnd.{EventEnd}
 use Rattle.machine_model.specs.declared.ends.EventEnd.TheVariants.{Ended}
-use Rattle.machine_model.specs.Event.{Acts, Event, before_delivery, broken_off, delivery_end}
-use Rattle.machine_model.specs.State.{State}
+use Rattle.machine_model.specs.Event.{broken_off, delivery_end}
 use Rattle.isolation_laws.proofs.OthersKept.{living-within, record-put}
+use Rattle.disk_machine.specs.Event.{Acts, Event, before_delivery}
+use Rattle.disk_machine.specs.State.{State}
 use Rattle.flow_laws.specs.Flow.{IsBrokenOff, TellsMoved, pushed_regs, with_y}
 
 module _ (m : Inner) (p signal moved : ℕ) (lives : IsLiving m.records p) where
   -- the processes as the signal finds them
-  abbrev pub found : Inner
+  abbrev found : Inner
   found = with_regs_of m p (record (regs_at m p) { y = moved })
 
   abbrev taken : Inner
@@ -42,7 +43,7 @@ module _ (m : Inner) (p signal moved : ℕ) (lives : IsLiving m.records p) where
   waits-still =
       ap (λ (r : Record). is_waiting r.life) (record-put m.records p (record (record_at m.records p) { regs = record (regs_at m p) { y = moved } }) (living-within m.records p lives))
 
-  abbrev pub Tells : Result Inner ℕ → Type 0
+  abbrev Tells : Result Inner ℕ → Type 0
   Tells result = (delivery_end result ≡ Ended) ⊎ TellsMoved m p signal moved (after_delivery found p result)
 
   -- the frame, by the registers that the process had
@@ -60,7 +61,7 @@ module _ (m : Inner) (p signal moved : ℕ) (lives : IsLiving m.records p) where
       by_room false true is = inr (record { frame = frame-at true is })
       by_room false false is = inr (record { frame = frame-at false is })
 
-  pub delivery-tells : Tells (delivered found p signal)
+  delivery-tells : Tells (delivered found p signal)
   delivery-tells = by_intercept (record_at found.records p).intercept
     where
       answer : Option Intercept → Result Inner ℕ
@@ -86,9 +87,9 @@ broken-tells s t end n p kept (q, chosen, living, acts) it =
     counted true is = absurd (it.counts (eqb-true kept.code I_READ is))
     counted false is = refl
 
-    count : interrupted_count s.io p ≡ Some kept.moved
+    count : interrupted_count s.files.io p ≡ Some kept.moved
     count =
-        ap (λ (place : Option Kept). option_and_then (λ (kept : Kept). count_by kept (target_of s.io kept.path)) place) it.call
+        ap (λ (place : Option Kept). option_and_then (λ (kept : Kept). count_by kept (target_of s.files.io kept.path)) place) it.call
         ∙ ap (count_by kept) it.on ∙ counted (kept.code == I_READ) refl
 
     Came : Inner → Type 0

@@ -26,8 +26,8 @@ use Rattle.io_rules.specs.declared.io_call.Direction.TheVariants.{Reading, Writi
 use Rattle.io_rules.specs.declared.io_call.IoCall.{IoCall}
 use Rattle.io_rules.specs.declared.io_call.IoCall.TheVariants as Call
 use Rattle.machine_model.specs.declared.ends.EventEnd.{EventEnd}
-use Rattle.machine_model.specs.Event.{Event}
-use Rattle.machine_model.specs.State.{State}
+use Rattle.disk_machine.specs.Event.{Event}
+use Rattle.disk_machine.specs.State.{State}
 
 -- ---- one attempt
 
@@ -51,7 +51,7 @@ sent_by call caller io = None
 pub record AttemptsOn (s : State) (p n : ℕ) (call : IoCall) (way : Direction) : Type 0 where
   pub attempted : (code : ℕ) × (act_of s.inner p ≡ attempts code) × (io_call_of code ≡ Some call)
   pub way_is : direction_of_call call ≡ Some way
-  pub path : (opened : OpenPath) × (open_path s.io p (path_number call (regs_at s.inner p)) ≡ Some opened)
+  pub path : (opened : OpenPath) × (open_path s.files.io p (path_number call (regs_at s.inner p)) ≡ Some opened)
       × (opened.desc.target ≡ Pipe n)
 
 -- how many bytes a call moves in all: what is kept of it says it, or what its first attempt finds
@@ -98,7 +98,7 @@ MovesNone caller (keeps kept) = ⊥
 pub record EndsIn (s : State) (p : ℕ) (Counts : IoEnd → Type 0) (t : State) : Type 0 where
   pub effect : IoEffect
   pub inner : t.inner ≡ after_attempt s.inner p (result_of s.inner p effect)
-  pub io : t.io ≡ io_after p effect
+  pub io : t.files.io ≡ io_after p effect
   pub counts : Counts effect.end
 
 -- a read takes bytes out of a pipe, from its front, and its process sees them then
@@ -107,13 +107,14 @@ pub record TakesOut (n : ℕ) (s : State) (bytes : List ℕ) (t : State) : Type 
   pub chosen : s.chosen ≡ Some process
   pub call : IoCall
   pub attempt : AttemptsOn s process n call Reading
-  pub front : pipe_bytes s.io n ≡ bytes ++ pipe_bytes t.io n
+  pub front : pipe_bytes s.files.io n ≡ bytes ++ pipe_bytes t.files.io n
   -- one that has a byte left to move, and takes none, finds none
-  pub none : bytes ≡ [] → moved_before s.io process < in_all s.io process (regs_at s.inner process).y
-      → pipe_bytes s.io n ≡ []
+  pub none : bytes ≡ [] → moved_before s.files.io process < in_all s.files.io process (regs_at s.inner process).y
+      → pipe_bytes s.files.io n ≡ []
   pub seen : t.inner.memory
-      ≡ stored s.inner.memory process (stored_from call (regs_at s.inner process) (moved_before s.io process)) bytes
-  pub counts : EndsIn s process (ReadCounts call (caller_of s.inner process) s.io (length bytes)) t
+      ≡ stored s.inner.memory process
+      (stored_from call (regs_at s.inner process) (moved_before s.files.io process)) bytes
+  pub counts : EndsIn s process (ReadCounts call (caller_of s.inner process) s.files.io (length bytes)) t
 
 -- a write puts bytes into a pipe, at its end: the next ones of those that its process sends
 pub record PutsIn (n : ℕ) (s : State) (bytes : List ℕ) (t : State) : Type 0 where
@@ -121,20 +122,20 @@ pub record PutsIn (n : ℕ) (s : State) (bytes : List ℕ) (t : State) : Type 0 
   pub chosen : s.chosen ≡ Some process
   pub call : IoCall
   pub attempt : AttemptsOn s process n call Writing
-  pub behind : pipe_bytes t.io n ≡ pipe_bytes s.io n ++ bytes
+  pub behind : pipe_bytes t.files.io n ≡ pipe_bytes s.files.io n ++ bytes
   pub sent : List ℕ
-  pub sends : sent_by call (caller_of s.inner process) s.io ≡ Some sent
-  pub next : bytes ≡ take (length bytes) (drop (moved_before s.io process) sent)
+  pub sends : sent_by call (caller_of s.inner process) s.files.io ≡ Some sent
+  pub next : bytes ≡ take (length bytes) (drop (moved_before s.files.io process) sent)
   -- one that has a byte left to move, and puts none in, finds no room
-  pub none : bytes ≡ [] → moved_before s.io process < length sent → pipe_room (pipe_bytes s.io n) ≡ 0
+  pub none : bytes ≡ [] → moved_before s.files.io process < length sent → pipe_room (pipe_bytes s.files.io n) ≡ 0
   pub memory : t.inner.memory ≡ s.inner.memory
-  pub counts : EndsIn s process (WriteCounts call (caller_of s.inner process) s.io sent (length bytes)) t
+  pub counts : EndsIn s process (WriteCounts call (caller_of s.inner process) s.files.io sent (length bytes)) t
 
 -- ---- events
 
 -- an event leaves a pipe as it is; if it is an attempt of a call on it, that moves no byte, and stores none
 pub record LeavesPipe (n : ℕ) (s t : State) : Type 0 where
-  pub held : pipe_bytes t.io n ≡ pipe_bytes s.io n
+  pub held : pipe_bytes t.files.io n ≡ pipe_bytes s.files.io n
   pub attempt : (p : ℕ) (call : IoCall) (way : Direction) → s.chosen ≡ Some p → AttemptsOn s p n call way
       → EndsIn s p (MovesNone (caller_of s.inner p)) t × (t.inner.memory ≡ s.inner.memory)
 
@@ -158,10 +159,10 @@ IsPassing n it = (end : EventEnd) × Event it.before end it.after × MovesThroug
 
 -- a pipe is there after an event, and was not there before; then no path of a process was opened on it
 pub record IsNew (n : ℕ) (s t : State) : Type 0 where
-  pub absent : pipe_of s.io.pipes n ≡ None
-  pub unused : (p number : ℕ) (opened : OpenPath) → open_path s.io p number ≡ Some opened
+  pub absent : pipe_of s.files.io.pipes n ≡ None
+  pub unused : (p number : ℕ) (opened : OpenPath) → open_path s.files.io p number ≡ Some opened
       → opened.desc.target ≢ Pipe n
-  pub lives : IsPipe t.io.pipes n
+  pub lives : IsPipe t.files.io.pipes n
 
 -- ---- signals
 
@@ -169,8 +170,8 @@ pub record IsNew (n : ℕ) (s t : State) : Type 0 where
 pub record IsBrokenOff (n : ℕ) (s : State) (p : ℕ) (kept : Kept) : Type 0 where
   pub chosen : s.chosen ≡ Some p
   pub signal : (number : ℕ) × (act_of s.inner p ≡ delivers number)
-  pub call : kept_at s.io p ≡ Some kept
-  pub on : target_of s.io kept.path ≡ Some (Pipe n)
+  pub call : kept_at s.files.io p ≡ Some kept
+  pub on : target_of s.files.io kept.path ≡ Some (Pipe n)
   pub counts : kept.code ≢ I_READ
 
 -- the registers of a process with this in Y
@@ -192,9 +193,9 @@ pub record TellsMoved (before : Inner) (p signal moved : ℕ) (after : Inner) : 
 -- What a run leaves from one event to the next: ticks, choices and the host, who takes what terminals were given, leave
 -- pipes, paths, the calls that wait, memory and registers.
 pub record Rests (m s : State) : Type 0 where
-  pub pipes : s.io.pipes ≡ m.io.pipes
-  pub paths : s.io.paths ≡ m.io.paths
-  pub calls : s.io.calls ≡ m.io.calls
+  pub pipes : s.files.io.pipes ≡ m.files.io.pipes
+  pub paths : s.files.io.paths ≡ m.files.io.paths
+  pub calls : s.files.io.calls ≡ m.files.io.calls
   pub memory : s.inner.memory ≡ m.inner.memory
   pub regs : (p : ℕ) → regs_at s.inner p ≡ regs_at m.inner p
 
@@ -205,7 +206,7 @@ Linked s (it ∷ events) t = Rests s it.before × Linked it.after events t
 
 -- the pipe lives in each of these states
 abbrev pub AllLive : ℕ → List State → Type 0
-AllLive n states = AllByRecursion (λ (s : State). IsPipe s.io.pipes n) states
+AllLive n states = AllByRecursion (λ (s : State). IsPipe s.files.io.pipes n) states
 
 -- what events that lead through these states move through a pipe, one after another
 abbrev pub moved_by : List Passing → List Movement
@@ -218,6 +219,6 @@ pub record PassesThrough (n : ℕ) (s : State) (states : List State) (t : State)
   pub through : map (λ it. it.after) events ≡ states
   pub linked : Linked s events t
   pub each : AllByRecursion (IsPassing n) events
-  pub flow : Flows (moved_by events) (pipe_bytes s.io n) (pipe_bytes t.io n)
-  pub in_order : pipe_bytes s.io n ++ flat_map came_in (moved_by events)
-      ≡ flat_map went_out (moved_by events) ++ pipe_bytes t.io n
+  pub flow : Flows (moved_by events) (pipe_bytes s.files.io n) (pipe_bytes t.files.io n)
+  pub in_order : pipe_bytes s.files.io n ++ flat_map came_in (moved_by events)
+      ≡ flat_map went_out (moved_by events) ++ pipe_bytes t.files.io n

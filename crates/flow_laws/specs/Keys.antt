@@ -30,10 +30,10 @@ use Rattle.io_rules.specs.declared.io_call.IoCall.{IoCall}
 use Rattle.io_rules.specs.declared.io_call.IoCall.TheVariants as Call
 use Rattle.machine_model.specs.declared.ends.EventEnd.{EventEnd}
 use Rattle.machine_model.specs.declared.ends.EventEnd.TheVariants.{Ended}
-use Rattle.machine_model.specs.Event.{Event}
-use Rattle.machine_model.specs.Run.{Tick}
-use Rattle.machine_model.specs.State.{State}
 use Rattle.flow_laws.specs.Flow.{EndsIn}
+use Rattle.disk_machine.specs.Event.{Event}
+use Rattle.disk_machine.specs.Run.{Tick}
+use Rattle.disk_machine.specs.State.{State}
 
 -- the keys of a terminal that are still to come
 abbrev pub keys_to_come : State → ℕ → List Key
@@ -45,11 +45,11 @@ faults_at s n = option_map_or (λ terminal. terminal.faults) (slice_get s.terms 
 
 -- its type-ahead: the keys that have arrived, and that no read has used
 abbrev pub ahead_at : State → ℕ → List ℕ
-ahead_at s n = (terminal_at s.io n).ahead
+ahead_at s n = (terminal_at s.files.io n).ahead
 
 -- the kernel has the terminal, and its type-ahead is no longer than it may be
 pub record HasAhead (n : ℕ) (s : State) : Type 0 where
-  pub within : n < length s.io.terminals
+  pub within : n < length s.files.io.terminals
   pub few : length (ahead_at s n) ≤ TYPE_AHEAD
 
 -- of keys that arrive, those that go into the type-ahead: no key that sends a signal does, and none that finds it full
@@ -70,7 +70,7 @@ pub record LineGoes (last : Editing) (new : Terminal) : Type 0 where
 
 -- the process whose read is unfinished ends in this event, or it is where a signal is delivered to it
 pub record ReaderStops (n p : ℕ) (s : State) (end : EventEnd) : Type 0 where
-  pub reads : reader (terminal_at s.io n) ≡ Some (pid p)
+  pub reads : reader (terminal_at s.files.io n) ≡ Some (pid p)
   pub stops : (end ≡ Ended) ⊎ ((signal : ℕ) × (act_of s.inner p ≡ delivers signal))
 
 -- a process attempts a write, whose path was opened on this terminal, and which is refused because the terminal failed
@@ -78,7 +78,7 @@ pub record WriteFails (n p : ℕ) (s t : State) : Type 0 where
   pub call : IoCall
   pub attempted : (code : ℕ) × (act_of s.inner p ≡ attempts code) × (io_call_of code ≡ Some call)
   pub way_is : direction_of_call call ≡ Some Writing
-  pub path : (opened : OpenPath) × (open_path s.io p (path_number call (regs_at s.inner p)) ≡ Some opened)
+  pub path : (opened : OpenPath) × (open_path s.files.io p (path_number call (regs_at s.inner p)) ≡ Some opened)
       × (opened.desc.target ≡ Term n)
   pub ends : EndsIn s p (λ end. end ≡ fails E_WRITE) t
   pub faults : Rose (faults_at s n) (faults_at t n)
@@ -88,7 +88,7 @@ pub record DropsLine (n : ℕ) (s : State) (end : EventEnd) (t : State) : Type 0
   pub process : ℕ
   pub chosen : s.chosen ≡ Some process
   pub cause : ReaderStops n process s end ⊎ WriteFails n process s t
-  pub goes : LineGoes (terminal_at s.io n).line (terminal_at t.io n)
+  pub goes : LineGoes (terminal_at s.files.io n).line (terminal_at t.files.io n)
 
 -- ---- ticks
 
@@ -96,7 +96,7 @@ pub record DropsLine (n : ℕ) (s : State) (end : EventEnd) (t : State) : Type 0
 pub record KeysArrive (n : ℕ) (s : State) (keys : List Key) (t : State) : Type 0 where
   pub come : keys_to_come s n ≡ keys ++ keys_to_come t n
   pub kept : ahead_at t n ≡ ahead_at s n ++ gained s n keys
-  pub line : LineStays (terminal_at s.io n) (terminal_at t.io n)
+  pub line : LineStays (terminal_at s.files.io n) (terminal_at t.files.io n)
 
 -- ---- events
 
@@ -118,7 +118,7 @@ reading_of kind io p regs =
 -- a process attempts a read of this kind, whose path was opened on this terminal
 pub record ReadsFrom (s : State) (p n : ℕ) (kind : ReadKind) : Type 0 where
   pub attempted : (code : ℕ) × (act_of s.inner p ≡ attempts code) × (io_call_of code ≡ Some (read_call kind))
-  pub path : (opened : OpenPath) × (open_path s.io p (regs_at s.inner p).a ≡ Some opened)
+  pub path : (opened : OpenPath) × (open_path s.files.io p (regs_at s.inner p).a ≡ Some opened)
       × (opened.desc.target ≡ Term n)
 
 -- An attempt of a read that used keys ends so, by what they made of its line. Where they ended the line, its bytes are
@@ -128,12 +128,13 @@ abbrev pub ReadEnds : ℕ → State → ℕ → Reading → Typing → State →
 ReadEnds n s p request made t (answers regs) =
     (made.end ≡ Some Line) × (regs ≡ count_regs (caller_of s.inner p) (length made.line.bytes))
     × (t.inner.memory ≡ stored s.inner.memory p (regs_at s.inner p).x made.line.bytes)
-    × LineGoes made.line (terminal_at t.io n)
+    × LineGoes made.line (terminal_at t.files.io n)
 ReadEnds n s p request made t (fails number) =
     ((made.end ≡ Some EndOfFile) × (number ≡ E_EOF) ⊎ (number ≡ E_WRITE) × Rose (faults_at s n) (faults_at t n))
-    × LineGoes made.line (terminal_at t.io n) × (t.inner.memory ≡ s.inner.memory)
+    × LineGoes made.line (terminal_at t.files.io n) × (t.inner.memory ≡ s.inner.memory)
 ReadEnds n s p request made t (keeps kept) =
-    (made.end ≡ None) × ((terminal_at t.io n).line ≡ made.line) × ((terminal_at t.io n).reading ≡ Some request)
+    (made.end ≡ None) × ((terminal_at t.files.io n).line ≡ made.line)
+    × ((terminal_at t.files.io n).reading ≡ Some request)
     × (ahead_at t n ≡ []) × (t.inner.memory ≡ s.inner.memory)
 
 -- a read of the chosen process uses these keys, the next ones of the type-ahead: its line is what all of them make of
@@ -144,18 +145,18 @@ pub record UsesKeys (n : ℕ) (s : State) (keys : List ℕ) (t : State) : Type 0
   pub kind : ReadKind
   pub attempt : ReadsFrom s process n kind
   pub request : Reading
-  pub request_is : request ≡ reading_of kind s.io process (regs_at s.inner process)
-  pub alone : is_taken request.process (terminal_at s.io n) ≡ false
+  pub request_is : request ≡ reading_of kind s.files.io process (regs_at s.inner process)
+  pub alone : is_taken request.process (terminal_at s.files.io n) ≡ false
   pub front : ahead_at s n ≡ keys ++ ahead_at t n
-  pub used : (typed request (terminal_at s.io n).line keys).left ≡ []
-  pub ends : EndsIn s process (ReadEnds n s process request (typed request (terminal_at s.io n).line keys) t) t
+  pub used : (typed request (terminal_at s.files.io n).line keys).left ≡ []
+  pub ends : EndsIn s process (ReadEnds n s process request (typed request (terminal_at s.files.io n).line keys) t) t
   pub come : keys_to_come t n ≡ keys_to_come s n
 
 -- the process ends in this event, or it is where a signal is delivered to it whose call waits on this terminal
 abbrev pub StopsReading : ℕ → ℕ → State → EventEnd → Type 0
 StopsReading n p s end =
     (end ≡ Ended)
-    ⊎ ((signal : ℕ) × (act_of s.inner p ≡ delivers signal) × (wait_target s.io p ≡ Some (Term n)))
+    ⊎ ((signal : ℕ) × (act_of s.inner p ≡ delivers signal) × (wait_target s.files.io p ≡ Some (Term n)))
 
 -- An attempt of a read that uses no key ends so: it asks for no byte, and is done at once, with the registers that it
 -- was made with; it is refused with neither 211 nor 245; or it waits for the read of another process.
@@ -169,11 +170,11 @@ UsesNone n caller io (keeps kept) = is_taken caller.process (terminal_at io n) �
 pub record KeysStay (n : ℕ) (s : State) (end : EventEnd) (t : State) : Type 0 where
   pub ahead : ahead_at t n ≡ ahead_at s n
   pub come : keys_to_come t n ≡ keys_to_come s n
-  pub line : LineStays (terminal_at s.io n) (terminal_at t.io n) ⊎ DropsLine n s end t
-  pub over : (p : ℕ) → s.chosen ≡ Some p → reader (terminal_at s.io n) ≡ Some (pid p) → StopsReading n p s end
-      → (terminal_at t.io n).reading ≡ None
+  pub line : LineStays (terminal_at s.files.io n) (terminal_at t.files.io n) ⊎ DropsLine n s end t
+  pub over : (p : ℕ) → s.chosen ≡ Some p → reader (terminal_at s.files.io n) ≡ Some (pid p) → StopsReading n p s end
+      → (terminal_at t.files.io n).reading ≡ None
   pub reads : (p : ℕ) (kind : ReadKind) → s.chosen ≡ Some p → ReadsFrom s p n kind
-      → EndsIn s p (UsesNone n (caller_of s.inner p) s.io) t × (t.inner.memory ≡ s.inner.memory)
+      → EndsIn s p (UsesNone n (caller_of s.inner p) s.files.io) t × (t.inner.memory ≡ s.inner.memory)
 
 -- what becomes of keys in a step of a run
 pub data KeyMove : Type 0 where
@@ -221,7 +222,7 @@ ahead_moves n steps = filter_map (λ it. through_ahead n it.before it.move) step
 -- What a run leaves from one step to the next: a choice, and the host, who takes what terminals were given, leave the
 -- kernel's input and output, the keys to come, and all of the processes but the order of choice.
 pub record Stands (m s : State) : Type 0 where
-  pub io : s.io ≡ m.io
+  pub io : s.files.io ≡ m.files.io
   pub come : (n : ℕ) → keys_to_come s n ≡ keys_to_come m n
   pub inner : s.inner ≡ record m.inner { order = s.inner.order }
 

@@ -3,13 +3,12 @@
 ghost use Rattle.std.specs.Prelude.{◌≡◌, ℕ, ◌<◌, List, []};
 ghost use Rattle.machine_model.specs.declared.ends.EventEnd.{EventEnd};
 ghost use Rattle.machine_model.specs.declared.ends.SliceEnd.{SliceEnd};
-ghost use Rattle.machine_model.specs.Event.{Event};
-ghost use Rattle.machine_model.specs.Run.{Run, Slice, Tick};
-ghost use Rattle.machine_model.specs.Start.{Starts};
-ghost use Rattle.machine_model.specs.State.{State};
-ghost use Rattle.os9_outer.specs.TerminalState.{TerminalState};
+ghost use Rattle.disk_machine.specs.Event.{Event};
+ghost use Rattle.disk_machine.specs.Run.{Run, Slice, Tick};
+ghost use Rattle.disk_machine.specs.Start.{Boot, Starts};
+ghost use Rattle.disk_machine.specs.State.{State};
 ghost use Rattle.os9_outer.specs.declared.terminal.Key.{Key};
-ghost use Rattle.flow_laws.specs.Keys.{EventKeys, HasAhead, KeyMove, KeysArrive, KeysPass, ahead_at};
+ghost use Rattle.flow_laws.specs.Keys.{KeyMove, EventKeys, HasAhead, KeysArrive, KeysPass, ahead_at};
 
 /// The type-ahead of a terminal is empty at the start. Its keys arrive in ticks, in order, and go
 /// into it, but for those that send a signal or find it full. Only a read whose path was opened on
@@ -21,8 +20,8 @@ ghost use Rattle.flow_laws.specs.Keys.{EventKeys, HasAhead, KeyMove, KeysArrive,
 /// Over a slice and a run the keys that came into the type-ahead are, in order, those that its
 /// events used and those that stand there still.
 pub fn each_key_is_used_once()
-    ensures start { (file : List ℕ) (blocks drives : ℕ) (terms : List TerminalState) (s : State)
-        (n : ℕ) → Starts file blocks drives terms s → n < 4 → HasAhead n s × (ahead_at s n ≡ []) }
+    ensures start { (boot : Boot) (s : State) (n : ℕ) → Starts boot s → n < 4
+        → HasAhead n s × (ahead_at s n ≡ []) }
     ensures event { (s t : State) (end : EventEnd) (n : ℕ) → Event s end t → HasAhead n s
         → (move : KeyMove) × EventKeys n s end move t × HasAhead n t }
     ensures tick { (s t : State) (n : ℕ) → Tick s t → HasAhead n s

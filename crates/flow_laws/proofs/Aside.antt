@@ -28,8 +28,8 @@ use Rattle.touch_laws.proofs.OfAttempts.{comes-of, number-of}
 use Rattle.flow_laws.proofs.CallCodes.{AttemptsNone, same-code}
 use Rattle.disk_machine.specs.Services.{Serves, Service, files_after_call, files_after_fork, loads, no_call, on_paths, on_processes, on_time, with_files}
 use Rattle.disk_machine.specs.State.{Rest, State}
-use Rattle.disk_flow.proofs.Asked.{device_of}
-use Rattle.disk_flow.proofs.GoesOn.{GoesOn, chain-attempt-goes, fork-attempt-goes, load-goes}
+use Rattle.flow_laws.proofs.Asked.{device_of}
+use Rattle.flow_laws.proofs.GoesOn.{GoesOn, chain-attempt-goes, fork-attempt-goes, load-goes}
 
 -- ---- a call on paths, files and directories
 
