@@ -1,5 +1,9 @@
 pub mod Causing
+pub mod Devices
 pub mod EndKeys
 pub mod Gaps
-pub mod Refusing
+pub mod OnFiles
+pub mod Processes
+pub mod ProcessesLeft
 pub mod RefusedEvents
+pub mod Refusing

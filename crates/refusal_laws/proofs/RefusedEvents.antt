@@ -1,64 +1,80 @@
 -- What an event leaves that is an attempt of a call which is refused.
-use Rattle.std.proofs.Common.{◌≡◌, ℕ, ◌<◌, not, false, Option, Some, None, IsSome, List, length, refl, sym, ap, ◌∙◌, subst, inl, inr}
-use Rattle.std.specs.Prelude.{MatchOption, unwrap_or}
-use Rattle.std.proofs.lemmas.Bool.{cases_lt, false≢true}
-use Rattle.std.proofs.lemmas.List.{get_or-set_same, get_or-set_other, get_or_past, length-set}
-use Rattle.os9_base.specs.declared.errors.TheConstants.{E_UNKSVC}
-use Rattle.proc_rules.specs.Records.{IsLiving, has_ended, new_record, record_at, record_of, record_passes, with_record}
-use Rattle.proc_rules.specs.declared.record.Life.TheVariants.{Running}
-use Rattle.proc_rules.specs.declared.record.Record.{Record}
-use Rattle.call_rules.specs.Attempts.{after_attempt, attempted, refused_regs}
+use Rattle.std.proofs.Common.{◌≡◌, ◌⊎◌, ℕ, not, Bool, true, false, Option, Some, None, is_none, List, length, refl, sym, ap, ◌∙◌, subst, inl, inr}
+use Rattle.std.specs.Prelude.{IsSome, MatchOption, is_some}
+use Rattle.std.proofs.lemmas.Bool.{false≢true}
+use Rattle.os9_base.specs.declared.errors.TheConstants.{E_BADTIME, E_BPADDR, E_UNKSVC}
+use Rattle.os9_base.specs.declared.registers.TimePacket.{TimePacket}
+use Rattle.call_rules.specs.Attempts.{attempted}
 use Rattle.call_rules.specs.CallResult.{refused}
-use Rattle.call_rules.specs.Codes.{call_of}
-use Rattle.call_rules.specs.Inner.{Inner, no_own, own_at, regs_at}
+use Rattle.call_rules.specs.Chain.{f_chain}
+use Rattle.call_rules.specs.Fork.{f_fork}
+use Rattle.call_rules.specs.Inner.{Inner, cells_at, regs_at}
+use Rattle.call_rules.specs.ModuleLinks.{Entered}
 use Rattle.call_rules.specs.Ready.{Act}
+use Rattle.call_rules.specs.UserBytes.{user_bytes}
 use Rattle.call_rules.specs.declared.proc_call.ProcCall.{ProcCall}
-use Rattle.io_rules.specs.Attempts.{IoAttempts, caller_of}
-use Rattle.io_rules.specs.Codes.{io_call_of}
-use Rattle.io_rules.specs.declared.io_call.IoCall.{IoCall}
+use Rattle.call_rules.specs.declared.proc_call.ProcCall.TheVariants as Call
+use Rattle.civil_time.specs.CivilTime.{is_time_packet}
+use Rattle.io_rules.specs.Attempts.{caller_of}
+use Rattle.file_rules.specs.Attempts.{FileAttempts, asker_of}
+use Rattle.file_rules.specs.Files.{Asker, Files, NoneFailed}
+use Rattle.file_rules.specs.Program.{ChainAttempts, ForkAttempts, StartsFile, chains, forks, named_program, tests_program}
+use Rattle.file_rules.specs.ProgramFile.{ProgramFile, program_file}
+use Rattle.file_rules.specs.Step.{Step, drive_of}
+use Rattle.file_rules.specs.declared.path_call.PathCall.{PathCall}
+use Rattle.time_rules.specs.Attempts.{clock_after, result_of, time_step}
+use Rattle.time_rules.specs.Packet.{packet_of}
+use Rattle.time_rules.specs.STime.{sets_clock}
+use Rattle.time_rules.specs.Step.{TimeStep, needs, refused as time_refused, refuses, sets, tells}
+use Rattle.time_rules.specs.declared.clock.TheConstants.{PACKET_BYTES}
+use Rattle.time_rules.specs.declared.clock.Clock.{Clock}
+use Rattle.time_rules.specs.declared.time_call.TimeCall.{TimeCall}
+use Rattle.time_rules.specs.declared.time_call.TimeCall.TheVariants as Time
 use Rattle.machine_model.specs.declared.ends.EventEnd.TheVariants.{Ran}
-use Rattle.machine_model.specs.Event.{Acts, Event, io_after_call}
-use Rattle.machine_model.specs.State.{State}
-use Rattle.refusal_laws.specs.RefusedEvents.{IsRefused, LeavesDevices, LeavesMachine, but_the_call, end_of_file, of_no_call, of_process_call, write_error}
 use Rattle.refusal_laws.specs.Refusals.{LeavesProcesses}
+use Rattle.refusal_laws.proofs.ProcessesLeft.{leaves-processes}
 use Rattle.refusal_laws.proofs.Refusing.{Comes, refusal, same-refusal}
+use Rattle.touch_laws.specs.Causes.{FileCause}
+use Rattle.touch_laws.specs.Devices.{IsOnDevice, IsOnNoFile}
+use Rattle.touch_laws.specs.LoadCauses.{ChainCause, ForkCause, LoadCause}
+use Rattle.touch_laws.specs.Touch.{FaultAnswers, LeavesDevices, LeavesFiles, NoVolumeChanges}
+use Rattle.touch_laws.proofs.Attempts.{attempt-splits}
+use Rattle.touch_laws.proofs.Caused.{is_nothing}
+use Rattle.touch_laws.proofs.CausedLoads.{chain-caused, fork-caused, load-caused}
+use Rattle.touch_laws.proofs.Loads.{chain-leaves, fork-leaves, load-leaves}
+use Rattle.disk_machine.specs.Event.{Acts, Event}
+use Rattle.disk_machine.specs.Services.{Service, Serves, loads, no_call, on_paths, on_processes, on_time, service_of, with_files}
+use Rattle.disk_machine.specs.State.{Rest, State, rest_of}
+use Rattle.refusal_laws.specs.CallCauses.{TimeCause, no_packet, no_time}
+use Rattle.refusal_laws.specs.RefusedEvents.{FailsOnDrive, IsRefused, LeavesMachine, LeavesRest, LeftOnDevice, RefusedLoad, RefusedOnDevice, RefusedOnFile, but_the_call, end_of_file, made_by, of_chain, of_fork, of_load, of_no_call, of_processes, of_time, on_device, on_files, write_error}
+use Rattle.refusal_laws.proofs.Devices.{device-caused}
+use Rattle.refusal_laws.proofs.OnFiles.{file-refused}
+use Rattle.refusal_laws.proofs.Processes.{proc-caused}
 
--- ---- the processes
+-- a call on the time that is refused leaves the clock
+time-left : (m : Inner) (clock : Clock) (p number : ℕ) (step : TimeStep) → refused number ≡ result_of m p step → clock_after clock step ≡ clock
+time-left m clock p number (time_refused other) is = refl
+time-left m clock p number (tells at packet) is = let never : ⊥ = cc in absurd never
+time-left m clock p number (sets other) is = let never : ⊥ = cc in absurd never
 
-living-within : (records : List (Option Record)) (p : ℕ) → IsLiving records p → p < length records
-living-within records p lives =
-    elim (cases_lt p (length records)) [
-      | inl within ↦ within
-      | inr past ↦ absurd (false≢true (sym (ap (λ (place : Option Record). record_passes (λ r. not (has_ended r.life)) place) (get_or_past records p None past)) ∙ lives))
-    ]
+-- and has its cause
+time-caused : (m : Inner) (now : TimePacket) (p number : ℕ) (call : TimeCall) → refused number ≡ result_of m p (time_step call m now p) → TimeCause m p call number
+time-caused m now p number Time.Time answer =
+    by_missing (is_none (user_bytes (cells_at m p) (regs_at m p).x PACKET_BYTES)) refl answer
+  where
+    by_missing : (missing : Bool) → is_none (user_bytes (cells_at m p) (regs_at m p).x PACKET_BYTES) ≡ missing → refused number ≡ result_of m p (refuses missing E_BPADDR (tells (regs_at m p).x now)) → TimeCause m p Time.Time number
+    by_missing true missing is = no_packet (sym (same-refusal number E_BPADDR is)) (is_nothing (user_bytes (cells_at m p) (regs_at m p).x PACKET_BYTES) missing)
+    by_missing false missing is = let never : ⊥ = cc in absurd never
+time-caused m now p number Time.STime answer =
+    by_bytes (user_bytes (cells_at m p) (regs_at m p).x PACKET_BYTES) refl answer
+  where
+    by_time : (bytes : List ℕ) → user_bytes (cells_at m p) (regs_at m p).x PACKET_BYTES ≡ Some bytes → (fits : Bool) → is_time_packet (packet_of bytes) ≡ fits → refused number ≡ result_of m p (refuses (not fits) E_BADTIME (sets (record { from = packet_of bytes; since = m.tick }))) → TimeCause m p Time.STime number
+    by_time bytes there true fits is = let never : ⊥ = cc in absurd never
+    by_time bytes there false fits is = no_time bytes (sym (same-refusal number E_BADTIME is)) refl there fits
 
-module _ (m : Inner) (p number : ℕ) where
-  abbrev with_error : Record
-  with_error = record (record_at m.records p) { regs = refused_regs (regs_at m p) number }
-
-  abbrev between : List (Option Record)
-  between = with_record m.records p with_error
-
-  caller-left : p < length m.records → record_of (after_attempt m p (refused number)).records p ≡ Some (record with_error { life = Running })
-  caller-left within =
-      let at : record_at between p ≡ with_error = ap (λ (place : Option Record). unwrap_or place (new_record (record { 0 = 0 }) 0 0)) (get_or-set_same m.records p (Some with_error) None within) in
-      get_or-set_same between p (Some (record (record_at between p) { life = Running })) None (rw length-set within) ∙ ap (λ (r : Record). Some (record r { life = Running })) at
-
-  pub leaves-processes : LeavesProcesses m p number (after_attempt m p (refused number))
-  leaves-processes = record {
-    memory = refl;
-    order = refl;
-    tick = refl;
-    records =
-        λ q differ. get_or-set_other between p q (Some (record (record_at between p) { life = Running })) None differ ∙ get_or-set_other m.records p q (Some with_error) None differ;
-    own =
-        λ q differ. get_or-set_other m.own p q (record (own_at m p) { call = None; until = None; woken = false }) no_own differ;
-    caller = λ lives. caller-left (living-within m.records p lives);
-    call =
-        λ within. get_or-set_same m.own p (record (own_at m p) { call = None; until = None; woken = false }) no_own within;
-  }
-
--- ---- an event
+    by_bytes : (bytes : Option (List ℕ)) → user_bytes (cells_at m p) (regs_at m p).x PACKET_BYTES ≡ bytes → refused number ≡ result_of m p (needs bytes E_BPADDR (λ bytes. sets_clock m.tick (packet_of bytes))) → TimeCause m p Time.STime number
+    by_bytes None none is = no_packet (sym (same-refusal number E_BPADDR is)) none
+    by_bytes (Some bytes) there is = by_time bytes there (is_time_packet (packet_of bytes)) refl is
 
 module _ (s t : State) (code number : ℕ) where
   pub is-event : IsRefused s code number t → Event s Ran t
@@ -66,31 +82,145 @@ module _ (s t : State) (code number : ℕ) where
     it.process,
     it.chosen,
     it.lives,
-    subst (λ (act : Act). Acts act s it.process Ran t) (sym it.attempted) (refused number, t.io, t.terms, it.attempt, refl, it.now),
+    subst (λ (act : Act). Acts act s it.process Ran t) (sym it.attempted) (refused number, rest_of t, it.attempt, refl, it.now),
   )
 
-  module _ (p : ℕ) where
-    on-paths : (call : IoCall) → io_call_of code ≡ Some call → Comes call (caller_of s.inner p) s.io s.drives number t.io s.terms t.terms → LeavesDevices s p code number t
-    on-paths call is (inl (cause, nothing)) = but_the_call call is cause nothing
-    on-paths call is (inr (inl (number_is, left))) = end_of_file call is number_is left
-    on-paths call is (inr (inr (number_is, left))) = write_error call is number_is left
+  module _ (p : ℕ) (now : TimePacket) where
+    -- ---- loads
 
-    by-io : call_of code ≡ None → (call : Option IoCall) → io_call_of code ≡ call → MatchOption call ((refused number ≡ refused E_UNKSVC) × (t.io ≡ s.io) × (t.terms ≡ s.terms)) (λ call. IoAttempts call s.inner s.io s.drives p (refused number) t.io s.terms t.terms) → LeavesDevices s p code number t
-    by-io other None coded (is, same, still) =
-        of_no_call other coded (sym (same-refusal number E_UNKSVC is)) same still
-    by-io other (Some call) coded attempt =
-        on-paths call coded (refusal call s.inner s.io t.io s.drives p number s.terms t.terms attempt)
+    module _ (test : Step ProgramFile → Step ProgramFile) (Cause : Type 0) where
+      abbrev read_from : Option ℕ
+      read_from = drive_of (program_file (asker_of s.inner p now) s.files (length s.terms) test)
 
-    by-call : (call : Option ProcCall) → call_of code ≡ call → MatchOption call (MatchOption (io_call_of code) ((refused number ≡ refused E_UNKSVC) × (t.io ≡ s.io) × (t.terms ≡ s.terms)) (λ call. IoAttempts call s.inner s.io s.drives p (refused number) t.io s.terms t.terms)) (λ call. (refused number ≡ attempted call s.inner p) × (t.io ≡ io_after_call code s.io p (refused number)) × (t.terms ≡ s.terms)) → LeavesDevices s p code number t
-    by-call None coded answer = by-io coded (io_call_of code) refl answer
-    by-call (Some call) coded (is, same, still) =
-        of_process_call (subst (λ (call : Option ProcCall). IsSome call) (sym coded) refl) same still
+      abbrev Why-load : Files → Type 0
+      Why-load files =
+          FaultAnswers read_from s.files (refused number) files ⊎ NoneFailed s.files.drives files.drives × Cause
+
+      why-load : (files : Files) → NoneFailed s.files.drives files.drives ⊎ FaultAnswers read_from s.files (refused number) files → FaultAnswers read_from s.files (refused number) files ⊎ Cause → Why-load files
+      why-load files drives (inl fault) = inl fault
+      why-load files (inr fault) (inr cause) = inl fault
+      why-load files (inl none) (inr cause) = inr (none, cause)
+
+      load-left : (files : Files) → LeavesFiles read_from s.files (refused number) files → FaultAnswers read_from s.files (refused number) files ⊎ Cause → rest_of t ≡ with_files s files → RefusedLoad s p now test Cause number t
+      load-left files left why is =
+          let same : t.files ≡ files = ap (λ (rest : Rest). rest.files) is in
+          record {
+            io = ap (λ (files : Files). files.io) same ∙ left.io;
+            directories = ap (λ (files : Files). files.directories) same ∙ left.directories;
+            volumes = ap (λ (files : Files). files.volumes) same ∙ left.volumes;
+            terminals = ap (λ (rest : Rest). rest.terms) is;
+            clock = ap (λ (rest : Rest). rest.clock) is;
+            why = subst Why-load (sym same) (why-load files left.drives why);
+          }
+
+    -- F$Fork and F$Chain, of a file or of a module that is entered
+    abbrev asking : Asker
+    asking = asker_of s.inner p now
+
+    abbrev terminals : ℕ
+    terminals = length s.terms
+
+    entered-left : (call : ProcCall) → service_of code ≡ on_processes call → IsSome (named_program s.inner p) → (files : Files) → refused number ≡ attempted call s.inner p → files ≡ s.files → rest_of t ≡ with_files s files → LeavesRest s p now code number t
+    entered-left call asked named files answer same is =
+        of_processes call asked (λ starts. named) (sym answer) (proc-caused s.inner p number call (λ starts. named) (sym answer)) (is ∙ ap (with_files s) same)
+
+    fork-left : service_of code ≡ on_processes Call.Fork → (files : Files) → ForkAttempts s.inner asking s.files terminals p (refused number) files → rest_of t ≡ with_files s files → (named : Option Entered) → named_program s.inner p ≡ named → LeavesRest s p now code number t
+    fork-left asked files it is None none =
+        of_fork asked none (load-left (tests_program s.inner p) (ForkCause s.inner asking s.files terminals p number) files (fork-leaves s.inner asking s.files terminals p (refused number) files it) (fork-caused s.inner asking s.files terminals p number files it none) is)
+    fork-left asked files it is (Some entered) there =
+        let attempt : (refused number ≡ f_fork s.inner p) × (files ≡ s.files) = subst (λ (named : Option Entered). MatchOption named (StartsFile forks s.inner asking s.files terminals p (refused number) files) (λ entered. (refused number ≡ f_fork s.inner p) × (files ≡ s.files))) there it in
+        entered-left Call.Fork asked (ap (λ (named : Option Entered). is_some named) there) files attempt.0 attempt.1 is
+
+    chain-left : service_of code ≡ on_processes Call.Chain → (files : Files) → ChainAttempts s.inner asking s.files terminals p (refused number) files → rest_of t ≡ with_files s files → (named : Option Entered) → named_program s.inner p ≡ named → LeavesRest s p now code number t
+    chain-left asked files it is None none =
+        of_chain asked none (load-left (tests_program s.inner p) (ChainCause s.inner asking s.files terminals p number) files (chain-leaves s.inner asking s.files terminals p (refused number) files it) (chain-caused s.inner asking s.files terminals p number files it none) is)
+    chain-left asked files it is (Some entered) there =
+        let attempt : (refused number ≡ f_chain s.inner p) × (files ≡ s.files) = subst (λ (named : Option Entered). MatchOption named (StartsFile chains s.inner asking s.files terminals p (refused number) files) (λ entered. (refused number ≡ f_chain s.inner p) × (files ≡ s.files))) there it in
+        entered-left Call.Chain asked (ap (λ (named : Option Entered). is_some named) there) files attempt.0 attempt.1 is
+
+    -- ---- calls on paths
+
+    module _ (call : PathCall) (it : FileAttempts call s.inner s.files now p (refused number) t.files s.terms t.terms) (clock : t.clock ≡ s.clock) where
+      abbrev OnDevice : Type 0
+      OnDevice =
+          IsOnDevice call s.inner s.files p (refused number) t.files s.terms t.terms × IsOnNoFile call (asker_of s.inner p now) s.files (length s.terms)
+
+      abbrev Why : Type 0
+      Why = FailsOnDrive s p now call number t ⊎ NoVolumeChanges s.files t.files × FileCause (made_by s p now call) number
+
+      abbrev Comes-so : Type 0
+      Comes-so = RefusedOnDevice s p now call number t ⊎ RefusedOnFile s p now call number t
+
+      device-left : OnDevice → RefusedOnDevice s p now call number t
+      device-left (on, none) = record {
+        device = on.device;
+        device_is = on.device_is;
+        on = none;
+        left =
+            by_answer (refusal on.device s.inner s.files.io t.files.io (length s.files.drives) p number s.terms t.terms on.attempted);
+        directories = on.directories;
+        volumes = on.volumes;
+        none_failed = on.none_failed;
+        clock = clock;
+      }
+        where
+          by_answer : Comes on.device (caller_of s.inner p) s.files.io (length s.files.drives) number t.files.io s.terms t.terms → LeftOnDevice s p on.device number t
+          by_answer (inl (cause, nothing)) =
+              but_the_call (device-caused call on.device on.device_is (asker_of s.inner p now) s.files (length s.terms) number none cause) nothing
+          by_answer (inr (inl (number_is, left))) = end_of_file number_is left
+          by_answer (inr (inr (number_is, left))) = write_error number_is left
+
+      file-left : LeavesDevices call s.inner s.files now p (refused number) t.files s.terms t.terms → Why → RefusedOnFile s p now call number t
+      file-left left why = record {
+        io = (left.refusal number refl).io;
+        directories = (left.refusal number refl).directories;
+        terminals = left.terminals;
+        clock = clock;
+        still = left.still;
+        why = why;
+      }
+
+      path-left : Comes-so
+      path-left =
+          by_touch (attempt-splits call s.inner s.files now p (refused number) t.files s.terms t.terms it)
+        where
+          by_cause : LeavesDevices call s.inner s.files now p (refused number) t.files s.terms t.terms → OnDevice ⊎ Why → Comes-so
+          by_cause left (inl on) = inl (device-left on)
+          by_cause left (inr why) = inr (file-left left why)
+
+          by_touch : OnDevice ⊎ LeavesDevices call s.inner s.files now p (refused number) t.files s.terms t.terms → Comes-so
+          by_touch (inl on) = inl (device-left on)
+          by_touch (inr left) = by_cause left (file-refused s t p now call number it)
+
+    -- ---- any call
+
+    serves-left : (service : Service) → service_of code ≡ service → Serves service s now p (refused number) (rest_of t) → LeavesRest s p now code number t
+    serves-left loads asked (files, it, is) =
+        of_load asked (load-left (λ step. step) (LoadCause s.inner asking s.files terminals p number) files (load-leaves s.inner asking s.files terminals p (refused number) files it) (load-caused s.inner asking s.files terminals p number files it) is)
+    serves-left (on_processes Call.Fork) asked (files, it, is) =
+        fork-left asked files it is (named_program s.inner p) refl
+    serves-left (on_processes Call.Chain) asked (files, it, is) =
+        chain-left asked files it is (named_program s.inner p) refl
+    serves-left (on_processes call) asked it =
+        of_processes call asked (λ starts. absurd (false≢true starts)) (sym it.0) (proc-caused s.inner p number call (λ starts. absurd (false≢true starts)) (sym it.0)) it.1
+    serves-left (on_time call) asked (clock, it, is) =
+        of_time call asked (time-caused s.inner now p number call it.result_is)
+        (is ∙ ap (λ (clock : Clock). record (rest_of s) { clock = clock }) (it.clock_is ∙ time-left s.inner s.clock p number (time_step call s.inner now p) it.result_is))
+    serves-left (on_paths call) asked (it, clock) = by_path (path-left call it clock)
+      where
+        by_path : RefusedOnDevice s p now call number t ⊎ RefusedOnFile s p now call number t → LeavesRest s p now code number t
+        by_path (inl on) = on_device call asked on
+        by_path (inr on) = on_files call asked on
+    serves-left no_call asked (result_is, is) = of_no_call asked (sym (same-refusal number E_UNKSVC result_is)) is
 
   pub leaves-machine : (it : IsRefused s code number t) → LeavesMachine s it.process code number t
-  leaves-machine it = record {
-    processes =
-        subst (λ (m : Inner). LeavesProcesses s.inner it.process number m) (sym (ap (λ (t : State). t.inner) it.now)) (leaves-processes s.inner it.process number);
-    devices = by-call it.process (call_of code) refl it.attempt;
-    chosen = ap (λ (t : State). t.chosen) it.now;
-    drives = ap (λ (t : State). t.drives) it.now;
-  }
+  leaves-machine it =
+      let (now, is_now, serves) = it.attempt in
+      record {
+        processes =
+            subst (λ (m : Inner). LeavesProcesses s.inner it.process number m) (sym (ap (λ (t : State). t.inner) it.now)) (leaves-processes s.inner it.process number);
+        now = now;
+        is_now = is_now;
+        rest = serves-left it.process now (service_of code) refl serves;
+        chosen = ap (λ (t : State). t.chosen) it.now;
+      }

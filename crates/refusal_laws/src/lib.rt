@@ -1,5 +1,5 @@
-//! Laws of refusals: what an attempt of a call on paths that is refused leaves as it was, and why
-//! it is refused.
+//! Laws of refusals: what a refused attempt of a call leaves as it was, and why it is refused.
 #![tactic(auto)]
 
+pub mod codes;
 pub mod refusals;

@@ -32,7 +32,7 @@ use Rattle.refusal_laws.specs.Causes.{HasNoDevice, IsBadName, IsNoDrive, IsOn, I
 use Rattle.refusal_laws.specs.Causes as Stated
 use Rattle.touch_laws.specs.Devices.{IsOnNoFile, LeadsToDevice, device_call}
 use Rattle.touch_laws.proofs.Named.{create-leads, open-leads}
-use Rattle.disk_refusal.specs.Causes.{DeviceCause, IsOnLostFile, bad_address, bad_mode, bad_path_number, lost_file, no_status, not_ready, path_table_full}
+use Rattle.refusal_laws.specs.CallCauses.{DeviceCause, IsOnLostFile, bad_address, bad_mode, bad_path_number, lost_file, no_status, not_ready, path_table_full}
 
 -- ---- a list that leads to a terminal or a pipe
 

@@ -44,7 +44,7 @@ use Rattle.file_rules.specs.Program.{chains, forks, named_program, parameters_of
 use Rattle.touch_laws.specs.LoadCauses.{LinkCause, StartCause, TestCause, blocks_for, many_pages, no_memory, no_parameters, no_place, no_process, no_program, other_type, pages_for}
 use Rattle.touch_laws.specs.LoadCauses as Load
 use Rattle.touch_laws.proofs.Caused.{not-is}
-use Rattle.disk_refusal.specs.Causes.{Finds, ProcCause, bad_address, bad_name, begins, blocks_asked, blocks_more, in_memory, most_links, no_blocks, no_child, no_file, no_module, no_slots, not_linked, not_reached, not_started, not_tested, pending, starts_program}
+use Rattle.refusal_laws.specs.CallCauses.{Finds, ProcCause, bad_address, bad_name, begins, blocks_asked, blocks_more, in_memory, most_links, no_blocks, no_child, no_file, no_module, no_slots, not_linked, not_reached, not_started, not_tested, pending, starts_program}
 
 -- ---- what a refusal comes from, by the parts of a call
 

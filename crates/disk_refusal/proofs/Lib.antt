@@ -1,4 +1,0 @@
-pub mod Devices
-pub mod OnFiles
-pub mod Processes
-pub mod RefusedEvents
