@@ -25,7 +25,7 @@ use Rattle.machine_model.specs.declared.ends.BootFault.{BootFault}
 use Rattle.machine_model.specs.declared.ends.BootFault.TheVariants.{OutOfMemory, BadModule, NoFirst, TooLarge}
 use Rattle.disk_machine.specs.Start.{Boot as Begun, Starts}
 use Rattle.disk_machine.specs.State.{State, has_living}
-use Rattle.disk_kept.proofs.Older.{start-running}
+use Rattle.kept_laws.proofs.RunningLaws.{start-running}
 use Rattle.disk_kernel.specs.declared.kernel.Kernel.{Kernel}
 use Rattle.disk_kernel.specs.declared.new.Config.{Config}
 use Rattle.disk_kernel.specs.declared.new.StartError.{StartError}

@@ -13,14 +13,14 @@ use Rattle.machine_model.specs.declared.ends.EventEnd.{EventEnd}
 use Rattle.machine_model.specs.Event.{cost_of}
 use Rattle.disk_machine.specs.Event.{Acts, Event, cost}
 use Rattle.disk_machine.specs.State.{State}
-use Rattle.disk_kept.specs.Running.{IsRunning}
+use Rattle.kept_laws.specs.Running.{IsRunning}
 use Rattle.disk_kernel.specs.declared.act.Act.{Act}
 use Rattle.disk_kernel.specs.declared.kernel.Kernel.{Kernel}
 use Rattle.disk_kernel.specs.Next.{DoesNext, act_in_machine, next_of}
 use Rattle.disk_kernel.specs.Outside.{Outside}
 use Rattle.disk_kernel.specs.Slice.{Events, last, more}
 use Rattle.disk_kernel.specs.Tie.{Represents, IsGoing}
-use Rattle.disk_kept.proofs.Events.{event-running}
+use Rattle.kept_laws.proofs.Events.{event-running}
 use Rattle.disk_kernel.proofs.Represented.{act-tied}
 
 -- the process that was chosen does this next

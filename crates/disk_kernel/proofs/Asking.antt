@@ -9,7 +9,7 @@ use Rattle.io_rules.specs.Codes.{io_call_of}
 use Rattle.io_rules.specs.Io.{Io, kept_at}
 use Rattle.io_rules.specs.declared.io_call.IoCall.{IoCall}
 use Rattle.io_dispatch.proofs.RunningCalls.{may-attempt}
-use Rattle.kept_laws.proofs.KeptEvents.{attempts-code}
+use Rattle.io_laws.proofs.Codes.{attempts-code}
 use Rattle.proc_state.specs.Tie.{Represents}
 use Rattle.proc_state.specs.declared.state.ProcState.{ProcState}
 use Rattle.touch_laws.proofs.Codes.{code-there}
@@ -19,8 +19,7 @@ use Rattle.file_rules.specs.Codes.{path_call_of}
 use Rattle.file_rules.specs.declared.path_call.PathCall.{PathCall}
 use Rattle.file_state.specs.declared.state.FileState.{FileState}
 use Rattle.disk_machine.specs.State.{State}
-use Rattle.disk_kept.proofs.Older.{older, older-runs}
-use Rattle.disk_kept.specs.Running.{IsRunning}
+use Rattle.kept_laws.specs.Running.{IsRunning}
 use Rattle.disk_kernel.specs.declared.act.Act.TheVariants.{Attempt}
 use Rattle.disk_kernel.specs.declared.kernel.Kernel.{Kernel}
 use Rattle.disk_kernel.specs.Next.{DoesNext}
@@ -48,7 +47,7 @@ module _ (s : State) (p code : ℕ) (call : PathCall) (running : IsRunning s) (n
       by_device : (device : Option IoCall) → device_call call ≡ device → MayAttemptAs device processes s.files.io p (length s.terms)
       by_device None is = none-kept is
       by_device (Some device) is =
-          may-attempt processes (older 0 s) p code device process tied (older-runs 0 s running) next (code-there code call coded ∙ is)
+          may-attempt processes s.inner s.files.io (length s.terms) p code device process tied running.kept running.on next (code-there code call coded ∙ is)
 
 -- the process may attempt its call
 pub may-attempt-here : (old : Kernel) (p : Pid) (code : ℕ) → DoesNext old p (Attempt code) → (before : Outside) (s : State) → RepresentsState old before s → (call : PathCall) → path_call_of code ≡ Some call → MayAttempt call old.processes old.files p.0 (length before.terms)

@@ -12,7 +12,7 @@ use Rattle.proc_state.specs.declared.state.ProcState.{ProcState}
 use Rattle.proc_state.specs.Tie.{Represents}
 use Rattle.machine_model.specs.Console.{terminals_emptied}
 use Rattle.disk_machine.specs.State.{State}
-use Rattle.disk_kept.proofs.Older.{emptied-running}
+use Rattle.kept_laws.proofs.RunningLaws.{emptied-running}
 use Rattle.disk_kernel.specs.declared.kernel.Kernel.{Kernel}
 use Rattle.disk_kernel.specs.Next.{next_of}
 use Rattle.disk_kernel.specs.Outside.{Outside}

@@ -19,7 +19,7 @@ use Rattle.disk_kernel.specs.declared.kernel.Kernel.{Kernel}
 use Rattle.disk_kernel.specs.declared.new.Config.{Config}
 use Rattle.disk_kernel.specs.Outside.{Outside}
 use Rattle.disk_kernel.specs.Starting.{IsStarted, boot_of}
-use Rattle.disk_kept.proofs.Older.{start-running}
+use Rattle.kept_laws.proofs.RunningLaws.{start-running}
 
 -- the processes are those of a machine that starts, whatever its drives and terminals are
 abbrev pub ProcessesStart : List ℕ → ℕ → ProcState → Type 0

@@ -17,7 +17,7 @@ use Rattle.disk_machine.specs.State.{State}
 use Rattle.disk_kernel.specs.declared.kernel.Kernel.{Kernel}
 use Rattle.disk_kernel.specs.Outside.{Outside}
 use Rattle.disk_kernel.specs.Tie.{Represents, ticks}
-use Rattle.disk_kept.proofs.Older.{tick-running}
+use Rattle.kept_laws.proofs.RunningLaws.{tick-running}
 
 -- the kernel's files with this input and output
 abbrev pub with_keys : FileState → Io → FileState

@@ -7,7 +7,7 @@ use Rattle.proc_state.specs.declared.state.ProcState.{ProcState}
 use Rattle.proc_state.specs.Tie.{Represents as RepresentsProcesses}
 use Rattle.file_state.specs.Tie.{StandsFor}
 use Rattle.disk_machine.specs.State.{State}
-use Rattle.disk_kept.specs.Running.{IsRunning}
+use Rattle.kept_laws.specs.Running.{IsRunning}
 use Rattle.disk_kernel.specs.Outside.{Outside}
 use Rattle.disk_kernel.specs.declared.kernel.Kernel.{Kernel}
 

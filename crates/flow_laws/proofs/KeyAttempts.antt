@@ -37,7 +37,7 @@ use Rattle.io_rules.specs.Waiting.{io_interrupted, pid, wait_target, without_unf
 use Rattle.io_rules.specs.declared.io_call.Direction.TheVariants.{Writing}
 use Rattle.io_rules.specs.declared.io_call.Direction.TheVariants as Way
 use Rattle.io_rules.specs.declared.io_call.IoCall.{IoCall}
-use Rattle.isolation_laws.proofs.StepWalk.{StepGives}
+use Rattle.io_laws.proofs.StepWalk.{StepGives}
 use Rattle.flow_laws.specs.Keys.{LineGoes, LineStays, UsesNone, read_call, reading_of}
 use Rattle.flow_laws.proofs.KeyReads.{IsReadOn, ReadsOn, StepReads, one-target}
 use Rattle.flow_laws.proofs.KeyWrites.{OnTerminal, StepWrites}

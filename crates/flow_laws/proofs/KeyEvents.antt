@@ -30,7 +30,7 @@ use Rattle.file_rules.specs.Files.{place_of_target}
 use Rattle.machine_model.specs.declared.ends.EventEnd.{EventEnd}
 use Rattle.machine_model.specs.declared.ends.EventEnd.TheVariants.{Ended, Ran, Waits}
 use Rattle.machine_model.specs.Event.{call_event_end, delivery_end, instruction_end, next_instruction}
-use Rattle.isolation_laws.proofs.StepWalk.{StepGives, step-gives}
+use Rattle.io_laws.proofs.StepWalk.{StepGives, step-gives}
 use Rattle.flow_laws.specs.Keys.{KeyMove, LineGoes, LineStays, UsesNone, read_call, reading_of, stay, use_up, DropsLine, EventKeys, HasAhead, ReadEnds, ReaderStops, ReadsFrom, StopsReading, WriteFails, ahead_at, keys_to_come}
 use Rattle.flow_laws.proofs.CallCodes.{none-delivering, none-executing, same-code}
 use Rattle.flow_laws.proofs.KeyAttempts.{AheadLeft, Ends, Failed, IsReader, Moved, TermLeft, WriteRefused, closed-terminals, come_of, does-come, does-moves, ended-drops, ended-left, interrupted-drops, interrupted-left, left-for, left-same, term-for}

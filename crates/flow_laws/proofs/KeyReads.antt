@@ -25,7 +25,7 @@ use Rattle.io_rules.specs.Transfer.{call_now, first_call, on_path, unless_nothin
 use Rattle.io_rules.specs.declared.io_call.Direction.TheVariants as Way
 use Rattle.io_rules.specs.declared.io_call.IoCall.{IoCall}
 use Rattle.io_rules.specs.declared.io_call.IoCall.TheVariants as Call
-use Rattle.isolation_laws.proofs.StepWalk.{StepGives}
+use Rattle.io_laws.proofs.StepWalk.{StepGives}
 use Rattle.flow_laws.specs.Keys.{asked_by, read_call, reading_of}
 
 -- a read of this kind reads the terminal that its path was opened on, for as many bytes as its call asks for

@@ -18,7 +18,7 @@ use Rattle.io_rules.specs.Write.{Sending, line_bytes, sends_on, sent_bytes, sent
 use Rattle.io_rules.specs.declared.io_call.Direction.TheVariants as Way
 use Rattle.io_rules.specs.declared.io_call.IoCall.{IoCall}
 use Rattle.io_rules.specs.declared.io_call.IoCall.TheVariants as Call
-use Rattle.isolation_laws.proofs.StepWalk.{StepGives}
+use Rattle.io_laws.proofs.StepWalk.{StepGives}
 
 -- the path of the call was opened on this terminal
 abbrev pub OnTerminal : IoCall → Caller → Io → ℕ → Type 0

@@ -21,7 +21,7 @@ use Rattle.io_rules.specs.Waiting.{count_by, interrupted_count}
 use Rattle.machine_model.specs.declared.ends.EventEnd.{EventEnd}
 use Rattle.machine_model.specs.declared.ends.EventEnd.TheVariants.{Ended}
 use Rattle.machine_model.specs.Event.{broken_off, delivery_end}
-use Rattle.isolation_laws.proofs.OthersKept.{living-within, record-put}
+use Rattle.call_laws.proofs.OthersKept.{living-within, record-put}
 use Rattle.disk_machine.specs.Event.{Acts, Event, before_delivery}
 use Rattle.disk_machine.specs.State.{State}
 use Rattle.flow_laws.specs.Flow.{IsBrokenOff, TellsMoved, pushed_regs, with_y}

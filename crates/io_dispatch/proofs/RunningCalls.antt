@@ -1,5 +1,5 @@
 -- In every state of a run the chosen process may attempt its call on paths.
-use Rattle.std.proofs.Common.{◌≡◌, ℕ, ◌<◌, Option, Some, None, IfSome, length, refl, sym, ap, ◌∙◌, subst}
+use Rattle.std.proofs.Common.{◌≡◌, ℕ, ◌<◌, Option, Some, None, IfSome, refl, sym, ap, ◌∙◌, subst}
 use Rattle.std.specs.Prelude.{option_map}
 use Rattle.std.proofs.lemmas.Option.{none-some, same_Some}
 use Rattle.os9_base.specs.Cells.{Cells}
@@ -18,10 +18,9 @@ use Rattle.io_rules.specs.Codes.{io_call_of}
 use Rattle.io_rules.specs.Io.{Io, kept_at}
 use Rattle.io_rules.specs.declared.io_call.IoCall.{IoCall}
 use Rattle.io_rules.specs.declared.io_call.IoCall.TheVariants as Call
-use Rattle.machine_model.specs.State.{State}
-use Rattle.kept_laws.specs.Kept.{AreKept, StaysAllowed as IsAllowed, StaysRead as AllowedRead}
-use Rattle.kept_laws.specs.Running.{AreOnTerminals, IsRunning}
-use Rattle.kept_laws.proofs.KeptEvents.{attempts-code}
+use Rattle.io_laws.specs.Kept.{AreKept, StaysAllowed as IsAllowed, StaysRead as AllowedRead}
+use Rattle.io_laws.specs.Terminals.{AreOnTerminals}
+use Rattle.io_laws.proofs.Codes.{attempts-code}
 use Rattle.proc_state.specs.Tie.{Represents}
 use Rattle.proc_state.specs.declared.state.ProcState.{ProcState}
 use Rattle.stream_calls.specs.Moving.{AreTerminals, StaysIfKept, StaysRead}
@@ -84,13 +83,13 @@ stays-of Call.GetStt cells regs io p allowed = tt
 stays-of Call.SetStt cells regs io p allowed = tt
 stays-of Call.PErr cells regs io p allowed = tt
 
-pub may-attempt : (processes : ProcState) (s : State) (p code : ℕ) (call : IoCall) → p < 33 → Represents processes s.inner → IsRunning s → act_of s.inner p ≡ attempts code → io_call_of code ≡ Some call → MayAttempt call processes s.io p (length s.terms)
-may-attempt processes s p code call process tied running next coded =
-    let regs : regs_at s.inner p ≡ (record_at processes.table p).regs = ap (λ (inner : Inner). regs_at inner p) tied.is in
-    let cells : cells_of processes.memory p ≡ cells_at s.inner p = cells_of-seen processes.memory p process s.inner.memory tied.memory in
+pub may-attempt : (processes : ProcState) (inner : Inner) (io : Io) (terms p code : ℕ) (call : IoCall) → p < 33 → Represents processes inner → AreKept inner io → AreOnTerminals terms io.paths → act_of inner p ≡ attempts code → io_call_of code ≡ Some call → MayAttempt call processes io p terms
+may-attempt processes inner io terms p code call process tied kept on next coded =
+    let regs : regs_at inner p ≡ (record_at processes.table p).regs = ap (λ (inner : Inner). regs_at inner p) tied.is in
+    let cells : cells_of processes.memory p ≡ cells_at inner p = cells_of-seen processes.memory p process inner.memory tied.memory in
     record {
-      again = subst (λ (regs : Regs). IsAgain call regs s.io p) regs (again-of s.inner s.io p code call running.kept next coded);
-      stays = subst (λ (cells : Cells). StaysAllowed call cells (record_at processes.table p).regs s.io p) (sym cells)
-          (subst (λ (regs : Regs). StaysAllowed call (cells_at s.inner p) regs s.io p) regs (stays-of call (cells_at s.inner p) (regs_at s.inner p) s.io p (allowed-of s.inner s.io p code call running.kept next coded)));
-      terminals = are-terminals s.io.paths (length s.terms) running.on;
+      again = subst (λ (regs : Regs). IsAgain call regs io p) regs (again-of inner io p code call kept next coded);
+      stays = subst (λ (cells : Cells). StaysAllowed call cells (record_at processes.table p).regs io p) (sym cells)
+          (subst (λ (regs : Regs). StaysAllowed call (cells_at inner p) regs io p) regs (stays-of call (cells_at inner p) (regs_at inner p) io p (allowed-of inner io p code call kept next coded)));
+      terminals = are-terminals io.paths terms on;
     }

@@ -1,144 +1,94 @@
 -- What each event leaves of the others: an instruction, an attempt of a call, the delivery of a signal.
-use Rattle.std.proofs.Common.{◌≡◌, ◌≢◌, ℕ, ◌-◌, ◌==◌, Bool, true, false, Option, Some, None, Result, Ok, Err, List, length, refl, sym, ◌∙◌, subst, inl}
-use Rattle.std.specs.Prelude.{MatchOption, if◌then◌else◌}
-use Rattle.std.proofs.lemmas.List.{length-set}
-use Rattle.os9_base.specs.declared.errors.TheConstants.{E_UNKSVC, E_PRCABT}
-use Rattle.os9_base.specs.declared.registers.Regs.{Regs}
-use Rattle.os9_outer.specs.TerminalState.{TerminalState}
-use Rattle.cpu_model.specs.Step.{Outcome, Done, Calls, Aborts, step_of}
-use Rattle.proc_model.specs.MemoryChanges.{written, stored, writes_from}
-use Rattle.proc_rules.specs.declared.record.Intercept.{Intercept}
-use Rattle.proc_rules.specs.declared.record.Record.{Record}
-use Rattle.proc_rules.specs.Records.{IsLiving, record_of, record_at, is_waiting, with_regs}
-use Rattle.proc_rules.specs.Signals.{with_signal}
-use Rattle.call_rules.specs.declared.proc_call.ProcCall.{ProcCall}
-use Rattle.call_rules.specs.Attempts.{attempted, after_attempt, goes_on}
+use Rattle.std.proofs.Common.{◌≡◌, ℕ, Some, refl, sym, ◌∙◌, subst, inl}
+use Rattle.std.proofs.lemmas.Option.{same_Some}
+use Rattle.os9_base.specs.declared.errors.TheConstants.{E_UNKSVC}
+use Rattle.os9_base.specs.declared.registers.TimePacket.{TimePacket}
+use Rattle.proc_model.specs.MemoryChanges.{stored, writes_from}
+use Rattle.proc_rules.specs.Records.{IsLiving}
 use Rattle.call_rules.specs.CallResult.{CallResult}
-use Rattle.call_rules.specs.Codes.{call_of}
-use Rattle.call_rules.specs.Delivery.{delivered, after_delivery, has_no_room, interrupted_regs, frame_bytes, routine_begun, stack_top, with_frame}
-use Rattle.call_rules.specs.Inner.{Inner, regs_at, cells_at, with_records}
+use Rattle.call_rules.specs.Delivery.{delivered}
+use Rattle.call_rules.specs.Inner.{Inner, with_memory}
 use Rattle.call_rules.specs.Ready.{Act, attempts, delivers, executes, act_of}
-use Rattle.io_rules.specs.Attempts.{IoAttempts, result_by}
-use Rattle.io_rules.specs.Codes.{io_call_of}
-use Rattle.io_rules.specs.Io.{Io}
+use Rattle.call_rules.specs.declared.proc_call.ProcCall.TheVariants as Call
+use Rattle.io_rules.specs.Attempts.{result_by}
 use Rattle.io_rules.specs.Step.{IoEffect, IoEnd, answers, fails, keeps}
 use Rattle.io_rules.specs.Waiting.{interrupted_count}
-use Rattle.io_rules.specs.declared.io_call.IoCall.{IoCall}
+use Rattle.file_rules.specs.Attempts.{io_effect}
+use Rattle.time_rules.specs.Attempts.{result_of, time_step}
+use Rattle.time_rules.specs.Packet.{packet_bytes}
+use Rattle.time_rules.specs.Step.{TimeStep, sets, tells}
+use Rattle.time_rules.specs.Step as time
+use Rattle.machine_model.specs.Event.{call_event_end, delivery_end, instruction_end, next_instruction}
 use Rattle.machine_model.specs.declared.ends.EventEnd.{EventEnd}
-use Rattle.machine_model.specs.declared.ends.EventEnd.TheVariants.{Ran, Waits}
-use Rattle.machine_model.specs.Event.{Acts, Event, after_instruction, before_delivery, broken_off, delivery_end, instruction_end, io_after_call, next_instruction}
-use Rattle.machine_model.specs.State.{State}
+use Rattle.machine_model.specs.declared.ends.EventEnd.TheVariants.{Ran}
+use Rattle.call_laws.proofs.CallsKept.{AttemptLeft, changed-same, left-done, left-refused}
+use Rattle.call_laws.proofs.EventsKept.{broken-left, instruction-left}
+use Rattle.io_laws.proofs.EndsKept.{by-end}
+use Rattle.call_laws.proofs.MemoryKept.{itself-written, kept-written}
+use Rattle.call_laws.proofs.OthersKept.{changed-self}
+use Rattle.disk_machine.specs.Event.{Acts, Event, before_delivery}
+use Rattle.disk_machine.specs.Services.{Serves, Service, loads, no_call, on_paths, on_processes, on_time, service_of}
+use Rattle.disk_machine.specs.State.{Rest, State}
 use Rattle.isolation_laws.specs.Isolation.{LeavesOthers}
-use Rattle.isolation_laws.proofs.MemoryKept.{itself-written, kept-written}
-use Rattle.isolation_laws.proofs.OthersKept.{changed-self, record-other, own-other}
-use Rattle.isolation_laws.proofs.CallsKept.{Left, left-by, AttemptLeft, left-done, left-refused, left-waits, ended-left, ended-from, regs-changed, same}
-use Rattle.isolation_laws.proofs.ForksKept.{attempt-left}
-
--- ---- an instruction
-
-pub instruction-left : (m : Inner) (p : ℕ) (outcome : Outcome) → Left m p (instruction_end outcome) (after_instruction m p outcome)
-instruction-left m p (Done effect) =
-    left-by m p Ran _ (regs-changed m p Ran (written m.memory p effect.writes) effect.regs (record { kept = kept-written m.memory p effect.writes; itself = itself-written m.memory p effect.writes }) refl)
-instruction-left m p (Calls code regs) =
-    left-by m p Ran _ (changed-self m p Ran m.memory _ _ (same m p).kept (same m p).itself (inl refl) (λ q differ. record-other m.records p _ q differ) (λ q differ. own-other m p _ q differ) (simp length-set))
-instruction-left m p (Aborts status) = ended-left m p status
-
--- ---- the delivery of a signal
-
--- where the process has other records of its own
-module _ (m : Inner) (p signal : ℕ) (records : List (Option Record)) (same : (q : ℕ) → q ≢ p → record_of records q ≡ record_of m.records q) (places : length records ≡ length m.records) where
-  abbrev found : Inner
-  found = with_records m records
-
-  abbrev taken : Inner
-  taken = with_records found (with_signal records p None)
-
-  frame-left : (intercept : Intercept) (regs interrupted : Regs) (frame : ℕ) (waits : Bool) → Left m p Ran (with_frame (if waits then goes_on taken p interrupted else taken) p intercept signal regs frame)
-  frame-left intercept regs interrupted frame true =
-      left-by m p Ran _ (changed-self m p Ran (stored m.memory p frame (frame_bytes regs)) _ _ (kept-written m.memory p (writes_from frame (frame_bytes regs))) (itself-written m.memory p (writes_from frame (frame_bytes regs))) (inl refl)
-      (λ q differ. record-other _ p _ q differ ∙ record-other _ p _ q differ ∙ record-other _ p _ q differ ∙ record-other records p _ q differ ∙ same q differ)
-      (λ q differ. own-other m p _ q differ) (simp length-set places))
-  frame-left intercept regs interrupted frame false =
-      left-by m p Ran _ (changed-self m p Ran (stored m.memory p frame (frame_bytes regs)) _ m.own (kept-written m.memory p (writes_from frame (frame_bytes regs))) (itself-written m.memory p (writes_from frame (frame_bytes regs))) (inl refl)
-      (λ q differ. record-other _ p _ q differ ∙ record-other records p _ q differ ∙ same q differ)
-      (λ q differ. refl) (simp length-set places))
-
-  abbrev DeliveryLeft : Result Inner ℕ → Type 0
-  DeliveryLeft result = Left m p (delivery_end result) (after_delivery found p result)
-
-  routine-left : (intercept : Intercept) → DeliveryLeft (routine_begun found p intercept signal)
-  routine-left intercept =
-      by_room (has_no_room found p (stack_top (regs_at found p).s)) (is_waiting (record_at records p).life)
-    where
-      by_room : (none waits : Bool) → DeliveryLeft (if none then Err E_PRCABT else Ok (with_frame (if waits then goes_on taken p (interrupted_regs found p signal) else taken) p intercept signal (interrupted_regs found p signal) (stack_top (regs_at found p).s - 12)))
-      by_room true waits = ended-from m p E_PRCABT records same places
-      by_room false waits =
-          frame-left intercept (interrupted_regs found p signal) (interrupted_regs found p signal) (stack_top (regs_at found p).s - 12) waits
-
-  delivery-left : DeliveryLeft (delivered found p signal)
-  delivery-left = by_intercept (record_at records p).intercept
-    where
-      answer : Option Intercept → Result Inner ℕ
-      answer None = Err signal
-      answer (Some intercept) = if signal == 0 then Err signal else routine_begun found p intercept signal
-
-      by_zero : (intercept : Intercept) (zero : Bool) → DeliveryLeft (if zero then Err signal else routine_begun found p intercept signal)
-      by_zero intercept true = ended-from m p signal records same places
-      by_zero intercept false = routine-left intercept
-
-      by_intercept : (intercept : Option Intercept) → DeliveryLeft (answer intercept)
-      by_intercept None = ended-from m p signal records same places
-      by_intercept (Some intercept) = by_zero intercept (signal == 0)
-
--- the count of a call that is broken off is answered first
-pub broken-left : (m : Inner) (p signal : ℕ) (count : Option ℕ) → Left m p (delivery_end (delivered (broken_off m p count) p signal)) (after_delivery (broken_off m p count) p (delivered (broken_off m p count) p signal))
-broken-left m p signal None = delivery-left m p signal m.records (λ q differ. refl) refl
-broken-left m p signal (Some count) =
-    delivery-left m p signal (with_regs m.records p (record (regs_at m p) { y = count })) (λ q differ. record-other m.records p _ q differ) (simp length-set)
+use Rattle.isolation_laws.proofs.Asked.{Asks, asks}
+use Rattle.isolation_laws.proofs.Linking.{ResultLinks, other-links}
+use Rattle.isolation_laws.proofs.Programs.{AttemptLeaves, as-before, as-left, call-leaves, refused-leaves, chain-leaves-others, fork-leaves-others, load-leaves-others}
 
 -- ---- an attempt of a call
 
--- a call on paths: it stores bytes where the process sees them, and may change the registers
-pub by-end : (m : Inner) (p : ℕ) (effect : IoEffect) (end : IoEnd) → AttemptLeft m p (result_by end m p effect)
-by-end m p effect (answers regs) =
-    left-done m p _ (regs-changed m p Ran (stored m.memory p effect.at effect.bytes) regs (record { kept = kept-written m.memory p (writes_from effect.at effect.bytes); itself = itself-written m.memory p (writes_from effect.at effect.bytes) }) refl)
-by-end m p effect (fails number) = left-refused m p number
-by-end m p effect (keeps kept) =
-    left-waits m p _ (changed-self m p Waits (stored m.memory p effect.at effect.bytes) m.records m.own (kept-written m.memory p (writes_from effect.at effect.bytes)) (itself-written m.memory p (writes_from effect.at effect.bytes)) (inl refl) (λ q differ. refl) (λ q differ. refl) refl)
+-- a call on the time stores a packet at most
+pub time-left : (m : Inner) (p : ℕ) (step : TimeStep) → AttemptLeft m p (result_of m p step)
+time-left m p (time.refused number) = left-refused m p number
+time-left m p (tells at packet) =
+    left-done m p (with_memory m (stored m.memory p at (packet_bytes packet)))
+    (changed-self m p Ran (stored m.memory p at (packet_bytes packet)) m.records m.own (kept-written m.memory p (writes_from at (packet_bytes packet))) (itself-written m.memory p (writes_from at (packet_bytes packet))) (inl refl) (λ q differ. refl) (λ q differ. refl) refl)
+time-left m p (sets clock) = left-done m p m (changed-same m p Ran)
 
-module _ (s : State) (p : ℕ) (result : CallResult) (io : Io) (terms : List TerminalState) where
-  by-io : (call : Option IoCall) → MatchOption call ((result ≡ CallResult.refused E_UNKSVC) × (io ≡ s.io) × (terms ≡ s.terms)) (λ call. IoAttempts call s.inner s.io s.drives p result io s.terms terms) → AttemptLeft s.inner p result
-  by-io None (is, unchanged, still) = subst (AttemptLeft s.inner p) (sym is) (left-refused s.inner p E_UNKSVC)
-  by-io (Some call) attempt =
-      subst (AttemptLeft s.inner p) (sym attempt.result_is) (by-end s.inner p attempt.effect attempt.effect.end)
+-- and no link changes
+time-links : (m : Inner) (p : ℕ) (step : TimeStep) → ResultLinks m p (result_of m p step)
+time-links m p (time.refused number) = inl refl
+time-links m p (tells at packet) = inl refl
+time-links m p (sets clock) = inl refl
 
-  by-call : (code : ℕ) (call : Option ProcCall) → IsLiving s.inner.records p → act_of s.inner p ≡ attempts code → call_of code ≡ call → MatchOption call (MatchOption (io_call_of code) ((result ≡ CallResult.refused E_UNKSVC) × (io ≡ s.io) × (terms ≡ s.terms)) (λ call. IoAttempts call s.inner s.io s.drives p result io s.terms terms)) (λ call. (result ≡ attempted call s.inner p) × (io ≡ io_after_call code s.io p result) × (terms ≡ s.terms)) → AttemptLeft s.inner p result
-  by-call code None lives next coded answer = by-io (io_call_of code) answer
-  by-call code (Some call) lives next coded (is, io_is, still) =
-      subst (AttemptLeft s.inner p) (sym is) (attempt-left s.inner p call lives (code, next, coded))
+path-links : (m : Inner) (p : ℕ) (effect : IoEffect) (end : IoEnd) → ResultLinks m p (result_by end m p effect)
+path-links m p effect (answers regs) = inl refl
+path-links m p effect (fails number) = inl refl
+path-links m p effect (keeps kept) = inl refl
+
+module _ (s : State) (p code : ℕ) (next : act_of s.inner p ≡ attempts code) (lives : IsLiving s.inner.records p) (now : TimePacket) (rest : Rest) where
+  serves-leave : (service : Service) (result : CallResult) → Asks code service → Serves service s now p result rest → AttemptLeaves s p rest result
+  serves-leave loads result asked (files, it, is) =
+      load-leaves-others s p now rest result files (subst (λ (code : ℕ). act_of s.inner p ≡ attempts code) asked next) it
+  serves-leave (on_processes Call.Fork) result asked (files, it, is) =
+      fork-leaves-others s p now rest result files lives (code, next, asked) it
+  serves-leave (on_processes Call.Chain) result asked (files, it, is) =
+      chain-leaves-others s p now rest result files lives (code, next, asked) it
+  serves-leave (on_processes call) result asked it =
+      subst (AttemptLeaves s p rest) (sym it.0) (call-leaves s p rest call lives (code, next, asked))
+  serves-leave (on_time call) result asked (clock, it, is) =
+      subst (AttemptLeaves s p rest) (sym it.result_is) (as-left s p rest (result_of s.inner p (time_step call s.inner now p)) (time-left s.inner p (time_step call s.inner now p)) (time-links s.inner p (time_step call s.inner now p)))
+  serves-leave (on_paths call) result asked (it, same) =
+      subst (AttemptLeaves s p rest) (sym it.result_is) (as-left s p rest _ (by-end s.inner p (io_effect it.effect) it.effect.end) (path-links s.inner p (io_effect it.effect) it.effect.end))
+  serves-leave no_call result asked (result_is, is) =
+      subst (AttemptLeaves s p rest) (sym result_is) (refused-leaves s p rest E_UNKSVC)
 
 -- ---- one event
 
-acts-left : (act : Act) (s : State) (p : ℕ) (end : EventEnd) (t : State) → IsLiving s.inner.records p → act_of s.inner p ≡ act → Acts act s p end t → Left s.inner p end t.inner
-acts-left executes s p end t lives next (ends, is) =
-    subst (λ (t : State). Left s.inner p end t.inner) (sym is)
-    (subst (λ end. Left s.inner p end (after_instruction s.inner p (next_instruction s.inner p))) (sym ends) (instruction-left s.inner p (next_instruction s.inner p)))
-acts-left (delivers signal) s p end t lives next (ends, is) =
-    subst (λ (t : State). Left s.inner p end t.inner) (sym is)
-    (subst (λ end. Left s.inner p end (after_delivery (before_delivery s p) p (delivered (before_delivery s p) p signal))) (sym ends) (broken-left s.inner p signal (interrupted_count s.io p)))
-acts-left (attempts code) s p end t lives next (result, io, terms, answer, ends, is) =
-    subst (λ (t : State). Left s.inner p end t.inner) (sym is)
-    (subst (λ end. Left s.inner p end (after_attempt s.inner p result)) (sym ends) (by-call s p result io terms code (call_of code) lives next refl answer))
+acts-leave : (act : Act) (s : State) (p : ℕ) (end : EventEnd) (t : State) → IsLiving s.inner.records p → act_of s.inner p ≡ act → Acts act s p end t → LeavesOthers s p end t
+acts-leave executes s p end t lives next (ends, is) =
+    let left = (instruction-left s.inner p (next_instruction s.inner p)).leaves in
+    subst (λ (end : EventEnd). LeavesOthers s p end t) (sym ends)
+    (subst (LeavesOthers s p (instruction_end (next_instruction s.inner p))) (sym is) (as-before s p (instruction_end (next_instruction s.inner p)) _ left (other-links s.inner p (instruction_end (next_instruction s.inner p)) _ (λ call on (code, attempts_it, coded). cc) left.links)))
+acts-leave (delivers signal) s p end t lives next (ends, is) =
+    let left = (broken-left s.inner p signal (interrupted_count s.files.io p)).leaves in
+    subst (λ (end : EventEnd). LeavesOthers s p end t) (sym ends)
+    (subst (LeavesOthers s p (delivery_end (delivered (before_delivery s p) p signal))) (sym is) (as-before s p (delivery_end (delivered (before_delivery s p) p signal)) _ left (other-links s.inner p (delivery_end (delivered (before_delivery s p) p signal)) _ (λ call on (code, attempts_it, coded). cc) left.links)))
+acts-leave (attempts code) s p end t lives next (result, rest, (now, is_now, it), ends, is) =
+    subst (λ (end : EventEnd). LeavesOthers s p end t) (sym ends)
+    (subst (LeavesOthers s p (call_event_end result)) (sym is) (serves-leave s p code next lives now rest (service_of code) result (asks code) it))
 
 -- the process of an event is the one that was chosen
-pub event-left : (s t : State) (end : EventEnd) (p : ℕ) → s.chosen ≡ Some p → Event s end t → Left s.inner p end t.inner
-event-left s t end p chosen (q, chosen_too, lives, acts) =
-    let same : q ≡ p = cc in
-    subst (λ p. Left s.inner p end t.inner) same (acts-left (act_of s.inner q) s q end t lives refl acts)
-
-pub event-leaves : (s t : State) (end : EventEnd) (p : ℕ) → s.chosen ≡ Some p → Event s end t → LeavesOthers s.inner p end t.inner
-event-leaves s t end p chosen event = (event-left s t end p chosen event).leaves
-
--- an instruction depends on the registers and on the bytes that the process sees
-pub instruction-same : (m n : Inner) (p q : ℕ) → ((at : ℕ) → cells_at m p at ≡ cells_at n q at) → regs_at m p ≡ regs_at n q → next_instruction m p ≡ next_instruction n q
-instruction-same m n p q cells regs = λ i. step_of (λ at. cells at i) (regs i)
+pub event-leaves : (s t : State) (end : EventEnd) (p : ℕ) → s.chosen ≡ Some p → Event s end t → LeavesOthers s p end t
+event-leaves s t end p chosen (q, chosen_too, lives, acts) =
+    let same : q ≡ p = same_Some q p (sym chosen_too ∙ chosen) in
+    subst (λ (p : ℕ). LeavesOthers s p end t) same (acts-leave (act_of s.inner q) s q end t lives refl acts)

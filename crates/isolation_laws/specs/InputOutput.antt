@@ -1,47 +1,74 @@
 -- What an event of a process leaves of the input and output of the others (Level Two manual, "I/O system"; System
 -- Programmer's Manual, F$Fork).
-use Rattle.std.specs.Prelude.{◌≡◌, ◌≢◌, ◌⊎◌, ℕ, Option, Some, List}
+use Rattle.std.specs.Prelude.{◌≡◌, ◌≢◌, ◌⊎◌, ℕ, true, Option, Some, List}
 use Rattle.os9_base.specs.Count.{Rose}
 use Rattle.os9_outer.specs.TerminalState.{ChangesOneTerminal}
 use Rattle.proc_rules.specs.Records.{IsLiving, free_process}
-use Rattle.call_rules.specs.declared.proc_call.ProcCall.TheVariants as Call
 use Rattle.call_rules.specs.Ready.{attempts, act_of}
+use Rattle.call_rules.specs.declared.proc_call.ProcCall.TheVariants as Call
 use Rattle.io_model.specs.Path.{numbers_of, inherited_numbers}
-use Rattle.io_model.specs.Terminal.{Terminal, reader, used_by, without_reading}
+use Rattle.io_model.specs.Terminal.{reader, used_by, without_reading}
 use Rattle.io_model.specs.declared.path.SysPath.{SysPath}
 use Rattle.io_rules.specs.Codes.{direction_of}
 use Rattle.io_rules.specs.Io.{OpenPath, terminal_at, kept_at, open_path}
 use Rattle.io_rules.specs.Waiting.{pid}
 use Rattle.io_rules.specs.declared.io_call.Direction.TheVariants.{Writing}
-use Rattle.machine_model.specs.State.{State}
-use Rattle.isolation_laws.specs.Others.{AttemptsCall}
+use Rattle.file_rules.specs.Attempts.{asker_of}
+use Rattle.file_rules.specs.Files.{OpenFile, open_file}
+use Rattle.file_rules.specs.declared.path_call.PathCall.{PathCall}
+use Rattle.io_laws.specs.Terminals.{KeepsReading}
+use Rattle.call_laws.specs.Others.{AttemptsCall}
+use Rattle.touch_laws.specs.Devices.{IsDevice, number_in}
+use Rattle.touch_laws.specs.Touch.{IsSamePath, moves_position}
+use Rattle.isolation_laws.specs.Drives.{AttemptsService}
+use Rattle.disk_machine.specs.Services.{on_paths}
+use Rattle.disk_machine.specs.State.{State}
 
 -- F$Fork makes a process, and gives it the standard paths of its parent
 pub record IsGivenPaths (s : State) (p q : ℕ) (numbers : List (Option SysPath)) : Type 0 where
   pub call : AttemptsCall s.inner p Call.Fork
   pub number : free_process s.inner.records ≡ Some q
-  pub given : numbers ≡ inherited_numbers (numbers_of s.io.paths p)
+  pub given : numbers ≡ inherited_numbers (numbers_of s.files.io.paths p)
 
 -- a process writes to a terminal, which fails in it
 pub record FailsInWrite (s : State) (p n : ℕ) (t : State) : Type 0 where
   pub writes : (code : ℕ) × (act_of s.inner p ≡ attempts code) × (direction_of code ≡ Some Writing)
   pub failed : ChangesOneTerminal (λ before now. Rose before.faults now.faults) n s.terms t.terms
 
--- but for its last user a terminal is as before: its keys, its line and its unfinished read
-abbrev pub KeepsReading : Terminal → Terminal → Type 0
-KeepsReading old new = new ≡ record old { user = new.user }
+-- the number of a path that a call of a process takes; the time is not asked for
+abbrev pub number_of_call : State → ℕ → PathCall → ℕ
+number_of_call s p call = number_in call (asker_of s.inner p s.clock.from)
+
+-- a process attempts a call that moves the position of the path on a file which its number names: this path
+pub record MovesPath (s : State) (p : ℕ) (opened : OpenPath) : Type 0 where
+  pub call : PathCall
+  pub attempted : AttemptsService s p (on_paths call)
+  pub moves : moves_position call ≡ true
+  pub found : OpenFile
+  pub named : open_file s.files p (number_of_call s p call) ≡ Some found
+  pub same : found.opened ≡ opened
+
+-- a path of another process stays: the same path, opened on the same with the same mode. Nothing of it changes but its
+-- position on a file, by a call on the same path, which F$Fork and I$Dup give to several numbers
+pub record StaysOpen (s : State) (p : ℕ) (t : State) (q n : ℕ) (opened : OpenPath) : Type 0 where
+  pub now : OpenPath
+  pub is : open_path t.files.io q n ≡ Some now
+  pub same : IsSamePath opened now
+  pub position : (now ≡ opened) ⊎ MovesPath s p opened
+  pub device : IsDevice opened.desc.target → now ≡ opened
 
 -- an event of a process leaves the input and output of the others
 pub record LeavesIo (s : State) (p : ℕ) (t : State) : Type 0 where
   -- the sixteen numbers of another process stay, but those of a child that F$Fork makes
-  pub numbers : (q : ℕ) → q ≢ p
-      → (numbers_of t.io.paths q ≡ numbers_of s.io.paths q) ⊎ IsGivenPaths s p q (numbers_of t.io.paths q)
-  -- a path of another process that lives stays, with its descriptor
-  pub paths : (q n : ℕ) (opened : OpenPath) → q ≢ p → IsLiving s.inner.records q → open_path s.io q n ≡ Some opened
-      → open_path t.io q n ≡ Some opened
+  pub numbers : (q : ℕ) → q ≢ p → (numbers_of t.files.io.paths q ≡ numbers_of s.files.io.paths q)
+      ⊎ IsGivenPaths s p q (numbers_of t.files.io.paths q)
+  -- a path of another process that lives stays
+  pub paths : (q n : ℕ) (opened : OpenPath) → q ≢ p → IsLiving s.inner.records q
+      → open_path s.files.io q n ≡ Some opened → StaysOpen s p t q n opened
   -- the call of another process that waits stays
-  pub calls : (q : ℕ) → q ≢ p → kept_at t.io q ≡ kept_at s.io q
+  pub calls : (q : ℕ) → q ≢ p → kept_at t.files.io q ≡ kept_at s.files.io q
   -- a terminal stays while a read of another process is unfinished there, but where a write fails, which drops it
-  pub readings : (n q : ℕ) → q ≢ p → reader (terminal_at s.io n) ≡ Some (pid q)
-      → KeepsReading (terminal_at s.io n) (terminal_at t.io n)
-      ⊎ FailsInWrite s p n t × (terminal_at t.io n ≡ without_reading (used_by (pid p) (terminal_at s.io n)))
+  pub readings : (n q : ℕ) → q ≢ p → reader (terminal_at s.files.io n) ≡ Some (pid q)
+      → KeepsReading (terminal_at s.files.io n) (terminal_at t.files.io n)
+      ⊎ FailsInWrite s p n t
+      × (terminal_at t.files.io n ≡ without_reading (used_by (pid p) (terminal_at s.files.io n)))

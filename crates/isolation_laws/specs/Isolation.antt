@@ -1,23 +1,22 @@
 -- Isolation: an event of a process leaves what is not its own.
 use Rattle.std.specs.Prelude.{◌≡◌, ◌≢◌, ℕ}
 use Rattle.proc_rules.specs.Records.{record_of}
-use Rattle.call_rules.specs.Inner.{Inner}
+use Rattle.call_laws.specs.Objects.{KeepsSizes, KeepsObjects, KeepsToItself}
+use Rattle.call_laws.specs.Others.{ComesOf, turns_of_others}
 use Rattle.machine_model.specs.declared.ends.EventEnd.{EventEnd}
-use Rattle.isolation_laws.specs.NewObjects.{HoldNothingElse}
-use Rattle.isolation_laws.specs.Objects.{KeepsSizes, KeepsObjects, KeepsToItself}
-use Rattle.isolation_laws.specs.Others.{ComesOf, turns_of_others}
 use Rattle.isolation_laws.specs.Links.{ChangesLinks}
 use Rattle.isolation_laws.specs.Modules.{KeepsModules}
+use Rattle.isolation_laws.specs.NewObjects.{HoldNothingElse}
+use Rattle.disk_machine.specs.State.{State}
 
--- ---- one event
-
--- an event of a process, which ends so, leaves what is not its own
-pub record LeavesOthers (m : Inner) (p : ℕ) (end : EventEnd) (n : Inner) : Type 0 where
-  pub sizes : KeepsSizes m.memory n.memory
-  pub objects : KeepsObjects m.memory p n.memory
-  pub new_objects : HoldNothingElse m p n.memory
-  pub map : KeepsToItself m.memory p n.memory
-  pub others : (q : ℕ) → q ≢ p → ComesOf m p end n q (record_of m.records q) (record_of n.records q)
-  pub turns : turns_of_others m p n.order ≡ turns_of_others m p m.order
-  pub modules : KeepsModules m.memory.modules n.memory.modules  -- what comes of each
-  pub links : ChangesLinks m p end n.memory  -- which of their links change
+-- an event of a process, which ends so, leaves what is not its own of memory and of the processes
+pub record LeavesOthers (s : State) (p : ℕ) (end : EventEnd) (t : State) : Type 0 where
+  pub sizes : KeepsSizes s.inner.memory t.inner.memory
+  pub objects : KeepsObjects s.inner.memory p t.inner.memory
+  pub new_objects : HoldNothingElse s p t.inner.memory
+  pub map : KeepsToItself s.inner.memory p t.inner.memory
+  pub others : (q : ℕ) → q ≢ p
+      → ComesOf s.inner p end t.inner q (record_of s.inner.records q) (record_of t.inner.records q)
+  pub turns : turns_of_others s.inner p t.inner.order ≡ turns_of_others s.inner p s.inner.order
+  pub modules : KeepsModules s p t.inner.memory  -- what comes of each
+  pub links : ChangesLinks s p end t.inner.memory  -- which of their links change

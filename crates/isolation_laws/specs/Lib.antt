@@ -1,7 +1,8 @@
+pub mod Drives
 pub mod InputOutput
 pub mod Isolation
 pub mod Links
+pub mod Loading
 pub mod Modules
 pub mod NewObjects
-pub mod Objects
-pub mod Others
+pub mod Volumes

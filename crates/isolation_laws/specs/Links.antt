@@ -1,44 +1,82 @@
--- Which links of modules an event of a process changes (System Programmer's Manual, F$Link, F$UnLink, F$UnLoad, F$Fork,
--- F$Chain and F$Exit).
-use Rattle.std.specs.Prelude.{◌≡◌, ◌⊎◌, ℕ, Option, option_map}
-use Rattle.proc_model.specs.Memory.{MemoryState}
+-- Which links of modules an event of a process changes (System Programmer's Manual, F$Link, F$UnLink, F$Load,
+-- F$UnLoad, F$Fork, F$Chain and F$Exit).
+use Rattle.std.specs.Prelude.{◌≡◌, ◌⊎◌, ℕ, Some, Ok, List}
+use Rattle.os9_base.specs.declared.calls.TheConstants.{F_LOAD}
+use Rattle.proc_model.specs.Memory.{MemoryState, map_at}
 use Rattle.proc_model.specs.MemoryChanges.{linked, unlinked}
 use Rattle.proc_model.specs.ModuleList.{without_link}
+use Rattle.user_names.specs.UserNames.{name_at}
+use Rattle.call_rules.specs.Inner.{Inner, cells_at, regs_at}
+use Rattle.call_rules.specs.ModuleLinks.{Entered, found_entry, module_at}
+use Rattle.call_rules.specs.Ready.{attempts, act_of}
 use Rattle.call_rules.specs.declared.proc_call.ProcCall.TheVariants as Call
-use Rattle.call_rules.specs.Inner.{Inner, own_at}
+use Rattle.file_rules.specs.Load.{Loaded}
+use Rattle.file_rules.specs.Program.{named_program}
+use Rattle.file_rules.specs.ProgramFile.{ProgramFile}
+use Rattle.call_laws.specs.Links.{LosesPrimary, primary_of}
+use Rattle.call_laws.specs.Others.{AttemptsCall}
 use Rattle.machine_model.specs.declared.ends.EventEnd.{EventEnd}
-use Rattle.machine_model.specs.declared.ends.EventEnd.TheVariants.{Ended}
-use Rattle.isolation_laws.specs.Others.{AttemptsCall}
+use Rattle.isolation_laws.specs.Loading.{LoadsFile}
+use Rattle.disk_machine.specs.State.{State}
 
--- the number of the primary module of a process
-abbrev pub primary_of : Inner → ℕ → Option ℕ
-primary_of m p = option_map (λ id. id.0) (own_at m p).primary
+-- ---- modules that are entered
 
--- one module has a link more, by F$Link or F$Fork
+-- a process names this module: the name is at X, its type and language are in A
+pub record NamesModule (m : Inner) (p : ℕ) (found : Entered) : Type 0 where
+  pub name : List ℕ
+  pub read : name_at (cells_at m p) (regs_at m p).x ≡ Ok name
+  pub is : found_entry m.memory.modules name (regs_at m p).a ≡ Some found
+
+-- F$Link or F$Fork: the module that the call names has a link more
 pub record GainsLink (m : Inner) (p : ℕ) (n : MemoryState) : Type 0 where
-  pub call : AttemptsCall m p Call.Link ⊎ AttemptsCall m p Call.Fork
-  pub number : ℕ
-  pub more : n.modules ≡ (linked m.memory number).modules
+  pub found : Entered
+  pub call : AttemptsCall m p Call.Link × NamesModule m p found
+      ⊎ AttemptsCall m p Call.Fork × (named_program m p ≡ Some found)
+  pub more : n.modules ≡ (linked m.memory found.number).modules
 
--- one module has a link less, by F$UnLink or F$UnLoad; its group leaves if it has no link then
+-- the process has this module in its map, and the address of its header is in U
+abbrev pub HasModuleAtU : Inner → ℕ → Entered → Type 0
+HasModuleAtU m p found = module_at m.memory.modules (map_at m.memory p) (regs_at m p).u ≡ Some found
+
+-- F$UnLink or F$UnLoad: the module that the call names has a link less; its group leaves if it has no link then
 pub record LosesLink (m : Inner) (p : ℕ) (n : MemoryState) : Type 0 where
-  pub call : AttemptsCall m p Call.UnLink ⊎ AttemptsCall m p Call.UnLoad
-  pub number : ℕ
-  pub less : n.modules ≡ (unlinked m.memory number).modules
+  pub found : Entered
+  pub call : AttemptsCall m p Call.UnLink × HasModuleAtU m p found
+      ⊎ AttemptsCall m p Call.UnLoad × NamesModule m p found
+  pub less : n.modules ≡ (unlinked m.memory found.number).modules
 
--- F$Chain: one module has a link more, and then the old primary module has one less
+-- F$Chain: the module that the call names has a link more, and then the old primary module has one less
 pub record ChangesPrimary (m : Inner) (p : ℕ) (n : MemoryState) : Type 0 where
   pub call : AttemptsCall m p Call.Chain
-  pub number : ℕ
-  pub relinked : n.modules ≡ without_link (linked m.memory number).modules (primary_of m p)
+  pub found : Entered
+  pub named : named_program m p ≡ Some found
+  pub relinked : n.modules ≡ without_link (linked m.memory found.number).modules (primary_of m p)
 
--- the process ends, and its primary module has a link less
-pub record LosesPrimary (m : Inner) (p : ℕ) (end : EventEnd) (n : MemoryState) : Type 0 where
-  pub ends : end ≡ Ended
-  pub less : n.modules ≡ without_link m.memory.modules (primary_of m p)
-
--- the module directory is as before, or one of these changes it
-abbrev pub ChangesLinks : Inner → ℕ → EventEnd → MemoryState → Type 0
-ChangesLinks m p end n =
+-- the links of entered modules are as before, or one of these changes them
+abbrev pub ChangesEntered : Inner → ℕ → EventEnd → MemoryState → Type 0
+ChangesEntered m p end n =
     (n.modules ≡ m.memory.modules) ⊎ GainsLink m p n ⊎ LosesLink m p n ⊎ ChangesPrimary m p n
     ⊎ LosesPrimary m p end n
+
+-- ---- a file that is loaded
+
+-- F$Load or F$Fork of a file: its first module has a link then
+pub record LinksLoaded (s : State) (p : ℕ) (n : MemoryState) : Type 0 where
+  pub call : (act_of s.inner p ≡ attempts F_LOAD) ⊎ AttemptsCall s.inner p Call.Fork
+  pub file : ProgramFile
+  pub loaded : Loaded
+  pub loads : LoadsFile s p file loaded
+  pub linked_then : n.modules ≡ (linked loaded.memory loaded.first.number).modules
+
+-- F$Chain of a file: its first module has a link then, and the old primary module has one less
+pub record ChainsLoaded (s : State) (p : ℕ) (n : MemoryState) : Type 0 where
+  pub file : ProgramFile
+  pub loaded : Loaded
+  pub loads : LoadsFile s p file loaded
+  pub call : AttemptsCall s.inner p Call.Chain
+  pub relinked : n.modules
+      ≡ without_link (linked loaded.memory loaded.first.number).modules (primary_of s.inner p)
+
+-- the links of entered modules change as without files, or a file is loaded
+abbrev pub ChangesLinks : State → ℕ → EventEnd → MemoryState → Type 0
+ChangesLinks s p end n = ChangesEntered s.inner p end n ⊎ LinksLoaded s p n ⊎ ChainsLoaded s p n

@@ -1,31 +1,51 @@
--- What an event of a process leaves of the module directory (Level Two manual, "Module directory").
-use Rattle.std.specs.Prelude.{◌+◌, ◌≡◌, ℕ, ◌≤◌, false, Option, Some, None, List}
+-- What an event of a process leaves of the module directory (Level Two manual, "Module directory"; System Programmer's
+-- Manual, F$Load).
+use Rattle.std.specs.Prelude.{◌≡◌, ◌⊎◌, ℕ, ◌≤◌, Option, Some, None, length, slice_get}
+use Rattle.proc_model.specs.Memory.{MemoryState}
+use Rattle.proc_model.specs.MemoryChanges.{new_numbers}
 use Rattle.proc_model.specs.ModuleList.{ModuleEntry, module_entry_at}
+use Rattle.proc_model.specs.Objects.{file_blocks}
+use Rattle.call_rules.specs.declared.proc_call.ProcCall.TheVariants as Call
+use Rattle.file_rules.specs.Load.{Loaded}
+use Rattle.file_rules.specs.ProgramFile.{ProgramFile}
+use Rattle.call_laws.specs.Modules.{LeavesMemory, StaysEntered}
+use Rattle.call_laws.specs.Others.{AttemptsCall}
+use Rattle.isolation_laws.specs.Loading.{LoadsFile}
+use Rattle.disk_machine.specs.State.{State}
 
--- an entered module leaves: a link of its group was given up that was its last one, and the group is not the boot
--- file's
-pub record LeavesMemory (entries : List (Option ModuleEntry)) (old : ModuleEntry) : Type 0 where
-  pub number : ℕ
+-- a module of this number is entered that was not: it is of the file that a process loads, and has one link at most
+pub record IsEntered (s : State) (p number : ℕ) (new : ModuleEntry) : Type 0 where
+  pub file : ProgramFile
+  pub loaded : Loaded
+  pub loads : LoadsFile s p file loaded
   pub entry : ModuleEntry
-  pub is : module_entry_at entries number ≡ Some entry  -- the module whose link was given up
-  pub of_group : entry.group ≡ old.group
-  pub not_boot : entry.is_boot ≡ false
+  pub is : module_entry_at loaded.memory.modules number ≡ Some entry
+  pub same : new ≡ record entry { links = new.links }
+  pub links : new.links ≤ 1
+
+-- F$Chain of a file: an entered module leaves that has the group of the file. There is none where groups are of objects
+-- that have appeared
+pub record LeavesWithFile (s : State) (p : ℕ) (old : ModuleEntry) : Type 0 where
+  pub file : ProgramFile
+  pub loaded : Loaded
+  pub loads : LoadsFile s p file loaded
+  pub call : AttemptsCall s.inner p Call.Chain
+  pub of_group : old.group ≡ new_numbers s.inner.memory (file_blocks file.bytes)
+  -- an object of it has not appeared before
+  pub object : ℕ
+  pub stands : (k : ℕ) × (slice_get old.group k ≡ Some object)
+  pub absent : length s.inner.memory.objects ≤ object
   pub last_link : old.links ≤ 1
 
--- an entered module stays: its count of links may rise or fall by one, and nothing else changes
-pub record StaysEntered (old new : ModuleEntry) : Type 0 where
-  pub same : new ≡ record old { links = new.links }
-  pub rises : new.links ≤ old.links + 1
-  pub falls : old.links ≤ new.links + 1
+-- what comes of an entered module: it stays or leaves; and which one appears
+abbrev pub ModuleComesOf : State → ℕ → ℕ → Option ModuleEntry → Option ModuleEntry → Type 0
+ModuleComesOf s p number (Some old) (Some new) = StaysEntered old new
+ModuleComesOf s p number (Some old) None = LeavesMemory s.inner.memory.modules old ⊎ LeavesWithFile s p old
+ModuleComesOf s p number None (Some new) = IsEntered s p number new
+ModuleComesOf s p number None None = Unit {0}
 
--- what comes of an entered module: it stays or leaves; and none appears
-abbrev pub ModuleComesOf : List (Option ModuleEntry) → Option ModuleEntry → Option ModuleEntry → Type 0
-ModuleComesOf entries (Some old) (Some new) = StaysEntered old new
-ModuleComesOf entries (Some old) None = LeavesMemory entries old
-ModuleComesOf entries None (Some new) = ⊥
-ModuleComesOf entries None None = Unit {0}
-
--- the module directory changes by the rules of links alone
-abbrev pub KeepsModules : List (Option ModuleEntry) → List (Option ModuleEntry) → Type 0
-KeepsModules entries later =
-    (number : ℕ) → ModuleComesOf entries (module_entry_at entries number) (module_entry_at later number)
+-- the module directory changes by the rules of links and loads alone
+abbrev pub KeepsModules : State → ℕ → MemoryState → Type 0
+KeepsModules s p n =
+    (number : ℕ)
+    → ModuleComesOf s p number (module_entry_at s.inner.memory.modules number) (module_entry_at n.modules number)

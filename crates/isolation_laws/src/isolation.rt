@@ -1,30 +1,42 @@
 //! Isolation: what an event of a process leaves to the others.
 
 ghost use Rattle.std.specs.Prelude.{◌≡◌, ℕ, Some};
-ghost use Rattle.machine_model.specs.declared.ends.EventEnd.{EventEnd};
 ghost use Rattle.call_rules.specs.Inner.{Inner, cells_at, regs_at};
-ghost use Rattle.machine_model.specs.Event.{Event, next_instruction};
-ghost use Rattle.machine_model.specs.State.{State};
+ghost use Rattle.machine_model.specs.declared.ends.EventEnd.{EventEnd};
+ghost use Rattle.machine_model.specs.Event.{next_instruction};
 ghost use Rattle.isolation_laws.specs.InputOutput.{LeavesIo};
 ghost use Rattle.isolation_laws.specs.Isolation.{LeavesOthers};
+ghost use Rattle.isolation_laws.specs.Volumes.{LeavesVolumes};
+ghost use Rattle.disk_machine.specs.Event.{Event};
+ghost use Rattle.disk_machine.specs.State.{State};
 
 /// An event of a process, whether an instruction, an attempt of a call or the delivery of a signal,
 /// leaves the bytes of each object that the map of the process does not name. Its map comes to name
-/// new objects and those of entered modules alone; new ones hold zeros, and parameters that the
-/// process gives a program. Every other process keeps its map, its registers and all else, but for
-/// what F$Send and F$SPrior change of the process that they name, the end of its parent, and a
-/// module that leaves; an ended child goes by F$Wait. One link of a module changes, two by F$Chain,
-/// in a call that links or unlinks, a start of a program or an end, and none in any other event;
-/// modules leave with their last link alone. Of input and output every other process keeps its path
-/// numbers, the paths that they name and its call that waits, but for a child, which F$Fork gives the
-/// standard paths of its parent; and a terminal keeps the unfinished read of another process, but
-/// where a write to it fails. And what an instruction does depends on the registers and the bytes
-/// that its process sees alone.
+/// new objects and those of entered modules alone; new ones hold zeros, parameters that the process
+/// gives a program, and the bytes of a file of modules that it loads and may execute. Every other
+/// process keeps its map, its registers and all else, but for what F$Send and F$SPrior change of
+/// the process that they name, the end of its parent, and a module that leaves; an ended child goes
+/// by F$Wait. Modules are entered by a file that is loaded, and leave with their last link alone; the
+/// links that change are those of the module that the call names, of the first module of the file
+/// that is loaded, and of the primary module that F$Chain or the end of the process gives up. And
+/// what an instruction does depends on the registers and the bytes that its process sees alone.
 pub fn an_event_leaves_what_it_does_not_name()
     ensures event { (s t : State) (end : EventEnd) (p : ℕ) → s.chosen ≡ Some p → Event s end t
-        → LeavesOthers s.inner p end t.inner }
-    ensures io { (s t : State) (end : EventEnd) (p : ℕ) → s.chosen ≡ Some p → Event s end t
-        → LeavesIo s p t }
+        → LeavesOthers s p end t }
     ensures instruction { (m n : Inner) (p q : ℕ) → ((at : ℕ) → cells_at m p at ≡ cells_at n q at)
         → regs_at m p ≡ regs_at n q → next_instruction m p ≡ next_instruction n q }
+{}
+
+/// Of input and output every other process keeps its path numbers, the paths that they name, and its
+/// call that waits; a child is given the standard paths and the directories of its parent by F$Fork.
+/// The position of a path on a file moves by a call of a process on the same path alone. A terminal
+/// keeps the unfinished read of another process, but where a write to it fails. The volume of one
+/// drive at most changes, by a call that changes volumes and reaches that drive; no drive fails but
+/// the one that the process reaches in an attempt of its call, so none in an instruction; and the
+/// clock is set by F$STime alone.
+pub fn an_event_leaves_the_input_and_output_of_the_others()
+    ensures io { (s t : State) (end : EventEnd) (p : ℕ) → s.chosen ≡ Some p → Event s end t
+        → LeavesIo s p t }
+    ensures volumes { (s t : State) (end : EventEnd) (p : ℕ) → s.chosen ≡ Some p → Event s end t
+        → LeavesVolumes s p t }
 {}

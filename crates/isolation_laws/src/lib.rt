@@ -1,4 +1,4 @@
-//! What the events of a process leave of memory and of the other processes, whatever it does.
+//! What the events of a process leave of memory, of the other processes and of what they share.
 #![tactic(auto)]
 
 pub mod isolation;

@@ -47,7 +47,7 @@ use Rattle.io_rules.specs.declared.io_call.IoCall.{IoCall}
 use Rattle.io_rules.specs.declared.io_call.IoCall.TheVariants as Call
 use Rattle.io_rules.specs.declared.modes.TheConstants.{STANDARD_ERROR}
 use Rattle.io_rules.specs.declared.status.TheConstants.{SS_OPT, SS_READY, SS_EOF, OPTION_BYTES}
-use Rattle.kept_laws.specs.Kept.{StaysAllowed}
+use Rattle.io_laws.specs.Kept.{StaysAllowed}
 use Rattle.kept_laws.proofs.Lengths.{LineLength, line-length, user-fits, user-length}
 
 -- a path that is open is the image of its number

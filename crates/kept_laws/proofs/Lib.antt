@@ -1,10 +1,16 @@
+pub mod Aside
+pub mod Attempts
 pub mod CallCodes
+pub mod Events
 pub mod InCalls
 pub mod Keeping
 pub mod KeptEvents
 pub mod Lengths
+pub mod Loads
 pub mod Named
 pub mod OnTerminals
+pub mod Over
 pub mod Places
 pub mod RunningLaws
+pub mod Runs
 pub mod WaitsMade

@@ -7,7 +7,7 @@ use Rattle.os9_base.specs.Cells.{Cells, FitsIn}
 use Rattle.proc_model.specs.Memory.{MemoryState, map_at}
 use Rattle.proc_model.specs.Objects.{object_byte, object_cells, slot_of}
 use Rattle.proc_model.specs.Slots.{Slots}
-use Rattle.isolation_laws.specs.Objects.{KeepsSizes}
+use Rattle.call_laws.specs.Objects.{KeepsSizes}
 
 -- the byte that a process sees at each address
 abbrev pub seen : MemoryState → ℕ → Cells

@@ -1,21 +1,13 @@
--- Each terminal that a path was opened on is there: at the start, and after every event.
-use Rattle.std.proofs.Common.{◌≡◌, ◌⊎◌, ℕ, zero, suc, ◌<◌, ◌≤◌, Bool, true, false, Option, Some, None, Result, Ok, Err, List, length, get_or, replicate, sym, ap, ◌∙◌, subst, inl, inr, arith}
-use Rattle.std.specs.Prelude.{MatchOption, if◌then◌else◌, ◌==◌}
+-- The terminal of each open path is there: at the start, and after an attempt, an end and a delivery.
+use Rattle.std.proofs.Common.{◌≡◌, ◌⊎◌, ℕ, zero, suc, ◌<◌, ◌≤◌, Bool, true, false, Option, Some, None, List, length, get_or, replicate, sym, ap, ◌∙◌, subst, inl, inr, arith}
+use Rattle.std.specs.Prelude.{if◌then◌else◌}
 use Rattle.std.specs.Option.{option_map_or}
 use Rattle.std.proofs.lemmas.Bool.{cases_eq, cases_lt}
 use Rattle.std.proofs.lemmas.List.{get_or-set_same, get_or-set_other, get_or_past, get_or-replicate, length-replicate, length-set}
 use Rattle.std.proofs.lemmas.Option.{none-some, same_Some}
-use Rattle.os9_base.specs.declared.calls.TheConstants.{F_FORK}
-use Rattle.os9_base.specs.declared.errors.TheConstants.{E_UNKSVC}
 use Rattle.os9_outer.specs.TerminalState.{TerminalState}
-use Rattle.cpu_model.specs.Step.{Outcome, Done, Calls, Aborts}
-use Rattle.call_rules.specs.declared.proc_call.ProcCall.{ProcCall}
-use Rattle.call_rules.specs.Attempts.{attempted}
-use Rattle.call_rules.specs.CallResult.{CallResult, done, refused as refuses_call, waits, ends}
-use Rattle.call_rules.specs.Codes.{call_of}
-use Rattle.call_rules.specs.Delivery.{delivered}
-use Rattle.call_rules.specs.Inner.{Inner, regs_at}
-use Rattle.call_rules.specs.Ready.{Act, attempts, delivers, executes}
+use Rattle.call_rules.specs.CallResult.{CallResult}
+use Rattle.call_rules.specs.Inner.{Inner}
 use Rattle.io_model.specs.Path.{PathTable, closed_desc, desc_of, free_number, free_path, is_held, path_at, paths_after_begin, paths_after_close, paths_after_dup, slot_of, with_desc, with_path, with_slot}
 use Rattle.io_model.specs.declared.path.Desc.{Desc}
 use Rattle.io_model.specs.declared.path.SysPath.{SysPath}
@@ -24,17 +16,13 @@ use Rattle.io_model.specs.declared.path.Target.TheVariants.{File, Folder, Term, 
 use Rattle.io_model.specs.declared.path.TheConstants.{PROCESS_PATHS}
 use Rattle.io_rules.specs.Attempts.{Does, IoAttempts, caller_of, step_of}
 use Rattle.io_rules.specs.Close.{after_close, without_path, without_target}
-use Rattle.io_rules.specs.Codes.{io_call_of}
 use Rattle.io_rules.specs.Io.{Io, first_paths, new_desc, with_paths}
-use Rattle.io_rules.specs.Processes.{closed_below, closed_if_open, io_ended, io_started}
+use Rattle.io_rules.specs.Processes.{closed_below, closed_if_open, io_ended}
 use Rattle.io_rules.specs.Step.{Caller, IoEffect, IoStep, refused, comes, reads, writes}
 use Rattle.io_rules.specs.Waiting.{io_interrupted, wait_target, without_unfinished}
 use Rattle.io_rules.specs.declared.io_call.IoCall.{IoCall}
-use Rattle.machine_model.specs.declared.ends.EventEnd.{EventEnd}
-use Rattle.machine_model.specs.Event.{Acts, before_delivery, io_after_call, io_after_delivery, io_after_instruction, next_instruction}
-use Rattle.machine_model.specs.State.{State}
-use Rattle.isolation_laws.proofs.StepWalk.{StepGives, Walk, step-gives}
-use Rattle.kept_laws.specs.Running.{AreOnTerminals}
+use Rattle.io_laws.proofs.StepWalk.{StepGives, Walk, step-gives}
+use Rattle.io_laws.specs.Terminals.{AreOnTerminals}
 
 module _ (terms : ℕ) where
   abbrev On : PathTable → Type 0
@@ -105,7 +93,7 @@ module _ (terms : ℕ) where
   on-closed_below io p (suc n) on =
       on-closed_if (closed_below io p n) p n (slot_of (closed_below io p n).paths p n) (on-closed_below io p n on)
 
-  on-ended : (io : Io) (p : ℕ) → OnIo io → OnIo (io_ended io p)
+  pub on-ended : (io : Io) (p : ℕ) → OnIo io → OnIo (io_ended io p)
   on-ended io p on = on-closed_below io p PROCESS_PATHS on
 
   on-unfinished : (io : Io) (p : ℕ) (target : Option Target) → OnIo io → OnIo (without_unfinished io p target)
@@ -115,7 +103,7 @@ module _ (terms : ℕ) where
   on-unfinished io p (Some (Term terminal)) on = on
   on-unfinished io p (Some (Pipe pipe)) on = on
 
-  on-interrupted : (io : Io) (p : ℕ) → OnIo io → OnIo (io_interrupted io p)
+  pub on-interrupted : (io : Io) (p : ℕ) → OnIo io → OnIo (io_interrupted io p)
   on-interrupted io p on = on-unfinished io p (wait_target io p) on
 
   -- ---- an attempt
@@ -148,49 +136,13 @@ module _ (terms : ℕ) where
   on-does call caller io (writes write) effect before after on gives does =
       subst (λ (effect : IoEffect). OnIo effect.io) (sym does.effect_is) on
 
--- ---- an event
+-- ---- an attempt of a process
 
-module _ (s : State) (p : ℕ) (on : AreOnTerminals (length s.terms) s.io.paths) where
-  abbrev Still : Io → Type 0
-  Still io = AreOnTerminals (length s.terms) io.paths
-
-  on-call : (code : ℕ) (result : CallResult) → Still (io_after_call code s.io p result)
-  on-call code (refuses_call number) = on
-  on-call code (waits t) = on
-  on-call code (ends status) = on-ended (length s.terms) s.io p on
-  on-call code (done t) = by_fork (code == F_FORK)
-    where
-      by_fork : (fork : Bool) → Still (if fork then io_started s.io p (regs_at t p).a else s.io)
-      by_fork true = on
-      by_fork false = on
-
-  on-io : (call : Option IoCall) (result : CallResult) (io : Io) (terms : List TerminalState) → MatchOption call ((result ≡ refuses_call E_UNKSVC) × (io ≡ s.io) × (terms ≡ s.terms)) (λ call. IoAttempts call s.inner s.io s.drives p result io s.terms terms) → Still io
-  on-io None result io terms (is, same, still) = subst Still (sym same) on
-  on-io (Some call) result io terms attempt =
-      subst Still (sym attempt.state)
-      (on-does (length s.terms) call (caller_of s.inner p) s.io (step_of call s.inner p s.io s.drives s.terms) attempt.effect s.terms terms on
-      (step-gives call (OnIo (length s.terms)) (caller_of s.inner p) s.io s.drives (length s.terms) (on-walk (length s.terms) (caller_of s.inner p) s.io on)) attempt.does)
-
-  on-attempt : (code : ℕ) (call : Option ProcCall) (result : CallResult) (io : Io) (terms : List TerminalState) → MatchOption call (MatchOption (io_call_of code) ((result ≡ refuses_call E_UNKSVC) × (io ≡ s.io) × (terms ≡ s.terms)) (λ call. IoAttempts call s.inner s.io s.drives p result io s.terms terms)) (λ call. (result ≡ attempted call s.inner p) × (io ≡ io_after_call code s.io p result) × (terms ≡ s.terms)) → Still io
-  on-attempt code None result io terms answer = on-io (io_call_of code) result io terms answer
-  on-attempt code (Some call) result io terms (is, io_is, still) = subst Still (sym io_is) (on-call code result)
-
-  on-instruction : (outcome : Outcome) → Still (io_after_instruction s.io p outcome)
-  on-instruction (Done effect) = on
-  on-instruction (Calls code regs) = on
-  on-instruction (Aborts status) = on-ended (length s.terms) s.io p on
-
-  on-delivery : (result : Result Inner ℕ) → Still (io_after_delivery s.io p result)
-  on-delivery (Ok t) = on-interrupted (length s.terms) s.io p on
-  on-delivery (Err status) = on-ended (length s.terms) s.io p on
-
-  pub on-acts : (act : Act) (end : EventEnd) (t : State) → Acts act s p end t → Still t.io
-  on-acts executes end t (over, is) =
-      subst (λ (t : State). Still t.io) (sym is) (on-instruction (next_instruction s.inner p))
-  on-acts (delivers signal) end t (over, is) =
-      subst (λ (t : State). Still t.io) (sym is) (on-delivery (delivered (before_delivery s p) p signal))
-  on-acts (attempts code) end t (result, io, terms, answer, over, is) =
-      subst (λ (t : State). Still t.io) (sym is) (on-attempt code (call_of code) result io terms answer)
+pub on-attempt : (call : IoCall) (m : Inner) (io : Io) (p drives : ℕ) (result : CallResult) (new : Io) (before after : List TerminalState) → IoAttempts call m io drives p result new before after → AreOnTerminals (length before) io.paths → AreOnTerminals (length before) new.paths
+on-attempt call m io p drives result new before after attempt on =
+    subst (λ (io : Io). AreOnTerminals (length before) io.paths) (sym attempt.state)
+    (on-does (length before) call (caller_of m p) io (step_of call m p io drives before) attempt.effect before after on
+    (step-gives call (OnIo (length before)) (caller_of m p) io drives (length before) (on-walk (length before) (caller_of m p) io on)) attempt.does)
 
 -- ---- the start
 

@@ -1,6 +1,6 @@
--- What holds of every state of a run: from the start on, through ticks, choices, events, slices and runs.
-use Rattle.std.proofs.Common.{◌≡◌, ◌≢◌, ℕ, zero, suc, ◌+◌, ◌-◌, ◌<◌, ◌≤◌, ◌==◌, not, Bool, true, false, Option, Some, None, is_some, List, [], ◌∷◌, ◌++◌, length, replicate, refl, sym, ap, ◌∙◌, subst, inl, inr, arith}
-use Rattle.std.specs.Prelude.{MatchBool, MatchOption, if◌then◌else◌, slice_index_or, ◌&&◌}
+-- What holds of every state of a run: at the start, after a tick and a choice.
+use Rattle.std.proofs.Common.{◌≡◌, ◌≢◌, ℕ, zero, suc, ◌+◌, ◌-◌, ◌<◌, ◌≤◌, ◌==◌, not, Bool, true, false, Option, Some, None, is_some, List, [], ◌∷◌, length, replicate, refl, sym, ap, ◌∙◌, subst, inl, inr, arith}
+use Rattle.std.specs.Prelude.{if◌then◌else◌, slice_index_or, ◌&&◌}
 use Rattle.std.proofs.lemmas.Bool.{cases_eq, cases_lt, false≢true}
 use Rattle.std.proofs.lemmas.List.{get_or-set_same, get_or-set_other, get_or_past, get_or-replicate, length-replicate, length-map, length-set}
 use Rattle.std.proofs.lemmas.Option.{none-some}
@@ -17,28 +17,32 @@ use Rattle.proc_rules.specs.Records.{IsLiving, after_make, has_ended, is_living,
 use Rattle.proc_rules.specs.Signals.{after_send, is_reached, send_fault, wake_signal, with_sent, with_signal}
 use Rattle.call_rules.specs.Inner.{Inner, no_own, own_at}
 use Rattle.call_rules.specs.Program.{start_regs}
-use Rattle.call_rules.specs.Ready.{act_of}
 use Rattle.io_model.specs.Path.{numbers_of}
 use Rattle.io_model.specs.declared.kept.Kept.{Kept}
 use Rattle.io_rules.specs.Arrivals.{ArrivesAt, ArrivesFrom, Desk, after_key_signal, every_user}
 use Rattle.io_rules.specs.Io.{Io, first_io, kept_at, open_path}
-use Rattle.machine_model.specs.declared.ends.EventEnd.{EventEnd}
-use Rattle.machine_model.specs.declared.ends.SliceEnd.{SliceEnd}
-use Rattle.machine_model.specs.declared.ends.SliceEnd.TheVariants.{Idle, Ran}
-use Rattle.machine_model.specs.Console.{console_bytes, terminals_emptied}
-use Rattle.machine_model.specs.Event.{Event, cost}
-use Rattle.machine_model.specs.Run.{Choose, Run, Slice, Steps, Tick, desk_of, is_going}
-use Rattle.machine_model.specs.Start.{Starts, first_priority, first_process, first_start, no_parent, superuser}
-use Rattle.machine_model.specs.State.{State, has_living}
 use Rattle.machine_model.specs.Terminals.{TerminalsOnlyGain}
-use Rattle.machine_model.proofs.TerminalLaws.{gain-tick, gains-event}
-use Rattle.isolation_laws.proofs.OthersKept.{living-record, living-within}
-use Rattle.kept_laws.specs.Kept.{AreInCalls, AreKept, WaitsInCall}
-use Rattle.kept_laws.specs.Running.{AllRunning, AreOnTerminals, HasPlaces, HasTerminals, IsRunning}
-use Rattle.kept_laws.proofs.InCalls.{IsWaiting, event-in, event-places, put-waits, waits-runs}
-use Rattle.kept_laws.proofs.KeptEvents.{event-keeps, keeps-on, lives-runs, there-at, there-lives}
+use Rattle.civil_time.specs.CivilTime.{is_time_packet}
+use Rattle.file_rules.specs.Files.{Files}
+use Rattle.file_laws.specs.Kinds.{AreKinds}
+use Rattle.file_laws.proofs.Starts.{kinds-same, kinds-start}
+use Rattle.time_rules.specs.Clock.{IsClock}
+use Rattle.time_rules.specs.declared.clock.Clock.{Clock}
+use Rattle.disk_machine.specs.Run.{Choose, Tick, desk_of}
+use Rattle.disk_machine.specs.Start.{Boot, Starts}
+use Rattle.disk_machine.specs.State.{State}
+use Rattle.machine_model.specs.Console.{terminals_emptied}
+use Rattle.machine_model.specs.Start.{first_priority, first_process, first_start, no_parent, superuser}
+use Rattle.machine_model.specs.Terminals.{TerminalsOnlyGain}
+use Rattle.disk_machine.proofs.Gains.{tick-gains}
+use Rattle.kept_laws.specs.Running.{IsRunning}
+use Rattle.call_laws.proofs.OthersKept.{living-record, living-within}
+use Rattle.io_laws.specs.Kept.{AreInCalls, AreKept, WaitsInCall}
+use Rattle.io_laws.specs.Terminals.{AreOnTerminals}
+use Rattle.kept_laws.proofs.InCalls.{IsWaiting, put-waits, waits-runs}
+use Rattle.kept_laws.proofs.KeptEvents.{keeps-on, lives-runs, there-at, there-lives}
 use Rattle.kept_laws.proofs.Named.{seen}
-use Rattle.kept_laws.proofs.OnTerminals.{on-acts, on-first}
+use Rattle.kept_laws.proofs.OnTerminals.{on-first}
 
 -- ---- the number of terminals
 
@@ -50,14 +54,16 @@ zip-length (x ∷ before) (y ∷ now) gains =
     let rest : length now ≡ length before = zip-length before now gains.1 in omega (arith, rest)
 
 -- what holds, by its parts
-running-then : (s t : State) → IsRunning s → AreKept t.inner t.io → AreInCalls t.inner t.io → HasPlaces t → AreOnTerminals (length s.terms) t.io.paths → length t.terms ≡ length s.terms → IsRunning t
-running-then s t running kept in_calls places on long = record {
+pub running-then : (s t : State) → IsRunning s → AreKept t.inner t.files.io → AreInCalls t.inner t.files.io → length t.inner.records ≤ length t.files.io.calls → AreOnTerminals (length s.terms) t.files.io.paths → length t.terms ≡ length s.terms → AreKinds t.files → IsClock t.clock t.inner.tick → IsRunning t
+running-then s t running kept in_calls places on long kinds clock = record {
   kept = kept;
   in_calls = in_calls;
   places = places;
-  on = subst (λ (n : ℕ). AreOnTerminals n t.io.paths) (sym long) on;
+  on = subst (λ (n : ℕ). AreOnTerminals n t.files.io.paths) (sym long) on;
   some = subst (λ (n : ℕ). 0 < n) (sym long) running.some;
   few = subst (λ (n : ℕ). n ≤ 4) (sym long) running.few;
+  kinds = kinds;
+  clock = clock;
 }
 
 -- ---- signals of keys
@@ -300,96 +306,52 @@ in_calls-same m n io records own all q lives waits =
       kept = it.kept;
     }
 
+-- ---- the clock
+
+pub clock-later : (clock : Clock) (tick later : ℕ) → tick ≤ later → IsClock clock tick → IsClock clock later
+clock-later clock tick later past it = record { civil = it.civil; set = omega (arith, past, it.set) }
+
+key-tick : (inner : Inner) (user : Option Pid) (signal : Option ℕ) → (after_key_signal inner user signal).tick ≡ inner.tick
+key-tick inner None signal = refl
+key-tick inner (Some process) None = refl
+key-tick inner (Some process) (Some signal) = refl
+
+-- keys that arrive leave the tick
+arrivals-tick : (tick n count : ℕ) (old new : Desk) → ArrivesFrom tick n count old new → new.inner.tick ≡ old.inner.tick
+arrivals-tick tick n zero old new is = ap (λ (desk : Desk). desk.inner.tick) is
+arrivals-tick tick n (suc count) old new (between, here, later) =
+    arrivals-tick tick (n + 1) count between new later
+    ∙ ap (λ (inner : Inner). inner.tick) here.signal ∙ key-tick old.inner here.terminal.user here.answer.signal
+
+-- ---- a tick, a choice, the console
+
 pub tick-running : (s t : State) → Tick s t → IsRunning s → IsRunning t
 tick-running s t (desk, arrives, is) running =
     let left = arrivals-left (s.inner.tick + 1) 0 (length s.terms) (desk_of s) desk arrives in
+    let tick : desk.inner.tick ≡ s.inner.tick + 1 = arrivals-tick (s.inner.tick + 1) 0 (length s.terms) (desk_of s) desk arrives in
     running-then s t running
-    (subst (λ (t : State). AreKept t.inner t.io) (sym is) (left.kept (kept-same s.inner (desk_of s).inner s.io refl refl refl running.kept)))
-    (subst (λ (t : State). AreInCalls t.inner t.io) (sym is) (left.in_calls (in_calls-same s.inner (desk_of s).inner s.io refl refl running.in_calls)))
-    (subst HasPlaces (sym is) (subst (λ (n : ℕ). n ≤ length desk.io.calls) (sym left.long) (subst (λ (calls : List (Option Kept)). length s.inner.records ≤ length calls) (sym left.calls) running.places)))
-    (subst (λ (t : State). AreOnTerminals (length s.terms) t.io.paths) (sym is) (subst (AreOnTerminals (length s.terms)) (sym left.paths) running.on))
-    (zip-length s.terms t.terms (gain-tick s t (desk, arrives, is)))
+    (subst (λ (t : State). AreKept t.inner t.files.io) (sym is) (left.kept (kept-same s.inner (desk_of s).inner s.files.io refl refl refl running.kept)))
+    (subst (λ (t : State). AreInCalls t.inner t.files.io) (sym is) (left.in_calls (in_calls-same s.inner (desk_of s).inner s.files.io refl refl running.in_calls)))
+    (subst (λ (t : State). length t.inner.records ≤ length t.files.io.calls) (sym is) (subst (λ (n : ℕ). n ≤ length desk.io.calls) (sym left.long) (subst (λ (calls : List (Option Kept)). length s.inner.records ≤ length calls) (sym left.calls) running.places)))
+    (subst (λ (t : State). AreOnTerminals (length s.terms) t.files.io.paths) (sym is) (subst (AreOnTerminals (length s.terms)) (sym left.paths) running.on))
+    (zip-length s.terms t.terms (tick-gains s t (desk, arrives, is)).terminals)
+    (subst (λ (t : State). AreKinds t.files) (sym is) (kinds-same s.files desk.io left.paths running.kinds))
+    (subst (λ (t : State). IsClock t.clock t.inner.tick) (sym is) (clock-later s.clock s.inner.tick desk.inner.tick (omega (arith, tick)) running.clock))
 
 pub choice-running : (s t : State) → Choose s t → IsRunning s → IsRunning t
 choice-running s t is running =
     running-then s t running
-    (subst (λ (t : State). AreKept t.inner t.io) (sym is) (kept-same s.inner _ s.io refl refl refl running.kept))
-    (subst (λ (t : State). AreInCalls t.inner t.io) (sym is) (in_calls-same s.inner _ s.io refl refl running.in_calls))
-    (subst HasPlaces (sym is) running.places)
-    (subst (λ (t : State). AreOnTerminals (length s.terms) t.io.paths) (sym is) running.on)
+    (subst (λ (t : State). AreKept t.inner t.files.io) (sym is) (kept-same s.inner _ s.files.io refl refl refl running.kept))
+    (subst (λ (t : State). AreInCalls t.inner t.files.io) (sym is) (in_calls-same s.inner _ s.files.io refl refl running.in_calls))
+    (subst (λ (t : State). length t.inner.records ≤ length t.files.io.calls) (sym is) running.places)
+    (subst (λ (t : State). AreOnTerminals (length s.terms) t.files.io.paths) (sym is) running.on)
     (ap (λ (t : State). length t.terms) is)
+    (subst (λ (t : State). AreKinds t.files) (sym is) running.kinds)
+    (subst (λ (t : State). IsClock t.clock t.inner.tick) (sym is) running.clock)
 
--- a terminal that a path was opened on stays
-pub event-on : (s t : State) (end : EventEnd) → Event s end t → HasTerminals s → HasTerminals t
-event-on s t end (p, chosen, lives, acts) on =
-    subst (λ (n : ℕ). AreOnTerminals n t.io.paths) (sym (zip-length s.terms t.terms (gains-event s t end (p, chosen, lives, acts))))
-    (on-acts s p on (act_of s.inner p) end t acts)
-
-pub tick-on : (s t : State) → Tick s t → HasTerminals s → HasTerminals t
-tick-on s t (desk, arrives, is) on =
-    let left = arrivals-left (s.inner.tick + 1) 0 (length s.terms) (desk_of s) desk arrives in
-    subst (λ (n : ℕ). AreOnTerminals n t.io.paths) (sym (zip-length s.terms t.terms (gain-tick s t (desk, arrives, is))))
-    (subst (λ (t : State). AreOnTerminals (length s.terms) t.io.paths) (sym is) (subst (AreOnTerminals (length s.terms)) (sym left.paths) on))
-
--- ---- an event
-
-pub event-running : (s t : State) (end : EventEnd) → Event s end t → IsRunning s → IsRunning t
-event-running s t end (p, chosen, lives, acts) running =
-    running-then s t running (event-keeps s t end (p, chosen, lives, acts) running.kept)
-    (event-in s t end (p, chosen, lives, acts) running.in_calls running.places)
-    (event-places s t end (p, chosen, lives, acts) running.places)
-    (on-acts s p running.on (act_of s.inner p) end t acts)
-    (zip-length s.terms t.terms (gains-event s t end (p, chosen, lives, acts)))
-
--- ---- slices and runs
-
-all-append : (first later : List State) (m t : State) → AllRunning first m → AllRunning later t → AllRunning (first ++ later) t
-all-append [] later m t one two = two
-all-append (x ∷ first) later m t one two =
-    let rest = all-append first later m t (record { through = one.through.1; last = one.last }) two in
-    record { through = (one.through.0, rest.through); last = rest.last }
-
-last-of : (s t : State) → t ≡ s → IsRunning s → AllRunning [] t
-last-of s t is running = record { through = tt; last = subst IsRunning (sym is) running }
-
-steps-running : (left : ℕ) (s : State) (states : List State) (t : State) → Steps left s states t → IsRunning s → AllRunning states t
-steps-running left s [] t (over, is) running = last-of s t is running
-steps-running left s (m ∷ ms) t (some, end, event, steps) running =
-    let next : IsRunning m = event-running s m end event running in
-    let rest : AllRunning ms t = by_going (is_going end) (λ steps. steps-running (left - cost s) m ms t steps next) next steps in
-    record { through = (next, rest.through); last = rest.last }
-  where
-    by_going : (going : Bool) → (Steps (left - cost s) m ms t → AllRunning ms t) → IsRunning m → MatchBool going (Steps (left - cost s) m ms t) ((ms ≡ []) × (t ≡ m)) → AllRunning ms t
-    by_going true others next steps = others steps
-    by_going false others next (none, is) =
-        subst (λ (ms : List State). AllRunning ms t) (sym none) (last-of m t is next)
-
-chosen-running : (n : ℕ) (chosen : State) (states : List State) (end : SliceEnd) (t : State) (who : Option ℕ) → MatchOption who ((end ≡ Idle) × (states ≡ []) × (t ≡ chosen)) (λ p. (end ≡ Ran) × Steps n chosen states t) → IsRunning chosen → AllRunning states t
-chosen-running n chosen states end t None (idle, none, is) running =
-    subst (λ (states : List State). AllRunning states t) (sym none) (last-of chosen t is running)
-chosen-running n chosen states end t (Some p) (ran, steps) running = steps-running n chosen states t steps running
-
-pub slice-running : (n : ℕ) (s t : State) (states : List State) (end : SliceEnd) → Slice n s states end t → IsRunning s → AllRunning states t
-slice-running n s t states end (ticked, chosen, ticks, chooses, rest) running =
-    chosen-running n chosen states end t chosen.chosen rest (choice-running ticked chosen chooses (tick-running s ticked ticks running))
-
-emptied-running : (m : State) → IsRunning m → IsRunning (record m { terms = terminals_emptied m.terms })
+pub emptied-running : (m : State) → IsRunning m → IsRunning (record m { terms = terminals_emptied m.terms })
 emptied-running m running =
-    running-then m (record m { terms = terminals_emptied m.terms }) running running.kept running.in_calls running.places running.on (simp length-map)
-
-pub run-running : (slices written : List ℕ) (s t : State) (states : List State) → Run slices s states written t → IsRunning s → AllRunning states t
-run-running [] written s t states (none, nothing, is) running =
-    subst (λ (states : List State). AllRunning states t) (sym none) (last-of s t is running)
-run-running (n ∷ ns) written s t states run running =
-    by_living (has_living s) (λ rest m later after now. run-running ns rest m t later after now) run
-  where
-    by_living : (living : Bool) → ((rest : List ℕ) (m : State) (later : List State) → Run ns m later rest t → IsRunning m → AllRunning later t) → MatchBool living ((end : SliceEnd) × (m : State) × (first later : List State) × (rest : List ℕ) × Slice n s first end m × (states ≡ first ++ later) × (written ≡ console_bytes m.terms ++ rest) × Run ns (record m { terms = terminals_emptied m.terms }) later rest t) ((states ≡ []) × (written ≡ []) × (t ≡ s)) → AllRunning states t
-    by_living false others (none, nothing, is) =
-        subst (λ (states : List State). AllRunning states t) (sym none) (last-of s t is running)
-    by_living true others (end, m, first, later, rest, slice, all, bytes, after) =
-        let one : AllRunning first m = slice-running n s m first end slice running in
-        let two : AllRunning later t = others rest (record m { terms = terminals_emptied m.terms }) later after (emptied-running m one.last) in
-        subst (λ (states : List State). AllRunning states t) (sym all) (all-append first later m t one two)
+    running-then m (record m { terms = terminals_emptied m.terms }) running running.kept running.in_calls running.places running.on (simp length-map) running.kinds running.clock
 
 -- ---- the start
 
@@ -422,12 +384,17 @@ first-runs regs p waiting =
               | inr past ↦ get_or_past (replicate 33 (let none : Option Record = None in none)) p None (omega (arith, length-replicate 33 (let none : Option Record = None in none)))
             ]
 
-pub start-running : (file : List ℕ) (blocks drives : ℕ) (terms : List TerminalState) (s : State) → Starts file blocks drives terms s → 0 < length terms → length terms ≤ 4 → IsRunning s
-start-running file blocks drives terms s starts some few = subst IsRunning (sym starts.is) (record {
-  kept = λ p kept is. absurd (none-some kept (sym (none-first p) ∙ is));
+pub start-running : (boot : Boot) (s : State) → Starts boot s → 0 < length boot.terms → length boot.terms ≤ 4 → is_time_packet boot.time ≡ true → IsRunning s
+start-running boot s starts some few time = subst IsRunning (sym starts.is) (record {
+  kept = λ p kept is. absurd (none-some kept (sym (ap (λ (io : Io). kept_at io p) io_is ∙ none-first p) ∙ is));
   in_calls = λ p lives waits. absurd (first-runs (start_regs (first_start starts.number starts.entry)) p (lives, waits));
-  places = omega arith;
-  on = on-first (length terms) some;
+  places = subst (λ (io : Io). PROCESS_PLACES ≤ length io.calls) (sym io_is) (omega arith);
+  on = subst (λ (io : Io). AreOnTerminals (length boot.terms) io.paths) (sym io_is) (on-first (length boot.terms) some);
   some = some;
   few = few;
+  kinds = kinds-start boot.images boot.drives starts.files starts.mounted;
+  clock = record { civil = time; set = omega arith };
 })
+  where
+    io_is : starts.files.io ≡ first_io
+    io_is = ap (λ (files : Files). files.io) starts.mounted.is

@@ -1,33 +1,23 @@
 -- What holds of every state of a run.
-use Rattle.std.specs.Prelude.{◌≡◌, ℕ, ◌<◌, ◌≤◌, Some, List, length}
+use Rattle.std.specs.Prelude.{◌<◌, ◌≤◌, List, length}
 use Rattle.std.specs.List.{AllByRecursion}
-use Rattle.io_model.specs.Path.{PathTable, desc_of}
-use Rattle.io_model.specs.declared.path.Desc.{Desc}
-use Rattle.io_model.specs.declared.path.Target.TheVariants.{Term}
-use Rattle.machine_model.specs.State.{State}
-use Rattle.kept_laws.specs.Kept.{AreInCalls, AreKept}
-
--- each terminal that a path was opened on is one of so many
-abbrev pub AreOnTerminals : ℕ → PathTable → Type 0
-AreOnTerminals terms paths =
-    (path n : ℕ) (desc : Desc) → desc_of paths path ≡ Some desc → desc.target ≡ Term n → n < terms
-
--- each terminal that a path was opened on is there
-abbrev pub HasTerminals : State → Type 0
-HasTerminals s = AreOnTerminals (length s.terms) s.io.paths
-
--- each process has a place for what is kept of its call
-abbrev pub HasPlaces : State → Type 0
-HasPlaces s = length s.inner.records ≤ length s.io.calls
+use Rattle.file_laws.specs.Kinds.{AreKinds}
+use Rattle.io_laws.specs.Kept.{AreInCalls, AreKept}
+use Rattle.io_laws.specs.Terminals.{AreOnTerminals}
+use Rattle.time_rules.specs.Clock.{IsClock}
+use Rattle.disk_machine.specs.State.{State}
 
 -- what holds of a state of a run
 pub record IsRunning (s : State) : Type 0 where
-  pub kept : AreKept s.inner s.io
-  pub in_calls : AreInCalls s.inner s.io
-  pub places : HasPlaces s
-  pub on : HasTerminals s
+  pub kept : AreKept s.inner s.files.io
+  pub in_calls : AreInCalls s.inner s.files.io
+  -- each process has a place for what is kept of its call
+  pub places : length s.inner.records ≤ length s.files.io.calls
+  pub on : AreOnTerminals (length s.terms) s.files.io.paths
   pub some : 0 < length s.terms
   pub few : length s.terms ≤ 4
+  pub kinds : AreKinds s.files  -- paths and directories of processes are on what is there
+  pub clock : IsClock s.clock s.inner.tick
 
 -- it holds of these states, and of the last one
 pub record AllRunning (states : List State) (t : State) : Type 0 where

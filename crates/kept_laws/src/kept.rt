@@ -1,25 +1,25 @@
 //! What holds of every state of a run, as laws over its steps.
 
-ghost use Rattle.std.specs.Prelude.{ℕ, ◌<◌, ◌≤◌, List, length};
-ghost use Rattle.os9_outer.specs.TerminalState.{TerminalState};
+ghost use Rattle.std.specs.Prelude.{◌≡◌, ℕ, ◌<◌, ◌≤◌, true, List, length};
+ghost use Rattle.civil_time.specs.CivilTime.{is_time_packet};
 ghost use Rattle.machine_model.specs.declared.ends.EventEnd.{EventEnd};
 ghost use Rattle.machine_model.specs.declared.ends.SliceEnd.{SliceEnd};
-ghost use Rattle.machine_model.specs.Event.{Event};
-ghost use Rattle.machine_model.specs.Run.{Choose, Run, Slice, Tick};
-ghost use Rattle.machine_model.specs.Start.{Starts};
-ghost use Rattle.machine_model.specs.State.{State};
-ghost use Rattle.kept_laws.specs.Running.{IsRunning, AllRunning};
+ghost use Rattle.disk_machine.specs.Event.{Event};
+ghost use Rattle.disk_machine.specs.Run.{Choose, Run, Slice, Tick};
+ghost use Rattle.disk_machine.specs.Start.{Boot, Starts};
+ghost use Rattle.disk_machine.specs.State.{State};
+ghost use Rattle.kept_laws.specs.Running.{AllRunning, IsRunning};
 
 /// What is kept of a call that waits is of the call that its process waits in, made with the registers
 /// that the process has, and a read among them is not refused where it is attempted again: its buffer
-/// is named, and its path may be read. Something is kept of each call on paths in which a process
-/// waits. Each terminal that a path was opened on is there. All that holds at the start of a machine
-/// with one to four terminals, and each event, each tick and each choice keeps it. So it holds of every
-/// state of a run.
+/// is named, and its path may be read. Something is kept of each call on a terminal or a pipe in which
+/// a process waits. Each terminal that a path was opened on is there, and so is each file and
+/// directory that a path or a process is on; the clock was set to a civil time, and not after the
+/// tick. All that holds at the start of a machine with one to four terminals, and each event, each
+/// tick and each choice keeps it. So it holds of every state of a run.
 pub fn calls_that_wait_are_kept()
-    ensures start { (file : List ℕ) (blocks drives : ℕ) (terms : List TerminalState) (s : State)
-        → Starts file blocks drives terms s → 0 < length terms → length terms ≤ 4
-        → IsRunning s }
+    ensures start { (boot : Boot) (s : State) → Starts boot s → 0 < length boot.terms
+        → length boot.terms ≤ 4 → is_time_packet boot.time ≡ true → IsRunning s }
     ensures event { (s t : State) (end : EventEnd) → Event s end t → IsRunning s → IsRunning t }
     ensures tick { (s t : State) → Tick s t → IsRunning s → IsRunning t }
     ensures choice { (s t : State) → Choose s t → IsRunning s → IsRunning t }

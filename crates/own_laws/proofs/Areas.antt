@@ -35,23 +35,24 @@ use Rattle.file_rules.specs.ProgramFile.{ProgramFile}
 use Rattle.time_rules.specs.Attempts.{result_of, time_step}
 use Rattle.machine_model.specs.Event.{after_instruction, next_instruction}
 use Rattle.machine_model.specs.declared.ends.EventEnd.{EventEnd}
-use Rattle.isolation_laws.specs.Modules.{KeepsModules}
-use Rattle.isolation_laws.specs.Objects.{Appears, IsNewOrShared, IsOfModule}
-use Rattle.isolation_laws.specs.Others.{AttemptsCall}
-use Rattle.isolation_laws.proofs.CallsKept.{AttemptLeft, left-refused}
-use Rattle.isolation_laws.proofs.EventsKept.{broken-left, by-end, instruction-left}
-use Rattle.isolation_laws.proofs.ForksKept.{HasRoom, attempt-left, chain-done, fork-done}
-use Rattle.isolation_laws.proofs.MemoryKept.{Started, low-new, map-other, started-is}
+use Rattle.call_laws.specs.Modules.{KeepsModules}
+use Rattle.call_laws.specs.Objects.{Appears, IsNewOrShared, IsOfModule}
+use Rattle.call_laws.specs.Others.{AttemptsCall}
+use Rattle.call_laws.proofs.CallsKept.{AttemptLeft, left-refused}
+use Rattle.call_laws.proofs.EventsKept.{broken-left, instruction-left}
+use Rattle.io_laws.proofs.EndsKept.{by-end}
+use Rattle.call_laws.proofs.ForksKept.{HasRoom, attempt-left, chain-done, fork-done}
+use Rattle.call_laws.proofs.MemoryKept.{Started, low-new, map-other, started-is}
 use Rattle.own_laws.specs.Own.{IsOfArea, NameAppeared}
 use Rattle.disk_machine.specs.Event.{Acts, before_delivery}
 use Rattle.disk_machine.specs.Services.{Serves, Service, loads, no_call, on_paths, on_processes, on_time, service_of}
 use Rattle.disk_machine.specs.State.{Rest, State}
-use Rattle.disk_isolation.specs.Loading.{LoadsFile}
-use Rattle.disk_isolation.proofs.Asked.{Asks, asks}
-use Rattle.disk_isolation.proofs.EventsKept.{time-left}
-use Rattle.disk_isolation.proofs.FileKept.{is-loaded, shared-comes, with-file}
-use Rattle.disk_isolation.proofs.Loaded.{map-same, more-objects}
-use Rattle.disk_isolation.proofs.Programs.{room}
+use Rattle.isolation_laws.specs.Loading.{LoadsFile}
+use Rattle.isolation_laws.proofs.Asked.{Asks, asks}
+use Rattle.isolation_laws.proofs.EventsKept.{time-left}
+use Rattle.isolation_laws.proofs.FileKept.{is-loaded, shared-comes, with-file}
+use Rattle.isolation_laws.proofs.Loaded.{map-same, more-objects}
+use Rattle.isolation_laws.proofs.Programs.{room}
 use Rattle.own_laws.proofs.Groups.{goes-on, has-read, was-shared}
 
 -- a process may gain an area: it acts, or begins by F$Fork

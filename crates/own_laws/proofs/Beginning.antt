@@ -19,11 +19,11 @@ use Rattle.machine_model.specs.Start.{boot_group, boot_memory, first_start, only
 use Rattle.disk_machine.specs.Start.{Boot, Starts}
 use Rattle.disk_machine.specs.State.{State}
 use Rattle.own_laws.specs.Own.{IsOfArea, IsOwn, NameAppeared}
-use Rattle.isolation_laws.specs.Objects.{IsOfModule}
+use Rattle.call_laws.specs.Objects.{IsOfModule}
 use Rattle.own_laws.proofs.Groups.{was-shared}
-use Rattle.isolation_laws.proofs.Lists.{range-below, has-none}
-use Rattle.isolation_laws.proofs.MemoryKept.{Started, started-is, begun-names, low-new}
-use Rattle.isolation_laws.proofs.ModulesKept.{entry-put, entry-other, keeps-more, more-linked}
+use Rattle.call_laws.proofs.Lists.{range-below, has-none}
+use Rattle.call_laws.proofs.MemoryKept.{Started, started-is, begun-names, low-new}
+use Rattle.call_laws.proofs.ModulesKept.{entry-put, entry-other, keeps-more, more-linked}
 use Rattle.own_laws.proofs.OwnRows.{no-entry}
 
 -- ---- the entries of a file are of one group

@@ -31,25 +31,26 @@ use Rattle.file_rules.specs.ProgramFile.{ProgramFile, ReadsProgram, program_file
 use Rattle.time_rules.specs.Attempts.{result_of, time_step}
 use Rattle.machine_model.specs.Event.{next_instruction}
 use Rattle.machine_model.specs.declared.ends.EventEnd.{EventEnd}
-use Rattle.isolation_laws.specs.Isolation.{LeavesOthers}
-use Rattle.isolation_laws.specs.Modules.{KeepsModules, ModuleComesOf, StaysEntered}
-use Rattle.isolation_laws.specs.Objects.{IsNewOrShared, IsOfModule, KeepsSizes}
-use Rattle.isolation_laws.specs.Others.{AttemptsCall}
-use Rattle.isolation_laws.proofs.CallsKept.{AttemptLeft, ended-left, left-refused, of-changes, of-needs, of-refuses}
-use Rattle.isolation_laws.proofs.EventsKept.{broken-left, by-end, instruction-left}
-use Rattle.isolation_laws.proofs.ForksKept.{HasRoom, attempt-left, chain-done, fork-done}
-use Rattle.isolation_laws.proofs.MemoryKept.{Grows, mapped-grows, mapped-modules}
-use Rattle.isolation_laws.proofs.ModulesKept.{HaveMore, keeps-more, more-linked}
+use Rattle.call_laws.specs.Isolation.{LeavesOthers}
+use Rattle.call_laws.specs.Modules.{KeepsModules, ModuleComesOf, StaysEntered}
+use Rattle.call_laws.specs.Objects.{IsNewOrShared, IsOfModule, KeepsSizes}
+use Rattle.call_laws.specs.Others.{AttemptsCall}
+use Rattle.call_laws.proofs.CallsKept.{AttemptLeft, ended-left, left-refused, of-changes, of-needs, of-refuses}
+use Rattle.call_laws.proofs.EventsKept.{broken-left, instruction-left}
+use Rattle.io_laws.proofs.EndsKept.{by-end}
+use Rattle.call_laws.proofs.ForksKept.{HasRoom, attempt-left, chain-done, fork-done}
+use Rattle.call_laws.proofs.MemoryKept.{Grows, mapped-grows, mapped-modules}
+use Rattle.call_laws.proofs.ModulesKept.{HaveMore, keeps-more, more-linked}
 use Rattle.disk_machine.specs.Event.{Acts, Event}
 use Rattle.disk_machine.specs.Services.{Serves, Service, loads, no_call, on_paths, on_processes, on_time, service_of}
 use Rattle.disk_machine.specs.State.{Rest, State}
-use Rattle.disk_isolation.specs.Loading.{LoadsFile}
-use Rattle.disk_isolation.proofs.Asked.{Asks, asks}
-use Rattle.disk_isolation.proofs.EventsKept.{time-left}
-use Rattle.disk_isolation.proofs.FileKept.{is-loaded, shared-comes, with-file}
-use Rattle.disk_isolation.proofs.FileRead.{HasRead, file-found, program-found}
-use Rattle.disk_isolation.proofs.Loaded.{first-there}
-use Rattle.disk_isolation.proofs.Programs.{room}
+use Rattle.isolation_laws.specs.Loading.{LoadsFile}
+use Rattle.isolation_laws.proofs.Asked.{Asks, asks}
+use Rattle.isolation_laws.proofs.EventsKept.{time-left}
+use Rattle.isolation_laws.proofs.FileKept.{is-loaded, shared-comes, with-file}
+use Rattle.isolation_laws.proofs.FileRead.{HasRead, file-found, program-found}
+use Rattle.isolation_laws.proofs.Loaded.{first-there}
+use Rattle.isolation_laws.proofs.Programs.{room}
 
 -- objects never go
 pub longer : (m n : MemoryState) → KeepsSizes m n → length m.objects ≤ length n.objects

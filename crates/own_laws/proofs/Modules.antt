@@ -4,7 +4,7 @@ use Rattle.std.proofs.lemmas.Bool.{cases_eq}
 use Rattle.std.proofs.lemmas.Option.{none-some, same_Some}
 use Rattle.proc_model.specs.Memory.{MemoryState}
 use Rattle.proc_model.specs.ModuleList.{ModuleEntry, module_entry_at}
-use Rattle.isolation_laws.specs.Objects.{IsOfModule}
+use Rattle.call_laws.specs.Objects.{IsOfModule}
 
 abbrev StandsIn : List ℕ → ℕ → Type 0
 StandsIn group object = (k : ℕ) × (slice_get group k ≡ Some object)

@@ -10,10 +10,10 @@ use Rattle.proc_model.specs.ModuleList.{module_entry_at}
 use Rattle.proc_model.specs.Slots.{Slots, NamesBlock, no_slots, with_low}
 use Rattle.call_rules.specs.Rows.{two_processes}
 use Rattle.own_laws.specs.Own.{IsOwn}
-use Rattle.isolation_laws.specs.Objects.{IsOfModule}
-use Rattle.isolation_laws.specs.Others.{HasRecord}
-use Rattle.isolation_laws.proofs.Lists.{has-none}
-use Rattle.isolation_laws.proofs.MemoryKept.{names-low}
+use Rattle.call_laws.specs.Objects.{IsOfModule}
+use Rattle.call_laws.specs.Others.{HasRecord}
+use Rattle.call_laws.proofs.Lists.{has-none}
+use Rattle.call_laws.proofs.MemoryKept.{names-low}
 
 pub no-entry : (n number : ℕ) → module_entry_at (replicate n None) number ≡ None
 no-entry zero number = refl

@@ -9,9 +9,8 @@ use Rattle.call_rules.specs.Ready.{Act, act_of, attempts, delivers, executes}
 use Rattle.machine_model.specs.declared.ends.EventEnd.{EventEnd}
 use Rattle.machine_model.specs.declared.ends.SliceEnd.{SliceEnd}
 use Rattle.machine_model.specs.declared.ends.SliceEnd.TheVariants.{Idle, Ran}
-use Rattle.machine_model.specs.State.{State as Older}
 use Rattle.kept_laws.proofs.RunningLaws.{SignalsLeave, tick-leaves}
-use Rattle.isolation_laws.specs.Objects.{IsOfModule}
+use Rattle.call_laws.specs.Objects.{IsOfModule}
 use Rattle.own_laws.specs.Own.{IsOwn, KeepsOwnObject}
 use Rattle.disk_machine.specs.Event.{Acts, Event, cost}
 use Rattle.disk_machine.specs.Run.{Choose, Slice, Steps, Tick, is_going}
@@ -60,14 +59,10 @@ own-steps left s (m ∷ ms) t q p object chosen differ (some, end, event, steps)
 
 -- ---- a slice
 
--- as the signals of keys see a state
-abbrev older : State → Older
-older s = record { inner = s.inner; io = s.files.io; chosen = s.chosen; drives = 0; terms = s.terms }
-
 -- keys that arrive change no memory, and make no record
 own-tick : (s t : State) (p object : ℕ) → Tick s t → IsLiving s.inner.records p → IsOwn s.inner p object → KeepsOwnObject s.inner p object t.inner
 own-tick s t p object (desk, arrives, is) lives own =
-    let left : SignalsLeave s.inner t.inner = tick-leaves (older s) (older t) (desk, arrives, ap older is) in
+    let left : SignalsLeave s.inner t.inner = tick-leaves s t (desk, arrives, is) in
     record {
       lives = left.lives p lives;
       own = record {

@@ -4,8 +4,8 @@ use Rattle.proc_model.specs.Memory.{map_at}
 use Rattle.proc_model.specs.Slots.{NamesBlock, block_at}
 use Rattle.proc_rules.specs.Records.{IsLiving}
 use Rattle.call_rules.specs.Inner.{Inner}
-use Rattle.isolation_laws.specs.Objects.{Appears, IsOfModule}
-use Rattle.isolation_laws.specs.Others.{HasRecord}
+use Rattle.call_laws.specs.Objects.{Appears, IsOfModule}
+use Rattle.call_laws.specs.Others.{HasRecord}
 
 -- the maps of processes and the groups of modules name objects that have appeared
 pub record NameAppeared (m : Inner) : Type 0 where

@@ -1,4 +1,6 @@
-use Rattle.kept_laws.proofs.RunningLaws.{start-running, event-running, tick-running, choice-running, slice-running, run-running}
+use Rattle.kept_laws.proofs.Events.{event-running}
+use Rattle.kept_laws.proofs.RunningLaws.{choice-running, start-running, tick-running}
+use Rattle.kept_laws.proofs.Runs.{run-running, slice-running}
 use Rattle.kept_laws.proofs.kept.calls_that_wait_are_kept.Goals as goal
 
 pub returns : goal.returns

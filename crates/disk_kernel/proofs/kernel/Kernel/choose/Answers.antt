@@ -9,7 +9,7 @@ use Rattle.disk_machine.specs.Run.{Choose}
 use Rattle.disk_machine.specs.State.{State}
 use Rattle.proc_state.specs.Tie.{Represents as RepresentsProcesses}
 use Rattle.disk_kernel.proofs.Choosing.{asks-living}
-use Rattle.disk_kept.proofs.Older.{choice-running}
+use Rattle.kept_laws.proofs.RunningLaws.{choice-running}
 use Rattle.disk_kernel.proofs.Represented.{tick-kept, living-few}
 use Rattle.disk_kernel.proofs.kernel.Kernel.choose.Goals as goal
 

@@ -1,0 +1,4 @@
+//! What one call on processes and modules leaves of memory, of the modules and of the other processes.
+#![tactic(auto)]
+
+pub mod call;

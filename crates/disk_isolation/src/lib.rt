@@ -1,4 +1,0 @@
-//! What the events of a process leave of memory, of the other processes and of what they share.
-#![tactic(auto)]
-
-pub mod isolation;

@@ -1,2 +1,0 @@
-pub mod Mounted
-pub mod Runs

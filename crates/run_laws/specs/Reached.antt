@@ -1,0 +1,20 @@
+-- States that a machine may reach, and machines that never have a choice.
+use Rattle.std.specs.Prelude.{◌≡◌}
+use Rattle.machine_model.specs.Console.{terminals_emptied}
+use Rattle.machine_model.specs.declared.ends.EventEnd.{EventEnd}
+use Rattle.disk_machine.specs.Event.{Event}
+use Rattle.disk_machine.specs.Run.{Choose, Tick}
+use Rattle.disk_machine.specs.State.{State}
+use Rattle.run_laws.specs.Faults.{MayChoose}
+
+-- a state is reached from another one, step by step
+pub data Reaches : State → State → Type 0 where
+  here : {s : State} → Reaches s s
+  by_event : {s next t : State} (end : EventEnd) → Event s end next → Reaches next t → Reaches s t
+  by_tick : {s next t : State} → Tick s next → Reaches next t → Reaches s t
+  by_choice : {s next t : State} → Choose s next → Reaches next t → Reaches s t
+  by_emptying : {s t : State} → Reaches (record s { terms = terminals_emptied s.terms }) t → Reaches s t
+
+-- in no state that is reached the chosen process attempts a call that takes clusters
+abbrev pub NeverChooses : State → Type 0
+NeverChooses s = (m : State) → Reaches s m → MayChoose m → ⊥

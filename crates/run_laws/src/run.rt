@@ -1,0 +1,43 @@
+//! Runs of the machine: every slice comes to an end, and there is a run over every list of slices.
+
+ghost use Rattle.std.specs.Prelude.{◌≡◌, ℕ, ◌<◌, ◌≤◌, List, Some, length, true};
+ghost use Rattle.civil_time.specs.CivilTime.{is_time_packet};
+ghost use Rattle.proc_rules.specs.Records.{IsLiving};
+ghost use Rattle.machine_model.specs.declared.ends.EventEnd.{EventEnd};
+ghost use Rattle.disk_machine.specs.Event.{Event};
+ghost use Rattle.disk_machine.specs.Run.{Choose, Tick};
+ghost use Rattle.disk_machine.specs.Start.{Boot, Starts};
+ghost use Rattle.disk_machine.specs.State.{State};
+ghost use Rattle.file_rules.specs.Files.{NoneFailed as NoDriveChanged};
+ghost use Rattle.run_laws.specs.Faults.{CanRise, NoneFailed};
+ghost use Rattle.run_laws.specs.Mounted.{CanGo};
+ghost use Rattle.run_laws.specs.Runs.{HasEvent, HasRun, HasSlice, SameCounts};
+
+/// Each mounted volume is in a drive, and its files have numbers of its sectors. That holds at the
+/// start of a machine with a drive for each image, and each event, each tick and each choice keeps
+/// it.
+pub fn volumes_stay_in_their_drives()
+    ensures start { (boot : Boot) (s : State) → Starts boot s → 0 < length boot.terms
+        → length boot.terms ≤ 4 → is_time_packet boot.time ≡ true
+        → length boot.images ≤ length boot.drives → CanGo s }
+    ensures event { (s t : State) (end : EventEnd) → Event s end t → CanGo s → CanGo t }
+    ensures tick { (s t : State) → Tick s t → CanGo s → CanGo t }
+    ensures choice { (s t : State) → Choose s t → CanGo s → CanGo t }
+{}
+
+/// A machine never stands still: the chosen process has an event while it lives, in which no
+/// terminal fails, and no drive but where it makes a file or a directory. Every slice comes to an
+/// end, and there is a run over every list of slices, from the start of a machine with a drive for
+/// each image on; no terminal has to fail in them. If counts of faults stay, and could rise, no
+/// device has failed.
+pub fn some_run()
+    ensures event { (s : State) (p : ℕ) → CanGo s → s.chosen ≡ Some p
+        → IsLiving s.inner.records p → HasEvent s }
+    ensures slice { (n : ℕ) (s : State) → CanGo s → HasSlice n s }
+    ensures run { (slices : List ℕ) (s : State) → CanGo s → HasRun slices s }
+    ensures started { (boot : Boot) (slices : List ℕ) (s : State) → Starts boot s
+        → 0 < length boot.terms → length boot.terms ≤ 4 → is_time_packet boot.time ≡ true
+        → length boot.images ≤ length boot.drives → HasRun slices s }
+    ensures faultless { (s t : State) → SameCounts s t → NoDriveChanged s.files.drives t.files.drives
+        → CanRise s → NoneFailed s t }
+{}
