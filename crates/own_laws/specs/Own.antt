@@ -1,5 +1,5 @@
 -- Blocks that are a process's own.
-use Rattle.std.specs.Prelude.{◌≡◌, ◌≢◌, ℕ, ◌<◌, Some, length, slice_get}
+use Rattle.std.specs.Prelude.{◌≡◌, ◌≢◌, ◌⊎◌, ℕ, ◌<◌, Some, length, slice_get}
 use Rattle.proc_model.specs.Memory.{map_at}
 use Rattle.proc_model.specs.Slots.{NamesBlock, block_at}
 use Rattle.proc_rules.specs.Records.{IsLiving}
@@ -18,6 +18,10 @@ pub record IsOwn (m : Inner) (p object : ℕ) : Type 0 where
   pub named : NamesBlock (map_at m.memory p) object
   pub alone : (q : ℕ) → q ≢ p → HasRecord m q → NamesBlock (map_at m.memory q) object → ⊥
   pub in_no_module : IsOfModule m.memory object → ⊥
+
+-- or it is of an entered module's group
+abbrev pub IsOwnOrShared : Inner → ℕ → ℕ → Type 0
+IsOwnOrShared m p object = IsOwn m p object ⊎ IsOfModule m.memory object
 
 -- an object is of the data area of a process: a slot of the low area of its map names it
 abbrev pub IsOfArea : Inner → ℕ → ℕ → Type 0

@@ -1,6 +1,6 @@
 //! Blocks that are a process's own: what they are, and that they stay so.
 
-ghost use Rattle.std.specs.Prelude.{◌≡◌, ◌≢◌, ◌⊎◌, ℕ, Some, List};
+ghost use Rattle.std.specs.Prelude.{◌≡◌, ◌≢◌, ℕ, Some, List};
 ghost use Rattle.os9_base.specs.declared.calls.TheConstants.{F_LOAD};
 ghost use Rattle.os9_base.specs.declared.registers.Regs.{Regs};
 ghost use Rattle.proc_model.specs.Memory.{map_at};
@@ -9,9 +9,9 @@ ghost use Rattle.proc_rules.specs.Records.{IsLiving};
 ghost use Rattle.call_rules.specs.Ready.{act_of, attempts};
 ghost use Rattle.call_rules.specs.Rows.{two_processes};
 ghost use Rattle.call_laws.specs.Modules.{KeepsModules};
-ghost use Rattle.call_laws.specs.Objects.{Appears, IsOfModule};
+ghost use Rattle.call_laws.specs.Objects.{Appears};
 ghost use Rattle.call_laws.specs.Others.{HasRecord};
-ghost use Rattle.own_laws.specs.Own.{AppearsIn, IsOfArea, IsOwn, KeepsOwnObject, NameAppeared};
+ghost use Rattle.own_laws.specs.Own.{AppearsIn, IsOfArea, IsOwn, IsOwnOrShared, KeepsOwnObject, NameAppeared};
 ghost use Rattle.machine_model.specs.declared.ends.EventEnd.{EventEnd};
 ghost use Rattle.machine_model.specs.declared.ends.SliceEnd.{SliceEnd};
 ghost use Rattle.disk_machine.specs.Event.{Event};
@@ -26,7 +26,7 @@ ghost use Rattle.disk_machine.specs.State.{State};
 /// F$Fork, F$Chain and F$Mem give a process are its own until it gives them up.
 pub fn what_appears_is_its_own()
     ensures own { (s t : State) (end : EventEnd) (p object : ℕ) → Event s end t → NameAppeared s.inner
-        → AppearsIn s.inner p object t.inner → IsOwn t.inner p object ⊎ IsOfModule t.inner.memory object }
+        → AppearsIn s.inner p object t.inner → IsOwnOrShared t.inner p object }
     ensures unless_entered { (s t : State) (end : EventEnd) (p object : ℕ) → Event s end t
         → NameAppeared s.inner → KeepsModules s.inner.memory.modules t.inner.memory.modules
         → AppearsIn s.inner p object t.inner → IsOwn t.inner p object }
