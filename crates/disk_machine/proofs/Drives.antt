@@ -1,8 +1,6 @@
 -- The drives only gain: where none failed, where one failed, and over two steps.
-use Rattle.std.proofs.Common.{◌≡◌, ◌⊎◌, ℕ, zero, suc, ◌≤◌, Option, List, [], ◌∷◌, length, map, refl, sym, ap, ◌∙◌, inl, inr, subst, arith}
-use Rattle.std.specs.Prelude.{slice_index_or}
+use Rattle.std.proofs.Common.{◌≡◌, ◌⊎◌, ℕ, ◌≤◌, Option, List, refl, sym, ap, ◌∙◌, inl, inr, subst, arith}
 use Rattle.std.proofs.lemmas.Bool.{cases_eq}
-use Rattle.std.proofs.lemmas.List.{length-map}
 use Rattle.call_rules.specs.CallResult.{CallResult}
 use Rattle.file_rules.specs.Files.{DriveState, Files, NoneFailed, OneFailed, drive_at}
 use Rattle.touch_laws.specs.Touch.{FaultAnswers, NoVolumeChanges, OneDriveFails, OneVolumeChanges}

@@ -1,7 +1,7 @@
 -- The devices of the machine only gain: event by event, slice by slice, in a whole run. What an attempt on a terminal
 -- or a pipe leaves of the terminals, the machine without disks leaves too.
-use Rattle.std.proofs.Common.{◌≡◌, ◌⊎◌, ℕ, ◌+◌, ◌-◌, Bool, true, false, Option, Some, None, Result, Ok, Err, List, [], ◌∷◌, ◌++◌, length, refl, sym, ◌∙◌, inl, inr, subst}
-use Rattle.std.specs.Prelude.{MatchBool, MatchOption, if◌then◌else◌, ◌==◌}
+use Rattle.std.proofs.Common.{◌≡◌, ◌⊎◌, ℕ, ◌+◌, Bool, true, false, Option, Some, None, Result, Ok, Err, List, length, refl, sym, ◌∙◌, inl, inr, subst}
+use Rattle.std.specs.Prelude.{MatchOption, if◌then◌else◌, ◌==◌}
 use Rattle.std.specs.Option.{option_map_or}
 use Rattle.os9_base.specs.declared.calls.TheConstants.{F_LOAD}
 use Rattle.os9_base.specs.declared.errors.TheConstants.{E_UNKSVC}
@@ -33,20 +33,20 @@ use Rattle.touch_laws.proofs.Attempts.{attempt-comes}
 use Rattle.touch_laws.proofs.Codes.{code-there}
 use Rattle.touch_laws.proofs.Loads.{chain-leaves, fork-leaves, load-leaves}
 use Rattle.machine_model.specs.declared.ends.EventEnd.{EventEnd}
-use Rattle.machine_model.specs.declared.ends.EventEnd.TheVariants.{Ran}
 use Rattle.machine_model.specs.declared.ends.SliceEnd.{SliceEnd}
-use Rattle.machine_model.specs.declared.ends.SliceEnd.TheVariants.{Idle, Ran as SliceRan}
-use Rattle.machine_model.specs.Console.{console_bytes, terminals_emptied}
+use Rattle.machine_model.specs.Console.{terminals_emptied}
 use Rattle.machine_model.specs.Event.{Acts as ActsWithout, Attempts as AttemptsWithout, call_event_end, io_after_call, next_instruction}
 use Rattle.machine_model.specs.State.{State as WithoutDisks}
 use Rattle.machine_model.specs.Terminals.{TerminalsOnlyGain}
 use Rattle.machine_model.proofs.TerminalLaws.{gain-arrivals, gain-broken, gain-emptied, gain-same, gain-then, gains-event}
+use Rattle.disk_machine.specs.Along.{IsCarriedByMoves}
 use Rattle.disk_machine.specs.Devices.{DrivesOnlyGain, OnlyGain}
-use Rattle.disk_machine.specs.Event.{Acts, Event, before_delivery, cost, files_after_delivery, files_after_instruction}
-use Rattle.disk_machine.specs.Run.{BeginsSlice, BreaksTick, Choose, FirstSteps, Run, Slice, Steps, Tick, desk_of, is_going}
+use Rattle.disk_machine.specs.Event.{Acts, Event, before_delivery, files_after_delivery, files_after_instruction}
+use Rattle.disk_machine.specs.Run.{BeginsSlice, BreaksTick, Choose, Run, Slice, Tick, desk_of}
 use Rattle.disk_machine.specs.Services.{Service, Serves, files_after_call, files_after_fork, loads, no_call, on_paths, on_processes, on_time, service_of, with_files}
-use Rattle.disk_machine.specs.State.{Rest, State, has_living}
+use Rattle.disk_machine.specs.State.{Rest, State}
 use Rattle.disk_machine.proofs.Drives.{drives-same, drives-then, loads-gain, none-gains, volumes-gain}
+use Rattle.disk_machine.proofs.Induction.{along-part, along-run, along-slice}
 
 -- ---- two states
 
@@ -222,49 +222,26 @@ choice-gains : (s t : State) → Choose s t → OnlyGain s t
 choice-gains s t is =
     subst (OnlyGain s) (sym is) (record { terminals = gain-same s.terms; drives = drives-same s.files.drives })
 
-steps-gain : (left : ℕ) (s : State) (states : List State) (t : State) → Steps left s states t → OnlyGain s t
-steps-gain left s [] t (over, is) = gains-same s t is
-steps-gain left s (m ∷ ms) t (some, end, event, steps) =
-    gains-then s m t (event-gains s m end event) (rest (is_going end) (steps-gain (left - cost s) m ms t) steps)
-  where
-    rest : (going : Bool) → (Steps (left - cost s) m ms t → OnlyGain m t) → MatchBool going (Steps (left - cost s) m ms t) ((ms ≡ []) × (t ≡ m)) → OnlyGain m t
-    rest true gains steps = gains steps
-    rest false gains (over, is) = gains-same m t is
-
-first-gain : (left : ℕ) (s : State) (states : List State) (t : State) → FirstSteps left s states t → OnlyGain s t
-first-gain left s [] t (some, is) = gains-same s t is
-first-gain left s (m ∷ ms) t (some, event, steps) =
-    gains-then s m t (event-gains s m Ran event) (first-gain (left - cost s) m ms t steps)
-
-chosen-gains : (n : ℕ) (s : State) (states : List State) (end : SliceEnd) (t : State) (who : Option ℕ) → MatchOption who ((end ≡ Idle) × (states ≡ []) × (t ≡ s)) (λ p. (end ≡ SliceRan) × Steps n s states t) → OnlyGain s t
-chosen-gains n s states end t None (idle, none, is) = gains-same s t is
-chosen-gains n s states end t (Some p) (ran, steps) = steps-gain n s states t steps
-
-begins-gain : (s ticked chosen t : State) → Tick s ticked → Choose ticked chosen → OnlyGain chosen t → OnlyGain s t
-begins-gain s ticked chosen t ticks chooses later =
-    gains-then s ticked t (tick-gains s ticked ticks)
-    (gains-then ticked chosen t (choice-gains ticked chosen chooses) later)
-
-pub slice-gains : (n : ℕ) (s t : State) (states : List State) (end : SliceEnd) → Slice n s states end t → OnlyGain s t
-slice-gains n s t states end (ticked, chosen, ticks, chooses, rest) =
-    begins-gain s ticked chosen t ticks chooses (chosen-gains n chosen states end t chosen.chosen rest)
-
-pub begun-gains : (n : ℕ) (s t : State) (states : List State) → BeginsSlice n s states t → OnlyGain s t
-begun-gains n s t states (ticked, chosen, ticks, chooses, steps) =
-    begins-gain s ticked chosen t ticks chooses (first-gain n chosen states t steps)
-
 -- the state whose terminals were emptied
 emptied-gains : (m : State) → OnlyGain m (record m { terms = terminals_emptied m.terms })
 emptied-gains m = record { terminals = gain-emptied m.terms; drives = drives-same m.files.drives }
 
+abbrev Gains : State → List State → State → Type 0
+Gains s states t = OnlyGain s t
+
+carried : IsCarriedByMoves Gains
+carried = record {
+  events = record { none = λ s. gains-same s s refl; event = λ s m t end states event. gains-then s m t (event-gains s m end event) };
+  tick = λ s m t states ticks. gains-then s m t (tick-gains s m ticks);
+  choice = λ s m t states chooses. gains-then s m t (choice-gains s m chooses);
+  emptied = λ m t states. gains-then m (record m { terms = terminals_emptied m.terms }) t (emptied-gains m);
+}
+
+pub slice-gains : (n : ℕ) (s t : State) (states : List State) (end : SliceEnd) → Slice n s states end t → OnlyGain s t
+slice-gains = along-slice Gains carried
+
+pub begun-gains : (n : ℕ) (s t : State) (states : List State) → BeginsSlice n s states t → OnlyGain s t
+begun-gains = along-part Gains carried
+
 pub run-gains : (slices written : List ℕ) (s t : State) (states : List State) → Run slices s states written t → OnlyGain s t
-run-gains [] written s t states (none, nothing, is) = gains-same s t is
-run-gains (n ∷ ns) written s t states run =
-    by_living (has_living s) (λ rest m later after. run-gains ns rest m t later after) run
-  where
-    by_living : (living : Bool) → ((rest : List ℕ) (m : State) (later : List State) → Run ns m later rest t → OnlyGain m t) → MatchBool living ((end : SliceEnd) × (m : State) × (first later : List State) × (rest : List ℕ) × Slice n s first end m × (states ≡ first ++ later) × (written ≡ console_bytes m.terms ++ rest) × Run ns (record m { terms = terminals_emptied m.terms }) later rest t) ((states ≡ []) × (written ≡ []) × (t ≡ s)) → OnlyGain s t
-    by_living false others (none, nothing, is) = gains-same s t is
-    by_living true others (end, m, first, later, rest, slice, all, bytes, after) =
-        let now : State = record m { terms = terminals_emptied m.terms } in
-        gains-then s m t (slice-gains n s m first end slice)
-        (gains-then m now t (emptied-gains m) (others rest now later after))
+run-gains = along-run Gains carried

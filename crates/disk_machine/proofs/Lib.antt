@@ -1,3 +1,4 @@
 pub mod Drives
 pub mod Gains
+pub mod Induction
 pub mod Starts

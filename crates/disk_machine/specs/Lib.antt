@@ -1,3 +1,4 @@
+pub mod Along
 pub mod Devices
 pub mod Event
 pub mod Run

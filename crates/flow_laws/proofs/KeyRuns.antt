@@ -1,6 +1,5 @@
 -- What becomes of the keys of a terminal in a tick, in a slice and in a run.
-use Rattle.std.proofs.Common.{◌≡◌, ℕ, ◌+◌, ◌-◌, ◌<◌, ◌≤◌, Bool, true, false, Option, Some, None, List, [], ◌∷◌, ◌++◌, length, take, refl, sym, ap, ◌∙◌, subst, inl, inr, arith, append_assoc, append-nil}
-use Rattle.std.specs.Prelude.{MatchBool, MatchOption}
+use Rattle.std.proofs.Common.{◌≡◌, ℕ, ◌+◌, ◌-◌, ◌<◌, ◌≤◌, List, [], ◌∷◌, ◌++◌, length, take, refl, sym, ap, ◌∙◌, subst, inl, inr, arith, append_assoc}
 use Rattle.std.specs.List.{AllByRecursion, filter_map, flat_map}
 use Rattle.std.proofs.lemmas.List.{get_or-replicate, length-append, length-take}
 use Rattle.os9_outer.specs.TerminalState.{TerminalState}
@@ -15,15 +14,16 @@ use Rattle.io_rules.specs.Io.{Io, first_io, terminal_at}
 use Rattle.file_rules.specs.Files.{Files}
 use Rattle.machine_model.specs.declared.ends.EventEnd.{EventEnd}
 use Rattle.machine_model.specs.declared.ends.SliceEnd.{SliceEnd}
-use Rattle.machine_model.specs.declared.ends.SliceEnd.TheVariants.{Idle, Ran}
-use Rattle.machine_model.specs.Console.{console_bytes, terminals_emptied}
+use Rattle.machine_model.specs.Console.{terminals_emptied}
 use Rattle.flow_laws.specs.Keys.{KeyMove, arrive, arrived_by, stay, use_up, EventKeys, FollowOn, HasAhead, IsKeyStep, KeyStep, KeysArrive, KeysPass, Stands, after_event, ahead_at, ahead_moves, keys_to_come}
 use Rattle.flow_laws.proofs.KeyAttempts.{come_of}
 use Rattle.flow_laws.proofs.KeyArrivals.{Polled, arrivals-polled, come-emptied}
-use Rattle.disk_machine.specs.Event.{Event, cost}
-use Rattle.disk_machine.specs.Run.{Choose, Run, Slice, Steps, Tick, desk_of, is_going}
+use Rattle.disk_machine.specs.Along.{IsCarriedByMoves}
+use Rattle.disk_machine.specs.Event.{Event}
+use Rattle.disk_machine.specs.Run.{Choose, Run, Slice, Tick, desk_of}
 use Rattle.disk_machine.specs.Start.{Boot, Starts}
-use Rattle.disk_machine.specs.State.{State, has_living}
+use Rattle.disk_machine.specs.State.{State}
+use Rattle.disk_machine.proofs.Induction.{along-run, along-slice}
 use Rattle.flow_laws.proofs.KeyEvents.{event-keys}
 
 -- ---- a tick
@@ -129,60 +129,46 @@ keeps-event n s m states t end stay event stays (it, has) = (
 
 -- ---- slices and runs
 
--- what follows a state
-abbrev Follows : ℕ → State → List State → State → Type 0
-Follows n m later t = HasAhead n m → Keeps n m later t
-
-steps-keep : (n left : ℕ) (s : State) (states : List State) (m : State) (later : List State) (t : State) → Steps left s states m → HasAhead n s → Follows n m later t → Keeps n s (states ++ later) t
-steps-keep n left s [] m later t (none, is) has rest = subst (λ (m : State). Follows n m later t) is rest has
-steps-keep n left s (u ∷ us) m later t (some, end, event, steps) has rest =
-    let first = event-keys s u end n event has in
-    keeps-event n s u (us ++ later) t end first.0 event first.1 (by_going (is_going end) (λ steps. steps-keep n (left - cost s) u us m later t steps first.2 rest) first.2 steps)
-  where
-    by_going : (going : Bool) → (Steps (left - cost s) u us m → Keeps n u (us ++ later) t) → HasAhead n u → MatchBool going (Steps (left - cost s) u us m) ((us ≡ []) × (m ≡ u)) → Keeps n u (us ++ later) t
-    by_going true others there steps = others steps
-    by_going false others there (none, is) =
-        subst (λ (us : List State). Keeps n u (us ++ later) t) (sym none) (subst (λ (m : State). Follows n m later t) is rest there)
-
-chosen-keep : (n size : ℕ) (chosen : State) (states : List State) (end : SliceEnd) (m : State) (later : List State) (t : State) (who : Option ℕ) → MatchOption who ((end ≡ Idle) × (states ≡ []) × (m ≡ chosen)) (λ p. (end ≡ Ran) × Steps size chosen states m) → HasAhead n chosen → Follows n m later t → Keeps n chosen (states ++ later) t
-chosen-keep n size chosen states end m later t None (idle, none, is) has rest =
-    subst (λ (states : List State). Keeps n chosen (states ++ later) t) (sym none) (subst (λ (m : State). Follows n m later t) is rest has)
-chosen-keep n size chosen states end m later t (Some p) (ran, steps) has rest = steps-keep n size chosen states m later t steps has rest
-
-slice-keep : (n size : ℕ) (s : State) (states : List State) (end : SliceEnd) (m : State) (later : List State) (t : State) → Slice size s states end m → HasAhead n s → Follows n m later t → Keeps n s (states ++ later) t
-slice-keep n size s states end m later t (ticked, chosen, ticks, chooses, events) has rest =
-    let first = tick-keys s ticked n ticks has in
-    let ahead : ahead_at chosen n ≡ ahead_at ticked n = ap (λ (t : State). ahead_at t n) chooses in
-    let there : HasAhead n chosen = record {
-      within =
-          subst (λ (k : ℕ). n < k) (sym (ap (λ (t : State). length t.files.io.terminals) chooses)) first.2.within;
-      few = subst (λ (ahead : List ℕ). length ahead ≤ TYPE_AHEAD) (sym ahead) first.2.few;
-    } in
-    keeps-tick n s ticked (states ++ later) t first.0 ticks first.1
-    (keeps-from n ticked chosen (states ++ later) t (stands-choice ticked chosen chooses) (chosen-keep n size chosen states end m later t chosen.chosen events there rest))
-
-pub slice-keys : (size : ℕ) (s t : State) (states : List State) (end : SliceEnd) (n : ℕ) → Slice size s states end t → HasAhead n s → KeysPass n s states t × HasAhead n t
-slice-keys size s t states end n slice has =
-    subst (λ (states : List State). Keeps n s states t) (append-nil states) (slice-keep n size s states end t [] t slice has (λ has. keeps-none n t has))
-
 stands-emptied : (m : State) → Stands m (record m { terms = terminals_emptied m.terms })
 stands-emptied m = record { io = refl; come = λ n. come-emptied m.terms n; inner = refl }
 
--- a run that is over
-stopped : (n : ℕ) (s : State) (states : List State) (t : State) → states ≡ [] → t ≡ s → HasAhead n s → Keeps n s states t
-stopped n s states t none is has =
-    subst (λ (states : List State). Keeps n s states t) (sym none) (subst (λ (t : State). Keeps n s [] t) (sym is) (keeps-none n s has))
+-- a state with the same input and output
+has-same : (n : ℕ) (s m : State) → m.files.io ≡ s.files.io → HasAhead n s → HasAhead n m
+has-same n s m same has = record {
+  within = subst (λ (io : Io). n < length io.terminals) (sym same) has.within;
+  few = subst (λ (io : Io). length (terminal_at io n).ahead ≤ TYPE_AHEAD) (sym same) has.few;
+}
+
+module _ (n : ℕ) where
+  abbrev Passes : State → List State → State → Type 0
+  Passes s states t = HasAhead n s → Keeps n s states t
+
+  -- a state that stands as the one before it
+  passes-on : (s m t : State) (states : List State) → Stands s m → Passes m states t → Passes s states t
+  passes-on s m t states stands rest has =
+      keeps-from n s m states t stands (rest (has-same n s m stands.io has))
+
+  passes-tick : (s m t : State) (states : List State) → Tick s m → Passes m states t → Passes s states t
+  passes-tick s m t states ticks rest has =
+      let first = tick-keys s m n ticks has in keeps-tick n s m states t first.0 ticks first.1 (rest first.2)
+
+  passes-event : (s m t : State) (end : EventEnd) (states : List State) → Event s end m → Passes m states t → Passes s (m ∷ states) t
+  passes-event s m t end states event rest has =
+      let first = event-keys s m end n event has in keeps-event n s m states t end first.0 event first.1 (rest first.2)
+
+  carried : IsCarriedByMoves Passes
+  carried = record {
+    events = record { none = keeps-none n; event = passes-event };
+    tick = passes-tick;
+    choice = λ s m t states chooses. passes-on s m t states (stands-choice s m chooses);
+    emptied = λ m t states. passes-on m (record m { terms = terminals_emptied m.terms }) t states (stands-emptied m);
+  }
+
+pub slice-keys : (size : ℕ) (s t : State) (states : List State) (end : SliceEnd) (n : ℕ) → Slice size s states end t → HasAhead n s → KeysPass n s states t × HasAhead n t
+slice-keys size s t states end n = along-slice (Passes n) (carried n) size s t states end
 
 pub run-keys : (slices written : List ℕ) (s t : State) (states : List State) (n : ℕ) → Run slices s states written t → HasAhead n s → KeysPass n s states t × HasAhead n t
-run-keys [] written s t states n (none, nothing, is) has = stopped n s states t none is has
-run-keys (size ∷ sizes) written s t states n run has =
-    by_living (has_living s) (λ rest m later after there. run-keys sizes rest m t later n after there) run
-  where
-    by_living : (living : Bool) → ((rest : List ℕ) (m : State) (later : List State) → Run sizes m later rest t → HasAhead n m → Keeps n m later t) → MatchBool living ((end : SliceEnd) × (m : State) × (first later : List State) × (rest : List ℕ) × Slice size s first end m × (states ≡ first ++ later) × (written ≡ console_bytes m.terms ++ rest) × Run sizes (record m { terms = terminals_emptied m.terms }) later rest t) ((states ≡ []) × (written ≡ []) × (t ≡ s)) → Keeps n s states t
-    by_living false others (none, nothing, is) = stopped n s states t none is has
-    by_living true others (end, m, first, later, rest, slice, whole, bytes, after) =
-        subst (λ (states : List State). Keeps n s states t) (sym whole) (slice-keep n size s first end m later t slice has
-        (λ there. keeps-from n m (record m { terms = terminals_emptied m.terms }) later t (stands-emptied m) (others rest (record m { terms = terminals_emptied m.terms }) later after (record { within = there.within; few = there.few }))))
+run-keys slices written s t states n = along-run (Passes n) (carried n) slices written s t states
 
 -- ---- the start
 

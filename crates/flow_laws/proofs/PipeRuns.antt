@@ -1,6 +1,5 @@
 -- What goes through a pipe in a slice, and in a run.
-use Rattle.std.proofs.Common.{◌≡◌, ℕ, ◌+◌, ◌-◌, Bool, true, false, Option, Some, None, List, [], ◌∷◌, ◌++◌, length, map, refl, sym, ap, ◌∙◌, subst}
-use Rattle.std.specs.Prelude.{MatchBool, MatchOption}
+use Rattle.std.proofs.Common.{◌≡◌, ℕ, ◌+◌, Option, Some, None, List, [], ◌∷◌, ◌++◌, length, map, refl, sym, ap, ◌∙◌, subst}
 use Rattle.std.specs.List.{AllByRecursion}
 use Rattle.std.proofs.lemmas.List.Elements.{filter_map-append}
 use Rattle.call_rules.specs.Inner.{regs_at}
@@ -9,13 +8,13 @@ use Rattle.io_model.proofs.PipeLemmas.{flows-in_order}
 use Rattle.io_rules.specs.Io.{pipe_bytes}
 use Rattle.machine_model.specs.declared.ends.EventEnd.{EventEnd}
 use Rattle.machine_model.specs.declared.ends.SliceEnd.{SliceEnd}
-use Rattle.machine_model.specs.declared.ends.EventEnd.TheVariants as End
-use Rattle.machine_model.specs.declared.ends.SliceEnd.TheVariants.{Idle, Ran}
-use Rattle.machine_model.specs.Console.{console_bytes, terminals_emptied}
+use Rattle.machine_model.specs.Console.{terminals_emptied}
 use Rattle.flow_laws.proofs.PipeArrivals.{DeskRests, arrivals-rest}
-use Rattle.disk_machine.specs.Event.{Event, cost}
-use Rattle.disk_machine.specs.Run.{BeginsSlice, Choose, FirstSteps, Run, Slice, Steps, Tick, desk_of, is_going}
-use Rattle.disk_machine.specs.State.{State, has_living}
+use Rattle.disk_machine.specs.Along.{IsCarriedByEvents, IsCarriedByMoves}
+use Rattle.disk_machine.specs.Event.{Event}
+use Rattle.disk_machine.specs.Run.{BeginsSlice, Choose, FirstSteps, Run, Slice, Steps, Tick, desk_of}
+use Rattle.disk_machine.specs.State.{State}
+use Rattle.disk_machine.proofs.Induction.{along-first, along-part, along-run, along-slice, along-steps}
 use Rattle.flow_laws.specs.Flow.{AllLive, IsPassing, Linked, Passes, Passing, PassesThrough, Rests, moved_by}
 use Rattle.flow_laws.proofs.PipeEvents.{event-passes}
 
@@ -60,11 +59,6 @@ rests-choice s t is = record {
   memory = ap (λ (t : State). t.inner.memory) is;
   regs = λ p. ap (λ (t : State). regs_at t.inner p) is;
 }
-
--- a slice begins: a tick and a choice
-rests-begun : (s ticked chosen : State) → Tick s ticked → Choose ticked chosen → Rests s chosen
-rests-begun s ticked chosen ticks chooses =
-    rests-then s ticked chosen (rests-tick s ticked ticks) (rests-choice ticked chosen chooses)
 
 -- ---- what passes, by its parts
 
@@ -127,76 +121,44 @@ pass-then n s m t first later one two =
 
 -- ---- slices and runs
 
--- what passes, and the pipe lives at the end
-record PassesOn (n : ℕ) (s : State) (states : List State) (t : State) : Type 0 where
-  pub passes : PassesThrough n s states t
-  pub lives : IsPipe t.files.io.pipes n
+module _ (n : ℕ) where
+  abbrev Goes : State → List State → State → Type 0
+  Goes s states t = IsPipe s.files.io.pipes n → AllLive n states → PassesThrough n s states t
 
-over : (n : ℕ) (s t : State) → t ≡ s → IsPipe s.files.io.pipes n → PassesOn n s [] t
-over n s t is lives =
-    subst (λ (t : State). PassesOn n s [] t) (sym is) (record { passes = pass-none n s s (rests-same s); lives = lives })
+  -- a state with the same pipes
+  goes-on : (s m t : State) (states : List State) → Rests s m → Goes m states t → Goes s states t
+  goes-on s m t states rests rest lives all =
+      pass-from n s m states t rests (rest (lives-rests n s m rests lives) all)
 
-steps-pass : (n left : ℕ) (s : State) (states : List State) (t : State) → Steps left s states t → IsPipe s.files.io.pipes n → AllLive n states → PassesOn n s states t
-steps-pass n left s [] t (none, is) lives all = over n s t is lives
-steps-pass n left s (m ∷ ms) t (some, end, event, steps) lives all =
-    let rest : PassesOn n m ms t = by_going (is_going end) (λ steps. steps-pass n (left - cost s) m ms t steps all.0 all.1) all.0 steps in
-    record { passes = pass-event n s m end ms t event (event-passes s m end n event lives all.0) rest.passes; lives = rest.lives }
-  where
-    by_going : (going : Bool) → (Steps (left - cost s) m ms t → PassesOn n m ms t) → IsPipe m.files.io.pipes n → MatchBool going (Steps (left - cost s) m ms t) ((ms ≡ []) × (t ≡ m)) → PassesOn n m ms t
-    by_going true others there steps = others steps
-    by_going false others there (none, is) =
-        subst (λ (ms : List State). PassesOn n m ms t) (sym none) (over n m t is there)
+  goes-event : (s m t : State) (end : EventEnd) (states : List State) → Event s end m → Goes m states t → Goes s (m ∷ states) t
+  goes-event s m t end states event rest lives all =
+      pass-event n s m end states t event (event-passes s m end n event lives all.0) (rest all.0 all.1)
 
-chosen-pass : (n size : ℕ) (chosen : State) (states : List State) (end : SliceEnd) (t : State) (who : Option ℕ) → MatchOption who ((end ≡ Idle) × (states ≡ []) × (t ≡ chosen)) (λ p. (end ≡ Ran) × Steps size chosen states t) → IsPipe chosen.files.io.pipes n → AllLive n states → PassesOn n chosen states t
-chosen-pass n size chosen states end t None (idle, none, is) lives all =
-    subst (λ (states : List State). PassesOn n chosen states t) (sym none) (over n chosen t is lives)
-chosen-pass n size chosen states end t (Some p) (ran, steps) lives all = steps-pass n size chosen states t steps lives all
+  carried-events : IsCarriedByEvents Goes
+  carried-events = record { none = λ s lives all. pass-none n s s (rests-same s); event = goes-event }
 
-slice-passes-on : (n size : ℕ) (s t : State) (states : List State) (end : SliceEnd) → Slice size s states end t → IsPipe s.files.io.pipes n → AllLive n states → PassesOn n s states t
-slice-passes-on n size s t states end (ticked, chosen, ticks, chooses, rest) lives all =
-    let rests : Rests s chosen = rests-begun s ticked chosen ticks chooses in
-    let it : PassesOn n chosen states t = chosen-pass n size chosen states end t chosen.chosen rest (lives-rests n s chosen rests lives) all in
-    record { passes = pass-from n s chosen states t rests it.passes; lives = it.lives }
+  carried : IsCarriedByMoves Goes
+  carried = record {
+    events = carried-events;
+    tick = λ s m t states ticks. goes-on s m t states (rests-tick s m ticks);
+    choice = λ s m t states chooses. goes-on s m t states (rests-choice s m chooses);
+    emptied =
+        λ m t states. goes-on m (record m { terms = terminals_emptied m.terms }) t states (record { pipes = refl; paths = refl; calls = refl; memory = refl; regs = λ p. refl });
+  }
 
 -- the events of a slice from one of its states on
 pub steps-passes : (left : ℕ) (s t : State) (states : List State) (n : ℕ) → Steps left s states t → IsPipe s.files.io.pipes n → AllLive n states → PassesThrough n s states t
-steps-passes left s t states n steps lives all = (steps-pass n left s states t steps lives all).passes
+steps-passes left s t states n = along-steps (Goes n) (carried-events n) left s t states
 
 -- the first events of a slice that is not over
 pub first-passes : (left : ℕ) (s t : State) (states : List State) (n : ℕ) → FirstSteps left s states t → IsPipe s.files.io.pipes n → AllLive n states → PassesThrough n s states t
-first-passes left s t [] n (some, is) lives all = (over n s t is lives).passes
-first-passes left s t (m ∷ ms) n (some, event, rest) lives all =
-    pass-event n s m End.Ran ms t event (event-passes s m End.Ran n event lives all.0) (first-passes (left - cost s) m t ms n rest all.0 all.1)
+first-passes left s t states n = along-first (Goes n) (carried-events n) left s t states
 
 pub begun-passes : (size : ℕ) (s t : State) (states : List State) (n : ℕ) → BeginsSlice size s states t → IsPipe s.files.io.pipes n → AllLive n states → PassesThrough n s states t
-begun-passes size s t states n (ticked, chosen, ticks, chooses, first) lives all =
-    let rests : Rests s chosen = rests-begun s ticked chosen ticks chooses in
-    pass-from n s chosen states t rests (first-passes size chosen t states n first (lives-rests n s chosen rests lives) all)
+begun-passes size s t states n = along-part (Goes n) (carried n) size s t states
 
 pub slice-passes : (size : ℕ) (s t : State) (states : List State) (end : SliceEnd) (n : ℕ) → Slice size s states end t → IsPipe s.files.io.pipes n → AllLive n states → PassesThrough n s states t
-slice-passes size s t states end n slice lives all = (slice-passes-on n size s t states end slice lives all).passes
-
--- the states of two parts
-all-first : (n : ℕ) (first later : List State) → AllLive n (first ++ later) → AllLive n first
-all-first n [] later all = tt
-all-first n (m ∷ first) later all = (all.0, all-first n first later all.1)
-
-all-later : (n : ℕ) (first later : List State) → AllLive n (first ++ later) → AllLive n later
-all-later n [] later all = all
-all-later n (m ∷ first) later all = all-later n first later all.1
+slice-passes size s t states end n = along-slice (Goes n) (carried n) size s t states end
 
 pub run-passes : (slices written : List ℕ) (s t : State) (states : List State) (n : ℕ) → Run slices s states written t → IsPipe s.files.io.pipes n → AllLive n states → PassesThrough n s states t
-run-passes [] written s t states n (none, nothing, is) lives all =
-    subst (λ (states : List State). PassesThrough n s states t) (sym none) (over n s t is lives).passes
-run-passes (size ∷ sizes) written s t states n run lives all =
-    by_living (has_living s) (λ rest m later after there live. run-passes sizes rest m t later n after there live) run
-  where
-    by_living : (living : Bool) → ((rest : List ℕ) (m : State) (later : List State) → Run sizes m later rest t → IsPipe m.files.io.pipes n → AllLive n later → PassesThrough n m later t) → MatchBool living ((end : SliceEnd) × (m : State) × (first later : List State) × (rest : List ℕ) × Slice size s first end m × (states ≡ first ++ later) × (written ≡ console_bytes m.terms ++ rest) × Run sizes (record m { terms = terminals_emptied m.terms }) later rest t) ((states ≡ []) × (written ≡ []) × (t ≡ s)) → PassesThrough n s states t
-    by_living false others (none, nothing, is) =
-        subst (λ (states : List State). PassesThrough n s states t) (sym none) (over n s t is lives).passes
-    by_living true others (end, m, first, later, rest, slice, whole, bytes, after) =
-        let live : AllLive n (first ++ later) = subst (AllLive n) whole all in
-        let one : PassesOn n s first m = slice-passes-on n size s m first end slice lives (all-first n first later live) in
-        let emptied : State = record m { terms = terminals_emptied m.terms } in
-        let two : PassesThrough n emptied later t = others rest emptied later after one.lives (all-later n first later live) in
-        subst (λ (states : List State). PassesThrough n s states t) (sym whole) (pass-then n s m t first later one.passes (pass-from n m emptied later t (record { pipes = refl; paths = refl; calls = refl; memory = refl; regs = λ p. refl }) two))
+run-passes slices written s t states n = along-run (Goes n) (carried n) slices written s t states
