@@ -64,6 +64,7 @@ refusal_counts most before after few counts = record {
   rose = counts.rose;
   number = counts.number;
   kept = counts.kept;
+  last_kept = counts.last_kept;
 }
 
 -- a change that is allowed and has no list to be full is refused where too few clusters are free

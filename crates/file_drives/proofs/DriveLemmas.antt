@@ -55,16 +55,17 @@ state-other : (views : List DriveView) (n other : ℕ) (new : DriveView) → oth
 state-other views n other new apart =
     ap (λ states. drive_at states other) (map-set drive_state views n new) ∙ get_or-set_other (drive_states views) n other (drive_state new) new_drive apart
 
--- no fault: no count has changed
+-- the state of a drive goes by its count of faults and its last fault
+same-state : (old new : DriveView) → new.counts.faults ≡ old.counts.faults → new.counts.last ≡ old.counts.last → drive_state new ≡ drive_state old
+same-state old new faults last = λ i. record { faults = faults i; last = last i }
+
+-- no fault: no drive has changed its state
 pub none-failed : (most n : ℕ) (before after : List DriveView) → OneDriveMoves None most n before after → NoneFailed (drive_states before) (drive_states after)
 none-failed most n before after (old, new, is, after_is, moved) =
-    let count : DriveState → ℕ = λ drive. drive.faults in
-    let faults : DriveView → ℕ = λ view. view.counts.faults in
-    ap (λ views. map count (drive_states views)) after_is
-    ∙ ap (map count) (map-set drive_state before n new)
-    ∙ map-set count (drive_states before) n (drive_state new)
-    ∙ ap (λ m. set (map count (drive_states before)) n m) (moved.kept ∙ ap count (sym (state-at before n old is)) ∙ sym (get_or-map count (drive_states before) n new_drive 0 (subst (λ m. n < m) (sym (length-map before drive_state)) (slice_get_within before n old is))))
-    ∙ set-get_or (map count (drive_states before)) n 0
+    ap drive_states after_is
+    ∙ map-set drive_state before n new
+    ∙ ap (λ state. set (drive_states before) n state) (same-state old new moved.kept moved.last_kept ∙ sym (state-at before n old is))
+    ∙ set-get_or (drive_states before) n new_drive
 
 -- a fault: this drive failed, and no other one
 pub one-failed : (number most n : ℕ) (before after : List DriveView) → OneDriveMoves (Some number) most n before after → OneFailed n number (drive_states before) (drive_states after)
@@ -80,6 +81,6 @@ one-failed number most n before after (old, new, is, after_is, moved) =
           rose = subst (λ d. Rose d.faults (drive_at (drive_states (slice_set before n new)) n).faults) (sym was) (subst (λ d. Rose old.counts.faults d.faults) (sym now) moved.rose);
           never_falls = subst (λ d. d.faults ≤ (drive_at (drive_states (slice_set before n new)) n).faults) (sym was) (subst (λ d. old.counts.faults ≤ d.faults) (sym now) moved.never_falls);
           last = subst (λ d. option_map drive_error d.last ≡ Some number) (sym now) moved.number;
-          others = λ other apart. ap (λ d. d.faults) (state-other before n other new apart);
+          others = λ other apart. state-other before n other new apart;
           as_many = length-map (slice_set before n new) drive_state ∙ length-set before n new ∙ sym (length-map before drive_state);
         }

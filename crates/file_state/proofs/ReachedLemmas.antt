@@ -4,13 +4,12 @@
 use Rattle.std.proofs.Common.{◌≡◌, ◌⊎◌, ℕ, zero, suc, ◌≤◌, ◌∙◌, Option, Some, None, option_and_then, List, [], ◌∷◌, map, length, get_or, slice_get, slice_set, Result, refl, ap, sym, subst, inl, inr}
 use Rattle.std.proofs.lemmas.List.{length-map, set-get_or}
 use Rattle.std.proofs.lemmas.Option.{none-some}
-use Rattle.os9_base.specs.Count.{Rose}
 use Rattle.rbf_model.specs.File.{DiskFile}
 use Rattle.rbf_model.specs.Volume.{DiskVolume}
 use Rattle.rbf_access.specs.Drive.{MovesCounts}
 use Rattle.rbf_walk.specs.Walk.{directory_fault}
 use Rattle.rbf_walk.specs.declared.error.DirError.{DirError}
-use Rattle.file_rules.specs.Files.{DriveState, Files, NoneFailed, drive_at, file_in, volume_at, with_drives, with_volume}
+use Rattle.file_rules.specs.Files.{DriveState, Files, NoneFailed, OneFailed, file_in, volume_at, with_drives, with_volume}
 use Rattle.file_rules.specs.declared.places.FilePlace.{FilePlace}
 use Rattle.file_drives.proofs.DriveLemmas.{changes-weaker, none-failed, one-failed}
 use Rattle.file_drives.specs.Changed.{AnswersOnDisk, Asked, ChangesVolume}
@@ -53,28 +52,10 @@ pub drives-move : (fault : Option ℕ) (most n : ℕ) (before after : List Drive
 drives-move None most n before after moved = none-failed most n before after moved
 drives-move (Some number) most n before after moved = one-failed number most n before after moved
 
-abbrev count : DriveState → ℕ
-count drive = drive.faults
-
-count-at : (drives : List DriveState) (n : ℕ) → get_or (map count drives) n 0 ≡ (drive_at drives n).faults
-count-at [] n = refl
-count-at (drive ∷ drives) zero = refl
-count-at (drive ∷ drives) (suc n) = count-at drives n
-
--- where no drive failed each count is as it was
-same-count : (before now : List DriveState) (n : ℕ) → NoneFailed before now → (drive_at now n).faults ≡ (drive_at before n).faults
-same-count before now n none = sym (count-at now n) ∙ ap (λ counts. get_or counts n 0) none ∙ count-at before n
-
 -- calls behind calls that did not fail
 pub moved-then : (fault : Option ℕ) (drive : ℕ) (before mid now : List DriveState) → NoneFailed before mid → DrivesMove fault drive mid now → DrivesMove fault drive before now
 moved-then None drive before mid now none moved = moved ∙ none
-moved-then (Some number) drive before mid now none moved = record {
-  rose = subst (λ m. Rose m (drive_at now drive).faults) (same-count before mid drive none) moved.rose;
-  never_falls = subst (λ m. m ≤ (drive_at now drive).faults) (same-count before mid drive none) moved.never_falls;
-  last = moved.last;
-  others = λ other apart. moved.others other apart ∙ same-count before mid other none;
-  as_many = moved.as_many ∙ sym (length-map mid count) ∙ ap (λ (counts : List ℕ). length counts) none ∙ length-map before count;
-}
+moved-then (Some number) drive before mid now none moved = subst (λ drives. OneFailed drive number drives now) none moved
 
 -- ---- the files
 

@@ -220,7 +220,7 @@ media_calls_of media ident known = ap (λ g. 1 + map_sectors g) known.sizes ∙ 
 pub first_call : (media : Option (List ℕ)) (f : Option ℕ) (s t : DriveCounts) → (sector_count media ≡ 0 → t.calls ≡ s.calls) → MovesCounts f 1 s t → MovesCounts f (media_calls media) s t
 first_call None f s t empty moved =
     let same = empty refl in
-    record { calls_made = omega arith; never_falls = moved.never_falls; rose = moved.rose; number = moved.number; kept = moved.kept }
+    record { calls_made = omega arith; never_falls = moved.never_falls; rose = moved.rose; number = moved.number; kept = moved.kept; last_kept = moved.last_kept }
 first_call (Some image) f s t empty moved = counts_most f 1 (1 + map_sectors (image_geometry image)) s t (omega arith) moved
 
 -- the root and the free clusters of a volume that is kept are those of the volume that the image represents

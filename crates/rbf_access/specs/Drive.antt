@@ -26,13 +26,14 @@ abbrev pub counts_of : {Table : Type 0} {Driver : Table → Type 0} → ((table 
 counts_of members drive = drive_counts (members drive.0) drive.1
 
 -- a call that made at most so many reads and writes, and that the fault of this number ended, if any: then the count
--- of faults rose, and the fault is the last one
+-- of faults rose, and the fault is the last one; without a fault the count and the last fault are as before
 pub record MovesCounts (fault : Option ℕ) (most : ℕ) (before now : DriveCounts) : Type 0 where
   pub calls_made : now.calls ≤ before.calls + most
   pub never_falls : before.faults ≤ now.faults
   pub rose : IfSome fault (λ n. Rose before.faults now.faults)
   pub number : IfSome fault (λ n. option_map drive_error now.last ≡ Some n)
   pub kept : IfNone fault (now.faults ≡ before.faults)
+  pub last_kept : IfNone fault (now.last ≡ before.last)
 
 -- the same of a drive that is lent, as `Counts ⟦<dyn BlockDriver as BlockDriver>⟧ fault most d.old d.new`
 abbrev pub Counts : {Table : Type 0} {Driver : Table → Type 0} → ((table : Table) → Ghosts (Driver table))
