@@ -1,5 +1,5 @@
 -- Files and output streams, as they can be observed of a host.
-use Rattle.std.specs.Prelude.{◌≡◌, ℕ, ◌⊎◌, ⊤, Option, Some, None, unwrap_or, Result, Ok, Err, List, [], take}
+use Rattle.std.specs.Prelude.{◌≡◌, ℕ, ◌⊎◌, ⊤, Option, Some, None, unwrap_or, Result, Ok, Err, List, [], ◌∷◌, ◌++◌, take}
 use Rattle.os9_outer.specs.declared.host.HostFault.{HostFault}
 use Rattle.os9_outer.specs.declared.host.HostFault.TheVariants.{Failed, OutOfMemory}
 
@@ -32,3 +32,10 @@ IfObserved fact (Some before) (Some now) = fact before now
 -- the file is as it was, or holds the first of these bytes, all, some or none of them
 abbrev pub KeepsOrHoldsPrefix : Option (List ℕ) → List ℕ → Option (List ℕ) → Type 0
 KeepsOrHoldsPrefix before bytes now = (now ≡ before) ⊎ ((count : ℕ) × (now ≡ Some (take count bytes)))
+
+-- The name of the file is noted behind those of the calls before. If memory is out it may not be: nothing was begun
+-- then.
+abbrev pub NotesName : {T : Type 0} → Result T HostFault → List ℕ → List (List ℕ) → List (List ℕ) → Type 0
+NotesName (Ok _) name before now = now ≡ before ++ name ∷ []
+NotesName (Err Failed) name before now = now ≡ before ++ name ∷ []
+NotesName (Err OutOfMemory) name before now = (now ≡ before) ⊎ (now ≡ before ++ name ∷ [])

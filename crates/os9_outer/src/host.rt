@@ -1,6 +1,6 @@
 ghost use Rattle.std.specs.Prelude.{◌≡◌, ◌≢◌, ℕ, ◌≤◌, Bool, true, false, Option, Some, None, IfSome, IfOk, OnOk, List};
 ghost use Rattle.os9_base.specs.Count.{Rose};
-ghost use Rattle.os9_outer.specs.Host.{file_contents, OnFailed, UnlessFailed, IfObserved, KeepsOrHoldsPrefix};
+ghost use Rattle.os9_outer.specs.Host.{file_contents, OnFailed, UnlessFailed, IfObserved, KeepsOrHoldsPrefix, NotesName};
 ghost use Rattle.os9_outer.specs.Stream.{stream_with, GainsPrefix};
 
 use thiserror::Error;
@@ -21,7 +21,8 @@ pub enum HostFault {
 /// What its files hold (`file_map`) and what its streams were given (`bytes_out`, `bytes_err`) may
 /// be observed, or not, as of a real one. Always observed are its counts of faults, that of the
 /// error stream apart, the name of the last failed call, which is none if that was a write to the
-/// output stream, and whether that call read a file.
+/// output stream, and whether that call read a file; and the names of the files that it was to read
+/// (`files_read`) and to write (`files_written`), in the order of the calls.
 pub trait Host {
     ghost file_map: { Self → Option (List ℕ → Option (List ℕ)) };
 
@@ -36,6 +37,10 @@ pub trait Host {
     ghost failed_name: { Self → Option (List ℕ) };
 
     ghost failed_in_read: { Self → Bool };
+
+    ghost files_read: { Self → List (List ℕ) };
+
+    ghost files_written: { Self → List (List ℕ) };
 
     /// The bytes of the file of this name.
     ///
@@ -55,6 +60,10 @@ pub trait Host {
             (failed_in_read self.new ≡ failed_in_read self.old) }
         ensures never_falls { host_faults self.old ≤ host_faults self.new }
         ensures err_count_kept { err_stream_faults self.new ≡ err_stream_faults self.old }
+
+        ensures read_noted { NotesName result name.now
+            (files_read self.old) (files_read self.new) }
+        ensures written_kept { files_written self.new ≡ files_written self.old }
 
         ensures files_kept { file_map self.new ≡ file_map self.old }
         ensures out_kept { bytes_out self.new ≡ bytes_out self.old }
@@ -85,6 +94,10 @@ pub trait Host {
         ensures never_falls { host_faults self.old ≤ host_faults self.new }
         ensures err_count_kept { err_stream_faults self.new ≡ err_stream_faults self.old }
 
+        ensures write_noted { NotesName result name.now
+            (files_written self.old) (files_written self.new) }
+        ensures reads_kept { files_read self.new ≡ files_read self.old }
+
         ensures out_kept { bytes_out self.new ≡ bytes_out self.old }
         ensures err_kept { bytes_err self.new ≡ bytes_err self.old };
 
@@ -107,6 +120,8 @@ pub trait Host {
         ensures never_falls { host_faults self.old ≤ host_faults self.new }
         ensures err_count_kept { err_stream_faults self.new ≡ err_stream_faults self.old }
 
+        ensures reads_kept { files_read self.new ≡ files_read self.old }
+        ensures written_kept { files_written self.new ≡ files_written self.old }
         ensures files_kept { file_map self.new ≡ file_map self.old }
         ensures err_kept { bytes_err self.new ≡ bytes_err self.old };
 
@@ -128,6 +143,8 @@ pub trait Host {
         ensures count_kept { host_faults self.new ≡ host_faults self.old }
         ensures name_kept { failed_name self.new ≡ failed_name self.old }
         ensures read_kept { failed_in_read self.new ≡ failed_in_read self.old }
+        ensures reads_kept { files_read self.new ≡ files_read self.old }
+        ensures written_kept { files_written self.new ≡ files_written self.old }
         ensures files_kept { file_map self.new ≡ file_map self.old }
         ensures out_kept { bytes_out self.new ≡ bytes_out self.old };
 }

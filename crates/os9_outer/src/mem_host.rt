@@ -1,17 +1,31 @@
-ghost use Rattle.std.specs.Prelude.{◌≡◌, ◌≢◌, ℕ, ◌+◌, ◌-◌, ◌^◌, ◌≤◌, min, Bool, false, Option, Some, None, option_map, OnOk, OnErr, IfOk, IsOkUnless, List, [], position, string_bytes};
+ghost use Rattle.std.specs.Prelude.{◌≡◌, ◌≢◌, ℕ, ◌+◌, ◌-◌, ◌^◌, ◌≤◌, min, Bool, false, Option, Some, None, option_map, OnOk, OnErr, IfOk, IsOkUnless, List, [], map, position, string_bytes};
 ghost use Rattle.os9_outer.specs.HostFile.{file_named};
+ghost use Rattle.os9_outer.specs.Host.{KeepsOrHoldsPrefix};
 ghost use Rattle.os9_outer.specs.Plans.{is_planned};
 
 use crate::failure::Failure;
 use crate::host::{Host, HostFault};
 use crate::host_file::{HostFile, bytes_of, copied, put_file};
+use crate::names::note;
 use std::alloc::Global;
+
+/// What a planned failure of a write leaves in its file.
+#[derive(Clone, Copy, Debug, PartialEq, Eq)]
+pub enum FailedWrite {
+    /// The old bytes, as if there is no room for a new file beside it.
+    Old,
+    /// The first half of the new bytes, as if a disk that is written in place fails.
+    Half,
+    /// The new bytes, as if the file has its place, and its folder cannot be synced.
+    New,
+}
 
 /// A host in memory for tests, whose calls fail as it was planned. All that it has is observed.
 ///
 /// `calls` counts the calls of all four kinds together, and `plan` lists the numbers, from 1, of
-/// those that fail. A call that fails has no other effect than its count. Of two files of one name
-/// the first counts, and a file that is missing is a fault.
+/// those that fail. A call that fails has no other effect than its count, unless it is a write and
+/// `failed_write` leaves new bytes. Of two files of one name the first counts, and a file that is
+/// missing is a fault.
 #[derive(Debug, Drop)]
 pub struct MemHost {
     pub files: Vec<HostFile>,
@@ -23,10 +37,13 @@ pub struct MemHost {
     pub last: Option<String>,
     pub last_read: bool,
     pub plan: Vec<u64>,
+    pub failed_write: FailedWrite,
+    pub files_read: Vec<String>,
+    pub files_written: Vec<String>,
 }
 
 impl MemHost {
-    /// A host with these files, whose calls of these numbers fail.
+    /// A host with these files, whose calls of these numbers fail, and leave each file as it was.
     pub fn new(alloc: Global, files: Vec<HostFile>, plan: Vec<u64>) -> MemHost
         ensures files { result.files.items ≡ files.items }
         ensures out_bytes { result.out_bytes.items ≡ [] }
@@ -37,6 +54,9 @@ impl MemHost {
         ensures last { result.last ≡ None }
         ensures last_read { result.last_read ≡ false }
         ensures plan { result.plan.items ≡ plan.items }
+        ensures failed_write { result.failed_write ≡ FailedWrite.Old }
+        ensures none_read { result.files_read.items ≡ [] }
+        ensures none_written { result.files_written.items ≡ [] }
     {
         MemHost {
             files,
@@ -48,6 +68,9 @@ impl MemHost {
             last: None,
             last_read: false,
             plan,
+            failed_write: FailedWrite::Old,
+            files_read: Vec::new(alloc),
+            files_written: Vec::new(alloc),
         }
     }
 
@@ -99,7 +122,12 @@ impl Host for MemHost {
 
     ghost failed_in_read = { λ host. host.last_read };
 
+    ghost files_read = { λ host. map string_bytes host.files_read.items };
+
+    ghost files_written = { λ host. map string_bytes host.files_written.items };
+
     fn read_file(&mut self, name: &str) -> Result<Vec<u8>, HostFault> {
+        note(&mut self.files_read, name)?;
         if !self.fails_next() {
             if let Some(bytes) = bytes_of(&self.files, name) {
                 return copied(self.alloc(), bytes);
@@ -110,7 +138,9 @@ impl Host for MemHost {
     }
 
     fn write_file(&mut self, name: &str, bytes: &[u8]) -> Result<(), HostFault> {
+        note(&mut self.files_written, name)?;
         if self.fails_next() {
+            leave(&mut self.files, self.failed_write, name, bytes)?;
             let failure = Failure::of_write(self.alloc(), name)?;
             return Err(self.fail(failure));
         }
@@ -138,4 +168,25 @@ impl Host for MemHost {
             .extend_from_slice(bytes)
             .map_err(|_| HostFault::OutOfMemory)
     }
+}
+
+// Leaves in the file of this name what a failed write of these bytes leaves.
+fn leave(
+    files: &mut Vec<HostFile>,
+    failed: FailedWrite,
+    name: &str,
+    bytes: &[u8],
+) -> Result<(), HostFault>
+    ensures part { KeepsOrHoldsPrefix (file_named files.old.items name.now) bytes.now
+        (file_named files.new.items name.now) }
+    ensures others_kept { (other : List ℕ) → other ≢ name.now →
+        file_named files.new.items other ≡ file_named files.old.items other }
+    ensures only_memory { IsOkUnless result HostFault.OutOfMemory }
+{
+    let left = match failed {
+        FailedWrite::Old => return Ok(()),
+        FailedWrite::Half => &bytes[..bytes.len() / 2],
+        FailedWrite::New => bytes,
+    };
+    put_file(files, name, left).map_err(|_| HostFault::OutOfMemory)
 }

@@ -1,8 +1,11 @@
-ghost use Rattle.std.specs.Prelude.{◌≡◌, ℕ, ◌+◌, ◌-◌, ◌^◌, ◌≤◌, min, true, false, Option, Some, None, option_map, IfOk, string_bytes, vec_len};
+ghost use Rattle.std.specs.Prelude.{◌≡◌, ℕ, ◌+◌, ◌-◌, ◌^◌, ◌≤◌, min, true, false, Option, Some, None, option_map, IfOk, string_bytes, vec_len, List, [], map};
 
 use crate::failure::Failure;
 use crate::host::{Host, HostFault};
+use crate::names::note;
+use crate::output::put_all;
 use crate::replace::write_whole;
+use std::fs::OpenFile;
 use std::io::{ErrorKind, Read};
 use std::rt::Runtime;
 use std::{fs, io, str};
@@ -13,29 +16,37 @@ const LONGEST_FILE: u64 = 536_870_912;
 /// The host of the running program: its files, its standard output and its standard error.
 ///
 /// No contents are observed of it. A file that is missing or too long is a fault, a write that takes nothing
-/// is one, and bytes that are no text are one of the error stream. A plain file is written as a whole new one
-/// beside it (its name and `.os9-new`), which then takes its place with its mode; where that fails it is as it was.
+/// is one, and bytes that are no text are one of the error stream. A file that has the bytes already is left
+/// alone. Any other plain file is written as a whole new one beside it (its name, `.os9-` and the first number
+/// that is free), which takes its place with its owner and mode; where that fails it is as it was.
 #[derive(Drop)]
 pub struct RealHost<R> {
     rt: R,
     faults: u64,
     err_faults: u64,
     last: Failure,
+    files_read: Vec<String>,
+    files_written: Vec<String>,
 }
 
 impl<R: Runtime + AllocGlobal> RealHost<R> {
-    /// The host over this runtime, with no faults counted.
+    /// The host over this runtime, with no faults counted and no files noted.
     pub fn new(rt: R) -> RealHost<R>
         ensures no_faults { ⟦<RealHost<R> as Host>⟧.host_faults result ≡ 0 }
         ensures no_err_faults { ⟦<RealHost<R> as Host>⟧.err_stream_faults result ≡ 0 }
         ensures no_name { ⟦<RealHost<R> as Host>⟧.failed_name result ≡ None }
         ensures no_read { ⟦<RealHost<R> as Host>⟧.failed_in_read result ≡ false }
+        ensures none_read { ⟦<RealHost<R> as Host>⟧.files_read result ≡ [] }
+        ensures none_written { ⟦<RealHost<R> as Host>⟧.files_written result ≡ [] }
     {
+        let alloc = rt.alloc();
         RealHost {
             rt,
             faults: 0,
             err_faults: 0,
             last: Failure::none(),
+            files_read: Vec::new(alloc),
+            files_written: Vec::new(alloc),
         }
     }
 
@@ -45,6 +56,8 @@ impl<R: Runtime + AllocGlobal> RealHost<R> {
         ensures never_falls { self.old.faults ≤ self.new.faults }
         ensures last { self.new.last ≡ failure }
         ensures err_faults_kept { self.new.err_faults ≡ self.old.err_faults }
+        ensures reads_kept { self.new.files_read ≡ self.old.files_read }
+        ensures written_kept { self.new.files_written ≡ self.old.files_written }
         ensures failed { result ≡ HostFault.Failed }
     {
         self.faults = self.faults.saturating_add(1);
@@ -58,6 +71,8 @@ impl<R: Runtime + AllocGlobal> RealHost<R> {
         ensures never_falls { self.old.err_faults ≤ self.new.err_faults }
         ensures last_kept { self.new.last ≡ self.old.last }
         ensures faults_kept { self.new.faults ≡ self.old.faults }
+        ensures reads_kept { self.new.files_read ≡ self.old.files_read }
+        ensures written_kept { self.new.files_written ≡ self.old.files_written }
         ensures failed { result ≡ HostFault.Failed }
     {
         self.err_faults = self.err_faults.saturating_add(1);
@@ -80,7 +95,12 @@ impl<R: Runtime + AllocGlobal> Host for RealHost<R> {
 
     ghost failed_in_read = { λ host. host.last.in_read };
 
+    ghost files_read = { λ host. map string_bytes host.files_read.items };
+
+    ghost files_written = { λ host. map string_bytes host.files_written.items };
+
     fn read_file(&mut self, name: &str) -> Result<Vec<u8>, HostFault> {
+        note(&mut self.files_read, name)?;
         match read_whole(&self.rt, name) {
             Ok(bytes) => Ok(bytes),
             Err(error) if wants_memory(&error) => Err(HostFault::OutOfMemory),
@@ -92,6 +112,7 @@ impl<R: Runtime + AllocGlobal> Host for RealHost<R> {
     }
 
     fn write_file(&mut self, name: &str, bytes: &[u8]) -> Result<(), HostFault> {
+        note(&mut self.files_written, name)?;
         match write_whole(&self.rt, name, bytes) {
             Ok(()) => Ok(()),
             Err(error) if wants_memory(&error) => Err(HostFault::OutOfMemory),
@@ -103,7 +124,7 @@ impl<R: Runtime + AllocGlobal> Host for RealHost<R> {
     }
 
     fn out(&mut self, bytes: &[u8]) -> Result<(), HostFault> {
-        match self.rt.write_all(bytes) {
+        match put_all(&self.rt, bytes) {
             Ok(()) => Ok(()),
             Err(error) if wants_memory(&error) => Err(HostFault::OutOfMemory),
             Err(_) => Err(self.fail(Failure::of_output())),
@@ -127,9 +148,12 @@ fn read_whole<R: Runtime + AllocGlobal>(rt: &R, name: &str) -> io::Result<Vec<u8
     ensures { IfOk result (λ bytes. vec_len bytes ≤ 536870912) }
 {
     let mut bytes = Vec::new(rt.alloc());
-    fs::open(rt, name)?
-        .take(LONGEST_FILE + 1)
-        .read_to_end(&mut bytes)?;
+    let file = fs::open(rt, name)?;
+    if file.metadata()?.len() > LONGEST_FILE {
+        return Err(io::Error::from(ErrorKind::FileTooLarge));
+    }
+    // (what is no plain file shows no length)
+    file.take(LONGEST_FILE + 1).read_to_end(&mut bytes)?;
     if bytes.len() as u64 > LONGEST_FILE {
         return Err(io::Error::from(ErrorKind::FileTooLarge));
     }

@@ -1,57 +1,110 @@
-use std::fs::{File, Files, Metadata, OpenFile, OpenOptions};
-use std::io::{ErrorKind, Write};
+//! A file is written as a whole.
+
+use crate::new_file::create_beside;
+use std::fs::{Metadata, OpenFile, OpenOptions};
+use std::io::{ErrorKind, Read, Write};
+use std::os::unix::fs::FileTypeExt;
 use std::path::Path;
 use std::rt::Runtime;
 use std::{fs, io};
 
-/// What is added to a file's name for the new file that takes its place.
-const ENDING: &str = "os9-new";
+/// How many bytes of a file are compared at a time.
+const PART: usize = 8192;
 
 // Makes these the bytes of the file of this name.
 //
-// A plain file is replaced by a whole new one, so that a run which ends in the middle leaves the old
-// bytes. What is no plain file, or is not there, is written in place.
+// A plain file that has these bytes is left alone. Any other is replaced by a whole new one, so that a
+// run which ends in the middle leaves the old bytes. A disk is written in place, and what else is no
+// plain file is refused.
 pub(crate) fn write_whole<R: Runtime + AllocGlobal>(
     rt: &R,
     name: &str,
     bytes: &[u8],
 ) -> io::Result<()> {
-    // (a link is followed: the file it names is replaced, not the link)
-    let place = match fs::canonicalize(rt, name) {
-        Ok(place) => place,
-        Err(error) if error.kind() == ErrorKind::NotFound => return fs::write(rt, name, bytes),
-        Err(error) => return Err(error),
-    };
-    let old = fs::metadata(rt, place.as_path())?;
-    if !old.is_file() {
-        return fs::write(rt, name, bytes);
+    match fs::metadata(rt, name) {
+        Ok(old) if old.is_file() => write_plain(rt, name, &old, bytes),
+        Ok(old) if old.file_type().is_block_device() => write_in_place(rt, name, bytes),
+        Ok(_) => Err(io::Error::from(ErrorKind::InvalidInput)),
+        Err(error) if error.kind() == ErrorKind::NotFound => {
+            replace(rt, Path::new(name), None, bytes)
+        }
+        Err(error) => Err(error),
     }
-    // (one that may not be written is not replaced either)
-    OpenOptions::new().write(true).open(rt, place.as_path())?;
-    let beside = place.as_path().with_added_extension(rt.alloc(), ENDING)?;
-    let replaced = write_beside(rt, beside.as_path(), &old, bytes).and_then(|()| fs::rename(
-        rt,
-        beside.as_path(),
-        place.as_path(),
-    ));
-    if replaced.is_err() {
-        // (that the write failed is what the caller has to know)
-        let _ = fs::remove_file(rt, beside.as_path());
-    }
-    replaced
 }
 
-// Writes the new file, with the old one's mode, and has it on the disk before it is named.
-fn write_beside<R: Runtime + AllocGlobal>(
+// Makes these the bytes of a plain file.
+fn write_plain<R: Runtime + AllocGlobal>(
     rt: &R,
-    beside: Path<'_>,
+    name: &str,
     old: &Metadata,
     bytes: &[u8],
 ) -> io::Result<()> {
-    // (one that a run left which was ended in the middle)
-    let _ = fs::remove_file(rt, beside);
-    let mut file = File::create_new(rt, beside)?;
-    file.set_permissions(old.permissions())?;
+    if old.len() == bytes.len() as u64 && matches!(begins_with(rt, name, bytes), Ok(true)) {
+        return Ok(());
+    }
+    // (one that may not be written is not replaced either)
+    OpenOptions::new().write(true).open(rt, name)?;
+    // (a link is followed: the file it names is replaced, not the link)
+    let place = fs::canonicalize(rt, name)?;
+    replace(rt, place.as_path(), Some(old), bytes)
+}
+
+// Does the file begin with these bytes?
+fn begins_with<R: Runtime>(rt: &R, name: &str, bytes: &[u8]) -> io::Result<bool> {
+    let mut file = fs::open(rt, name)?;
+    let mut space = [0; PART];
+    for part in bytes.chunks(PART) {
+        let read = &mut space[..part.len().min(PART)];
+        file.read_exact(read)?;
+        if &*read != part {
+            return Ok(false);
+        }
+    }
+    Ok(true)
+}
+
+fn write_in_place<R: Runtime>(rt: &R, name: &str, bytes: &[u8]) -> io::Result<()> {
+    let mut file = OpenOptions::new().write(true).open(rt, name)?;
     file.write_all(bytes)?;
     file.sync_all()
+}
+
+// Writes a new file beside the place, has it on the disk, and gives it the place. Where that fails the
+// new file is removed.
+fn replace<R: Runtime + AllocGlobal>(
+    rt: &R,
+    place: Path<'_>,
+    old: Option<&Metadata>,
+    bytes: &[u8],
+) -> io::Result<()> {
+    let mut new = create_beside(rt, place, old)?;
+    let kept = match old {
+        Some(old) => new.take_after(rt, old),
+        None => Ok(()),
+    };
+    let written = kept
+        .and_then(|()| new.fill(bytes))
+        .and_then(|()| new.rename(rt, place));
+    match written {
+        Ok(()) => sync_folder(rt, place),
+        Err(error) => {
+            new.remove(rt);
+            Err(error)
+        }
+    }
+}
+
+// Has the names in the folder of this place on the disk, if the system does that for this folder.
+fn sync_folder<R: Runtime>(rt: &R, place: Path<'_>) -> io::Result<()> {
+    let folder = match place.parent() {
+        Some(folder) if !folder.as_str().is_empty() => folder,
+        _ => Path::new("."),
+    };
+    let Ok(folder) = fs::open(rt, folder) else {
+        return Ok(());
+    };
+    match folder.sync_all() {
+        Err(error) if error.kind() == ErrorKind::InvalidInput => Ok(()),
+        synced => synced,
+    }
 }

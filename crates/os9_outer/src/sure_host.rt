@@ -1,8 +1,9 @@
-ghost use Rattle.std.specs.Prelude.{◌≡◌, ℕ, false, Some, None, List, []};
+ghost use Rattle.std.specs.Prelude.{◌≡◌, ℕ, false, Some, None, List, [], map, string_bytes};
 ghost use Rattle.os9_outer.specs.HostFile.{file_named};
 
 use crate::host::{Host, HostFault};
 use crate::host_file::{HostFile, bytes_of, copied, put_file};
+use crate::names::note;
 use std::alloc::Global;
 
 /// A host in memory that never fails: its counts of faults are always 0. All that it has is observed,
@@ -12,6 +13,8 @@ pub struct SureHost {
     files: Vec<HostFile>,
     out_bytes: Vec<u8>,
     err_bytes: Vec<u8>,
+    files_read: Vec<String>,
+    files_written: Vec<String>,
 }
 
 impl SureHost {
@@ -22,11 +25,15 @@ impl SureHost {
         ensures no_err { ⟦<SureHost as Host>⟧.bytes_err result ≡ Some [] }
         ensures no_faults { ⟦<SureHost as Host>⟧.host_faults result ≡ 0 }
         ensures no_err_faults { ⟦<SureHost as Host>⟧.err_stream_faults result ≡ 0 }
+        ensures none_read { ⟦<SureHost as Host>⟧.files_read result ≡ [] }
+        ensures none_written { ⟦<SureHost as Host>⟧.files_written result ≡ [] }
     {
         SureHost {
             files,
             out_bytes: Vec::new(alloc),
             err_bytes: Vec::new(alloc),
+            files_read: Vec::new(alloc),
+            files_written: Vec::new(alloc),
         }
     }
 }
@@ -46,7 +53,12 @@ impl Host for SureHost {
 
     ghost failed_in_read = { λ _. false };
 
+    ghost files_read = { λ host. map string_bytes host.files_read.items };
+
+    ghost files_written = { λ host. map string_bytes host.files_written.items };
+
     fn read_file(&mut self, name: &str) -> Result<Vec<u8>, HostFault> {
+        note(&mut self.files_read, name)?;
         let alloc = *self.files.allocator();
         match bytes_of(&self.files, name) {
             Some(bytes) => copied(alloc, bytes),
@@ -55,6 +67,7 @@ impl Host for SureHost {
     }
 
     fn write_file(&mut self, name: &str, bytes: &[u8]) -> Result<(), HostFault> {
+        note(&mut self.files_written, name)?;
         match put_file(&mut self.files, name, bytes) {
             Ok(()) => Ok(()),
             Err(_) => Err(HostFault::OutOfMemory),

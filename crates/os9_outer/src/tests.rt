@@ -1,7 +1,7 @@
 use crate::drive::{BlockDriver, DriveFault};
 use crate::host::{Host, HostFault};
 use crate::host_file::HostFile;
-use crate::mem_host::MemHost;
+use crate::mem_host::{FailedWrite, MemHost};
 use crate::ram_drive::{PlannedFault, RamDrive};
 use crate::real_host::RealHost;
 use crate::script_tty::ScriptTty;
@@ -11,7 +11,7 @@ use crate::sure_tty::SureTty;
 use crate::terminal::{CharDriver, Key, PutFault, TermFault};
 use std::alloc::Global;
 use std::fs::Permissions;
-use std::os::unix::fs::{PermissionsExt, symlink};
+use std::os::unix::fs::{MetadataExt, PermissionsExt, symlink};
 use std::test::Fail;
 use std::{env, fs, process};
 
@@ -73,6 +73,25 @@ fn mem_host_fails_as_planned(rt: HostRuntime) -> Result<(), Fail> {
         (answers, counts),
         ((Some(failed), Ok(()), Err(failed)), (3, 1, 1))
     );
+    Ok(())
+}
+
+// What a failed write of four bytes leaves in a file of two.
+fn left_by(alloc: Global, failed: FailedWrite, bytes: &[u8]) -> Result<bool, Fail> {
+    let mut host = host_with_a(alloc, &[1])?;
+    host.failed_write = failed;
+    let answer = host.write_file("a", &[6, 7, 8, 9]);
+    Ok(answer == Err(HostFault::Failed) && gives(&mut host, "a", bytes))
+}
+
+#[test]
+fn mem_host_leaves_what_is_planned(rt: HostRuntime) -> Result<(), Fail> {
+    let left = (
+        left_by(rt.alloc(), FailedWrite::Old, &[1, 2])?,
+        left_by(rt.alloc(), FailedWrite::Half, &[6, 7])?,
+        left_by(rt.alloc(), FailedWrite::New, &[6, 7, 8, 9])?,
+    );
+    assert_eq!(rt; left, (true, true, true));
     Ok(())
 }
 
@@ -141,36 +160,69 @@ fn is_link(rt: &HostRuntime, name: &str) -> bool {
     }
 }
 
+// The number of the file that the system has under this name.
+fn node_of(rt: &HostRuntime, name: &str) -> Option<u64> {
+    match fs::metadata(rt, name) {
+        Ok(found) => Some(found.ino()),
+        Err(_) => None,
+    }
+}
+
 #[test]
 fn real_host_replaces_files(rt: HostRuntime) -> Result<(), Fail> {
     let name = own_name(&rt, "old")?;
     let link = own_name(&rt, "link")?;
-    let beside = format!(in rt.alloc(); "{name}.os9-new")?;
+    let stale = format!(in rt.alloc(); "{name}.os9-1")?;
+    let beside = format!(in rt.alloc(); "{name}.os9-2")?;
     let mut host = RealHost::new(rt.clone()?);
     let written = (
         host.write_file(&name, b"the old bytes"),
         fs::set_permissions(&rt, &name, Permissions::from_mode(0o640)).is_ok(),
         symlink(&rt, &name, &link).is_ok(),
-        host.write_file(&beside, b"what a broken run left"),
+        fs::write(&rt, &stale, "of another run").is_ok(),
         host.write_file(&link, b"the new"),
     );
     let left = (
         gives(&mut host, &name, b"the new"),
         is_link(&rt, &link),
+        gives(&mut host, &stale, b"of another run"),
         matches!(fs::exists(&rt, &beside), Ok(false)),
         mode_of(&rt, &name),
     );
     let removed = (
         fs::remove_file(&rt, &link).is_ok(),
+        fs::remove_file(&rt, &stale).is_ok(),
         fs::remove_file(&rt, &name).is_ok(),
     );
     assert_eq!(rt;
         (written, left, removed),
         (
-            (Ok(()), true, true, Ok(()), Ok(())),
-            (true, true, true, Some(0o640)),
-            (true, true)
+            (Ok(()), true, true, true, Ok(())),
+            (true, true, true, true, Some(0o640)),
+            (true, true, true)
         )
+    );
+    Ok(())
+}
+
+#[test]
+fn real_host_leaves_a_file_with_these_bytes(rt: HostRuntime) -> Result<(), Fail> {
+    let name = own_name(&rt, "same")?;
+    let mut host = RealHost::new(rt.clone()?);
+    let first = host.write_file(&name, b"one text");
+    let node = node_of(&rt, &name);
+    let again = (
+        host.write_file(&name, b"one text"),
+        node_of(&rt, &name) == node,
+    );
+    let other = (
+        host.write_file(&name, b"two text"),
+        node_of(&rt, &name) == node,
+    );
+    let removed = fs::remove_file(&rt, &name).is_ok();
+    assert_eq!(rt;
+        (first, again, other, removed),
+        (Ok(()), (Ok(()), true), (Ok(()), false), true)
     );
     Ok(())
 }

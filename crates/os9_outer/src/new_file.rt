@@ -1,0 +1,93 @@
+//! A new file beside another one, which it is to replace.
+
+use std::fs::{File, Metadata, OpenFile, OpenOptions};
+use std::io::{ErrorKind, Write};
+use std::os::unix::fs::{MetadataExt, OpenOptionsExt, lchown};
+use std::path::{Path, PathBuf};
+use std::rt::Runtime;
+use std::{fs, io};
+
+/// Whom a new file lets in: its owner alone, until it has the mode of the old one.
+const OWNER_ALONE: u32 = 0o600;
+
+/// The same of one that replaces none. The umask takes away from it.
+const ANYONE: u32 = 0o666;
+
+/// A file that this run has made, under a name that nothing had.
+#[derive(Drop)]
+pub(crate) struct NewFile<F: Drop> {
+    path: PathBuf,
+    file: F,
+}
+
+// Makes a file beside the one of this place: its name, `.os9-` and the first number from 1 that is free.
+pub(crate) fn create_beside<R: Runtime + AllocGlobal>(
+    rt: &R,
+    place: Path<'_>,
+    old: Option<&Metadata>,
+) -> io::Result<NewFile<R::File>> {
+    let mode = if old.is_some() { OWNER_ALONE } else { ANYONE };
+    for number in 1..u32::MAX {
+        let name = format!(in rt.alloc(); "{}.os9-{number}", place.as_str())?;
+        match OpenOptions::new()
+            .write(true)
+            .create_new(true)
+            .mode(mode)
+            .open(rt, &name)
+        {
+            Ok(file) => {
+                return Ok(NewFile {
+                    path: PathBuf::from(name),
+                    file,
+                });
+            }
+            Err(error) if error.kind() == ErrorKind::AlreadyExists => {}
+            Err(error) => return Err(error),
+        }
+    }
+    Err(io::Error::from(ErrorKind::AlreadyExists))
+}
+
+impl<F: Write + OpenFile + Drop> NewFile<F> {
+    // Gives the file the owner, the group and the mode of the old one. An owner that the system does not
+    // let this user give is not kept.
+    pub(crate) fn take_after<R: Runtime>(&self, rt: &R, old: &Metadata) -> io::Result<()> {
+        let path = self.path.as_path();
+        if lchown(rt, path, Some(old.uid()), Some(old.gid())).is_err() {
+            let _ = lchown(rt, path, None, Some(old.gid()));
+        }
+        self.file.set_permissions(old.permissions())
+    }
+
+    // Writes these bytes, and has them on the disk.
+    pub(crate) fn fill(&mut self, bytes: &[u8]) -> io::Result<()> {
+        self.file.write_all(bytes)?;
+        self.file.sync_all()
+    }
+
+    // Gives the file this name, over the file that has it.
+    pub(crate) fn rename<R: Runtime>(&self, rt: &R, place: Path<'_>) -> io::Result<()> {
+        if !self.has_its_name(rt) {
+            return Err(io::Error::from(ErrorKind::NotFound));
+        }
+        fs::rename(rt, self.path.as_path(), place)
+    }
+
+    // Removes the file. That it cannot be removed leaves it there, and is not what the caller has to know.
+    pub(crate) fn remove<R: Runtime>(&self, rt: &R) {
+        if self.has_its_name(rt) {
+            let _ = fs::remove_file(rt, self.path.as_path());
+        }
+    }
+
+    // Is it this file that its name leads to, and not one that was put there since?
+    fn has_its_name<R: Runtime>(&self, rt: &R) -> bool {
+        match (
+            self.file.metadata(),
+            fs::symlink_metadata(rt, self.path.as_path()),
+        ) {
+            (Ok(made), Ok(named)) => made.dev() == named.dev() && made.ino() == named.ino(),
+            _ => false,
+        }
+    }
+}
