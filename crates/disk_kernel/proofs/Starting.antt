@@ -1,15 +1,13 @@
 -- The start of a kernel is one of the machine.
-use Rattle.std.proofs.Common.{◌≡◌, ℕ, ◌<◌, ◌≤◌, true, Ok, Err, None, option_map, List, length, refl, sym, ap, subst, arith}
+use Rattle.std.proofs.Common.{◌≡◌, ℕ, ◌<◌, ◌≤◌, true, Ok, Err, None, option_map, List, length, refl, sym, subst, arith}
 use Rattle.os9_base.specs.declared.registers.Pid.{Pid}
-use Rattle.os9_outer.specs.TerminalState.{TerminalState}
 use Rattle.call_rules.specs.Inner.{Inner}
 use Rattle.civil_time.specs.CivilTime.{is_time_packet}
 use Rattle.file_drives.specs.Drives.{DriveView}
 use Rattle.file_start.specs.Start.{StartedOn, StartsDrives}
 use Rattle.file_start.specs.declared.fault.StartFault.TheVariants.{OutOfMemory, Drive}
 use Rattle.file_state.specs.declared.state.FileState.{FileState}
-use Rattle.machine_model.specs.Start.{Starts as StartsWithoutFiles, first_start, only_process}
-use Rattle.machine_model.specs.State.{State as StateWithoutFiles}
+use Rattle.machine_model.specs.Start.{StartsProcesses, first_start, only_process}
 use Rattle.proc_state.specs.Tie.{Represents as RepresentsProcesses}
 use Rattle.proc_state.specs.declared.state.ProcState.{ProcState}
 use Rattle.time_rules.specs.Clock.{first_clock}
@@ -21,21 +19,20 @@ use Rattle.disk_kernel.specs.Outside.{Outside}
 use Rattle.disk_kernel.specs.Starting.{IsStarted, boot_of}
 use Rattle.kept_laws.proofs.RunningLaws.{start-running}
 
--- the processes are those of a machine that starts, whatever its drives and terminals are
+-- the processes are those of a machine that starts
 abbrev pub ProcessesStart : List ℕ → ℕ → ProcState → Type 0
-ProcessesStart file blocks processes =
-    (drives : ℕ) (terms : List TerminalState) → (s : StateWithoutFiles) × StartsWithoutFiles file blocks drives terms s × RepresentsProcesses processes s.inner
+ProcessesStart file blocks processes = (m : Inner) × StartsProcesses file blocks m × RepresentsProcesses processes m
 
 pub kernel-starts : (config : Config) (file : List ℕ) (images : List (List ℕ)) (after : Outside) (kernel : Kernel) → ProcessesStart file config.blocks kernel.processes → StartedOn images kernel.files after.drives → kernel.clock ≡ first_clock config.time → kernel.chosen ≡ None → is_time_packet config.time ≡ true → 0 < length after.terms → length after.terms ≤ 4 → IsStarted config file images after kernel
 kernel-starts config file images after kernel processes on clock none civil some few =
-    let (was, begins, there) = processes 0 after.terms in
+    let (was, begins, there) = processes in
     let m : Inner = only_process begins.memory (first_start begins.number begins.entry) in
     let s : State = record { inner = m; files = on.was; clock = first_clock config.time; chosen = None; terms = after.terms } in
     let starts : Starts (boot_of config file images after) s = record { entries = begins.entries; number = begins.number; entry = begins.entry; memory = begins.memory; has = begins.has; begins = begins.begins; files = on.was; mounted = on.starts; is = refl } in (
       s,
       starts,
       record {
-        inner = subst (λ (m : Inner). RepresentsProcesses kernel.processes m) (ap (λ (s : StateWithoutFiles). s.inner) begins.is) there;
+        inner = subst (λ (m : Inner). RepresentsProcesses kernel.processes m) begins.is there;
         files = on.stands;
         is = λ i. record {
           inner = m;

@@ -1,44 +1,29 @@
--- The devices of the machine only gain: event by event, slice by slice, in a whole run. What an attempt on a terminal
--- or a pipe leaves of the terminals, the machine without disks leaves too.
-use Rattle.std.proofs.Common.{◌≡◌, ◌⊎◌, ℕ, ◌+◌, Bool, true, false, Option, Some, None, Result, Ok, Err, List, length, refl, sym, ◌∙◌, inl, inr, subst}
-use Rattle.std.specs.Prelude.{MatchOption, if◌then◌else◌, ◌==◌}
-use Rattle.std.specs.Option.{option_map_or}
-use Rattle.os9_base.specs.declared.calls.TheConstants.{F_LOAD}
-use Rattle.os9_base.specs.declared.errors.TheConstants.{E_UNKSVC}
+-- The devices of the machine only gain: event by event, slice by slice, in a whole run.
+use Rattle.std.proofs.Common.{◌≡◌, ◌⊎◌, ℕ, ◌+◌, ◌-◌, Bool, true, false, Option, Some, None, Result, Ok, Err, List, [], ◌∷◌, ◌++◌, length, refl, sym, inl, inr, subst}
+use Rattle.std.specs.Prelude.{MatchBool, MatchOption}
 use Rattle.os9_base.specs.declared.registers.TimePacket.{TimePacket}
 use Rattle.os9_outer.specs.TerminalState.{TerminalState}
 use Rattle.cpu_model.specs.Step.{Outcome, Done, Calls, Aborts}
-use Rattle.proc_rules.specs.Records.{IsLiving}
-use Rattle.call_rules.specs.declared.proc_call.ProcCall.{ProcCall}
 use Rattle.call_rules.specs.declared.proc_call.ProcCall.TheVariants as Call
-use Rattle.call_rules.specs.Attempts.{after_attempt, attempted}
+use Rattle.call_rules.specs.Attempts.{attempted}
 use Rattle.call_rules.specs.CallResult.{CallResult, done, refused, waits, ends}
-use Rattle.call_rules.specs.Codes.{call_of}
 use Rattle.call_rules.specs.Delivery.{delivered}
 use Rattle.call_rules.specs.Inner.{Inner}
 use Rattle.call_rules.specs.Ready.{Act, attempts, delivers, executes, act_of}
-use Rattle.io_rules.specs.declared.io_call.IoCall.{IoCall}
-use Rattle.io_rules.specs.Attempts.{IoAttempts}
-use Rattle.io_rules.specs.Codes.{io_call_of}
-use Rattle.io_rules.specs.Io.{Io}
 use Rattle.file_rules.specs.declared.path_call.PathCall.{PathCall}
 use Rattle.file_rules.specs.Attempts.{asker_of}
-use Rattle.file_rules.specs.Codes.{path_call_of}
 use Rattle.file_rules.specs.Files.{Files}
-use Rattle.time_rules.specs.declared.time_call.TimeCall.{TimeCall}
-use Rattle.time_rules.specs.Codes.{time_call_of}
-use Rattle.touch_laws.specs.Devices.{IsOnDevice, device_call}
+use Rattle.touch_laws.specs.Devices.{IsOnDevice}
 use Rattle.touch_laws.specs.Touch.{LeavesDevices, LeavesFiles}
 use Rattle.touch_laws.proofs.Attempts.{attempt-comes}
-use Rattle.touch_laws.proofs.Codes.{code-there}
 use Rattle.touch_laws.proofs.Loads.{chain-leaves, fork-leaves, load-leaves}
 use Rattle.machine_model.specs.declared.ends.EventEnd.{EventEnd}
 use Rattle.machine_model.specs.declared.ends.SliceEnd.{SliceEnd}
-use Rattle.machine_model.specs.Console.{terminals_emptied}
-use Rattle.machine_model.specs.Event.{Acts as ActsWithout, Attempts as AttemptsWithout, call_event_end, io_after_call, next_instruction}
-use Rattle.machine_model.specs.State.{State as WithoutDisks}
+use Rattle.machine_model.specs.declared.ends.SliceEnd.TheVariants.{Idle, Ran as SliceRan}
+use Rattle.machine_model.specs.Console.{console_bytes, terminals_emptied}
+use Rattle.machine_model.specs.Event.{next_instruction}
 use Rattle.machine_model.specs.Terminals.{TerminalsOnlyGain}
-use Rattle.machine_model.proofs.TerminalLaws.{gain-arrivals, gain-broken, gain-emptied, gain-same, gain-then, gains-event}
+use Rattle.machine_model.proofs.TerminalLaws.{gain-arrivals, gain-attempt, gain-broken, gain-emptied, gain-same, gain-then}
 use Rattle.disk_machine.specs.Along.{IsCarriedByMoves}
 use Rattle.disk_machine.specs.Devices.{DrivesOnlyGain, OnlyGain}
 use Rattle.disk_machine.specs.Event.{Acts, Event, before_delivery, files_after_delivery, files_after_instruction}
@@ -60,16 +45,6 @@ gains-then a b c first next = record {
   drives = drives-then a.files.drives b.files.drives c.files.drives first.drives next.drives;
 }
 
--- the state of the machine without disks in which this process was chosen
-abbrev without : State → ℕ → WithoutDisks
-without s p = record {
-  inner = s.inner;
-  io = s.files.io;
-  chosen = Some p;
-  drives = length s.files.drives;
-  terms = s.terms;
-}
-
 -- ---- a tick
 
 pub tick-gains : (s t : State) → Tick s t → OnlyGain s t
@@ -79,60 +54,8 @@ tick-gains s t (desk, arrives, is) = subst (OnlyGain s) (sym is) (record {
 })
 
 pub broken-gains : (s : State) (terms : List TerminalState) → BreaksTick s terms → TerminalsOnlyGain s.terms terms
-broken-gains s terms broken = gain-broken (without s 0) terms (record {
-  count = broken.count;
-  desk = broken.desk;
-  arrivals = broken.arrivals;
-  answer = broken.answer;
-  terminal = broken.terminal;
-  memory = broken.memory;
-  device = broken.device;
-})
-
--- ---- an attempt on a terminal or a pipe
-
--- the code of a call on paths is that of no call on processes
-module _ (call : PathCall) where
-  by_codes : (loading : Bool) (process : Option ProcCall) (clock : Option TimeCall) (path : Option PathCall) → (if loading then loads else option_map_or on_processes process (option_map_or on_time clock (option_map_or on_paths path no_call))) ≡ on_paths call → (process ≡ None) × (path ≡ Some call)
-  by_codes true process clock path is = let never : ⊥ = cc in absurd never
-  by_codes false (Some process) clock path is = let never : ⊥ = cc in absurd never
-  by_codes false None (Some clock) path is = let never : ⊥ = cc in absurd never
-  by_codes false None None None is = let never : ⊥ = cc in absurd never
-  by_codes false None None (Some path) is = (refl, cc)
-
-  code-of-path : (code : ℕ) → service_of code ≡ on_paths call → (call_of code ≡ None) × (path_call_of code ≡ Some call)
-  code-of-path code is = by_codes (code == F_LOAD) (call_of code) (time_call_of code) (path_call_of code) is
-
--- an attempt of the process by a call on paths only lets the terminals gain where it is one on a terminal or a pipe
-abbrev DevicesGain : Service → State → ℕ → Type 0
-DevicesGain service s p =
-    (call : PathCall) (device : IoCall) (result : CallResult) (io : Io) (terms : List TerminalState) → service ≡ on_paths call → device_call call ≡ Some device → IoAttempts device s.inner s.files.io (length s.files.drives) p result io s.terms terms → TerminalsOnlyGain s.terms terms
-
-module _ (s : State) (p : ℕ) (code : ℕ) (result : CallResult) (io : Io) (terms : List TerminalState) where
-  abbrev OnPath : Option IoCall → Type 0
-  OnPath call =
-      MatchOption call ((result ≡ refused E_UNKSVC) × (io ≡ s.files.io) × (terms ≡ s.terms))
-      (λ call. IoAttempts call s.inner s.files.io (length s.files.drives) p result io s.terms terms)
-
-  abbrev OnCall : Option ProcCall → Type 0
-  OnCall call =
-      MatchOption call (OnPath (io_call_of code))
-      (λ call. (result ≡ attempted call s.inner p) × (io ≡ io_after_call code s.files.io p result) × (terms ≡ s.terms))
-
-  attempt-without : (device : IoCall) → call_of code ≡ None → io_call_of code ≡ Some device → IoAttempts device s.inner s.files.io (length s.files.drives) p result io s.terms terms → AttemptsWithout code (without s p) p result io terms
-  attempt-without device none there it = subst OnCall (sym none) (subst OnPath (sym there) it)
-
-  event-without : act_of s.inner p ≡ attempts code → IsLiving s.inner.records p → AttemptsWithout code (without s p) p result io terms → TerminalsOnlyGain s.terms terms
-  event-without next lives it =
-      let after : WithoutDisks = record (without s p) { inner = after_attempt s.inner p result; io = io; terms = terms } in
-      gains-event (without s p) after (call_event_end result)
-      (p, refl, lives, subst (λ (act : Act). ActsWithout act (without s p) p (call_event_end result) after) (sym next) (result, io, terms, it, refl, refl))
-
-devices-gain : (s : State) (p code : ℕ) → act_of s.inner p ≡ attempts code → IsLiving s.inner.records p → DevicesGain (service_of code) s p
-devices-gain s p code next lives call device result io terms is on it =
-    let codes : (call_of code ≡ None) × (path_call_of code ≡ Some call) = code-of-path call code is in
-    event-without s p code result io terms next lives
-    (attempt-without s p code result io terms device codes.0 (code-there code call codes.1 ∙ on) it)
+broken-gains s terms broken =
+    gain-broken (s.inner.tick + 1) broken.count (desk_of s) broken.desk broken.terminal broken.answer terms broken.arrivals broken.device
 
 -- ---- an attempt
 
@@ -163,30 +86,31 @@ module _ (s : State) (now : TimePacket) (p : ℕ) (result : CallResult) (rest : 
   loaded-gain files after left same is =
       others-gain after (subst (DrivesOnlyGain s.files.drives) (sym same) (loads-gain s.files result files left.drives)) is
 
-  path-gains : (call : PathCall) → DevicesGain (on_paths call) s p → IsOnDevice call s.inner s.files p result rest.files s.terms rest.terms ⊎ LeavesDevices call s.inner s.files now p result rest.files s.terms rest.terms → RestGains s rest
-  path-gains call devices (inl on) = record {
-    terminals = devices call on.device result rest.files.io rest.terms refl on.device_is on.attempted;
+  path-gains : (call : PathCall) → IsOnDevice call s.inner s.files p result rest.files s.terms rest.terms ⊎ LeavesDevices call s.inner s.files now p result rest.files s.terms rest.terms → RestGains s rest
+  path-gains call (inl on) = record {
+    terminals =
+        gain-attempt on.device s.inner s.files.io rest.files.io (length s.files.drives) p result s.terms rest.terms on.attempted;
     drives = none-gains s.files.drives rest.files.drives on.none_failed;
   }
-  path-gains call devices (inr left) = record {
+  path-gains call (inr left) = record {
     terminals = subst (TerminalsOnlyGain s.terms) (sym left.terminals) (gain-same s.terms);
     drives = volumes-gain s.files result rest.files left.volumes;
   }
 
-  serves-gain : (service : Service) → DevicesGain service s p → Serves service s now p result rest → RestGains s rest
-  serves-gain loads devices (files, it, is) =
+  serves-gain : (service : Service) → Serves service s now p result rest → RestGains s rest
+  serves-gain loads (files, it, is) =
       loaded-gain files files (load-leaves s.inner (asker_of s.inner p now) s.files (length s.terms) p result files it) refl is
-  serves-gain (on_processes Call.Fork) devices (files, it, is) =
+  serves-gain (on_processes Call.Fork) (files, it, is) =
       loaded-gain files (files_after_fork files p result) (fork-leaves s.inner (asker_of s.inner p now) s.files (length s.terms) p result files it) (fork-drives files p result) is
-  serves-gain (on_processes Call.Chain) devices (files, it, is) =
+  serves-gain (on_processes Call.Chain) (files, it, is) =
       loaded-gain files files (chain-leaves s.inner (asker_of s.inner p now) s.files (length s.terms) p result files it) refl is
-  serves-gain (on_processes call) devices it =
+  serves-gain (on_processes call) it =
       others-gain (files_after_call s.files p result) (subst (DrivesOnlyGain s.files.drives) (sym (call-drives s.files p result)) (drives-same s.files.drives)) it.1
-  serves-gain (on_time call) devices (clock, it, is) =
+  serves-gain (on_time call) (clock, it, is) =
       subst (RestGains s) (sym is) (record { terminals = gain-same s.terms; drives = drives-same s.files.drives })
-  serves-gain (on_paths call) devices (it, clock) =
-      path-gains call devices (attempt-comes call s.inner s.files now p result rest.files s.terms rest.terms it)
-  serves-gain no_call devices (refusal, is) =
+  serves-gain (on_paths call) (it, clock) =
+      path-gains call (attempt-comes call s.inner s.files now p result rest.files s.terms rest.terms it)
+  serves-gain no_call (refusal, is) =
       subst (RestGains s) (sym is) (record { terminals = gain-same s.terms; drives = drives-same s.files.drives })
 
 -- ---- one event
@@ -200,21 +124,21 @@ delivery-gains : (files : Files) (p : ℕ) (outcome : Result Inner ℕ) → Driv
 delivery-gains files p (Ok t) = drives-same files.drives
 delivery-gains files p (Err status) = drives-same files.drives
 
-acts-gain : (act : Act) (s : State) (p : ℕ) (end : EventEnd) (t : State) → act_of s.inner p ≡ act → IsLiving s.inner.records p → Acts act s p end t → OnlyGain s t
-acts-gain executes s p end t next lives (ending, is) = subst (OnlyGain s) (sym is) (record {
+acts-gain : (act : Act) (s : State) (p : ℕ) (end : EventEnd) (t : State) → Acts act s p end t → OnlyGain s t
+acts-gain executes s p end t (ending, is) = subst (OnlyGain s) (sym is) (record {
   terminals = gain-same s.terms;
   drives = instruction-gains s.files p (next_instruction s.inner p);
 })
-acts-gain (delivers signal) s p end t next lives (ending, is) = subst (OnlyGain s) (sym is) (record {
+acts-gain (delivers signal) s p end t (ending, is) = subst (OnlyGain s) (sym is) (record {
   terminals = gain-same s.terms;
   drives = delivery-gains s.files p (delivered (before_delivery s p) p signal);
 })
-acts-gain (attempts code) s p end t next lives (result, rest, (now, is_now, serves), ending, is) =
-    let gained : RestGains s rest = serves-gain s now p result rest (service_of code) (devices-gain s p code next lives) serves in
+acts-gain (attempts code) s p end t (result, rest, (now, is_now, serves), ending, is) =
+    let gained : RestGains s rest = serves-gain s now p result rest (service_of code) serves in
     subst (OnlyGain s) (sym is) (record { terminals = gained.terminals; drives = gained.drives })
 
 pub event-gains : (s t : State) (end : EventEnd) → Event s end t → OnlyGain s t
-event-gains s t end (p, chosen, lives, acts) = acts-gain (act_of s.inner p) s p end t refl lives acts
+event-gains s t end (p, chosen, lives, acts) = acts-gain (act_of s.inner p) s p end t acts
 
 -- ---- slices and runs
 

@@ -1,16 +1,14 @@
--- A boot comes to one end: that of its boot file is that of the machine without disks, and an image has one volume.
+-- A boot comes to one end: its boot file comes to one, and an image has one volume.
 use Rattle.std.proofs.Common.{◌≡◌, ◌⊎◌, ℕ, None, List, [], ◌∷◌, refl, sym, ap, ◌∙◌, inl, inr}
 use Rattle.std.specs.List.{AllZip}
 use Rattle.rbf_model.specs.Volume.{DiskVolume, Vol}
 use Rattle.rbf_model.proofs.Unique.{vol_is_unique}
 use Rattle.call_rules.specs.Inner.{Inner}
-use Rattle.io_rules.specs.Io.{first_io}
 use Rattle.file_rules.specs.Files.{DriveState, Files}
 use Rattle.file_rules.specs.Processes.{StartsOn, first_files}
 use Rattle.machine_model.specs.declared.ends.BootFault.{BootFault}
-use Rattle.machine_model.specs.Start.{Refuses, Starts as StartsWithout, first_start, only_process}
-use Rattle.machine_model.specs.State.{State as WithoutDisks}
-use Rattle.machine_model.proofs.StartLaws.{Starts-one, never-both as never-both-without, some-end as some-end-without}
+use Rattle.machine_model.specs.Start.{Refuses, StartsProcesses, first_start, only_process}
+use Rattle.machine_model.proofs.StartLaws.{Starts-one, never-both as never-both-processes, some-end as some-end-processes}
 use Rattle.time_rules.specs.Clock.{first_clock}
 use Rattle.disk_machine.specs.Start.{Boot, Starts}
 use Rattle.disk_machine.specs.State.{State}
@@ -34,15 +32,11 @@ files-one images drives one other mounted again =
 
 -- ---- the boot file
 
--- the machine without disks, with these processes
-abbrev without : Boot → Inner → WithoutDisks
-without boot inner = record { inner = inner; io = first_io; chosen = None; drives = 0; terms = boot.terms }
-
 abbrev first_inner : (boot : Boot) (s : State) → Starts boot s → Inner
 first_inner boot s starts = only_process starts.memory (first_start starts.number starts.entry)
 
-starts-without : (boot : Boot) (s : State) (starts : Starts boot s) → StartsWithout boot.file boot.blocks 0 boot.terms (without boot (first_inner boot s starts))
-starts-without boot s starts = record {
+starts-so : (boot : Boot) (s : State) (starts : Starts boot s) → StartsProcesses boot.file boot.blocks (first_inner boot s starts)
+starts-so boot s starts = record {
   entries = starts.entries;
   number = starts.number;
   entry = starts.entry;
@@ -63,16 +57,15 @@ states-one boot m n one other inners files = λ i. first_state boot (inners i) (
 
 pub starts-one : (boot : Boot) (s t : State) → Starts boot s → Starts boot t → s ≡ t
 starts-one boot s t one other =
-    let same : without boot (first_inner boot s one) ≡ without boot (first_inner boot t other) = Starts-one boot.file boot.blocks 0 boot.terms _ _ (starts-without boot s one) (starts-without boot t other) in
-    let inners : first_inner boot s one ≡ first_inner boot t other = ap (λ (m : WithoutDisks). m.inner) same in
+    let inners : first_inner boot s one ≡ first_inner boot t other = Starts-one boot.file boot.blocks _ _ (starts-so boot s one) (starts-so boot t other) in
     let files : one.files ≡ other.files = files-one boot.images boot.drives one.files other.files one.mounted other.mounted in
     one.is ∙ states-one boot (first_inner boot s one) (first_inner boot t other) one.files other.files inners files ∙ sym other.is
 
 pub never-both : (boot : Boot) (s : State) (fault : BootFault) → Starts boot s → Refuses boot.file boot.blocks fault → ⊥
 never-both boot s fault starts refusal =
-    never-both-without boot.file boot.blocks 0 boot.terms (without boot (first_inner boot s starts)) fault (starts-without boot s starts) refusal
+    never-both-processes boot.file boot.blocks (first_inner boot s starts) fault (starts-so boot s starts) refusal
 
-by_file : (boot : Boot) (volumes : List DiskVolume) → AllZip Vol boot.images volumes → ((m : WithoutDisks) × StartsWithout boot.file boot.blocks 0 boot.terms m) ⊎ ((fault : BootFault) × Refuses boot.file boot.blocks fault) → ((s : State) × Starts boot s) ⊎ ((fault : BootFault) × Refuses boot.file boot.blocks fault)
+by_file : (boot : Boot) (volumes : List DiskVolume) → AllZip Vol boot.images volumes → ((m : Inner) × StartsProcesses boot.file boot.blocks m) ⊎ ((fault : BootFault) × Refuses boot.file boot.blocks fault) → ((s : State) × Starts boot s) ⊎ ((fault : BootFault) × Refuses boot.file boot.blocks fault)
 by_file boot volumes mounted (inr refusal) = inr refusal
 by_file boot volumes mounted (inl (m, starts)) =
     inl (
@@ -92,4 +85,4 @@ by_file boot volumes mounted (inl (m, starts)) =
 
 pub some-end : (boot : Boot) (volumes : List DiskVolume) → AllZip Vol boot.images volumes → ((s : State) × Starts boot s) ⊎ ((fault : BootFault) × Refuses boot.file boot.blocks fault)
 some-end boot volumes mounted =
-    by_file boot volumes mounted (some-end-without boot.file boot.blocks 0 boot.terms)
+    by_file boot volumes mounted (some-end-processes boot.file boot.blocks)

@@ -36,7 +36,6 @@ use Rattle.call_laws.proofs.OthersKept.{living-within, record-put}
 use Rattle.io_laws.specs.Kept.{AreInCalls, WaitsInCall}
 use Rattle.kept_laws.proofs.CallCodes.{not-both}
 use Rattle.io_laws.proofs.Codes.{attempts-code}
-
 use Rattle.kept_laws.proofs.WaitsMade.{HasItsCall}
 
 -- ---- who waits

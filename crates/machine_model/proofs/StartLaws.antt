@@ -1,19 +1,17 @@
 -- A boot file comes to an end, and to one only.
-use Rattle.std.proofs.Common.{◌≡◌, ◌<◌, ◌≤◌, ◌+◌, ◌⊎◌, ℕ, true, Option, Some, None, Result, Ok, Err, List, length, codes, refl, sym, ap, ◌∙◌, inl, inr, arith, subst}
+use Rattle.std.proofs.Common.{◌≡◌, ◌≤◌, ◌⊎◌, ℕ, true, Option, Some, None, Result, Ok, Err, List, length, codes, refl, sym, ap, ◌∙◌, inl, inr, arith}
 use Rattle.std.proofs.lemmas.Bool.{cases_lt}
 use Rattle.std.specs.Prelude.{IsErr}
 use Rattle.proc_model.specs.ModuleList.{ModuleEntry, module_entry_at, answers_to}
 use Rattle.proc_model.specs.Loading.{no_entries}
 use Rattle.proc_model.proofs.LoadingLemmas.{Enters-one, Enters-some}
 use Rattle.proc_model.proofs.ModuleListLaws.{found_entry}
-use Rattle.os9_outer.specs.TerminalState.{TerminalState}
-use Rattle.io_rules.specs.Io.{first_io}
+use Rattle.call_rules.specs.Inner.{Inner}
 use Rattle.machine_model.specs.declared.ends.BootFault.{BootFault}
 use Rattle.machine_model.specs.declared.ends.BootFault.TheVariants.{OutOfMemory, BadModule, NoFirst, TooLarge}
-use Rattle.machine_model.specs.State.{State}
 use Rattle.proc_model.specs.declared.memory.MemoryFault.{MemoryFault}
 use Rattle.proc_model.specs.Memory.{MemoryState}
-use Rattle.machine_model.specs.Start.{EntersBoot, HasFirst, Starts, Refuses, boot_group, first_program, first_start, first_started, only_process, longest_file}
+use Rattle.machine_model.specs.Start.{EntersBoot, HasFirst, StartsProcesses, Refuses, boot_group, first_program, first_start, first_started, only_process, longest_file}
 
 -- a file enters one list of entries
 entries-one : (file : List ℕ) (entries others : List (Option ModuleEntry)) → EntersBoot file (Ok entries) → EntersBoot file (Ok others) → entries ≡ others
@@ -50,8 +48,8 @@ started-one file blocks entries others number other entry second one two =
     let same = first-one file entries others number other entry second one two in
     λ i. first_started file blocks (same.one_list i) (same.one_number i) (same.one_program i)
 
-pub Starts-one : (file : List ℕ) (blocks drives : ℕ) (terms : List TerminalState) (s t : State) → Starts file blocks drives terms s → Starts file blocks drives terms t → s ≡ t
-Starts-one file blocks drives terms s t one other =
+pub Starts-one : (file : List ℕ) (blocks : ℕ) (m n : Inner) → StartsProcesses file blocks m → StartsProcesses file blocks n → m ≡ n
+Starts-one file blocks m n one other =
     let same = first-one file one.entries other.entries one.number other.number one.entry other.entry one.has other.has in
     let ends : first_started file blocks one.entries one.number one.entry ≡ first_started file blocks other.entries other.number other.entry = started-one file blocks one.entries other.entries one.number other.number one.entry other.entry one.has other.has in
     let memories : one.memory ≡ other.memory = cc (one.begins, other.begins, ends) in
@@ -63,12 +61,12 @@ begins-once file blocks entries others number other entry second memory one two 
     let ends : first_started file blocks entries number entry ≡ first_started file blocks others other second = started-one file blocks entries others number other entry second one two in
     let ok : first_started file blocks others other second ≡ Ok memory = sym ends ∙ begins in cc (ok, fails)
 
-pub never-both : (file : List ℕ) (blocks drives : ℕ) (terms : List TerminalState) (s : State) (fault : BootFault) → Starts file blocks drives terms s → Refuses file blocks fault → ⊥
-never-both file blocks drives terms s TooLarge starts (inl long) = let short : length file ≤ longest_file = starts.has.short in absurd (omega arith)
-never-both file blocks drives terms s TooLarge starts (inr (entries, number, program, has, wants)) = begins-once file blocks starts.entries entries starts.number number starts.entry program starts.memory starts.has has starts.begins wants
-never-both file blocks drives terms s (BadModule at error) starts (short, refusal) = never-refused file starts.entries at error starts.has.entered refusal
-never-both file blocks drives terms s NoFirst starts (short, (entries, ending, without)) = never-without file starts.entries entries starts.number starts.entry starts.has ending without
-never-both file blocks drives terms s OutOfMemory starts refusal = refusal
+pub never-both : (file : List ℕ) (blocks : ℕ) (m : Inner) (fault : BootFault) → StartsProcesses file blocks m → Refuses file blocks fault → ⊥
+never-both file blocks m TooLarge starts (inl long) = let short : length file ≤ longest_file = starts.has.short in absurd (omega arith)
+never-both file blocks m TooLarge starts (inr (entries, number, program, has, wants)) = begins-once file blocks starts.entries entries starts.number number starts.entry program starts.memory starts.has has starts.begins wants
+never-both file blocks m (BadModule at error) starts (short, refusal) = never-refused file starts.entries at error starts.has.entered refusal
+never-both file blocks m NoFirst starts (short, (entries, ending, without)) = never-without file starts.entries entries starts.number starts.entry starts.has ending without
+never-both file blocks m OutOfMemory starts refusal = refusal
 
 -- one place and one error are one fault
 same-fault : {at error place number : ℕ} → (let refusal : Result (List (Option ModuleEntry)) (ℕ × ℕ) = Err (at, error) in refusal) ≡ Err (place, number) → BadModule at error ≡ BadModule place number
@@ -100,33 +98,33 @@ pub first_entry : (entries : List (Option ModuleEntry)) (number : ℕ) → first
 first_entry entries number found_it = found_entry (answers_to entries (codes "SysGo") 0x11) entries number found_it
 
 -- a machine starts a file, or refuses it
-abbrev Ends : List ℕ → ℕ → ℕ → List TerminalState → Type 0
-Ends file blocks drives terms = ((s : State) × Starts file blocks drives terms s) ⊎ ((fault : BootFault) × Refuses file blocks fault)
+abbrev Ends : List ℕ → ℕ → Type 0
+Ends file blocks = ((m : Inner) × StartsProcesses file blocks m) ⊎ ((fault : BootFault) × Refuses file blocks fault)
 
 -- a file with a first program starts where that can begin
-by_start : (file : List ℕ) (blocks drives : ℕ) (terms : List TerminalState) (entries : List (Option ModuleEntry)) (number : ℕ) (entry : ModuleEntry) (began : Result MemoryState MemoryFault) → first_started file blocks entries number entry ≡ began → HasFirst file entries number entry → Ends file blocks drives terms
-by_start file blocks drives terms entries number entry (Err fault) is has =
+by_start : (file : List ℕ) (blocks : ℕ) (entries : List (Option ModuleEntry)) (number : ℕ) (entry : ModuleEntry) (began : Result MemoryState MemoryFault) → first_started file blocks entries number entry ≡ began → HasFirst file entries number entry → Ends file blocks
+by_start file blocks entries number entry (Err fault) is has =
     inr (TooLarge, inr (entries, number, entry, has, rw is refl))
-by_start file blocks drives terms entries number entry (Ok memory) is has =
-    inl (record { inner = only_process memory (first_start number entry); io = first_io; chosen = None; drives = drives; terms = terms }, record { entries = entries; number = number; entry = entry; memory = memory; has = has; begins = is; is = refl })
+by_start file blocks entries number entry (Ok memory) is has =
+    inl (only_process memory (first_start number entry), record { entries = entries; number = number; entry = entry; memory = memory; has = has; begins = is; is = refl })
 
-by_room : (file : List ℕ) (blocks drives : ℕ) (terms : List TerminalState) (entries : List (Option ModuleEntry)) (number : ℕ) (entry : ModuleEntry) → HasFirst file entries number entry → Ends file blocks drives terms
-by_room file blocks drives terms entries number entry has =
-    by_start file blocks drives terms entries number entry (first_started file blocks entries number entry) refl has
+by_room : (file : List ℕ) (blocks : ℕ) (entries : List (Option ModuleEntry)) (number : ℕ) (entry : ModuleEntry) → HasFirst file entries number entry → Ends file blocks
+by_room file blocks entries number entry has =
+    by_start file blocks entries number entry (first_started file blocks entries number entry) refl has
 
-by_first : (file : List ℕ) (blocks drives : ℕ) (terms : List TerminalState) (entries : List (Option ModuleEntry)) (first : Option ℕ) → length file ≤ longest_file → EntersBoot file (Ok entries) → first_program entries ≡ first → Ends file blocks drives terms
-by_first file blocks drives terms entries None short entering without = inr (NoFirst, (short, (entries, entering, without)))
-by_first file blocks drives terms entries (Some number) short entering found_it =
+by_first : (file : List ℕ) (blocks : ℕ) (entries : List (Option ModuleEntry)) (first : Option ℕ) → length file ≤ longest_file → EntersBoot file (Ok entries) → first_program entries ≡ first → Ends file blocks
+by_first file blocks entries None short entering without = inr (NoFirst, (short, (entries, entering, without)))
+by_first file blocks entries (Some number) short entering found_it =
     let first = first_entry entries number found_it in
-    by_room file blocks drives terms entries number first.0 (record { short = short; entered = entering; found_it = found_it; is = first.1 })
+    by_room file blocks entries number first.0 (record { short = short; entered = entering; found_it = found_it; is = first.1 })
 
-by_outcome : (file : List ℕ) (blocks drives : ℕ) (terms : List TerminalState) (outcome : Result (List (Option ModuleEntry)) (ℕ × ℕ)) → length file ≤ longest_file → EntersBoot file outcome → Ends file blocks drives terms
-by_outcome file blocks drives terms (Err (at, error)) short entering = inr (BadModule at error, (short, entering))
-by_outcome file blocks drives terms (Ok entries) short entering = by_first file blocks drives terms entries (first_program entries) short entering refl
+by_outcome : (file : List ℕ) (blocks : ℕ) (outcome : Result (List (Option ModuleEntry)) (ℕ × ℕ)) → length file ≤ longest_file → EntersBoot file outcome → Ends file blocks
+by_outcome file blocks (Err (at, error)) short entering = inr (BadModule at error, (short, entering))
+by_outcome file blocks (Ok entries) short entering = by_first file blocks entries (first_program entries) short entering refl
 
-pub some-end : (file : List ℕ) (blocks drives : ℕ) (terms : List TerminalState) → ((s : State) × Starts file blocks drives terms s) ⊎ ((fault : BootFault) × Refuses file blocks fault)
-some-end file blocks drives terms =
+pub some-end : (file : List ℕ) (blocks : ℕ) → ((m : Inner) × StartsProcesses file blocks m) ⊎ ((fault : BootFault) × Refuses file blocks fault)
+some-end file blocks =
     elim (cases_lt longest_file (length file)) [
       | inl long ↦ inr (TooLarge, inl long)
-      | inr short ↦ (let entering = Enters-some file (boot_group file) true 0 no_entries in by_outcome file blocks drives terms entering.0 short entering.1)
+      | inr short ↦ (let entering = Enters-some file (boot_group file) true 0 no_entries in by_outcome file blocks entering.0 short entering.1)
     ]

@@ -1,5 +1,5 @@
 -- No call on processes and modules changes the tick.
-use Rattle.std.proofs.Common.{◌≡◌, ℕ, ◌+◌, ◌-◌, ◌*◌, ◌==◌, not, nat_lt, nat_le, Bool, true, false, Option, Some, None, Result, Ok, Err, List, length, refl, ◌∙◌}
+use Rattle.std.proofs.Common.{◌≡◌, ℕ, ◌+◌, ◌-◌, ◌*◌, ◌==◌, not, nat_lt, nat_le, Bool, true, false, Option, Some, None, Result, Ok, Err, List, length, refl}
 use Rattle.std.specs.Option.{option_map_or}
 use Rattle.std.specs.Prelude.{if◌then◌else◌}
 use Rattle.os9_base.specs.declared.errors.TheConstants.{E_BPADDR, E_NEMOD, E_BNAM, E_MNF, E_MEMFUL, E_PRCFUL, E_IPRCID, E_USIGP, E_NOCHLD}
@@ -38,7 +38,7 @@ use Rattle.call_rules.specs.Program.{Program, program_name, asks_for_program, pr
 use Rattle.call_rules.specs.PrsNam.{f_prsnam, past_slash, name_regs}
 use Rattle.call_rules.specs.SPrior.{f_sprior}
 use Rattle.call_rules.specs.Send.{f_send, is_asleep, woken, after_signal}
-use Rattle.call_rules.specs.Sleep.{f_sleep, sleeps_on, falls_asleep, may_wake, ticks_left}
+use Rattle.call_rules.specs.Sleep.{f_sleep, falls_asleep, may_wake, ticks_left}
 use Rattle.call_rules.specs.UnLink.{f_unlink, after_unlink, without_group_link}
 use Rattle.call_rules.specs.UnLoad.{f_unload}
 use Rattle.call_rules.specs.UserBytes.{user_bytes, d_of}

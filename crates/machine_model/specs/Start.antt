@@ -3,7 +3,6 @@ use Rattle.std.specs.Prelude.{◌≡◌, ◌⊎◌, ℕ, ◌<◌, ◌≤◌, tru
 use Rattle.std.specs.List.{range_with_len}
 use Rattle.os9_base.specs.declared.limits.TheConstants.{MOST_GROUP_BYTES, PROCESS_PLACES}
 use Rattle.os9_base.specs.declared.registers.Pid.{Pid}
-use Rattle.os9_outer.specs.TerminalState.{TerminalState}
 use Rattle.proc_model.specs.declared.memory.MemoryFault.{MemoryFault}
 use Rattle.proc_model.specs.Loading.{EntersModules, no_entries}
 use Rattle.proc_model.specs.Memory.{MemoryState, first_memory}
@@ -13,12 +12,9 @@ use Rattle.proc_model.specs.Objects.{file_blocks, file_objects}
 use Rattle.proc_rules.specs.Records.{after_make, with_regs}
 use Rattle.proc_rules.specs.Turns.{with_turn}
 use Rattle.call_rules.specs.Inner.{Inner, no_own}
-use Rattle.call_rules.specs.ModuleLinks.{Entered}
 use Rattle.call_rules.specs.Program.{Program, program_kind, area_pages, blocks_of_pages, start_regs, start_own}
-use Rattle.io_rules.specs.Io.{first_io}
 use Rattle.machine_model.specs.declared.ends.BootFault.{BootFault}
 use Rattle.machine_model.specs.declared.ends.BootFault.TheVariants.{OutOfMemory, BadModule, NoFirst, TooLarge}
-use Rattle.machine_model.specs.State.{State}
 
 -- ---- the boot file
 
@@ -110,19 +106,12 @@ Refuses file blocks NoFirst =
     × ((entries : List (Option ModuleEntry)) × EntersBoot file (Ok entries) × (first_program entries ≡ None))
 Refuses file blocks OutOfMemory = ⊥
 
--- a machine with so many blocks and drives and these terminals starts a boot file in this state
-pub record Starts (file : List ℕ) (blocks drives : ℕ) (terms : List TerminalState) (s : State) : Type 0 where
+-- the processes with which a machine with so many blocks starts a boot file
+pub record StartsProcesses (file : List ℕ) (blocks : ℕ) (inner : Inner) : Type 0 where
   pub entries : List (Option ModuleEntry)
   pub number : ℕ
   pub entry : ModuleEntry
   pub memory : MemoryState
   pub has : HasFirst file entries number entry
   pub begins : first_started file blocks entries number entry ≡ Ok memory
-  pub is : s
-      ≡ record {
-        inner = only_process memory (first_start number entry);
-        io = first_io;
-        chosen = None;
-        drives = drives;
-        terms = terms;
-      }
+  pub is : inner ≡ only_process memory (first_start number entry)

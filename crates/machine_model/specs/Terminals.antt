@@ -1,5 +1,5 @@
 -- How the terminals may change along a run.
-use Rattle.std.specs.Prelude.{◌≡◌, ℕ, ◌≤◌, is_some, List, ◌++◌}
+use Rattle.std.specs.Prelude.{◌≡◌, ◌≤◌, is_some, List, ◌++◌}
 use Rattle.std.specs.List.{AllZip}
 use Rattle.os9_outer.specs.declared.terminal.Key.{Key}
 use Rattle.os9_outer.specs.TerminalState.{TerminalState}

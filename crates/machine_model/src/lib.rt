@@ -1,6 +1,6 @@
-//! The abstract machine: its states, one event of it, a slice, a whole run and the start.
+//! What an event makes of the processes, and the start of a boot file.
 #![tactic(auto)]
 
+pub mod calls;
 pub mod ends;
-pub mod run;
 pub mod start;

@@ -5,7 +5,6 @@ use Rattle.std.specs.Option.{option_map_or}
 use Rattle.std.proofs.lemmas.Bool.{cond-true, lt-ltb, ltb-true, or_right}
 use Rattle.os9_base.specs.declared.errors.TheConstants.{E_MEMFUL}
 use Rattle.os9_base.specs.declared.registers.Pid.{Pid}
-use Rattle.os9_outer.specs.TerminalState.{TerminalState}
 use Rattle.machine_model.specs.declared.ends.BootFault.TheVariants.{TooLarge}
 use Rattle.guest_memory.specs.declared.memory.Memory.{Memory}
 use Rattle.guest_memory.specs.Tie.{Represents as RepresentsMemory, modules_of}
@@ -22,9 +21,7 @@ use Rattle.fork_calls.specs.Loading.{loads_program}
 use Rattle.proc_state.specs.declared.state.ProcState.{ProcState}
 use Rattle.proc_state.specs.Beginning.{with_made}
 use Rattle.proc_state.specs.Tie.{Represents}
-use Rattle.io_rules.specs.Io.{first_io}
-use Rattle.machine_model.specs.Start.{Refuses, Starts, first_priority, first_process, first_start, first_started, no_parent, only_process, superuser}
-use Rattle.machine_model.specs.State.{State}
+use Rattle.machine_model.specs.Start.{Refuses, StartsProcesses, first_priority, first_process, first_start, first_started, no_parent, only_process, superuser}
 use Rattle.process_start.specs.Beginning.{Begins, HasFirstIn, nobody_in, with_first}
 use Rattle.process_start.proofs.Seen.{entered-here}
 
@@ -110,11 +107,11 @@ first-made made is = λ i. record { 0 = is i }
 -- ---- the start
 
 module _ (file : List ℕ) (blocks number : ℕ) (old new : ProcState) (found : HasFirstIn file blocks number old) where
-  -- the machine starts the boot file
-  pub starts-so : Begins (first_started file blocks found.entries number found.entry) number found.entry (Ok tt) new → (drives : ℕ) (terms : List TerminalState) → (s : State) × Starts file blocks drives terms s × Represents new s.inner
-  starts-so begins drives terms =
+  -- a machine starts the boot file
+  pub starts-so : Begins (first_started file blocks found.entries number found.entry) number found.entry (Ok tt) new → (m : Inner) × StartsProcesses file blocks m × Represents new m
+  starts-so begins =
       let (t, begun, stands) = begun-is (first_started file blocks found.entries number found.entry) number found.entry new begins in (
-        record { inner = only_process t (first_start number found.entry); io = first_io; chosen = None; drives = drives; terms = terms },
+        only_process t (first_start number found.entry),
         record { entries = found.entries; number = number; entry = found.entry; memory = t; has = found.has; begins = begun; is = refl },
         stands,
       )

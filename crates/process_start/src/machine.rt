@@ -1,12 +1,11 @@
 //! The start of a machine.
 
-ghost use Rattle.std.specs.Prelude.{◌≡◌, ◌≢◌, ℕ, ◌≤◌, List, IsSome, IfOk, IfErr, OnOk, length};
+ghost use Rattle.std.specs.Prelude.{◌≡◌, ◌≢◌, ℕ, ◌≤◌, IsSome, IfOk, IfErr, OnOk, length};
 ghost use Rattle.guest_memory.specs.Tie.{modules_of};
-ghost use Rattle.os9_outer.specs.TerminalState.{TerminalState};
 ghost use Rattle.machine_model.specs.declared.ends.BootFault.{BootFault};
 ghost use Rattle.proc_model.specs.ModuleList.{module_entry_at};
-ghost use Rattle.machine_model.specs.Start.{Starts, Refuses};
-ghost use Rattle.machine_model.specs.State.{State};
+ghost use Rattle.machine_model.specs.Start.{StartsProcesses, Refuses};
+ghost use Rattle.call_rules.specs.Inner.{Inner};
 ghost use Rattle.proc_state.specs.First.{first_inner};
 ghost use Rattle.proc_state.specs.Tie.{Represents};
 ghost use Rattle.process_start.specs.Beginning.{HasFirstIn};
@@ -30,8 +29,8 @@ use std::alloc::Global;
 pub fn start(alloc: Global, blocks: u16, boot: &[u8]) -> Result<ProcState, BootFault>
     requires least { 8 ≤ blocks }
     requires most { blocks ≤ 256 }
-    ensures start { IfOk result (λ processes. (drives : ℕ) (terms : List TerminalState)
-        → (s : State) × Starts boot.now blocks drives terms s × Represents processes s.inner) }
+    ensures start { IfOk result (λ processes.
+        (m : Inner) × StartsProcesses boot.now blocks m × Represents processes m) }
     ensures accepted { OnOk result ((fault : BootFault) → ¬ Refuses boot.now blocks fault) }
     ensures refused { IfErr result (λ fault. fault ≢ BootFault.OutOfMemory
         → Refuses boot.now blocks fault) }

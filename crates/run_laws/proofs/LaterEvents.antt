@@ -165,12 +165,15 @@ module _ (later : ℕ) (rests : List Rests) (s : State) (others : List TerminalS
       let too : Too later rests rest.terms (FileDoes (file_step call asker s.files (length s.terms)) asker s.files it.effect others) = file-too later rests s.terms rest.terms others all (file_step call asker s.files (length s.terms)) asker s.files it.effect it.does in
       record {
         terms = too.terms;
-        comes = (record {
-          effect = it.effect;
-          does = subst (λ (terms : ℕ). FileDoes (file_step call asker s.files terms) asker s.files it.effect others too.terms) count too.comes;
-          result_is = it.result_is;
-          state = it.state;
-        }, clock);
+        comes = (
+          record {
+            effect = it.effect;
+            does = subst (λ (terms : ℕ). FileDoes (file_step call asker s.files terms) asker s.files it.effect others too.terms) count too.comes;
+            result_is = it.result_is;
+            state = it.state;
+          },
+          clock,
+        );
         same = too.same;
       }
   serves-too no_call (refusal, is) = record {

@@ -292,4 +292,3 @@ arrivals-one tick n (suc count) old new other (between, here, later) (second, he
     (subst (λ (desk : Desk). ArrivesFrom tick (n + 1) count desk other) (sym same) later_too)
     (then-none old.terms between.terms new.terms gained after none)
     (subst (λ (desk : Desk). NoneOf desk.terms other.terms) (sym same) (then-none old.terms second.terms other.terms gained_too after_too none_too))
-

@@ -1,13 +1,10 @@
 -- An accepted boot file starts a machine.
-use Rattle.std.proofs.Common.{◌≡◌, ℕ, List, [], refl, ap, ◌∙◌, arith}
-use Rattle.os9_outer.specs.TerminalState.{TerminalState}
+use Rattle.std.proofs.Common.{◌≡◌, ℕ, List, refl, ap, ◌∙◌, arith}
+use Rattle.call_rules.specs.Inner.{Inner}
 use Rattle.proc_model.specs.MemoryChanges.{started}
 use Rattle.call_rules.specs.Program.{area_pages, blocks_of_pages}
-use Rattle.io_rules.specs.Io.{first_io}
 use Rattle.machine_model.specs.declared.ends.BootFault.{BootFault}
-use Rattle.machine_model.specs.Start.{Refuses, Starts, boot_memory, first_process, first_start, only_process}
-use Rattle.machine_model.specs.State.{State}
-use Rattle.std.specs.Prelude.{None}
+use Rattle.machine_model.specs.Start.{Refuses, StartsProcesses, boot_memory, first_process, first_start, only_process}
 use Rattle.machine_model.proofs.StartLaws.{never-both}
 use Rattle.guest_mods.specs.Accepted.{IsAccepted}
 
@@ -16,15 +13,9 @@ module _ (file : List ℕ) (blocks : ℕ) (accepted : IsAccepted file blocks) wh
   one-block : blocks_of_pages (area_pages accepted.entry 0 0) ≡ 1
   one-block = let few = accepted.storage in omega arith
 
-  pub starts-accepted : (drives : ℕ) (terms : List TerminalState) → (s : State) × Starts file blocks drives terms s
-  starts-accepted drives terms = (
-    record {
-      inner = only_process accepted.memory (first_start accepted.number accepted.entry);
-      io = first_io;
-      chosen = None;
-      drives = drives;
-      terms = terms;
-    },
+  pub starts-accepted : (m : Inner) × StartsProcesses file blocks m
+  starts-accepted = (
+    only_process accepted.memory (first_start accepted.number accepted.entry),
     record {
       entries = accepted.entries;
       number = accepted.number;
@@ -38,5 +29,4 @@ module _ (file : List ℕ) (blocks : ℕ) (accepted : IsAccepted file blocks) wh
 
   pub never-refused-accepted : (fault : BootFault) → Refuses file blocks fault → ⊥
   never-refused-accepted fault refusal =
-      let starts = starts-accepted 0 [] in
-      never-both file blocks 0 [] starts.0 fault starts.1 refusal
+      never-both file blocks starts-accepted.0 fault starts-accepted.1 refusal

@@ -1,27 +1,26 @@
 //! What a machine does with a boot file that is accepted, and with that of a load.
 
 ghost use Rattle.std.specs.Prelude.{ℕ, List};
-ghost use Rattle.os9_outer.specs.TerminalState.{TerminalState};
+ghost use Rattle.call_rules.specs.Inner.{Inner};
 ghost use Rattle.machine_model.specs.declared.ends.BootFault.{BootFault};
-ghost use Rattle.machine_model.specs.Start.{Refuses, Starts};
-ghost use Rattle.machine_model.specs.State.{State};
+ghost use Rattle.machine_model.specs.Start.{Refuses, StartsProcesses};
 ghost use Rattle.guest_mods.specs.declared.load.Load.{Load};
 ghost use Rattle.guest_mods.specs.Accepted.{IsAccepted};
 ghost use Rattle.guest_mods.specs.Stress.{IsLoad, stress_file};
 
-/// A boot file that is accepted starts a machine of so many blocks, whatever its drives and
-/// terminals, and so it is not refused.
+/// A boot file that is accepted starts the processes of a machine of so many blocks, and so it is
+/// not refused.
 pub fn accepted_files_start()
-    ensures starts { (file : List ℕ) (blocks drives : ℕ) (terms : List TerminalState)
-        → IsAccepted file blocks → (s : State) × Starts file blocks drives terms s }
+    ensures starts { (file : List ℕ) (blocks : ℕ)
+        → IsAccepted file blocks → (m : Inner) × StartsProcesses file blocks m }
     ensures no_refusal { (file : List ℕ) (blocks : ℕ) (fault : BootFault)
         → IsAccepted file blocks → ¬ Refuses file blocks fault }
 {}
 
 /// The boot file of every load starts a machine of 64 blocks, and is not refused.
 pub fn loads_start()
-    ensures starts { (load : Load) (drives : ℕ) (terms : List TerminalState)
-        → IsLoad load → (s : State) × Starts (stress_file load) 64 drives terms s }
+    ensures starts { (load : Load)
+        → IsLoad load → (m : Inner) × StartsProcesses (stress_file load) 64 m }
     ensures no_refusal { (load : Load) (fault : BootFault)
         → IsLoad load → ¬ Refuses (stress_file load) 64 fault }
 {}

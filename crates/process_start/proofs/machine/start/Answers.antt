@@ -1,4 +1,3 @@
-use Rattle.std.proofs.Common.{[]}
 use Rattle.std.proofs.lemmas.Result.{err_from_is_err_and}
 use Rattle.machine_model.specs.Start.{boot_memory}
 use Rattle.machine_model.proofs.StartLaws.{never-both}
@@ -25,8 +24,8 @@ pub returns-in-Ok-clause-accepted : goal.returns-in-Ok-clause-accepted
 returns-in-Ok-clause-accepted c = λ fault refuses.
     let found = c.in_ok-first.ensures.found c.args.blocks c.in_ok-processes.ensures in
     let memory = boot_memory c.args.boot.now c.args.blocks found.entries in
-    let (s, starts, stands) = starts-so c.args.boot.now c.args.blocks c.in_ok-first.first.0 c.load_boot.new.processes c.begin.new.processes found (c.in-Ok.ensures.begun memory found.entry found.represents found.has.is) 0 [] in
-    never-both c.args.boot.now c.args.blocks 0 [] s fault starts refuses
+    let (m, starts, stands) = starts-so c.args.boot.now c.args.blocks c.in_ok-first.first.0 c.load_boot.new.processes c.begin.new.processes found (c.in-Ok.ensures.begun memory found.entry found.represents found.has.is) in
+    never-both c.args.boot.now c.args.blocks m fault starts refuses
 
 pub returns-in-Ok-clause-count : goal.returns-in-Ok-clause-count
 returns-in-Ok-clause-count c =
