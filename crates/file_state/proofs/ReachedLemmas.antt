@@ -1,8 +1,8 @@
 -- From calls of one drive, as the mounted volumes have them, to the words of the calls on files. A call on files takes
 -- `has-read` after each read and `has-changed` after a change, puts them together by `has-read-then` and
 -- `has-changed-then`, and ends by the lemmas of EndLemmas and KeepLemmas.
-use Rattle.std.proofs.Common.{◌≡◌, ◌⊎◌, ℕ, zero, suc, ◌≤◌, ◌∙◌, Option, Some, None, option_and_then, List, [], ◌∷◌, map, length, get_or, slice_get, slice_set, Result, refl, ap, sym, subst, inl, inr}
-use Rattle.std.proofs.lemmas.List.{length-map, set-get_or}
+use Rattle.std.proofs.Common.{◌≡◌, ◌⊎◌, ℕ, ◌∙◌, Option, Some, None, option_and_then, List, slice_get, slice_set, Result, refl, ap, sym, subst, inl, inr}
+use Rattle.std.proofs.lemmas.List.{set-get_or}
 use Rattle.std.proofs.lemmas.Option.{none-some}
 use Rattle.rbf_model.specs.File.{DiskFile}
 use Rattle.rbf_model.specs.Volume.{DiskVolume}
