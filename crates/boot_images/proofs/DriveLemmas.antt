@@ -153,7 +153,7 @@ taken-all n images before now all enough left taken = record {
 
 -- ---- drives of which all gave up their images
 
--- they are counted as before
+-- their states are as before
 pub counts-without : (drives : List DriveView) → drive_states (map without_media drives) ≡ drive_states drives
 counts-without [] = refl
 counts-without (drive ∷ drives) = ap (λ rest. drive_state drive ∷ rest) (counts-without drives)

@@ -9,6 +9,7 @@ use Rattle.file_drives.specs.Drives.{DriveView, drive_states, media_of}
 use Rattle.file_drives.specs.Mounted.{DriveHolds}
 use Rattle.file_drives.proofs.DriveLemmas.{media-there}
 use Rattle.file_start.specs.Start.{HaveImages, HaveVolumes}
+use Rattle.disk_machine.specs.Start.{Starts}
 use Rattle.disk_machine.specs.State.{State}
 use Rattle.disk_ends.proofs.Images.{images-keep-ends}
 use Rattle.disk_ends.proofs.Runs.{run-keeps-ends}
@@ -18,7 +19,7 @@ use Rattle.disk_kernel.specs.Calls.{StopsSlice}
 use Rattle.disk_kernel.specs.Outside.{Outside}
 use Rattle.os9_outer.specs.Stream.{stream_with}
 use Rattle.os9_outer.specs.TerminalState.{TerminalState}
-use Rattle.boot_run.specs.Machine.{ComesTo, FailsToMount, IsUnrun, LeavesUnrun, MachineCall, RunsFirst, RunsTo, RunsWhole, Setup, StartsLoaded}
+use Rattle.boot_run.specs.Machine.{ComesTo, FailsToMount, IsUnrun, LeavesUnrun, MachineCall, RunsFirst, RunsTo, RunsWhole, Setup, StartsLoaded, boot_of}
 use Rattle.boot_run.specs.Slices.{BreaksOutput, RunsPartly}
 use Rattle.boot_run.specs.World.{World, HasNoFault}
 use Rattle.boot_run.specs.declared.machine.RunEnd.{RunEnd}
@@ -87,7 +88,7 @@ module _ (setup : Setup) (before ran : World) (new : List (List ℕ)) (drives : 
   abbrev after : World
   after = with_drives ran drives
 
-  -- the drives are counted alike
+  -- the drives have failed alike
   before-counted : drive_states held.devices.drives ≡ drive_states before.devices.drives
   before-counted = counts-holding setup.images before.devices.drives
 
@@ -97,11 +98,7 @@ module _ (setup : Setup) (before ran : World) (new : List (List ℕ)) (drives : 
   -- ---- the start and parts of a run
 
   starts-before : (s : State) → StartsLoaded setup held s → StartsLoaded setup before s
-  starts-before s it = record {
-    drives = it.drives;
-    none_failed = subst (λ (states : List DriveState). NoneFailed states it.drives) before-counted it.none_failed;
-    starts = it.starts;
-  }
+  starts-before s it = subst (λ (states : List DriveState). Starts (record (boot_of setup before) { drives = states }) s) before-counted it
 
   breaks-after : (s : State) → BreaksEvent s ran.devices → BreaksEvent s after.devices
   breaks-after s it = record {
@@ -166,14 +163,14 @@ module _ (setup : Setup) (before ran : World) (new : List (List ℕ)) (drives : 
   module _ (s t : State) (starts : StartsLoaded setup held s) (runs : RunsTo setup s t held ran) where
     image-of : (drive : ℕ) (was now : List ℕ) → slice_get setup.images drive ≡ Some was → slice_get new drive ≡ Some now → IsImageOf t drive was now
     image-of drive was now at there =
-        let (v, first, vol) = start-has-images _ s starts.starts drive was at in
+        let (v, first, vol) = start-has-images _ s starts drive was at in
         let (w, last, kept) = (run-keeps-ends setup.slices runs.written s t runs.states runs.run).kept drive v first in
         let holds = runs.drives.volumes drive w last in
         let is : now ≡ holds.on.image = taken.each drive now holds.on.image there (media-there ran.devices.drives drive holds.view holds.is ∙ holds.on.is) in
         record {
           volume = w;
           is = last;
-          back = images-keep-ends _ setup.slices runs.written s t runs.states starts.starts runs.run drive was now w at last (subst (λ (image : List ℕ). Vol image w) (sym is) holds.on.vol);
+          back = images-keep-ends _ setup.slices runs.written s t runs.states starts runs.run drive was now w at last (subst (λ (image : List ℕ). Vol image w) (sym is) holds.on.vol);
         }
 
     has-outcome : HasOutcome setup t runs.written new before after

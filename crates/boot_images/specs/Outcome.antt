@@ -32,7 +32,7 @@ pub record AreImagesOf (t : State) (old new : List (List ℕ)) : Type 0 where
       → slice_get new drive ≡ Some after → IsImageOf t drive before after
 
 -- The machine that is set up so ran over all its slices: from the state in which it starts, with the devices of the
--- call, through the states of a run to this one. Its terminals and the counts of its drives are those that are there
+-- call, through the states of a run to this one. Its terminals and the states of its drives are those that are there
 -- now.
 pub record HasOutcome (setup : Setup) (t : State) (written : List ℕ) (images : List (List ℕ)) (before after : World)
     : Type 0 where

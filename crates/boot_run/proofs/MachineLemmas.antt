@@ -161,11 +161,9 @@ module _ (setup : Setup) (kernel : Kernel) (before : World) (started later : Out
       }
 
   starts-loaded : StartsLoaded setup before begun
-  starts-loaded = record {
-    drives = drive_states started.drives;
-    none_failed = none_failed;
-    starts = subst (λ (terms : List TerminalState). Starts (boot_with setup (drive_states started.drives) terms) begun) terms starts;
-  }
+  starts-loaded =
+      subst (λ (drives : List DriveState). Starts (boot_with setup drives (loaded setup.keys before.devices.terms)) begun) none_failed
+      (subst (λ (terms : List TerminalState). Starts (boot_with setup (drive_states started.drives) terms) begun) terms starts)
 
   tied : Represents kernel later begun
   unfolding begun was

@@ -6,7 +6,7 @@ use Rattle.os9_outer.specs.Stream.{stream_with}
 use Rattle.civil_time.specs.CivilTime.{is_time_packet}
 use Rattle.file_drives.specs.Drives.{drive_states, media_of}
 use Rattle.file_drives.specs.Mounted.{DriveHolds}
-use Rattle.file_rules.specs.Files.{DriveState, NoneFailed, OneFailed, volume_at}
+use Rattle.file_rules.specs.Files.{NoneFailed, OneFailed, volume_at}
 use Rattle.file_start.specs.Start.{HaveImages, HaveVolumes}
 use Rattle.key_loading.specs.Loaded.{AreUnloaded, loaded}
 use Rattle.machine_model.specs.Start.{Refuses}
@@ -14,7 +14,7 @@ use Rattle.machine_model.specs.declared.ends.BootFault.{BootFault}
 use Rattle.rbf_model.specs.Volume.{DiskVolume}
 use Rattle.script_text.specs.declared.script.ScriptKey.{ScriptKey}
 use Rattle.disk_machine.specs.Run.{Run}
-use Rattle.disk_machine.specs.Start.{Starts}
+use Rattle.disk_machine.specs.Start.{Boot, Starts}
 use Rattle.disk_machine.specs.State.{State, has_living}
 use Rattle.disk_kernel.specs.Outside.{Outside}
 use Rattle.disk_kernel.specs.declared.new.Config.{Config}
@@ -56,19 +56,20 @@ pub record CanRun (config : Config) (slices : List ℕ) (devices : Outside) : Ty
   pub few_drives : length devices.drives ≤ 4
   pub volumes : HaveVolumes config.images devices.drives
 
--- the machine starts in this state: no drive has failed when the images are mounted, and then each terminal is loaded
--- with its keys
-pub record StartsLoaded (setup : Setup) (before : World) (s : State) : Type 0 where
-  pub drives : List DriveState
-  pub none_failed : NoneFailed (drive_states before.devices.drives) drives
-  pub starts : Starts (record {
-    file = setup.file;
-    blocks = setup.blocks;
-    time = setup.time;
-    images = setup.images;
-    drives = drives;
-    terms = loaded setup.keys before.devices.terms;
-  }) s
+-- what a machine is started with: the drives as they are, and each terminal loaded with its keys
+abbrev pub boot_of : Setup → World → Boot
+boot_of setup before = record {
+  file = setup.file;
+  blocks = setup.blocks;
+  time = setup.time;
+  images = setup.images;
+  drives = drive_states before.devices.drives;
+  terms = loaded setup.keys before.devices.terms;
+}
+
+-- the machine starts in this state
+abbrev pub StartsLoaded : Setup → World → State → Type 0
+StartsLoaded setup before s = Starts (boot_of setup before) s
 
 -- the volumes of a state are in the drives
 pub record HoldsVolumes (s : State) (after : World) : Type 0 where

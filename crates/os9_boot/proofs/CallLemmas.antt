@@ -1,5 +1,5 @@
 -- Commands that end before anything ran, stresses, and the top call.
-use Rattle.std.proofs.Common.{◌≡◌, ℕ, Option, Some, None, List, map, refl, ap, subst, inl, inr, All}
+use Rattle.std.proofs.Common.{◌≡◌, ℕ, Option, Some, None, List, refl, ap, subst, inl, inr, All}
 use Rattle.std.specs.Prelude.{IfSome}
 use Rattle.os9_outer.specs.Host.{Files, IfObserved, file_contents}
 use Rattle.os9_outer.specs.Stream.{GainsPrefix}
@@ -10,7 +10,6 @@ use Rattle.os9_words.specs.Command.{command_of}
 use Rattle.os9_words.specs.Lines.{no_memory_line, words_line}
 use Rattle.os9_words.specs.Streams.{ChangesErrOnly}
 use Rattle.file_drives.specs.Drives.{drive_states}
-use Rattle.file_rules.specs.Files.{DriveState}
 use Rattle.disk_kernel.specs.Outside.{Outside}
 use Rattle.boot_run.specs.Console.{IsObserved}
 use Rattle.boot_run.specs.Machine.{IsUnrun}
@@ -49,7 +48,7 @@ pub still-unrun : (before after : World) → after ≡ before → IsUnrun before
 still-unrun before after same = record {
   out = ap (λ (w : World). w.out) same;
   terminals = ap (λ (w : World). w.devices.terms) same;
-  none_failed = ap (λ (w : World). map (λ (drive : DriveState). drive.faults) (drive_states w.devices.drives)) same;
+  none_failed = ap (λ (w : World). drive_states w.devices.drives) same;
 }
 
 pub still-undone : (before after : World) → after ≡ before → IsUndone before after

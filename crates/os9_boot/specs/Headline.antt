@@ -21,7 +21,7 @@ pub record IsAccepted (files : Files) (boot : RunWords) (terminals : ℕ) : Type
   pub starts : (fault : BootFault) → ¬ Refuses setup.file setup.blocks fault
 
 -- A boot is one run of the machine: it has put out what that writes, its images hold the volumes of the last state, and
--- the status says whether a process lives then. Terminals and drives have failed as often as in that run.
+-- the status says whether a process lives then. The terminals and the states of the drives are those of that state.
 pub record IsOneRun (files : Files) (boot : RunWords) (before after : World) (status : ℕ) : Type 0 where
   pub setup : Setup
   pub sets : SetsUpBoot files boot (length before.devices.terms) setup
