@@ -20,3 +20,12 @@ number_of (byte ∷ bytes) = number_after 0 (byte ∷ bytes)
 abbrev pub within : ℕ → ℕ → Option ℕ → Option ℕ
 within least most number =
     option_and_then (λ n. if nat_le least n && nat_le n most then Some n else None) number
+
+-- the number that a hexadecimal digit of either case is
+abbrev pub hex_digit : ℕ → Option ℕ
+hex_digit byte =
+    if nat_le 48 byte && nat_le byte 57
+    then Some (byte - 48)
+    else (if nat_le 65 byte && nat_le byte 70
+    then Some (byte - 65 + 10)
+    else (if nat_le 97 byte && nat_le byte 102 then Some (byte - 97 + 10) else None))

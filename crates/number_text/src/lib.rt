@@ -1,6 +1,6 @@
-//! Numbers in texts, in decimal digits.
+//! Numbers in texts, and hexadecimal digits.
 #![tactic(auto)]
 
-pub use number::read_number;
+pub use number::{hex_digit, read_number};
 
 mod number;

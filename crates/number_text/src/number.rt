@@ -1,5 +1,5 @@
-ghost use Rattle.std.specs.Prelude.{◌≡◌, option_map, min};
-ghost use Rattle.number_text.specs.Number.{number_after, number_of, within};
+ghost use Rattle.std.specs.Prelude.{◌≡◌, ◌<◌, IfSome, option_map, min};
+ghost use Rattle.number_text.specs.Number.{number_after, number_of, within, hex_digit as hex_digit_lem};
 
 // What every number that does not fit 32 bits counts as.
 const TOO_LARGE: u64 = 1 << 32;
@@ -33,6 +33,19 @@ fn capped_number(digits: &[u8]) -> Option<u64>
         number = (10 * number + u64::from(*byte - b'0')).min(TOO_LARGE);
     }
     Some(number)
+}
+
+/// The number that a hexadecimal digit of either case is.
+pub fn hex_digit(byte: u8) -> Option<u8>
+    ensures number { result ≡ hex_digit_lem byte }
+    ensures below { IfSome result (λ number. number < 16) }
+{
+    match byte {
+        b'0'..=b'9' => Some(byte - b'0'),
+        b'A'..=b'F' => Some(byte - b'A' + 10),
+        b'a'..=b'f' => Some(byte - b'a' + 10),
+        _ => None,
+    }
 }
 
 #[cfg(test)]

@@ -4,42 +4,15 @@ use Rattle.std.specs.List.{position_or_len, prefix_len, slice_split}
 use Rattle.std.proofs.lemmas.Bool.{cases_lt, lt-ltb, le-ltb}
 use Rattle.std.proofs.lemmas.List.{length-take}
 use Rattle.std.proofs.lemmas.List.Folds.{length-prefix_len}
-use Rattle.script_text.specs.Lines.{is_space, is_word, line_words, without_spaces}
-
--- the place that a search answers, or the end where it finds none
-pub unwrap_or-position : (n len : ℕ) (found : Option ℕ) (place : ℕ) → found ≡ cond (ltb n len) (Some n) None → n ≤ len → place ≡ unwrap_or found len → place ≡ n
-unwrap_or-position n len found place is_found within is_place =
-    elim (cases_lt n len) [
-      | inl below ↦
-          let at : found ≡ Some n = is_found ∙ ap (λ b. cond b (Some n) None) (lt-ltb n len below) in
-          is_place ∙ ap (λ o. unwrap_or o len) at
-      | inr past ↦
-          let at : found ≡ None = is_found ∙ ap (λ b. cond b (Some n) None) (le-ltb n len past) in
-          let same : len ≡ n = omega arith in
-          is_place ∙ ap (λ o. unwrap_or o len) at ∙ same
-    ]
-
-pub position_or_len-first : {X : Type 0} (p : X → Bool) (x : X) (xs : List X) → p x ≡ true → position_or_len p (x ∷ xs) ≡ 0
-position_or_len-first p x xs is = simp is
-
-pub position_or_len-next : {X : Type 0} (p : X → Bool) (x : X) (xs : List X) → p x ≡ false → position_or_len p (x ∷ xs) ≡ suc (position_or_len p xs)
-position_or_len-next p x xs is = simp is (omega arith)
-
-pub position_or_len-within : {X : Type 0} (p : X → Bool) (xs : List X) → position_or_len p xs ≤ length xs
-position_or_len-within p xs =
-    omega (arith, length-prefix_len (λ x. not (p x)) xs, length-take (prefix_len (λ x. not (p x)) xs) xs)
+use Rattle.text_cuts.specs.Cuts.{is_space, without_spaces, first_word as front_of, behind_word as back_of}
+use Rattle.text_cuts.proofs.Places.{position_or_len-next}
+use Rattle.script_text.specs.Lines.{is_word, line_words}
 
 -- the front of a list up to its first space, with what follows
 record Cut (line front back : List ℕ) : Type 0 where
   rest : List (List ℕ)
   whole : slice_split is_space line ≡ front ∷ rest
   behind : slice_split is_space back ≡ [] ∷ rest
-
-abbrev front_of : List ℕ → List ℕ
-front_of line = take (position_or_len is_space line) line
-
-abbrev back_of : List ℕ → List ℕ
-back_of line = drop (position_or_len is_space line) line
 
 cut-byte : (byte : ℕ) (bytes : List ℕ) (b : Bool) → is_space byte ≡ b → Cut bytes (front_of bytes) (back_of bytes) → Cut (byte ∷ bytes) (front_of (byte ∷ bytes)) (back_of (byte ∷ bytes))
 cut-byte byte bytes true is cut = record {

@@ -2,19 +2,12 @@
 use Rattle.std.specs.Prelude.{ℕ, ◌+◌, ◌==◌, ◌||◌, not, nat_eq, Bool, true, false, Option, Some, is_none, unwrap_or, option_map, option_and_then, position, filter, Result, Ok, Err, List, [], ◌∷◌, ◌++◌, length, take, drop, slice_index_or}
 use Rattle.std.specs.List.{position_or_len, slice_split, starts_with, ends_with, flat_map, range_with_len}
 use Rattle.std.specs.Option.{option_map_or}
+use Rattle.text_cuts.specs.Cuts.{is_space}
 
 -- the lines of a text: the parts between its line feeds; what stands behind the last line feed is a line too,
 -- an empty one if the text ends there
 abbrev pub text_lines : List ℕ → List (List ℕ)
 text_lines text = slice_split (λ byte. byte == 10) text
-
--- a space
-abbrev pub is_space : ℕ → Bool
-is_space byte = byte == 32
-
--- a line without the spaces that it begins with
-abbrev pub without_spaces : List ℕ → List ℕ
-without_spaces line = drop (position_or_len (λ byte. not (is_space byte)) line) line
 
 -- a part between spaces is a word: it is not empty
 abbrev pub is_word : List ℕ → Bool

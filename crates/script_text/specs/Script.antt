@@ -1,7 +1,7 @@
 -- The script: which key arrives at which tick at which terminal (this project's own).
 use Rattle.std.specs.Prelude.{◌≡◌, ◌≤◌, ◌<◌, ◌+◌, ◌-◌, ◌*◌, ◌==◌, ◌&&◌, nat_le, nat_lt, ℕ, Bool, true, All, Option, Some, None, option_map, option_and_then, position, Result, List, [], ◌∷◌, length, map, codes, if◌then◌else◌}
 use Rattle.std.specs.Str.{bytes_eq}
-use Rattle.number_text.specs.Number.{number_of, within}
+use Rattle.number_text.specs.Number.{number_of, within, hex_digit}
 use Rattle.script_text.specs.declared.script.ScriptKey.{ScriptKey}
 use Rattle.script_text.specs.Lines.{line_words, is_edged, all_given, text_gives}
 
@@ -23,15 +23,6 @@ abbrev pub terminal_of : ℕ → List ℕ → Option ℕ
 terminal_of terminals name =
     option_and_then (λ number. if nat_lt number terminals then Some number else None)
     (position (bytes_eq name) terminal_names)
-
--- the number that a hexadecimal digit of either case is
-abbrev pub hex_digit : ℕ → Option ℕ
-hex_digit byte =
-    if nat_le 48 byte && nat_le byte 57
-    then Some (byte - 48)
-    else (if nat_le 65 byte && nat_le byte 70
-    then Some (byte - 65 + 10)
-    else (if nat_le 97 byte && nat_le byte 102 then Some (byte - 97 + 10) else None))
 
 -- the byte that two hexadecimal digits spell
 abbrev pub byte_of : List ℕ → Option ℕ

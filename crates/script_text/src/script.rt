@@ -1,12 +1,12 @@
 ghost use Rattle.std.specs.Prelude.{◌≡◌, ◌≤◌, ◌<◌, ◌++◌, Ok, Err, IfOk, IfSome, Option, false, map};
 ghost use Rattle.script_text.specs.Fault.{OnLine};
 ghost use Rattle.script_text.specs.Lines.{line_words};
-ghost use Rattle.script_text.specs.Script.{terminal_of, hex_digit as hex_digit_lem, byte_of, is_skipped as is_skipped_lem, bytes_of, tick_of, key_at, keys_of, line_keys, AreKeys};
+ghost use Rattle.script_text.specs.Script.{terminal_of, byte_of, is_skipped as is_skipped_lem, bytes_of, tick_of, key_at, keys_of, line_keys, AreKeys};
 ghost use Rattle.script_text.specs.Reached.{read_keys, count_up_to, reached_with, IsReachable};
 
 use crate::fault::LineFault;
 use crate::words::Words;
-use number_text::read_number;
+use number_text::{hex_digit, read_number};
 use std::alloc::{AllocError, Global};
 
 /// A key of the script.
@@ -228,19 +228,6 @@ fn read_byte(word: &[u8]) -> Option<u8>
             let low = hex_digit(*low)?;
             Some(16 * high + low)
         }
-        _ => None,
-    }
-}
-
-// The number that a hexadecimal digit of either case is.
-fn hex_digit(byte: u8) -> Option<u8>
-    ensures number { result ≡ hex_digit_lem byte }
-    ensures below { IfSome result (λ number. number < 16) }
-{
-    match byte {
-        b'0'..=b'9' => Some(byte - b'0'),
-        b'A'..=b'F' => Some(byte - b'A' + 10),
-        b'a'..=b'f' => Some(byte - b'a' + 10),
         _ => None,
     }
 }

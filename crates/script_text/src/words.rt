@@ -1,7 +1,8 @@
-ghost use Rattle.std.specs.Prelude.{◌≡◌, ◌≤◌, length, drop, not};
+ghost use Rattle.std.specs.Prelude.{◌≡◌};
 ghost use Rattle.std.specs.Iterator.{YieldsFirstRef, item_count};
-ghost use Rattle.std.specs.List.{position_or_len};
-ghost use Rattle.script_text.specs.Lines.{line_words, is_space, without_spaces};
+ghost use Rattle.script_text.specs.Lines.{line_words};
+
+use text_cuts::{first_space, without_spaces};
 
 /// The words of a line that are left: the parts between its spaces that are not empty.
 #[derive(Clone, Copy)]
@@ -31,25 +32,4 @@ impl<'a> Iterator for Words<'a> {
         self.line = rest;
         if word.is_empty() { None } else { Some(word) }
     }
-}
-
-// The line without the spaces that it begins with.
-fn without_spaces(line: &[u8]) -> &[u8]
-    ensures { result.now ≡ without_spaces line.now }
-{
-    let spaces = line
-        .iter()
-        .position(|byte| *byte != b' ')
-        .unwrap_or(line.len());
-    &line[spaces..]
-}
-
-// The place of the first space, or the end where there is none.
-fn first_space(line: &[u8]) -> usize
-    ensures place { result ≡ position_or_len is_space line.now }
-    ensures within { result ≤ length line.now }
-{
-    line.iter()
-        .position(|byte| *byte == b' ')
-        .unwrap_or(line.len())
 }

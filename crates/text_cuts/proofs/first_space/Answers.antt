@@ -2,9 +2,9 @@ use Rattle.std.proofs.Common.{length, rules, tests}
 use Rattle.std.specs.List.{position_or_len}
 use Rattle.std.proofs.lemmas.Iterator.{YieldsList-from_slice}
 use Rattle.std.proofs.lemmas.Iterator.Search.{position_from_yields_List}
-use Rattle.script_text.specs.Lines.{is_space}
-use Rattle.script_text.proofs.WordLemmas.{unwrap_or-position, position_or_len-within}
-use Rattle.script_text.proofs.words.first_space.Goals as goal
+use Rattle.text_cuts.specs.Cuts.{is_space}
+use Rattle.text_cuts.proofs.Places.{unwrap_or-position, position_or_len-within}
+use Rattle.text_cuts.proofs.first_space.Goals as goal
 
 pub returns-clause-place : goal.returns-clause-place
 returns-clause-place c =

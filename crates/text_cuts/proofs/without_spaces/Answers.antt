@@ -3,9 +3,9 @@ use Rattle.std.specs.List.{position_or_len}
 use Rattle.std.proofs.lemmas.List.{take_rest}
 use Rattle.std.proofs.lemmas.Iterator.{YieldsList-from_slice}
 use Rattle.std.proofs.lemmas.Iterator.Search.{position_from_yields_List}
-use Rattle.script_text.specs.Lines.{is_space}
-use Rattle.script_text.proofs.WordLemmas.{unwrap_or-position, position_or_len-within}
-use Rattle.script_text.proofs.words.without_spaces.Goals as goal
+use Rattle.text_cuts.specs.Cuts.{is_space}
+use Rattle.text_cuts.proofs.Places.{unwrap_or-position, position_or_len-within}
+use Rattle.text_cuts.proofs.without_spaces.Goals as goal
 
 pub returns : goal.returns
 returns c =
