@@ -1,4 +1,3 @@
 pub mod Accepted
-pub mod GuestModule
 pub mod Random
 pub mod Stress

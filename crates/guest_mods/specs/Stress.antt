@@ -2,7 +2,7 @@
 use Rattle.std.specs.Prelude.{ℕ, ◌*◌, ◌<◌, ◌≤◌, List, [], ◌∷◌, ◌++◌, codes}
 use Rattle.guest_mods.specs.declared.load.Load.{Load}
 use Rattle.guest_mods.specs.declared.programs.TheConstants.{SYSGO, WORKER}
-use Rattle.guest_mods.specs.GuestModule.{guest_module}
+use Rattle.module_maker.specs.GuestModule.{guest_module}
 use Rattle.guest_mods.specs.Random.{draws}
 
 -- a load that there may be

@@ -4,7 +4,7 @@ ghost use Rattle.proc_model.specs.Module.{IsModule};
 ghost use Rattle.guest_mods.specs.Stress.{IsLoad, record_lengths, program_module, sysgo_module, worker_module};
 
 use crate::load::Load;
-use crate::module::module;
+use module_maker::module;
 use crate::random::{draw, next_random};
 use os9_base::call::OutOfMemory;
 use os9_base::calls::{

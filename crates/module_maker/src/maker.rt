@@ -2,7 +2,7 @@ ghost use Rattle.std.specs.Prelude.{◌≡◌, ◌≤◌, ◌<◌, ◌+◌, ◌-
 ghost use Rattle.os9_base.specs.Name.{IsName};
 ghost use Rattle.os9_base.specs.declared.limits.TheConstants.{MOST_GROUP_BYTES};
 ghost use Rattle.proc_model.specs.Module.{IsModule, info_at};
-ghost use Rattle.guest_mods.specs.GuestModule.{guest_module, guest_body, guest_info, guest_size, code_offset, is_program_kind, kind_header_length, header_front, parity_of, program_fields, marked_name, word_bytes, crc_bytes};
+ghost use Rattle.module_maker.specs.GuestModule.{guest_module, guest_body, guest_info, guest_size, code_offset, is_program_kind, kind_header_length, header_front, parity_of, program_fields, marked_name, word_bytes, crc_bytes};
 
 use module_format::crc24;
 use os9_base::call::OutOfMemory;

@@ -8,8 +8,8 @@ use Rattle.os9_base.specs.Name.{stored_name, IsName}
 use Rattle.proc_model.specs.Crc.{crc_of}
 use Rattle.proc_model.specs.Module.{header_word, module_size, name_offset, header_length, module_entry, module_storage, crc_offset, module_name, has_sync, has_size, has_module_name, has_entry, keeps_header_rule, keeps_parity_rule, crc_field, keeps_crc_rule, info_at, IsModule}
 use Rattle.proc_model.specs.declared.module.ModuleFault.TheVariants.{BadSync, BadParity, BadCrc}
-use Rattle.guest_mods.specs.GuestModule.{is_program_kind, kind_header_length, code_offset, guest_size, marked_name, header_front, parity_of, guest_body, crc_bytes, guest_module, guest_info}
-use Rattle.guest_mods.proofs.NameLemmas.{stored_name-marked, length-marked_name}
+use Rattle.module_maker.specs.GuestModule.{is_program_kind, kind_header_length, code_offset, guest_size, marked_name, header_front, parity_of, guest_body, crc_bytes, guest_module, guest_info}
+use Rattle.module_maker.proofs.NameLemmas.{stored_name-marked, length-marked_name}
 
 -- ---- the parity
 abbrev AreBytes : List ℕ → Type 0

@@ -1,8 +1,8 @@
 -- The last character gets bit 7.
 use Rattle.std.proofs.Common.{◌≡◌, ◌+◌, ◌-◌, length, arith, append_assoc}
 use Rattle.std.proofs.lemmas.Grind.{common_steps}
-use Rattle.guest_mods.proofs.NameLemmas.{marked_name-last, last-below, take-next}
-use Rattle.guest_mods.proofs.module.push_name.Goals as goal
+use Rattle.module_maker.proofs.NameLemmas.{marked_name-last, last-below, take-next}
+use Rattle.module_maker.proofs.maker.push_name.Goals as goal
 
 pub loop-i-preserved : goal.loop-i-preserved
 loop-i-preserved c =

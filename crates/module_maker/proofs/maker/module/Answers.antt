@@ -2,9 +2,9 @@
 use Rattle.std.proofs.Common.{◌≡◌, ◌<◌, arith, append_assoc, subst, sym}
 use Rattle.std.proofs.lemmas.Grind.{common_steps}
 use Rattle.proc_model.specs.Module.{IsModule, info_at}
-use Rattle.guest_mods.specs.GuestModule.{guest_module, guest_info}
-use Rattle.guest_mods.proofs.ModuleLemmas.{guest_module-is, guest_info-is}
-use Rattle.guest_mods.proofs.module.module.Goals as goal
+use Rattle.module_maker.specs.GuestModule.{guest_module, guest_info}
+use Rattle.module_maker.proofs.ModuleLemmas.{guest_module-is, guest_info-is}
+use Rattle.module_maker.proofs.maker.module.Goals as goal
 
 pub returns-clause-module : goal.returns-clause-module
 returns-clause-module c =
