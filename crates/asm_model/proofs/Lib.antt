@@ -1,0 +1,15 @@
+pub mod Finite
+pub mod WordNumbers
+pub mod Targets
+pub mod Commas
+pub mod Indexes
+pub mod ReadBack
+pub mod Spaces
+pub mod Entries
+pub mod Marks
+pub mod Printed
+pub mod EntryOf
+pub mod Sound
+pub mod ReadPlain
+pub mod Sums
+pub mod Constants

@@ -1,0 +1,20 @@
+use Rattle.std.proofs.Common.{refl}
+use Rattle.cpu_model.specs.Table.{row, postbyte, form_lines}
+use Rattle.cpu_model.specs.BasePage.{base_page}
+use Rattle.cpu_model.specs.TenPage.{ten_page}
+use Rattle.cpu_model.specs.ElevenPage.{eleven_page}
+use Rattle.cpu_model.specs.Reading.{reading}
+use Rattle.asm_model.specs.Print.{printed}
+use Rattle.asm_model.specs.Operands.{row_operand}
+use Rattle.asm_model.specs.Instructions.{opcode_map, entry_of}
+use Rattle.asm_model.specs.Statements.{line_read}
+use Rattle.asm_model.specs.Placement.{source_fault}
+use Rattle.asm_model.proofs.worked.instructions_are_printed.Goals as goal
+
+pub returns-clause-leax : goal.returns-clause-leax
+unfolding opcode_map entry_of row_operand row postbyte form_lines base_page ten_page eleven_page printed reading line_read source_fault
+returns-clause-leax c = refl
+
+pub returns-clause-rows : goal.returns-clause-rows
+unfolding opcode_map entry_of row_operand row postbyte form_lines base_page ten_page eleven_page printed reading line_read source_fault
+returns-clause-rows c = refl

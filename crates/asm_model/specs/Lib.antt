@@ -1,0 +1,14 @@
+pub mod Mnemonics
+pub mod Characters
+pub mod Numbers
+pub mod Print
+pub mod Expressions
+pub mod Operands
+pub mod Instructions
+pub mod Statements
+pub mod Placement
+pub mod Rows
+pub mod PrintRows
+pub mod ReadRows
+pub mod FaultRows
+pub mod Laws
