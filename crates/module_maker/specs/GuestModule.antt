@@ -1,7 +1,8 @@
 -- Modules made of their parts (System Programmer's Manual, "Memory module structure").
-use Rattle.std.specs.Prelude.{ℕ, ◌+◌, ◌-◌, ◌/◌, ◌%◌, ◌==◌, bit_xor, Bool, List, [], ◌∷◌, ◌++◌, length, fold, if◌then◌else◌}
+use Rattle.std.specs.Prelude.{ℕ, ◌<◌, ◌+◌, ◌-◌, ◌/◌, ◌%◌, ◌==◌, bit_xor, Bool, List, [], ◌∷◌, ◌++◌, length, fold, if◌then◌else◌}
 use Rattle.proc_model.specs.Crc.{crc_of}
 use Rattle.proc_model.specs.declared.module.ModuleInfo.{ModuleInfo}
+use Rattle.module_maker.specs.declared.maker.Header.{Header}
 
 -- a type and language of which the type is 1, a program
 abbrev pub is_program_kind : ℕ → Bool
@@ -45,29 +46,45 @@ program_fields kind entry storage =
     if is_program_kind kind then entry / 256 ∷ entry % 256 ∷ storage / 256 ∷ storage % 256 ∷ [] else []
 
 -- the module up to its CRC
-abbrev pub guest_body : List ℕ → ℕ → ℕ → ℕ → List ℕ → List ℕ
-guest_body name kind attr storage code =
-    header_front (guest_size name kind code) kind attr
-    ++ parity_of (header_front (guest_size name kind code) kind attr)
-    ∷ (program_fields kind (code_offset name kind) storage ++ (marked_name name ++ code))
+abbrev pub made_body : List ℕ → Header → List ℕ → List ℕ
+made_body name h code =
+    header_front (guest_size name h.kind code) h.kind h.attr
+    ++ parity_of (header_front (guest_size name h.kind code) h.kind h.attr)
+    ∷ (program_fields h.kind h.entry h.storage ++ (marked_name name ++ code))
 
 -- the three bytes of a CRC
 abbrev pub crc_bytes : ℕ → List ℕ
 crc_bytes crc = crc / 65536 ∷ crc / 256 % 256 ∷ crc % 256 ∷ []
 
--- the module with this name, type and language, attributes and revision, storage size and code
-abbrev pub guest_module : List ℕ → ℕ → ℕ → ℕ → List ℕ → List ℕ
-guest_module name kind attr storage code =
-    guest_body name kind attr storage code ++ crc_bytes (crc_of (guest_body name kind attr storage code))
+-- the module with this name, header and code
+abbrev pub made_module : List ℕ → Header → List ℕ → List ℕ
+made_module name h code = made_body name h code ++ crc_bytes (crc_of (made_body name h code))
 
 -- what its header says; a type other than 1 has no offset of execution and no storage size
-abbrev pub guest_info : List ℕ → ℕ → ℕ → ℕ → List ℕ → ModuleInfo
-guest_info name kind attr storage code = record {
+abbrev pub made_info : List ℕ → Header → List ℕ → ModuleInfo
+made_info name h code = record {
   name = name;
   at = 0;
-  size = guest_size name kind code;
-  kind = kind;
-  attr = attr;
-  entry = if is_program_kind kind then code_offset name kind else 0;
-  storage = if is_program_kind kind then storage else 0;
+  size = guest_size name h.kind code;
+  kind = h.kind;
+  attr = h.attr;
+  entry = if is_program_kind h.kind then h.entry else 0;
+  storage = if is_program_kind h.kind then h.storage else 0;
 }
+
+-- a program begins before the CRC; another type of module has no beginning
+abbrev pub BeginsWithin : List ℕ → Header → List ℕ → Type 0
+BeginsWithin name h code = (if is_program_kind h.kind then h.entry else 0) < code_offset name h.kind + length code
+
+-- ---- modules that begin at their code
+
+abbrev pub at_code : List ℕ → ℕ → ℕ → ℕ → Header
+at_code name kind attr storage =
+    record { kind = kind; attr = attr; entry = code_offset name kind; storage = storage }
+
+-- the module with this name, type and language, attributes and revision, storage size and code
+abbrev pub guest_module : List ℕ → ℕ → ℕ → ℕ → List ℕ → List ℕ
+guest_module name kind attr storage code = made_module name (at_code name kind attr storage) code
+
+abbrev pub guest_info : List ℕ → ℕ → ℕ → ℕ → List ℕ → ModuleInfo
+guest_info name kind attr storage code = made_info name (at_code name kind attr storage) code

@@ -1,6 +1,6 @@
 //! The maker of modules from their parts.
 #![tactic(auto)]
 
-pub use maker::module;
+pub use maker::{Header, module, module_with};
 
 mod maker;

@@ -2,7 +2,7 @@ ghost use Rattle.std.specs.Prelude.{◌≡◌, ◌≤◌, ◌<◌, ◌+◌, ◌-
 ghost use Rattle.os9_base.specs.Name.{IsName};
 ghost use Rattle.os9_base.specs.declared.limits.TheConstants.{MOST_GROUP_BYTES};
 ghost use Rattle.proc_model.specs.Module.{IsModule, info_at};
-ghost use Rattle.module_maker.specs.GuestModule.{guest_module, guest_body, guest_info, guest_size, code_offset, is_program_kind, kind_header_length, header_front, parity_of, program_fields, marked_name, word_bytes, crc_bytes};
+ghost use Rattle.module_maker.specs.GuestModule.{made_module, made_info, BeginsWithin, guest_module, guest_info, guest_size, code_offset, is_program_kind, kind_header_length, header_front, parity_of, program_fields, marked_name, word_bytes, crc_bytes};
 
 use module_format::crc24;
 use os9_base::call::OutOfMemory;
@@ -12,8 +12,21 @@ use std::alloc::{AllocError, Global};
 /// The type of a program, which alone has an execution offset and a storage size.
 const PROGRAM: u8 = 1;
 
-/// How many bytes the CRC has.
+/// The bytes of the CRC.
 const CRC_LENGTH: u16 = 3;
+
+/// What the header of a module says in addition to the name and the size.
+#[derive(Clone, Copy)]
+pub struct Header {
+    /// The type (high half) and the language (low half).
+    pub kind: u8,
+    /// The attributes (high half) and the revision (low half).
+    pub attr: u8,
+    /// The place in the module at which a program begins; of no use for another type.
+    pub entry: u16,
+    /// The size of a program's data memory in bytes; of no use for another type.
+    pub storage: u16,
+}
 
 /// Makes a module (System Programmer's Manual, "Memory module structure") of its name, its type
 /// (high half) and language (low half), its attributes (high half) and revision (low half), the
@@ -41,8 +54,37 @@ pub fn module(
     ensures bytes { IfOk result (λ bytes. bytes.items
         ≡ guest_module name.now kind attr storage code.now) }
 {
+    let entry = u16::from(header_length(kind)) + u16::from(name.len());
+    let header = Header {
+        kind,
+        attr,
+        entry,
+        storage,
+    };
+    module_with(alloc, name, header, code)
+}
+
+/// Makes a module of its name, the fields of its header and its code, as [`module`]; a program
+/// begins at the entry of the header.
+///
+/// # Errors
+///
+/// `OutOfMemory` alone.
+pub fn module_with(
+    alloc: Global,
+    name: &Name,
+    header: Header,
+    code: &[u8],
+) -> Result<Vec<u8>, OutOfMemory>
+    requires begins { BeginsWithin name.now header code.now }
+    requires short { guest_size name.now header.kind code.now ≤ MOST_GROUP_BYTES }
+    ensures module { IfOk result (λ bytes. IsModule bytes.items) }
+    ensures info { IfOk result (λ bytes. info_at 0 bytes.items
+        ≡ made_info name.now header code.now) }
+    ensures bytes { IfOk result (λ bytes. bytes.items ≡ made_module name.now header code.now) }
+{
     let mut bytes = Vec::new(alloc);
-    push_header(&mut bytes, name, kind, attr, storage, code.len() as u16)?;
+    push_header(&mut bytes, name, header, code.len() as u16)?;
     push_name(&mut bytes, name)?;
     bytes.extend_from_slice(code)?;
     let crc = crc24(&bytes);
@@ -50,30 +92,30 @@ pub fn module(
     Ok(bytes)
 }
 
-// Puts the header of a module with so many bytes of code behind these bytes.
+// Puts the header of a module with `code_length` bytes of code behind these bytes.
 fn push_header(
     bytes: &mut Vec<u8>,
     name: &Name,
-    kind: u8,
-    attr: u8,
-    storage: u16,
+    header: Header,
     code_length: u16,
 ) -> Result<(), AllocError>
-    requires { code_offset name.now kind + code_length + 3 ≤ MOST_GROUP_BYTES }
+    requires { code_offset name.now header.kind + code_length + 3 ≤ MOST_GROUP_BYTES }
     ensures { IfOk result (λ _. bytes.new.items ≡ bytes.old.items
-        ++ (header_front (code_offset name.now kind + code_length + 3) kind attr
-        ++ parity_of (header_front (code_offset name.now kind + code_length + 3) kind attr)
-        ∷ program_fields kind (code_offset name.now kind) storage)) }
+        ++ (header_front (code_offset name.now header.kind + code_length + 3)
+            header.kind header.attr
+        ++ parity_of (header_front (code_offset name.now header.kind + code_length + 3)
+            header.kind header.attr)
+        ∷ program_fields header.kind header.entry header.storage)) }
 {
-    let length = header_length(kind);
-    let entry = u16::from(length) + u16::from(name.len());
-    let [size_high, size_low] = (entry + code_length + CRC_LENGTH).to_be_bytes();
-    let front = [0x87, 0xcd, size_high, size_low, 0, length, kind, attr];
+    let length = header_length(header.kind);
+    let size = u16::from(length) + u16::from(name.len()) + code_length + CRC_LENGTH;
+    let [size_high, size_low] = size.to_be_bytes();
+    let front = [0x87, 0xcd, size_high, size_low, 0, length, header.kind, header.attr];
     bytes.extend_from_slice(&front)?;
     bytes.push(parity(&front))?;
-    if is_program(kind) {
-        push_word(bytes, entry)?;
-        push_word(bytes, storage)?;
+    if is_program(header.kind) {
+        push_word(bytes, header.entry)?;
+        push_word(bytes, header.storage)?;
     }
     Ok(())
 }
