@@ -19,6 +19,7 @@ use Rattle.rbf_check.specs.Survey.{IsSurvey}
 use Rattle.rbf_check.specs.declared.tree.Node.{Node}
 use Rattle.rbf_check.specs.declared.tree.Tree.{Tree}
 use Rattle.rbf_check.specs.VolumeNodes.{volume_from, AreNodesBelow}
+use Rattle.rbf_check.specs.Lost.{IsLostOf}
 use Rattle.rbf_check.specs.Tree.{TellsNode, TellsVolume, CountsFiles, IsTreeOf, is_directory_node}
 
 -- nodes that pass a test where their descriptors pass another
@@ -65,4 +66,17 @@ module _ (survey : Survey) (is : IsSurvey survey) where
         represents = vol_from_keeps survey.image.bytes.now survey.image.identified.header (subst Q (sym same) is.kept) (found_numbers survey.files.items) (subst R (sym same) is.files.found);
         tells = tells;
         counts = counts_files (image_geometry survey.image.bytes.now) (image_volume survey.image.bytes.now (found_numbers survey.files.items)) tree tells;
+      }
+
+  pub lost_is : (list : List ℕ) → list ≡ lost_clusters (geometry_of survey.image.ident) (volume_from survey) → IsLostOf survey.image.bytes.now list
+  lost_is list are =
+      let same = survey.image.identified.geometry in
+      let rest = λ (g : Geometry). drop (256 * g.total) survey.image.bytes.now in
+      let Q : Geometry → Type 0 = λ g. Keeps (disk_of g (sector survey.image.bytes.now)) in
+      let R : Geometry → Type 0 = λ g. IsFound (disk_of g (sector survey.image.bytes.now)) (found_numbers survey.files.items) in
+      let S : Geometry → Type 0 = λ g. list ≡ lost_clusters g (volume_of (disk_of g (sector survey.image.bytes.now)) (found_numbers survey.files.items) (rest g)) in
+      record {
+        volume = image_volume survey.image.bytes.now (found_numbers survey.files.items);
+        represents = vol_from_keeps survey.image.bytes.now survey.image.identified.header (subst Q (sym same) is.kept) (found_numbers survey.files.items) (subst R (sym same) is.files.found);
+        are = subst S (sym same) are;
       }

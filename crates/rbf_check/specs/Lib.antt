@@ -4,3 +4,4 @@ pub mod Survey
 pub mod VolumeNodes
 pub mod Tree
 pub mod Verdict
+pub mod Lost

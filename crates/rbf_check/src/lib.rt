@@ -2,12 +2,14 @@
 #![tactic(auto)]
 
 pub use faults::{CheckError, CheckFault};
+pub use lost::lost_list;
 pub use tree::{FileBytes, Node, Nodes, Tree};
 pub use verdict::check;
 
 mod clusters;
 mod contents;
 mod faults;
+mod lost;
 mod nodes;
 mod places;
 mod space;

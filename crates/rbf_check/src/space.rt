@@ -38,7 +38,7 @@ fn is_free(survey: &Survey<'_>, c: u32) -> bool
     is_whole(&survey.image.ident, c) && !is_marked(survey.image.bytes, c)
 }
 
-fn is_lost(survey: &Survey<'_>, used: &[bool], c: u32) -> bool
+pub fn is_lost(survey: &Survey<'_>, used: &[bool], c: u32) -> bool
     requires survey { IsSurvey survey.now }
     requires used { AreUsed (disk_on survey.now.image) (found_numbers survey.now.files.items)
         used.now }
