@@ -1,0 +1,5 @@
+pub mod Bits
+pub mod Lists
+pub mod OneFreed
+pub mod Freed
+pub mod Outcome
