@@ -1,7 +1,3 @@
-use Rattle.std.proofs.Common.{◌≡◌, ◌++◌, ◌<◌, OnOk, ℕ, ◌+◌, ◌-◌, ◌*◌, ◌≤◌, length}
-use Rattle.std.specs.List.{flat_map}
-use Rattle.lock_model.specs.Lines.{hex_digit as hex_digit_model}
-use Rattle.lock_model.specs.Lines.{hex_digits}
 use Rattle.history_text.proofs.hex.+push_hex.Given as goal
 
 -- proposed from what the function passes where it calls itself
