@@ -13,7 +13,11 @@ pub record IsCacheOf (media : Option (List ℕ)) (held : List Sector) : Type 0 w
 abbrev pub IsHeld : List Sector → ℕ → Type 0
 IsHeld held lsn = IsSome (held_bytes held 0 lsn)
 
--- so are the sectors of these segments from one place up to another
+-- if this sector was held, so is each sector that was held
+abbrev pub StayHeld : ℕ → List Sector → List Sector → Type 0
+StayHeld lsn old new = (m : ℕ) → IsHeld old lsn → IsHeld old m → IsHeld new m
+
+-- the sectors of these segments are held from one place up to another
 abbrev pub AreHeld : List Sector → List (ℕ × ℕ) → ℕ → ℕ → Type 0
 AreHeld held segments from end =
     (place : ℕ) → from ≤ place → place < end → IsHeld held (slice_index (sectors_of segments) place)

@@ -1,8 +1,9 @@
-ghost use Rattle.std.specs.Prelude.{◌≡◌, ℕ, ◌<◌, IfOk, OnOk, OnErr, IsSome};
+ghost use Rattle.std.specs.Prelude.{◌≡◌, ◌<◌, take, IfOk, OnOk, OnErr, IsSome};
 ghost use Rattle.os9_outer.specs.Drive.{sector_count, sector_at, with_sector};
 ghost use Rattle.rbf_access.specs.Drive.{Counts};
 ghost use Rattle.rbf_access.specs.Faults.{file_fault};
-ghost use Rattle.rbf_access.specs.Cached.{IsCacheOf, IsHeld, IsUsed};
+ghost use Rattle.rbf_access.specs.Cached.{IsCacheOf, IsHeld, IsUsed, StayHeld};
+ghost use Rattle.sector_cache.specs.Held.{put_first, without};
 ghost use Rattle.rbf_access.specs.Mounted.{kept, IsSound};
 
 use crate::faults::FileFault;
@@ -37,8 +38,8 @@ impl Volume {
         ensures cached { IsCacheOf (media d.new) self.new.cache }
         ensures hit { IsHeld self.old.cache lsn → drive_calls d.new ≡ drive_calls d.old }
         ensures used { OnOk result (IsUsed lsn self.old.cache self.new.cache) }
-        ensures still { (m : ℕ) → IsHeld self.old.cache lsn → IsHeld self.old.cache m
-            → IsHeld self.new.cache m }
+        ensures left { OnErr result (self.new.cache ≡ self.old.cache) }
+        ensures still { StayHeld lsn self.old.cache self.new.cache }
         ensures counts { Counts ⟦<dyn BlockDriver as BlockDriver>⟧
             (file_fault result) 1 d.old d.new }
     {
@@ -59,7 +60,8 @@ impl Volume {
     ///
     /// # Errors
     ///
-    /// `Device` if the drive's write fails; then the media is as it was.
+    /// `Device` if the drive's write fails; the media is then unchanged, and the cache no longer holds
+    /// the sector.
     pub fn store(
         &mut self,
         d: &mut dyn BlockDriver,
@@ -74,6 +76,8 @@ impl Volume {
         ensures device { OnErr result (IsSome (file_fault result)) }
         ensures volume_kept { kept self.new ≡ kept self.old }
         ensures cached { IsCacheOf (media d.new) self.new.cache }
+        ensures first { OnOk result (self.new.cache ≡ take 64 (put_first self.old.cache 0 lsn from.now)) }
+        ensures forgotten { OnErr result (self.new.cache ≡ without self.old.cache 0 lsn) }
         ensures counts { Counts ⟦<dyn BlockDriver as BlockDriver>⟧
             (file_fault result) 1 d.old d.new }
     {
