@@ -4,8 +4,8 @@ ghost use Rattle.proc_model.specs.Module.{IsModule};
 ghost use Rattle.guest_mods.specs.Stress.{IsLoad, record_lengths, program_module, sysgo_module, worker_module};
 
 use crate::load::Load;
-use module_maker::module;
 use crate::random::{draw, next_random};
+use module_maker::module;
 use os9_base::call::OutOfMemory;
 use os9_base::calls::{
     F_EXIT, F_FORK, F_WAIT, I_CREATE, I_OPEN, I_READ, I_SEEK, I_SETSTT, I_WRITE,

@@ -102,15 +102,24 @@ fn push_header(
     requires { code_offset name.now header.kind + code_length + 3 ≤ MOST_GROUP_BYTES }
     ensures { IfOk result (λ _. bytes.new.items ≡ bytes.old.items
         ++ (header_front (code_offset name.now header.kind + code_length + 3)
-            header.kind header.attr
+        header.kind header.attr
         ++ parity_of (header_front (code_offset name.now header.kind + code_length + 3)
-            header.kind header.attr)
+        header.kind header.attr)
         ∷ program_fields header.kind header.entry header.storage)) }
 {
     let length = header_length(header.kind);
     let size = u16::from(length) + u16::from(name.len()) + code_length + CRC_LENGTH;
     let [size_high, size_low] = size.to_be_bytes();
-    let front = [0x87, 0xcd, size_high, size_low, 0, length, header.kind, header.attr];
+    let front = [
+        0x87,
+        0xcd,
+        size_high,
+        size_low,
+        0,
+        length,
+        header.kind,
+        header.attr,
+    ];
     bytes.extend_from_slice(&front)?;
     bytes.push(parity(&front))?;
     if is_program(header.kind) {

@@ -177,11 +177,14 @@ module _ (v : DiskVolume) (old : List ℕ) (cleared gone : ℕ → Bool) (place 
 
     -- the media is sound once the sector is written
     pub sound_then : IsSound (with_sector media (1 + place) bytes)
-    sound_then = (_, record {
-      image = put_sector now (1 + place) bytes;
-      is = ap (λ m. with_sector m (1 + place) bytes) state.far.is;
-      vol = frees_image now left state.far.vol (1 + place) bytes (here gone place) whole frees;
-    })
+    sound_then = (
+      _,
+      record {
+        image = put_sector now (1 + place) bytes;
+        is = ap (λ m. with_sector m (1 + place) bytes) state.far.is;
+        vol = frees_image now left state.far.vol (1 + place) bytes (here gone place) whole frees;
+      },
+    )
 
     -- the sector has been written, and then what is kept has the marks no more
     pub cleared_then : (media_now : Option (List ℕ)) (kept_now : KeptVolume) (map : ClusterMap) → media_now ≡ with_sector media (1 + place) bytes → ClearsMarks kept.map map (here gone place)

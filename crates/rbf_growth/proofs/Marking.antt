@@ -197,6 +197,6 @@ pub mark_sound : (kept : KeptVolume) (media : Option (List ℕ)) (written : List
     → cluster < kept.map.whole → IsMarking kept media written → (bytes : List ℕ) → IsSectorOf kept.map.bytes n bytes → IsSound (with_sector media (1 + n) bytes)
 mark_sound kept media written cluster n place room not_yet low marking bytes of_map =
     let on =
-        write_on marking.volume marking.old media (with_sector media (1 + n) bytes) kept written (set written n true) cluster n place room not_yet low refl
-        (record { bytes = bytes; of_map = of_map; media = refl }) marking.on in
+    write_on marking.volume marking.old media (with_sector media (1 + n) bytes) kept written (set written n true) cluster n place room not_yet low refl
+    (record { bytes = bytes; of_map = of_map; media = refl }) marking.on in
     (with_lost marking.volume (λ c. marking.volume.lost c || (is_new_mark marking.volume kept.map c && is_written (set written n true) c)), record { image = on.now; is = on.is; vol = on.marked.vol })

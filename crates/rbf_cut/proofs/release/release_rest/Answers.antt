@@ -43,11 +43,13 @@ returns-in_err-release_in-clause-counts g c =
 pub loop-place-preserved : goal.loop-place-preserved
 loop-place-preserved g c =
     let same = ap (λ (h : Geometry). h.cluster) c.loop-place.invariant.0.sizes in
-    let low : c.loop-place.place < map_sectors (kept c.args.volume.now).sizes = omega arith in
-    (release_more _ c.loop-place.place (kept c.args.volume.now) (kept c.loop-place.volume) _ _ _ _ c.loop-place.invariant.0 _ (kept c.release_in.new.volume) _ low
-    (next_as c.args.volume.now.ident.cluster c.loop-place.volume.ident.cluster c.args.cut.now c.loop-place.place _ _ (kept c.loop-place.volume) (kept c.release_in.new.volume) same c.in_ok-release_in.ensures.ok)
-    c.in_ok-release_in.ensures.sizes (rest_in_volume _ _ _ _ c.requires.may) c.in_ok-release_in.ensures.counts
-    (none_as c.args.volume.now.ident.cluster c.loop-place.volume.ident.cluster c.args.cut.now c.loop-place.place _ same c.in_ok-release_in.ensures.none), c.in_ok-release_in.ensures.cached)
+    let low : c.loop-place.place < map_sectors (kept c.args.volume.now).sizes = omega arith in (
+      release_more _ c.loop-place.place (kept c.args.volume.now) (kept c.loop-place.volume) _ _ _ _ c.loop-place.invariant.0 _ (kept c.release_in.new.volume) _ low
+          (next_as c.args.volume.now.ident.cluster c.loop-place.volume.ident.cluster c.args.cut.now c.loop-place.place _ _ (kept c.loop-place.volume) (kept c.release_in.new.volume) same c.in_ok-release_in.ensures.ok)
+          c.in_ok-release_in.ensures.sizes (rest_in_volume _ _ _ _ c.requires.may) c.in_ok-release_in.ensures.counts
+          (none_as c.args.volume.now.ident.cluster c.loop-place.volume.ident.cluster c.args.cut.now c.loop-place.place _ same c.in_ok-release_in.ensures.none),
+      c.in_ok-release_in.ensures.cached,
+    )
 
 pub returns-clause-ok : goal.returns-clause-ok
 returns-clause-ok g c v old is =

@@ -43,14 +43,16 @@ pub loop-place-preserved : goal.loop-place-preserved
 loop-place-preserved g c =
     let has = c.requires.gone in
     let same = ap (λ (h : Geometry). h.cluster) c.loop-place.invariant.0.sizes in
-    let low : c.loop-place.place < map_sectors (kept c.args.volume.now).sizes = omega arith in
-    (drop_more _ c.loop-place.place (kept c.args.volume.now) (kept c.loop-place.volume) _ _ _ _ c.loop-place.invariant.0 _ (kept c.release_in.new.volume) _ low
-    (next_as c.args.volume.now.ident.cluster c.loop-place.volume.ident.cluster c.args.own.now c.loop-place.place _ _ (kept c.loop-place.volume) (kept c.release_in.new.volume) same
-    c.in_ok-release_in.ensures.ok)
-    c.in_ok-release_in.ensures.sizes
-    (own_in_volume _ c.args.own.now.fd c.args.own.now.segs c.requires.list has.content has.file has.gone c.args.volume.now.ident.cluster (kept c.args.volume.now) (kept c.loop-place.volume) refl
-    (agrees_on c.args.volume.now _ has.content c.requires.mounted has.gone.on) c.loop-place.place _ _ _ c.loop-place.invariant.0)
-    c.in_ok-release_in.ensures.counts (none_as c.args.volume.now.ident.cluster c.loop-place.volume.ident.cluster c.args.own.now c.loop-place.place _ same c.in_ok-release_in.ensures.none), c.in_ok-release_in.ensures.cached)
+    let low : c.loop-place.place < map_sectors (kept c.args.volume.now).sizes = omega arith in (
+      drop_more _ c.loop-place.place (kept c.args.volume.now) (kept c.loop-place.volume) _ _ _ _ c.loop-place.invariant.0 _ (kept c.release_in.new.volume) _ low
+          (next_as c.args.volume.now.ident.cluster c.loop-place.volume.ident.cluster c.args.own.now c.loop-place.place _ _ (kept c.loop-place.volume) (kept c.release_in.new.volume) same
+          c.in_ok-release_in.ensures.ok)
+          c.in_ok-release_in.ensures.sizes
+          (own_in_volume _ c.args.own.now.fd c.args.own.now.segs c.requires.list has.content has.file has.gone c.args.volume.now.ident.cluster (kept c.args.volume.now) (kept c.loop-place.volume) refl
+          (agrees_on c.args.volume.now _ has.content c.requires.mounted has.gone.on) c.loop-place.place _ _ _ c.loop-place.invariant.0)
+          c.in_ok-release_in.ensures.counts (none_as c.args.volume.now.ident.cluster c.loop-place.volume.ident.cluster c.args.own.now c.loop-place.place _ same c.in_ok-release_in.ensures.none),
+      c.in_ok-release_in.ensures.cached,
+    )
 
 pub returns-clause-ok : goal.returns-clause-ok
 returns-clause-ok g c v file gone =
