@@ -5,16 +5,16 @@ use Rattle.std.proofs.Math.Seq.{drop-append-add}
 use Rattle.rbf_model.specs.Geometry.{sector}
 
 -- a front of a list is dropped
-dropped : (front rest : List ℕ) (n m : ℕ) → n ≡ length front + m → drop n (front ++ rest) ≡ drop m rest
+pub dropped : (front rest : List ℕ) (n m : ℕ) → n ≡ length front + m → drop n (front ++ rest) ≡ drop m rest
 dropped front rest n m is = ap (λ k. drop k (front ++ rest)) is ∙ drop-append-add front rest m
 
 -- the sectors behind a part
-behind : (part rest : List ℕ) (count n m : ℕ) → length part ≡ 256 * count → n ≡ count + m → sector (part ++ rest) n ≡ sector rest m
+pub behind : (part rest : List ℕ) (count n m : ℕ) → length part ≡ 256 * count → n ≡ count + m → sector (part ++ rest) n ≡ sector rest m
 behind part rest count n m long is =
     let place : 256 * n ≡ length part + 256 * m = omega arith in
     ap (take 256) (dropped part rest (256 * n) (256 * m) place)
 
-first : (part rest : List ℕ) → length part ≡ 256 → sector (part ++ rest) 0 ≡ part
+pub first : (part rest : List ℕ) → length part ≡ 256 → sector (part ++ rest) 0 ≡ part
 first part rest long = take_at part rest 256 long
 
 module _ (ident marks desc list zeros : List ℕ) (ms : ℕ) (ident-long : length ident ≡ 256) (marks-long : length marks ≡ 256 * ms) (desc-long : length desc ≡ 256) (list-long : length list ≡ 256) where

@@ -127,7 +127,12 @@ pub fn root_entries(root: u32) -> [u8; 256]
     b
 }
 
-/// Puts an allocation map behind the image: its first clusters are marked, so many of them.
+/// Puts an allocation map of `bytes` bytes behind the image (OS-9 Technical Reference, Random Block File
+/// Manager, "Disk Allocation Map"): its first `marked` clusters are in use.
+///
+/// # Errors
+///
+/// `AllocError` if out of memory.
 pub fn push_map(image: &mut Vec<u8>, marked: u32, bytes: u32) -> Result<(), AllocError>
     requires few { bytes ≤ 65536 }
     ensures { IfOk result (λ _. image.new.items ≡ image.old.items ++ marks_map marked bytes) }

@@ -3,36 +3,21 @@ use Rattle.std.proofs.Common.{◌≡◌, ℕ, zero, suc, ◌+◌, ◌-◌, ◌*�
 use Rattle.std.specs.Prelude.{flat_map}
 use Rattle.std.specs.List.{range_with_len}
 use Rattle.std.proofs.lemmas.List.{take_at, take-take, drop-drop, length-replicate}
-use Rattle.std.proofs.lemmas.List.FromFn.{length-map-range_with_len}
-use Rattle.std.proofs.Math.Seq.{drop-append-add, take-add}
+use Rattle.std.proofs.Math.Seq.{take-add}
 use Rattle.rbf_model.specs.Geometry.{sector}
-use Rattle.boot_disk.specs.BootDisk.{sector_with, sectors_for, used_sectors, ident_front, marks_byte, marks_map, root_front, root_entries, file_front, used_part, boot_image}
+use Rattle.blank_disk.specs.Image.{marks_map}
+use Rattle.blank_disk.proofs.Laid.{dropped, behind, first}
+use Rattle.blank_disk.proofs.Marks.{length-marks}
+use Rattle.boot_disk.specs.BootDisk.{sector_with, sectors_for, used_sectors, ident_front, root_front, root_entries, file_front, used_part, boot_image}
 
 pub length-sector_with : (bytes : List ℕ) → length bytes ≤ 256 → length (sector_with bytes) ≡ 256
 unfolding sector_with
 length-sector_with bytes short =
     length-append bytes (replicate (256 - length bytes) 0) ∙ omega (arith, length-replicate {A = ℕ} (256 - length bytes) 0)
 
-pub length-marks_map : (marked : ℕ) → length (marks_map marked) ≡ 512
-unfolding marks_map
-length-marks_map marked = length-map-range_with_len (marks_byte marked) 0 512
-
 pub length-root_entries : length root_entries ≡ 96
 unfolding root_entries
 length-root_entries = refl
-
--- a front of a list is dropped
-dropped : (front rest : List ℕ) (n m : ℕ) → n ≡ length front + m → drop n (front ++ rest) ≡ drop m rest
-dropped front rest n m is = ap (λ k. drop k (front ++ rest)) is ∙ drop-append-add front rest m
-
--- the sectors behind a part
-behind : (part rest : List ℕ) (count n m : ℕ) → length part ≡ 256 * count → n ≡ count + m → sector (part ++ rest) n ≡ sector rest m
-behind part rest count n m long is =
-    let place : 256 * n ≡ length part + 256 * m = omega arith in
-    ap (take 256) (dropped part rest (256 * n) (256 * m) place)
-
-first : (part rest : List ℕ) → length part ≡ 256 → sector (part ++ rest) 0 ≡ part
-first part rest long = take_at part rest 256 long
 
 -- sectors that follow each other are a piece of the image
 pub joined : (image : List ℕ) (a n : ℕ) → flat_map (sector image) (range_with_len a n) ≡ take (256 * n) (drop (256 * a) image)
@@ -68,7 +53,7 @@ module _ (file : List ℕ) (short : length file ≤ 57344) where
   ident = sector_with (ident_front size)
 
   abbrev marks : List ℕ
-  marks = marks_map (used_sectors size)
+  marks = marks_map (used_sectors size) 512
 
   abbrev end : List ℕ
   end = file ++ replicate (1047040 - size) 0
@@ -104,7 +89,7 @@ module _ (file : List ℕ) (short : length file ≤ 57344) where
       let three = length-append ((ident ++ marks) ++ sector_with root_front) (sector_with root_entries) in
       let four = length-append (((ident ++ marks) ++ sector_with root_front) ++ sector_with root_entries) (sector_with (file_front size)) in
       let five = length-append ((((ident ++ marks) ++ sector_with root_front) ++ sector_with root_entries) ++ sector_with (file_front size)) file in
-      let marked = length-marks_map (used_sectors size) in
+      let marked = length-marks (used_sectors size) 512 in
       omega (arith, one, two, three, four, five, ident-long, marked, root-long, entries-long, file-long)
 
   pub image-long : length image ≡ 1048576
@@ -125,7 +110,7 @@ module _ (file : List ℕ) (short : length file ≤ 57344) where
   from-3 n m k one two =
       ap (λ b. sector b n) laid-out
       ∙ behind ident (marks ++ files_part) 1 n m (omega (arith, ident-long)) one
-      ∙ behind marks files_part 2 m k (omega (arith, length-marks_map (used_sectors size))) two
+      ∙ behind marks files_part 2 m k (omega (arith, length-marks (used_sectors size) 512)) two
 
   pub sector-3 : sector image 3 ≡ sector_with root_front
   sector-3 = from-3 3 2 0 refl refl ∙ first (sector_with root_front) behind_root root-long
@@ -146,7 +131,7 @@ module _ (file : List ℕ) (short : length file ≤ 57344) where
   from-6 =
       ap (drop 1536) laid-out
       ∙ dropped ident (marks ++ files_part) 1536 1280 (omega (arith, ident-long))
-      ∙ dropped marks files_part 1280 768 (omega (arith, length-marks_map (used_sectors size)))
+      ∙ dropped marks files_part 1280 768 (omega (arith, length-marks (used_sectors size) 512))
       ∙ dropped (sector_with root_front) behind_root 768 512 (omega (arith, root-long))
       ∙ dropped (sector_with root_entries) behind_entries 512 256 (omega (arith, entries-long))
       ∙ dropped (sector_with (file_front size)) end 256 0 (omega (arith, file-long))

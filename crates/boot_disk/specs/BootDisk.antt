@@ -2,12 +2,12 @@
 -- has 4,096 sectors, and where each part stands, is this project's own): LSN 0, the allocation map in sectors 1 and 2,
 -- the root's descriptor in sector 3 and its entries in sector 4, the file's descriptor in sector 5, and the file from
 -- sector 6 on.
-use Rattle.std.specs.Prelude.{◌≡◌, ℕ, ◌+◌, ◌-◌, ◌*◌, ◌/◌, ◌%◌, ◌≤◌, ◌==◌, min, false, Option, Some, None, List, [], ◌∷◌, ◌++◌, length, take, drop, map, replicate, slice_index, if◌then◌else◌}
-use Rattle.std.specs.List.{range_with_len}
+use Rattle.std.specs.Prelude.{◌≡◌, ℕ, ◌+◌, ◌-◌, ◌*◌, ◌/◌, ◌%◌, ◌≤◌, ◌==◌, false, Option, Some, None, List, [], ◌∷◌, ◌++◌, length, take, drop, replicate, if◌then◌else◌}
 use Rattle.rbf_model.specs.Fields.{boot_field, boot_size_field}
 use Rattle.rbf_model.specs.File.{DiskFile}
 use Rattle.rbf_model.specs.Geometry.{sector}
 use Rattle.rbf_model.specs.Volume.{DiskVolume}
+use Rattle.blank_disk.specs.Image.{marks_map}
 
 -- ---- the parts
 
@@ -28,18 +28,6 @@ abbrev pub ident_front : ℕ → List ℕ
 ident_front size =
     0 ∷ 16 ∷ 0 ∷ 0 ∷ 2 ∷ 0 ∷ 0 ∷ 1 ∷ 0 ∷ 0 ∷ 3 ∷ 0 ∷ 0 ∷ 0 ∷ 0 ∷ 0 ∷ 0 ∷ 0 ∷ 0 ∷ 0 ∷ 0 ∷ 0 ∷ 0 ∷ 6 ∷ size / 256
     ∷ size % 256 ∷ []
-
--- the bytes whose first bits are set: none of them, one, and so on up to all eight
-abbrev pub first_bits : List ℕ
-first_bits = 0x00 ∷ 0x80 ∷ 0xC0 ∷ 0xE0 ∷ 0xF0 ∷ 0xF8 ∷ 0xFC ∷ 0xFE ∷ 0xFF ∷ []
-
--- byte i of a map whose first clusters are marked, so many of them
-abbrev pub marks_byte : ℕ → ℕ → ℕ
-marks_byte marked i = slice_index first_bits (min 8 (marked - 8 * i))
-
--- the map
-unfoldable pub marks_map : ℕ → List ℕ
-marks_map marked = map (marks_byte marked) (range_with_len 0 512)
 
 -- the root's descriptor: attributes BF, one link, 96 bytes, one segment (4, 1)
 abbrev pub root_front : List ℕ
@@ -64,7 +52,7 @@ file_front size =
 -- the disk up to the end of the file
 abbrev pub used_part : List ℕ → List ℕ
 used_part file =
-    ((((sector_with (ident_front (length file)) ++ marks_map (used_sectors (length file))) ++ sector_with root_front)
+    ((((sector_with (ident_front (length file)) ++ marks_map (used_sectors (length file)) 512) ++ sector_with root_front)
     ++ sector_with root_entries) ++ sector_with (file_front (length file))) ++ file
 
 -- the disk of a boot file: zeros follow up to its end

@@ -4,7 +4,8 @@ ghost use Rattle.rbf_model.specs.Volume.{Vol, free_clusters};
 ghost use Rattle.rbf_model.specs.Geometry.{image_geometry};
 ghost use Rattle.boot_disk.specs.BootDisk.{boot_image as boot_image_lem, used_part as used_part_lem, boot_volume, used_sectors, BootsFile, ident_front, file_front, root_front, root_entries, sectors_for as sectors_for_lem};
 
-use crate::sectors::{SECTOR_BYTES, push_map, push_sector, push_zeros};
+use crate::sectors::{SECTOR_BYTES, push_sector, push_zeros};
+use blank_disk::push_map;
 use os9_base::call::OutOfMemory;
 use std::alloc::{AllocError, Global};
 
@@ -12,7 +13,10 @@ use std::alloc::{AllocError, Global};
 const SECTORS: usize = 4_096;
 
 /// How many sectors stand before the file.
-const SYSTEM_SECTORS: u16 = 6;
+const SYSTEM_SECTORS: u32 = 6;
+
+/// How many bytes the allocation map has.
+const MAP_BYTES: u32 = 512;
 
 /// Makes the image of a disk with one file, `OS9Boot`, from which a machine boots (OS-9 Technical
 /// Reference, Random Block File Manager; Level Two manual, "Booting").
@@ -46,7 +50,11 @@ fn used_part(alloc: Global, file: &[u8]) -> Result<Vec<u8>, AllocError>
     let size = file.len() as u16;
     let mut part = Vec::new(alloc);
     push_sector(&mut part, &ident(size))?;
-    push_map(&mut part, SYSTEM_SECTORS + u16::from(sectors_for(size)))?;
+    push_map(
+        &mut part,
+        SYSTEM_SECTORS + u32::from(sectors_for(size)),
+        MAP_BYTES,
+    )?;
     push_sector(&mut part, &root())?;
     push_sector(&mut part, &entries())?;
     push_sector(&mut part, &descriptor(size))?;
