@@ -1,44 +1,87 @@
 #!/usr/bin/env bash
-# Shows what is in an image file when its write is broken off: `./os9 boot` of an image of 64 MiB, once
-# under a limit on the size of files that is too small for it, and then killed twenty times at moments
-# spread over its whole time. Each time the file must hold the whole image.
+# Shows what is in an image file if its write is broken off or disturbed. `./os9 boot` of an image of 64 MiB,
+# whose program writes a file: under a limit on the size of files, killed twenty times at moments spread over
+# its whole time, twice at once, beside files of the names that a new file would have, and with a FIFO in the
+# place of the image. Each time the file must be the old image or the new one, whole.
 top=$(cd "$(dirname "$(readlink -f "${BASH_SOURCE[0]}")")/.." && pwd) || exit 1
 folder=$(mktemp -d) || exit 1
 trap 'rm -rf "$folder"' EXIT
-python3 "$top/bench/make_image.py" "$folder/old" 262144 "$top/examples/hello.mod" || exit 1
-echo "# no key" >"$folder/script"
+image=$folder/image
+python3 "$top/bench/make_image.py" "$folder/old" 262144 "$top/examples/log.mod" || exit 1
 
-# Boots the copy of the image.
+# Boots these images.
 boot() {
-    "$top/os9" boot "$folder/image" --script "$folder/script" --slices "$top/examples/hello.slices"
+    "$top/os9" boot "$@" --script "$top/examples/log.keys" --slices "$top/examples/log.slices" >/dev/null
 }
 
-# Is the file the whole image?
-is_whole() {
-    cmp -s "$folder/old" "$folder/image" || { echo "$1: the image is not whole" && exit 1; }
+# Is the file one of these images, whole?
+is_one_of() {
+    local name=$1 file=$2 whole
+    shift 2
+    for whole in "$@"; do cmp -s "$folder/$whole" "$file" && return; done
+    echo "$name: the image is not whole" && exit 1
 }
 
-cp "$folder/old" "$folder/image"
+# Is no new file left?
+is_alone() {
+    if compgen -G "$folder/*.os9-*" >/dev/null; then echo "$1: a new file is left" && exit 1; fi
+}
+
+cp "$folder/old" "$image"
 (
     ulimit -f 1024
     trap '' XFSZ
-    boot
+    boot "$image"
 )
 echo "under a limit: status $?"
-is_whole "under a limit"
-if [ -e "$folder/image.os9-new" ]; then echo "under a limit: the new file is left" && exit 1; fi
+is_one_of "under a limit" "$image" old
+is_alone "under a limit"
 
 begin=$(date +%s%N)
-boot >/dev/null || exit 1
+boot "$image" || exit 1
 took=$(($(date +%s%N) - begin))
-is_whole "whole"
+cp "$image" "$folder/new"
+if cmp -s "$folder/old" "$folder/new"; then echo "the program wrote nothing" && exit 1; fi
+is_alone "whole"
+
 left=0
 for n in $(seq 20); do
-    boot >/dev/null &
+    cp "$folder/old" "$image"
+    boot "$image" &
     sleep "$(python3 -c "print($took * $n / 20e9)")"
     kill -KILL $! 2>/dev/null
     wait $! 2>/dev/null
-    is_whole "killed at $n of 20"
-    if [ -e "$folder/image.os9-new" ]; then left=$((left + 1)); fi
+    is_one_of "killed at $n of 20" "$image" old new
+    if compgen -G "$image.os9-*" >/dev/null; then left=$((left + 1)) && rm "$image".os9-*; fi
 done
 echo "killed 20 times: the image is whole each time; a new file was left beside it $left times"
+
+for n in 1 2 3 4 5; do
+    cp "$folder/old" "$image"
+    boot "$image" &
+    one=$!
+    boot "$image" &
+    wait $one || exit 1
+    wait $! || exit 1
+    is_one_of "twice at once" "$image" new
+    is_alone "twice at once"
+done
+echo "twice at once, 5 times: the image is whole each time"
+
+cp "$folder/old" "$image"
+echo stale >"$image.os9-1"
+boot "$image" || exit 1
+is_one_of "beside a stale file" "$image" new
+if [ "$(cat "$image.os9-1")" != stale ]; then echo "the stale file has changed" && exit 1; fi
+cp "$folder/old" "$image"
+cp "$folder/old" "$image.os9-1"
+boot "$image" "$image.os9-1" || exit 1
+is_one_of "two images" "$image" new
+is_one_of "two images" "$image.os9-1" old
+echo "beside files of the names of new files: all are whole"
+rm "$image.os9-1" "$image"
+
+mkfifo "$image"
+cat "$folder/old" >"$image" &
+timeout 120 "$top/os9" boot "$image" --script "$top/examples/log.keys" --slices "$top/examples/log.slices" >/dev/null 2>&1
+echo "a FIFO: status $?"

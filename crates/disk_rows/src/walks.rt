@@ -194,18 +194,19 @@ fn walk_reads_up_to_the_name(rt: HostRuntime) -> Result<(), Fail> {
     Ok(())
 }
 
-// The root may be written by anyone, `A` by its owner.
+// The root may be written by anyone, `A` by its owner. What was read is not read again: neither the
+// sector of the directory before the entry is written, nor the root's descriptor for `.` and `..`.
 #[test]
 fn deletion_driver_calls(rt: HostRuntime) -> Result<(), Fail> {
     let rows: [(u64, &[u8], u16, Result<u32, DirError>, u64); 8] = [
-        (99, b"a", 0, Ok(4), 7),
+        (99, b"a", 0, Ok(4), 6),
         (99, b"a", 7, Err(DirError::NotAllowed), 5),
-        (99, b".", 0, Err(DirError::NotAllowed), 5),
-        (99, b"..", 0, Err(DirError::NotAllowed), 5),
+        (99, b".", 0, Err(DirError::NotAllowed), 4),
+        (99, b"..", 0, Err(DirError::NotAllowed), 4),
         (99, b"b", 0, Err(DirError::NotFound), 4),
         (5, b"a", 0, fault(), 5),
         (6, b"a", 0, fault(), 6),
-        (7, b"a", 0, fault(), 7),
+        (7, b"a", 0, Ok(4), 6),
     ];
     for (failing, text, user, answer, calls) in rows {
         let image = image_with_a(rt.alloc())?;
