@@ -494,10 +494,10 @@ name    fcs     "/D1/Data"
 """, 1200))
     disk = Volume(32)
     disk.directory(ROOT, ROOT, [("", 0)])  # clusters 0 to 3
-    # the map's mark and the descriptor; then the entry, in a sector that is read before
-    created = MOUNT + SEARCH + 2 + 2
-    # the descriptor is read and the map written; then each of three sectors is read and written
-    last = created + 2 + 3 * 2
+    # the map's mark and the descriptor; then the entry, in a sector that is held since the search
+    created = MOUNT + SEARCH + 2 + 1
+    # the descriptor is held and the map written; then each of three sectors is read and written
+    last = created + 1 + 3 * 2
     row("768 bytes, whose last sector is not written, and then the same again", lines("0003 01F5 0000 0000 0300"),
         [(boot_disk(modules), tree([directory_line("/", ["OS9Boot"]), file_line("/OS9Boot", 3, modules)],
                                    64 - BOOT_SECTORS - needed(modules))),
@@ -521,8 +521,8 @@ start   leax    name,pcr
 name    fcs     "/D1/Gone"
 """))
     contents = bytes(n % 7 for n in range(300))
-    # the name is searched and the file's descriptor read; then the entry's sector is read before it is written
-    entry = MOUNT + SEARCH + 1 + 2
+    # the name is searched and the file's descriptor read; then the entry's sector, which is held, is written
+    entry = MOUNT + SEARCH + 1 + 1
     for name, call, number, shown, names, files, free, lost in [
         ("the entry", entry, 242, "01F2 0000", ["Gone"], [file_line("/Gone", 3, contents)], 32 - 4 - 3, 0),
         ("the map", entry + 1, 247, "01F7 01D8", ["-"], [], 32 - 4 - 3, 3),
@@ -565,11 +565,11 @@ start   clra
 {EXIT}
 name    fcs     "/D1"
 """
-    # to open it is to read its descriptor; to read it, its descriptor and the one sector that holds its bytes
-    opened, read = MOUNT + 1, MOUNT + 1 + 2
+    # to open it is to read its descriptor, which is held then; to read it, the one sector that holds its bytes
+    opened, read = MOUNT + 1, MOUNT + 1 + 1
     for name, source, call, shown in [
         ("mounted, in two calls", idle, MOUNT + 1, ""),
-        ("opened and read, in three more", reads, read + 1, "0000 0000 0040 2EAE"),
+        ("opened and read, in two more", reads, read + 1, "0000 0000 0040 2EAE"),
         ("opened, and the last call of its read fails", reads, read, "0000 01F4 0040 0000"),
         ("not opened, since the first call after mounting fails", reads, opened, "01F4 01C9 0040 0000"),
     ]:
