@@ -327,3 +327,185 @@ text    fcc     "0123"
 for text, status, shown in [("1*3", 5, ""), ("4", 5, ""), ("6", 5, "0123"), ("7", 0, "0123"), ("1*6", 5, "0123"),
                             ("1*7", 0, "0123"), ("3 2*2", 0, "0123")]:
     row(f"slices {text}", HELLO, text, status, shown)
+
+# What a module stores over its next instruction it executes there, INCB in the place of NOP; and so does a second
+# process of the module, which was started before.
+row("a module that stores over its own instructions", program("SysGo", """
+start   bsr     fork
+        bsr     fork
+        os9     $04
+        os9     $04
+        clrb
+        os9     $06
+fork    leax    child,pcr
+        ldy     #0
+        ldu     #0
+        lda     #$11
+        clrb
+        os9     $03
+        rts
+child   fcs     "Child"
+""") + program("Child", """
+start   clrb
+first   nop
+        lda     #$5C
+        sta     first,pcr
+        sta     next,pcr
+next    nop
+        clra
+        bsr     show
+        clrb
+        os9     $06
+"""), "1000*9", 0, "0001 0002")
+
+
+def delivery(name, stack, shown):
+    """A signal reaches a child whose S is this. Slots 0 and 7 are named, of its data area and of the boot file."""
+    row(name, program("SysGo", f"""
+start   ldy     #0
+        ldu     #0
+{FORK}
+        ldx     #2
+        os9     $0A
+        lda     #3
+        ldb     #7
+        os9     $08
+        os9     $04
+        bsr     show
+        clrb
+        os9     $06
+{CHILD}""") + program("Child", f"""
+start   leax    routine,pcr
+        ldu     #$80
+        os9     $09
+        ldd     #{stack}
+        tfr     d,s
+loop    bra     loop
+routine clra
+        bsr     show
+        tfr     s,d
+        bsr     show
+        clrb
+        os9     $06
+"""), "1000*9", 0, shown)
+
+
+# A frame from FFF9 on would end at 0004. One that ends at FFFF has its place.
+delivery("a signal where the frame would go round", "$0005", "03E4")
+delivery("a signal where the frame ends at FFFF", "$0000", "0007 FFF4 0300")
+delivery("a signal where S is in an unnamed slot", "$6000", "03E4")
+
+# Shows carry and B, as a line of four digits.
+ANSWER = """
+answer  pshs    cc,a,b,x,y
+        tfr     cc,a
+        anda    #1
+        lbsr    show
+        puls    cc,a,b,x,y,pc
+"""
+
+# All slots are named, so it is the address alone that is bad.
+row("a read of 65,535 bytes from 8000", program("SysGo", f"""
+start   ldd     #$E000
+        os9     $07
+        lbsr    show
+        ldx     #$8000
+        ldy     #65535
+        clra
+        clrb
+        os9     $89
+        bsr     answer
+        tfr     x,d
+        bsr     show
+        tfr     y,d
+        bsr     show
+        clrb
+        os9     $06
+{ANSWER}"""), "1000*9", 0, "E000 01D2 8000 FFFF")
+
+# A pipe has 41, and then 42. The byte at FFFF is read; two bytes from there are refused, and byte and pipe stay.
+row("a read of the byte at FFFF, and of two bytes there", program("SysGo", f"""
+start   leax    pipe,pcr
+        lda     #3
+        os9     $84
+        ldd     #$4142
+        std     $30
+        ldx     #$30
+        bsr     write
+        ldx     #$FFFF
+        ldy     #1
+        bsr     read
+        bsr     last
+        ldx     #$31
+        bsr     write
+        ldx     #$FFFF
+        ldy     #2
+        bsr     read
+        bsr     last
+        ldx     #$30
+        ldy     #1
+        bsr     read
+        clra
+        ldb     <$30
+        lbsr    show
+        clrb
+        os9     $06
+write   ldy     #1
+        lda     #3
+        os9     $8A
+        rts
+read    lda     #3
+        clrb
+        os9     $89
+        bsr     answer
+        tfr     y,d
+        bsr     show
+        rts
+last    ldx     #$FFFF
+        clra
+        ldb     0,x
+        bsr     show
+        rts
+pipe    fcs     "/PIPE"
+{ANSWER}"""), "1000*9", 0, "0000 0001 0041 01D2 0002 0041 0000 0001 0042")
+
+# RTI from twelve bytes at 0040, with E set in their CC: S is behind them, less the byte of CC that is then pushed.
+row("an RTI from a frame that the program wrote", program("SysGo", """
+start   ldd     #$8512
+        std     $40
+        ldd     #$3401
+        std     $42
+        ldd     #$5678
+        std     $44
+        ldd     #$9ABC
+        std     $46
+        ldd     #$DEF0
+        std     $48
+        leax    back,pcr
+        stx     $4A
+        ldd     #$0040
+        tfr     d,s
+        rti
+back    pshs    cc
+        std     $34
+        sts     $36
+        puls    b
+        clra
+        bsr     show
+        tfr     x,d
+        bsr     show
+        tfr     y,d
+        bsr     show
+        tfr     u,d
+        bsr     show
+        tfr     dp,a
+        clrb
+        bsr     show
+        ldx     #$34
+        ldd     0,x
+        bsr     show
+        ldd     2,x
+        bsr     show
+        clrb
+        os9     $06
+""", 600), "1000*9", 0, "0085 5678 9ABC DEF0 0100 1234 004B")
