@@ -45,9 +45,10 @@ if cmp -s "$folder/old" "$folder/new"; then echo "the program wrote nothing" && 
 is_alone "whole"
 
 left=0
+refused=0
 for n in $(seq 20); do
     cp "$folder/old" "$image"
-    boot "$image" &
+    (exec "$top/os9" boot "$image" --script "$top/examples/log.keys" --slices "$top/examples/log.slices" >/dev/null) &
     sleep "$(python3 -c "print($took * $n / 20e9)")"
     kill -KILL $! 2>/dev/null
     wait $! 2>/dev/null
@@ -58,15 +59,22 @@ echo "killed 20 times: the image is whole each time; a new file was left beside 
 
 for n in 1 2 3 4 5; do
     cp "$folder/old" "$image"
-    boot "$image" &
+    boot "$image" 2>/dev/null &
     one=$!
-    boot "$image" &
-    wait $one || exit 1
-    wait $! || exit 1
+    boot "$image" 2>/dev/null &
+    other=$!
+    wait $one
+    first=$?
+    wait $other
+    second=$?
+    if [ "$first $second" != "0 0" ] && [ "$first $second" != "0 3" ] && [ "$first $second" != "3 0" ]; then
+        echo "twice at once: status $first and $second" && exit 1
+    fi
     is_one_of "twice at once" "$image" new
     is_alone "twice at once"
+    if [ "$first $second" != "0 0" ]; then refused=$((refused + 1)); fi
 done
-echo "twice at once, 5 times: the image is whole each time"
+echo "twice at once, 5 times: the image is whole each time; one of the two ended with 3 $refused times"
 
 cp "$folder/old" "$image"
 echo stale >"$image.os9-1"
