@@ -9,14 +9,14 @@ use Rattle.file_drives.specs.Drives.{DriveView, drive_states, media_of}
 use Rattle.file_drives.specs.Mounted.{DriveHolds}
 use Rattle.file_drives.proofs.DriveLemmas.{media-there}
 use Rattle.file_start.specs.Start.{HaveImages, HaveVolumes}
-use Rattle.disk_machine.specs.Start.{Starts}
-use Rattle.disk_machine.specs.State.{State}
+use Rattle.machine_model.specs.Start.{Starts}
+use Rattle.machine_model.specs.State.{State}
 use Rattle.disk_ends.proofs.Images.{images-keep-ends}
 use Rattle.disk_ends.proofs.Runs.{run-keeps-ends}
 use Rattle.disk_ends.proofs.Starts.{start-has-images}
-use Rattle.disk_kernel.specs.Breaks.{BreaksEvent}
-use Rattle.disk_kernel.specs.Calls.{StopsSlice}
-use Rattle.disk_kernel.specs.Outside.{Outside}
+use Rattle.os9_kernel.specs.Breaks.{BreaksEvent}
+use Rattle.os9_kernel.specs.Calls.{StopsSlice}
+use Rattle.os9_kernel.specs.Outside.{Outside}
 use Rattle.os9_outer.specs.Stream.{stream_with}
 use Rattle.os9_outer.specs.TerminalState.{TerminalState}
 use Rattle.boot_run.specs.Machine.{ComesTo, FailsToMount, IsUnrun, LeavesUnrun, MachineCall, RunsFirst, RunsTo, RunsWhole, Setup, StartsLoaded, boot_of}

@@ -2,13 +2,13 @@
 -- (this project's own).
 use Rattle.std.specs.Prelude.{◌≡◌, ◌≢◌, ◌⊎◌, ℕ, Bool, true, false, Some, List, length, slice_get, All}
 use Rattle.os9_outer.specs.Stream.{stream_with}
-use Rattle.machine_model.specs.Start.{Refuses}
-use Rattle.machine_model.specs.declared.ends.BootFault.{BootFault}
+use Rattle.event_rules.specs.Start.{Refuses}
+use Rattle.event_rules.specs.declared.ends.BootFault.{BootFault}
 use Rattle.rbf_model.specs.Volume.{DiskVolume}
 use Rattle.file_drives.specs.Drives.{drive_states}
 use Rattle.file_rules.specs.Files.{volume_at}
-use Rattle.disk_machine.specs.Run.{Run}
-use Rattle.disk_machine.specs.State.{State, has_living}
+use Rattle.machine_model.specs.Run.{Run}
+use Rattle.machine_model.specs.State.{State, has_living}
 use Rattle.disk_ends.specs.Images.{IsWrittenBack}
 use Rattle.boot_run.specs.Console.{IsObserved}
 use Rattle.boot_run.specs.Machine.{IsUnrun, LeavesUnrun, RunsFirst, Setup, StartsLoaded}

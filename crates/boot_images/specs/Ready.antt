@@ -3,7 +3,7 @@ use Rattle.std.specs.Prelude.{◌≡◌, ℕ, ◌≤◌, ◌<◌, true, List, le
 use Rattle.os9_base.specs.declared.limits.TheConstants.{LAST_TICK}
 use Rattle.civil_time.specs.CivilTime.{is_time_packet}
 use Rattle.key_loading.specs.Loaded.{AreUnloaded}
-use Rattle.disk_kernel.specs.Outside.{Outside}
+use Rattle.os9_kernel.specs.Outside.{Outside}
 use Rattle.file_drives.specs.Drives.{DriveView}
 use Rattle.boot_images.specs.Drives.{HaveRoom, IsEmpty}
 use Rattle.boot_images.specs.declared.machine.Start.{Start}

@@ -5,14 +5,14 @@ ghost use Rattle.boot_images.specs.BootFile.{IsVolume};
 ghost use Rattle.boot_images.specs.Outcome.{RunsImages, setup_of};
 ghost use Rattle.boot_images.specs.Ready.{AreFree, CanStart};
 ghost use Rattle.boot_run.specs.World.{OnWorld};
-ghost use Rattle.disk_kernel.specs.Outside.{outside};
+ghost use Rattle.os9_kernel.specs.Outside.{outside};
 
 use crate::drives::{eject_images, insert_images};
 use crate::images::Images;
 use boot_run::{RunEnd, run_machine};
 use device_table::devices::Devices;
-use disk_kernel::Config;
 use os9_base::registers::TimePacket;
+use os9_kernel::Config;
 use os9_outer::drive::BlockDriver;
 use os9_outer::host::Host;
 use os9_outer::terminal::CharDriver;

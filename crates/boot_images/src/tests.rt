@@ -1,7 +1,7 @@
 //! Each call that can fail, with ample memory.
 
 ghost use Rattle.boot_images.specs.Ready.{AreFree};
-ghost use Rattle.disk_kernel.specs.Outside.{outside};
+ghost use Rattle.os9_kernel.specs.Outside.{outside};
 ghost use Rattle.os9_words.specs.Command.{most_images};
 ghost use Rattle.std.specs.Prelude.{◌≡◌, IfOk, length};
 
@@ -11,8 +11,8 @@ use crate::machine::{Start, run_images};
 use crate::write::{WriteFault, write_images};
 use boot_run::RunEnd;
 use device_table::devices::Devices;
-use disk_kernel::BootFault;
 use os9_base::registers::TimePacket;
+use os9_kernel::BootFault;
 use os9_outer::drive::BlockDriver;
 use os9_outer::mem_host::MemHost;
 use os9_outer::sure_drive::SureDrive;

@@ -1,7 +1,7 @@
 //! Images that are written under their names.
 
 ghost use Rattle.std.specs.Prelude.{◌≡◌, length};
-ghost use Rattle.disk_kernel.specs.Outside.{Outside};
+ghost use Rattle.os9_kernel.specs.Outside.{Outside};
 ghost use Rattle.boot_images.specs.ImageWrites.{WritesImages};
 ghost use Rattle.boot_run.specs.World.{world_of};
 

@@ -8,11 +8,11 @@ use Rattle.call_rules.specs.Delivery.{delivered}
 use Rattle.call_rules.specs.Ready.{Act, attempts, delivers, executes, act_of}
 use Rattle.time_rules.specs.Attempts.{clock_after, time_step}
 use Rattle.time_rules.specs.Clock.{IsNow}
-use Rattle.machine_model.specs.declared.ends.EventEnd.{EventEnd}
-use Rattle.machine_model.specs.Event.{call_event_end, delivery_end, instruction_end, next_instruction}
-use Rattle.disk_machine.specs.Event.{Acts, Event, before_delivery}
-use Rattle.disk_machine.specs.Services.{Service, Serves, loads, no_call, on_paths, on_processes, on_time, service_of}
-use Rattle.disk_machine.specs.State.{State}
+use Rattle.event_rules.specs.declared.ends.EventEnd.{EventEnd}
+use Rattle.event_rules.specs.Event.{call_event_end, delivery_end, instruction_end, next_instruction}
+use Rattle.machine_model.specs.Event.{Acts, Event, before_delivery}
+use Rattle.machine_model.specs.Services.{Service, Serves, loads, no_call, on_paths, on_processes, on_time, service_of}
+use Rattle.machine_model.specs.State.{State}
 use Rattle.boot_rows.specs.Rows.{after_act, after_event, rest_after, served}
 
 -- how the event of a process that does this ends

@@ -1,4 +1,4 @@
--- Slices of the machine of disk images that are worked through by hand, one event after another.
+-- Slices of the machine that are worked through by hand, one event after another.
 use Rattle.std.specs.Prelude.{◌≡◌, ℕ, zero, suc, Option, Some, None, option_map, List, [], ◌∷◌, ◌++◌, length, map, replicate}
 use Rattle.std.specs.Option.{option_map_or}
 use Rattle.os9_base.specs.declared.calls.TheConstants.{F_ID, F_SLEEP, F_TIME, F_STIME}
@@ -22,12 +22,12 @@ use Rattle.file_rules.specs.Processes.{first_files}
 use Rattle.time_rules.specs.Attempts.{clock_after, result_of, time_step}
 use Rattle.time_rules.specs.Clock.{IsNow, first_clock}
 use Rattle.time_rules.specs.Packet.{packet_bytes}
-use Rattle.machine_model.specs.declared.ends.SliceEnd.TheVariants.{Ran}
-use Rattle.machine_model.specs.Event.{after_instruction, next_instruction}
-use Rattle.disk_machine.specs.Event.{before_delivery, files_after_delivery, files_after_instruction}
-use Rattle.disk_machine.specs.Run.{Slice}
-use Rattle.disk_machine.specs.Services.{Service, files_after_call, no_call, on_paths, on_processes, on_time, loads, service_of, with_files}
-use Rattle.disk_machine.specs.State.{State, Rest, rest_of, with_rest}
+use Rattle.event_rules.specs.declared.ends.SliceEnd.TheVariants.{Ran}
+use Rattle.event_rules.specs.Event.{after_instruction, next_instruction}
+use Rattle.machine_model.specs.Event.{before_delivery, files_after_delivery, files_after_instruction}
+use Rattle.machine_model.specs.Run.{Slice}
+use Rattle.machine_model.specs.Services.{Service, files_after_call, no_call, on_paths, on_processes, on_time, loads, service_of, with_files}
+use Rattle.machine_model.specs.State.{State, Rest, rest_of, with_rest}
 
 -- ---- events that touch no terminal and no drive
 

@@ -1,4 +1,4 @@
-//! Worked slices of the machine of disk images.
+//! Worked slices of the machine.
 #![tactic(auto)]
 
 pub mod rows;

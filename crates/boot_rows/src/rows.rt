@@ -12,8 +12,8 @@ ghost use Rattle.call_rules.specs.Inner.{cells_at, regs_at};
 ghost use Rattle.call_rules.specs.Ready.{attempts, delivers, executes};
 ghost use Rattle.call_rules.specs.UserBytes.{user_bytes};
 ghost use Rattle.time_rules.specs.Clock.{first_clock};
-ghost use Rattle.machine_model.specs.declared.ends.SliceEnd.TheVariants.{Idle};
-ghost use Rattle.disk_machine.specs.Run.{Slice};
+ghost use Rattle.event_rules.specs.declared.ends.SliceEnd.TheVariants.{Idle};
+ghost use Rattle.machine_model.specs.Run.{Slice};
 ghost use Rattle.boot_rows.specs.Rows.{SliceDoes, after_slice, asks_for_id, asks_for_time, at_choice, at_start, falls_asleep, loads_unnamed, not_set, sets_time, signalled_in_call, told, two_running};
 
 /// A call is attempted in the slice whose instructions are not used up when it is made, else in the

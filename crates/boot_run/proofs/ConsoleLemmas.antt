@@ -10,12 +10,12 @@ use Rattle.os9_words.proofs.Prefixes.{GainsPrefix-front, GainsPrefix-then}
 use Rattle.os9_outer.specs.Stream.{stream_with, emptied, GainsPrefix}
 use Rattle.device_table.proofs.StreamLemmas.{appended-twice}
 use Rattle.os9_outer.specs.TerminalState.{TerminalState, ChangesOneTerminal}
-use Rattle.machine_model.specs.Console.{put_bytes, console_bytes, without_bytes}
+use Rattle.event_rules.specs.Console.{put_bytes, console_bytes, without_bytes}
 use Rattle.os9_base.specs.Count.{Rose}
 use Rattle.os9_outer.specs.Host.{OnFailed, UnlessFailed}
 use Rattle.os9_outer.specs.declared.host.HostFault.{HostFault}
 use Rattle.os9_outer.specs.declared.host.HostFault.TheVariants.{Failed, OutOfMemory}
-use Rattle.disk_kernel.specs.Outside.{Outside}
+use Rattle.os9_kernel.specs.Outside.{Outside}
 use Rattle.boot_run.specs.Console.{TakesBytes, IsObserved, emptied_front}
 use Rattle.boot_run.specs.World.{World, HasNoFault, FailsToWrite}
 

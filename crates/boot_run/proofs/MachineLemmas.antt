@@ -19,20 +19,20 @@ use Rattle.file_state.specs.Tie.{StandsFor}
 use Rattle.file_start.proofs.FirstLemmas.{some-volume}
 use Rattle.file_start.specs.Start.{HaveImages, HaveVolumes, StartsDrives}
 use Rattle.file_start.specs.declared.fault.StartFault.{StartFault}
-use Rattle.machine_model.specs.Start.{Refuses}
-use Rattle.machine_model.specs.State.{living_count}
-use Rattle.machine_model.specs.declared.ends.BootFault.{BootFault}
-use Rattle.machine_model.specs.declared.ends.BootFault.TheVariants.{OutOfMemory, BadModule, NoFirst, TooLarge}
-use Rattle.disk_machine.specs.Start.{Boot as Begun, Starts}
-use Rattle.disk_machine.specs.State.{State, has_living}
+use Rattle.event_rules.specs.Start.{Refuses}
+use Rattle.event_rules.specs.State.{living_count}
+use Rattle.event_rules.specs.declared.ends.BootFault.{BootFault}
+use Rattle.event_rules.specs.declared.ends.BootFault.TheVariants.{OutOfMemory, BadModule, NoFirst, TooLarge}
+use Rattle.machine_model.specs.Start.{Boot as Begun, Starts}
+use Rattle.machine_model.specs.State.{State, has_living}
 use Rattle.kept_laws.proofs.RunningLaws.{start-running}
-use Rattle.disk_kernel.specs.declared.kernel.Kernel.{Kernel}
-use Rattle.disk_kernel.specs.declared.new.Config.{Config}
-use Rattle.disk_kernel.specs.declared.new.StartError.{StartError}
-use Rattle.disk_kernel.specs.declared.new.StartError.TheVariants.{Boot, Drive}
-use Rattle.disk_kernel.specs.Outside.{Outside}
-use Rattle.disk_kernel.specs.Starting.{StartIsRefused, WhereRefused, drive_fault}
-use Rattle.disk_kernel.specs.Tie.{Represents, Stands}
+use Rattle.os9_kernel.specs.declared.kernel.Kernel.{Kernel}
+use Rattle.os9_kernel.specs.declared.new.Config.{Config}
+use Rattle.os9_kernel.specs.declared.new.StartError.{StartError}
+use Rattle.os9_kernel.specs.declared.new.StartError.TheVariants.{Boot, Drive}
+use Rattle.os9_kernel.specs.Outside.{Outside}
+use Rattle.os9_kernel.specs.Starting.{StartIsRefused, WhereRefused, drive_fault}
+use Rattle.os9_kernel.specs.Tie.{Represents, Stands}
 use Rattle.boot_run.specs.declared.machine.RunEnd.{RunEnd}
 use Rattle.boot_run.specs.declared.machine.RunEnd.TheVariants.{Ended, Living, OutputFailed, NoMemory}
 use Rattle.boot_run.specs.declared.run.RunFault.TheVariants as RunFault

@@ -13,19 +13,19 @@ use Rattle.rbf_access.specs.declared.volume.Volume.{Volume}
 use Rattle.file_drives.specs.Drives.{DriveView, drive_states, unused_drive}
 use Rattle.file_drives.specs.Mounted.{AgreesOnDrive, AreMounted, DriveHolds, kept_at, mounted_at}
 use Rattle.file_drives.proofs.MountedLemmas.{mounted-below}
-use Rattle.machine_model.specs.declared.ends.SliceEnd.{SliceEnd}
-use Rattle.machine_model.specs.Console.{terminals_emptied, console_bytes}
-use Rattle.machine_model.specs.State.{living_count}
-use Rattle.machine_model.specs.Terminals.{TerminalsOnlyGain}
-use Rattle.machine_model.proofs.TerminalLaws.{gain-emptied}
-use Rattle.disk_machine.specs.Run.{Slice, Run}
-use Rattle.disk_machine.specs.State.{State, has_living}
-use Rattle.disk_machine.proofs.Gains.{slice-gains}
-use Rattle.disk_kernel.specs.declared.kernel.Kernel.{Kernel}
-use Rattle.disk_kernel.specs.Calls.{HasSlice, StopsSlice}
-use Rattle.disk_kernel.specs.Outside.{Outside}
-use Rattle.disk_kernel.specs.Tie.{Represents, Stands}
-use Rattle.disk_kernel.proofs.Represented.{represents-emptied}
+use Rattle.event_rules.specs.declared.ends.SliceEnd.{SliceEnd}
+use Rattle.event_rules.specs.Console.{terminals_emptied, console_bytes}
+use Rattle.event_rules.specs.State.{living_count}
+use Rattle.event_rules.specs.Terminals.{TerminalsOnlyGain}
+use Rattle.event_rules.proofs.TerminalLaws.{gain-emptied}
+use Rattle.machine_model.specs.Run.{Slice, Run}
+use Rattle.machine_model.specs.State.{State, has_living}
+use Rattle.machine_model.proofs.Gains.{slice-gains}
+use Rattle.os9_kernel.specs.declared.kernel.Kernel.{Kernel}
+use Rattle.os9_kernel.specs.Calls.{HasSlice, StopsSlice}
+use Rattle.os9_kernel.specs.Outside.{Outside}
+use Rattle.os9_kernel.specs.Tie.{Represents, Stands}
+use Rattle.os9_kernel.proofs.Represented.{represents-emptied}
 use Rattle.boot_run.specs.Console.{IsObserved, emptied_front}
 use Rattle.boot_run.specs.Machine.{HoldsVolumes}
 use Rattle.boot_run.specs.Slices.{RunsPartly}

@@ -9,15 +9,15 @@ use Rattle.file_drives.specs.Mounted.{DriveHolds}
 use Rattle.file_rules.specs.Files.{NoneFailed, OneFailed, volume_at}
 use Rattle.file_start.specs.Start.{HaveImages, HaveVolumes}
 use Rattle.key_loading.specs.Loaded.{AreUnloaded, loaded}
-use Rattle.machine_model.specs.Start.{Refuses}
-use Rattle.machine_model.specs.declared.ends.BootFault.{BootFault}
+use Rattle.event_rules.specs.Start.{Refuses}
+use Rattle.event_rules.specs.declared.ends.BootFault.{BootFault}
 use Rattle.rbf_model.specs.Volume.{DiskVolume}
 use Rattle.script_text.specs.declared.script.ScriptKey.{ScriptKey}
-use Rattle.disk_machine.specs.Run.{Run}
-use Rattle.disk_machine.specs.Start.{Boot, Starts}
-use Rattle.disk_machine.specs.State.{State, has_living}
-use Rattle.disk_kernel.specs.Outside.{Outside}
-use Rattle.disk_kernel.specs.declared.new.Config.{Config}
+use Rattle.machine_model.specs.Run.{Run}
+use Rattle.machine_model.specs.Start.{Boot, Starts}
+use Rattle.machine_model.specs.State.{State, has_living}
+use Rattle.os9_kernel.specs.Outside.{Outside}
+use Rattle.os9_kernel.specs.declared.new.Config.{Config}
 use Rattle.boot_run.specs.Console.{IsObserved}
 use Rattle.boot_run.specs.Slices.{RunsPartly}
 use Rattle.boot_run.specs.World.{World, HasNoFault, FailsToWrite}

@@ -1,7 +1,7 @@
 -- How a run ends whose machine did not start.
-use Rattle.machine_model.specs.declared.ends.BootFault.TheVariants.{OutOfMemory, BadModule, NoFirst, TooLarge}
-use Rattle.disk_kernel.specs.declared.new.StartError.{StartError}
-use Rattle.disk_kernel.specs.declared.new.StartError.TheVariants.{Boot, Drive}
+use Rattle.event_rules.specs.declared.ends.BootFault.TheVariants.{OutOfMemory, BadModule, NoFirst, TooLarge}
+use Rattle.os9_kernel.specs.declared.new.StartError.{StartError}
+use Rattle.os9_kernel.specs.declared.new.StartError.TheVariants.{Boot, Drive}
 use Rattle.boot_run.specs.declared.machine.RunEnd.{RunEnd}
 use Rattle.boot_run.specs.declared.machine.RunEnd.TheVariants.{Refused, DriveFailed, NoMemory}
 

@@ -2,13 +2,13 @@
 use Rattle.std.specs.Prelude.{◌≡◌, ◌⊎◌, ℕ, true, Option, Some, Result, List, take, slice_get, OnOk, OnErr, All}
 use Rattle.os9_outer.specs.Stream.{stream_with, GainsPrefix}
 use Rattle.file_drives.specs.Drives.{drive_states}
-use Rattle.machine_model.specs.Console.{console_bytes}
-use Rattle.machine_model.specs.declared.ends.SliceEnd.{SliceEnd}
-use Rattle.disk_machine.specs.Run.{Run, Slice}
-use Rattle.disk_machine.specs.State.{State, has_living}
-use Rattle.disk_kernel.specs.Calls.{StopsSlice}
-use Rattle.disk_kernel.specs.Tie.{Represents}
-use Rattle.disk_kernel.specs.declared.kernel.Kernel.{Kernel}
+use Rattle.event_rules.specs.Console.{console_bytes}
+use Rattle.event_rules.specs.declared.ends.SliceEnd.{SliceEnd}
+use Rattle.machine_model.specs.Run.{Run, Slice}
+use Rattle.machine_model.specs.State.{State, has_living}
+use Rattle.os9_kernel.specs.Calls.{StopsSlice}
+use Rattle.os9_kernel.specs.Tie.{Represents}
+use Rattle.os9_kernel.specs.declared.kernel.Kernel.{Kernel}
 use Rattle.boot_run.specs.Console.{IsObserved, emptied_front}
 use Rattle.boot_run.specs.RunFault.{OnOutputFault, UnlessOutputFault}
 use Rattle.boot_run.specs.World.{World, HasNoFault, FailsToWrite}

@@ -7,7 +7,7 @@ use Rattle.os9_outer.specs.Host.{Files}
 use Rattle.os9_outer.specs.declared.drive.BlockDriver.{Ghosts as DriveGhosts}
 use Rattle.os9_outer.specs.declared.host.Host.{Ghosts}
 use Rattle.os9_outer.specs.declared.terminal.CharDriver.{Ghosts as TerminalGhosts}
-use Rattle.disk_kernel.specs.Outside.{OnDevices, Outside}
+use Rattle.os9_kernel.specs.Outside.{OnDevices, Outside}
 
 pub record World : Type 0 where
   pub files : Option Files  -- what the files hold

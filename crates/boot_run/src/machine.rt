@@ -1,16 +1,16 @@
 //! A machine is started and run.
 
 ghost use Rattle.std.specs.Prelude.{◌≡◌, ◌≢◌, vec_len};
-ghost use Rattle.disk_kernel.specs.Outside.{outside};
+ghost use Rattle.os9_kernel.specs.Outside.{outside};
 ghost use Rattle.boot_run.specs.Machine.{CanRun, MachineRuns};
 ghost use Rattle.boot_run.specs.RunEnd.{start_end};
 ghost use Rattle.boot_run.specs.World.{OnWorld};
 
 use crate::run::{RunFault, run_slices};
 use device_table::devices::Devices;
-use disk_kernel::{BootFault, Config, Kernel, StartError};
 use key_loading::load_keys;
 use os9_base::limits::LAST_TICK;
+use os9_kernel::{BootFault, Config, Kernel, StartError};
 use os9_outer::drive::BlockDriver;
 use os9_outer::host::Host;
 use os9_outer::terminal::CharDriver;

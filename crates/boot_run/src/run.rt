@@ -1,13 +1,13 @@
 ghost use Rattle.std.specs.Prelude.{◌≡◌, ◌+◌, ◌<◌, length, vec_len};
-ghost use Rattle.disk_kernel.specs.Outside.{outside};
-ghost use Rattle.disk_kernel.specs.Tie.{Stands, ticks};
+ghost use Rattle.os9_kernel.specs.Outside.{outside};
+ghost use Rattle.os9_kernel.specs.Tie.{Stands, ticks};
 ghost use Rattle.boot_run.specs.Slices.{RunsSlices};
 ghost use Rattle.boot_run.specs.World.{OnWorld};
 
 use crate::console::pass_on;
 use device_table::devices::Devices;
-use disk_kernel::{Kernel, SliceEnd};
 use os9_base::limits::LAST_TICK;
+use os9_kernel::{Kernel, SliceEnd};
 use os9_outer::drive::BlockDriver;
 use os9_outer::host::{Host, HostFault};
 use os9_outer::terminal::CharDriver;

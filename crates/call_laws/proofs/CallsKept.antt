@@ -46,9 +46,9 @@ use Rattle.call_rules.specs.UnLink.{f_unlink, after_unlink, without_group_link, 
 use Rattle.call_rules.specs.UnLoad.{f_unload}
 use Rattle.call_rules.specs.UserBytes.{user_bytes, d_of}
 use Rattle.call_rules.specs.Wait.{f_wait, reaped_regs}
-use Rattle.machine_model.specs.declared.ends.EventEnd.{EventEnd}
-use Rattle.machine_model.specs.declared.ends.EventEnd.TheVariants.{Ran, Waits, Ended}
-use Rattle.machine_model.specs.Event.{call_event_end}
+use Rattle.event_rules.specs.declared.ends.EventEnd.{EventEnd}
+use Rattle.event_rules.specs.declared.ends.EventEnd.TheVariants.{Ran, Waits, Ended}
+use Rattle.event_rules.specs.Event.{call_event_end}
 use Rattle.call_laws.specs.Others.{AttemptsCall, CallsOn, GetsSignal, GetsWake, KeepsOwn}
 use Rattle.call_laws.specs.Links.{ChangesLinks, GainsLink, LosesLink, LosesPrimary}
 use Rattle.call_laws.specs.NewObjects.{IsParameter}

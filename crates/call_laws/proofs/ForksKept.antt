@@ -23,7 +23,7 @@ use Rattle.call_rules.specs.Inner.{Inner, no_own, own_at, regs_at, cells_at, wit
 use Rattle.call_rules.specs.ModuleLinks.{Entered, found_entry, without_module_link, without_primary_link}
 use Rattle.call_rules.specs.Program.{Program, program_name, asks_for_program, program_kind, area_pages, most_pages, blocks_of_pages, parameters_at, start_regs, start_own, with_parameters, reads_program}
 use Rattle.call_rules.specs.UserBytes.{user_bytes}
-use Rattle.machine_model.specs.declared.ends.EventEnd.TheVariants.{Ran}
+use Rattle.event_rules.specs.declared.ends.EventEnd.TheVariants.{Ran}
 use Rattle.call_laws.specs.Others.{AttemptsCall, KeepsOwn, ComesOf}
 use Rattle.call_laws.specs.Links.{ChangesPrimary}
 use Rattle.call_laws.specs.NewObjects.{IsParameter}

@@ -22,8 +22,8 @@ use Rattle.call_rules.specs.declared.proc_call.ProcCall.TheVariants as Call
 use Rattle.call_rules.specs.Attempts.{goes_on, waiting}
 use Rattle.call_rules.specs.Inner.{Inner, no_own, own_at, with_own}
 use Rattle.call_rules.specs.ModuleLinks.{still_primary}
-use Rattle.machine_model.specs.declared.ends.EventEnd.{EventEnd}
-use Rattle.machine_model.specs.declared.ends.EventEnd.TheVariants.{Ended}
+use Rattle.event_rules.specs.declared.ends.EventEnd.{EventEnd}
+use Rattle.event_rules.specs.declared.ends.EventEnd.TheVariants.{Ended}
 use Rattle.call_laws.specs.Others.{turns_of_others, AttemptsCall, GetsWake, KeepsRecord, KeepsOwn, Goes, ComesOf}
 use Rattle.call_laws.specs.Links.{ChangesLinks}
 use Rattle.call_laws.specs.NewObjects.{IsParameter}

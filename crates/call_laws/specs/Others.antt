@@ -16,8 +16,8 @@ use Rattle.call_rules.specs.Codes.{call_of}
 use Rattle.call_rules.specs.Inner.{Inner, own_at, regs_at, user_at}
 use Rattle.call_rules.specs.Ready.{attempts, act_of}
 use Rattle.call_rules.specs.Send.{is_asleep}
-use Rattle.machine_model.specs.declared.ends.EventEnd.{EventEnd}
-use Rattle.machine_model.specs.declared.ends.EventEnd.TheVariants.{Ended}
+use Rattle.event_rules.specs.declared.ends.EventEnd.{EventEnd}
+use Rattle.event_rules.specs.declared.ends.EventEnd.TheVariants.{Ended}
 use Rattle.call_rules.specs.declared.proc_call.ProcCall.TheVariants as Call
 use Rattle.call_laws.specs.Objects.{IsNewOrShared}
 

@@ -6,7 +6,7 @@ ghost use Rattle.call_laws.specs.Others.{AttemptsCall};
 ghost use Rattle.call_rules.specs.Attempts.{after_attempt, attempted};
 ghost use Rattle.call_rules.specs.declared.proc_call.ProcCall.{ProcCall};
 ghost use Rattle.call_rules.specs.Inner.{Inner};
-ghost use Rattle.machine_model.specs.Event.{call_event_end};
+ghost use Rattle.event_rules.specs.Event.{call_event_end};
 ghost use Rattle.proc_rules.specs.Records.{IsLiving};
 
 /// An attempt of a call on processes and modules leaves the bytes of each object outside the map of

@@ -14,8 +14,8 @@ use Rattle.file_rules.specs.declared.path_call.PathCall.{PathCall}
 use Rattle.touch_laws.proofs.Attempts.{step-splits}
 use Rattle.touch_laws.proofs.Loads.{chain-leaves, fork-leaves, load-leaves}
 use Rattle.touch_laws.proofs.Splits.{Splits, StepSplits}
-use Rattle.disk_machine.specs.Services.{Serves, Service, files_after_call, files_after_fork, loads, no_call, on_paths, on_processes, on_time}
-use Rattle.disk_machine.specs.State.{Rest, State}
+use Rattle.machine_model.specs.Services.{Serves, Service, files_after_call, files_after_fork, loads, no_call, on_paths, on_processes, on_time}
+use Rattle.machine_model.specs.State.{Rest, State}
 use Rattle.disk_ends.specs.Ends.{KeepsEnds}
 use Rattle.disk_ends.proofs.Volumes.{Keep, ends-is, ends-left, ends-made, ends-same, keep-changed, keep-same}
 

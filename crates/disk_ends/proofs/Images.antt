@@ -6,9 +6,9 @@ use Rattle.std.proofs.lemmas.Option.{same_Some}
 use Rattle.rbf_model.specs.Geometry.{geometry, image_geometry, sector}
 use Rattle.rbf_model.specs.Volume.{DiskVolume, Vol}
 use Rattle.file_rules.specs.Files.{volume_at}
-use Rattle.disk_machine.specs.Run.{Run}
-use Rattle.disk_machine.specs.Start.{Boot, Starts}
-use Rattle.disk_machine.specs.State.{State}
+use Rattle.machine_model.specs.Run.{Run}
+use Rattle.machine_model.specs.Start.{Boot, Starts}
+use Rattle.machine_model.specs.State.{State}
 use Rattle.disk_ends.specs.Ends.{KeepsEnds}
 use Rattle.disk_ends.specs.Images.{IsWrittenBack}
 use Rattle.disk_ends.proofs.Runs.{run-keeps-ends}

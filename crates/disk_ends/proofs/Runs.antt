@@ -7,16 +7,16 @@ use Rattle.call_rules.specs.Inner.{Inner}
 use Rattle.call_rules.specs.Ready.{Act, act_of, attempts, delivers, executes}
 use Rattle.rbf_model.specs.Volume.{DiskVolume}
 use Rattle.file_rules.specs.Files.{Files}
-use Rattle.machine_model.specs.Console.{console_bytes, terminals_emptied}
-use Rattle.machine_model.specs.Event.{next_instruction}
-use Rattle.machine_model.specs.declared.ends.EventEnd.{EventEnd}
-use Rattle.machine_model.specs.declared.ends.EventEnd.TheVariants.{Ran}
-use Rattle.machine_model.specs.declared.ends.SliceEnd.{SliceEnd}
-use Rattle.machine_model.specs.declared.ends.SliceEnd.TheVariants.{Idle, Ran as SliceRan}
-use Rattle.disk_machine.specs.Event.{Acts, Event, before_delivery, cost, files_after_delivery, files_after_instruction}
-use Rattle.disk_machine.specs.Run.{BeginsSlice, Choose, FirstSteps, Run, Slice, Steps, Tick, is_going}
-use Rattle.disk_machine.specs.Services.{service_of}
-use Rattle.disk_machine.specs.State.{State, has_living}
+use Rattle.event_rules.specs.Console.{console_bytes, terminals_emptied}
+use Rattle.event_rules.specs.Event.{next_instruction}
+use Rattle.event_rules.specs.declared.ends.EventEnd.{EventEnd}
+use Rattle.event_rules.specs.declared.ends.EventEnd.TheVariants.{Ran}
+use Rattle.event_rules.specs.declared.ends.SliceEnd.{SliceEnd}
+use Rattle.event_rules.specs.declared.ends.SliceEnd.TheVariants.{Idle, Ran as SliceRan}
+use Rattle.machine_model.specs.Event.{Acts, Event, before_delivery, cost, files_after_delivery, files_after_instruction}
+use Rattle.machine_model.specs.Run.{BeginsSlice, Choose, FirstSteps, Run, Slice, Steps, Tick, is_going}
+use Rattle.machine_model.specs.Services.{service_of}
+use Rattle.machine_model.specs.State.{State, has_living}
 use Rattle.disk_ends.specs.Ends.{VolumesKeepEnds}
 use Rattle.disk_ends.proofs.Attempts.{serves-keeps}
 use Rattle.disk_ends.proofs.Volumes.{Keep, keep-same, keep-then}

@@ -5,8 +5,8 @@ use Rattle.std.specs.List.{AllZip}
 use Rattle.std.proofs.lemmas.Option.{none-some, same_Some}
 use Rattle.rbf_model.specs.Volume.{DiskVolume, Vol}
 use Rattle.file_rules.specs.Files.{Files, volume_at}
-use Rattle.disk_machine.specs.Start.{Boot, Starts}
-use Rattle.disk_machine.specs.State.{State}
+use Rattle.machine_model.specs.Start.{Boot, Starts}
+use Rattle.machine_model.specs.State.{State}
 
 -- so many drives without a volume
 abbrev no_volumes : ℕ → List (Option DiskVolume)

@@ -1,14 +1,14 @@
 //! What stays of the volumes and of their images, as laws over all runs.
 
 ghost use Rattle.std.specs.Prelude.{◌≡◌, ℕ, List, None, Some, slice_get};
-ghost use Rattle.machine_model.specs.declared.ends.EventEnd.{EventEnd};
-ghost use Rattle.machine_model.specs.declared.ends.SliceEnd.{SliceEnd};
+ghost use Rattle.event_rules.specs.declared.ends.EventEnd.{EventEnd};
+ghost use Rattle.event_rules.specs.declared.ends.SliceEnd.{SliceEnd};
 ghost use Rattle.rbf_model.specs.Volume.{DiskVolume, Vol};
 ghost use Rattle.file_rules.specs.Files.{volume_at};
-ghost use Rattle.disk_machine.specs.Event.{Event};
-ghost use Rattle.disk_machine.specs.Run.{BeginsSlice, Choose, Run, Slice, Tick};
-ghost use Rattle.disk_machine.specs.Start.{Boot, Starts};
-ghost use Rattle.disk_machine.specs.State.{State};
+ghost use Rattle.machine_model.specs.Event.{Event};
+ghost use Rattle.machine_model.specs.Run.{BeginsSlice, Choose, Run, Slice, Tick};
+ghost use Rattle.machine_model.specs.Start.{Boot, Starts};
+ghost use Rattle.machine_model.specs.State.{State};
 ghost use Rattle.disk_ends.specs.Ends.{KeepsEnds, VolumesKeepEnds};
 ghost use Rattle.disk_ends.specs.Images.{IsWrittenBack};
 

@@ -1,4 +1,4 @@
-//! Laws of what no run of the machine of disk images changes of its images: the first sector of each
+//! Laws of what no run of the machine changes of its images: the first sector of each
 //! volume, and the bytes behind its end.
 #![tactic(auto)]
 

@@ -9,7 +9,7 @@ use Rattle.proc_model.specs.Objects.{slot_of, object_byte, object_cells}
 use Rattle.proc_model.specs.Slots.{Slots, no_slots, blocks_in}
 use Rattle.call_rules.specs.Inner.{cells_at}
 use Rattle.memory_laws.proofs.Living.{has_number}
-use Rattle.disk_machine.specs.State.{State}
+use Rattle.machine_model.specs.State.{State}
 use Rattle.disk_numbers.specs.Numbers.{Lives, renumbered_map, IsRenumbered, DifferInNumbersAlone}
 
 -- ---- what a map names lives

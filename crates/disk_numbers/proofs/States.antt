@@ -4,10 +4,10 @@ use Rattle.os9_base.specs.declared.registers.Pid.{Pid}
 use Rattle.proc_model.specs.Memory.{MemoryState}
 use Rattle.call_rules.specs.Inner.{Inner, with_memory}
 use Rattle.file_rules.specs.Files.{Files}
-use Rattle.disk_machine.specs.State.{State}
-use Rattle.disk_kernel.specs.Outside.{Outside}
-use Rattle.disk_kernel.specs.Tie.{Represents}
-use Rattle.disk_kernel.specs.declared.kernel.Kernel.{Kernel}
+use Rattle.machine_model.specs.State.{State}
+use Rattle.os9_kernel.specs.Outside.{Outside}
+use Rattle.os9_kernel.specs.Tie.{Represents}
+use Rattle.os9_kernel.specs.declared.kernel.Kernel.{Kernel}
 use Rattle.disk_numbers.specs.Numbers.{DifferInNumbersAlone}
 use Rattle.disk_numbers.proofs.Mounts.{files-one}
 use Rattle.disk_numbers.proofs.Objects.{memories-differ}

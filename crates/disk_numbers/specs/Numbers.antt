@@ -1,11 +1,11 @@
--- What the numbers of objects are in two states of the machine of disk images (Level Two manual, "Memory management";
+-- What the numbers of objects are in two states of the machine (Level Two manual, "Memory management";
 -- objects and their numbers are this project's own).
 use Rattle.std.specs.Prelude.{◌≡◌, ℕ, true, option_map, List, map, slice_get}
 use Rattle.proc_model.specs.Memory.{MemoryState, is_living_object}
 use Rattle.proc_model.specs.Slots.{Slots}
 use Rattle.call_rules.specs.Inner.{with_memory}
 use Rattle.memory_laws.specs.Renaming.{renamed_modules}
-use Rattle.disk_machine.specs.State.{State}
+use Rattle.machine_model.specs.State.{State}
 
 -- an object lives: a map or an entered group names it
 abbrev pub Lives : MemoryState → ℕ → Type 0

@@ -3,10 +3,10 @@
 
 ghost use Rattle.std.specs.Prelude.{◌≡◌, ℕ};
 ghost use Rattle.call_rules.specs.Inner.{cells_at};
-ghost use Rattle.disk_machine.specs.State.{State};
-ghost use Rattle.disk_kernel.specs.declared.kernel.Kernel.{Kernel};
-ghost use Rattle.disk_kernel.specs.Outside.{Outside};
-ghost use Rattle.disk_kernel.specs.Tie.{Represents};
+ghost use Rattle.machine_model.specs.State.{State};
+ghost use Rattle.os9_kernel.specs.declared.kernel.Kernel.{Kernel};
+ghost use Rattle.os9_kernel.specs.Outside.{Outside};
+ghost use Rattle.os9_kernel.specs.Tie.{Represents};
 ghost use Rattle.disk_numbers.specs.Numbers.{DifferInNumbersAlone};
 
 /// The state that a kernel and its devices represent is one but for the numbers of objects: of two

@@ -26,8 +26,8 @@ use Rattle.touch_laws.proofs.Loads.{chain-leaves, fork-leaves, load-leaves}
 use Rattle.touch_laws.proofs.Named.{device-no-file}
 use Rattle.touch_laws.proofs.OfAttempts.{comes-of, number-of}
 use Rattle.flow_laws.proofs.CallCodes.{AttemptsNone, same-code}
-use Rattle.disk_machine.specs.Services.{Serves, Service, files_after_call, files_after_fork, loads, no_call, on_paths, on_processes, on_time, with_files}
-use Rattle.disk_machine.specs.State.{Rest, State}
+use Rattle.machine_model.specs.Services.{Serves, Service, files_after_call, files_after_fork, loads, no_call, on_paths, on_processes, on_time, with_files}
+use Rattle.machine_model.specs.State.{Rest, State}
 use Rattle.flow_laws.proofs.Asked.{device_of}
 use Rattle.flow_laws.proofs.GoesOn.{GoesOn, chain-attempt-goes, fork-attempt-goes, load-goes}
 

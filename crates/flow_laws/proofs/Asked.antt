@@ -15,7 +15,7 @@ use Rattle.time_rules.specs.declared.time_call.TimeCall.{TimeCall}
 use Rattle.touch_laws.specs.Devices.{device_call}
 use Rattle.touch_laws.proofs.Codes.{code-none, code-there}
 use Rattle.flow_laws.proofs.CallCodes.{found-code, not-both}
-use Rattle.disk_machine.specs.Services.{Service, loads, on_processes, on_time, on_paths, no_call, service_of}
+use Rattle.machine_model.specs.Services.{Service, loads, on_processes, on_time, on_paths, no_call, service_of}
 
 -- the call that it is on a terminal or a pipe
 abbrev pub device_of : Service → Option IoCall

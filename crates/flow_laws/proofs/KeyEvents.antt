@@ -27,18 +27,18 @@ use Rattle.io_rules.specs.Waiting.{io_interrupted, pid}
 use Rattle.io_rules.specs.declared.io_call.Direction.TheVariants as Way
 use Rattle.io_rules.specs.declared.io_call.IoCall.{IoCall}
 use Rattle.file_rules.specs.Files.{place_of_target}
-use Rattle.machine_model.specs.declared.ends.EventEnd.{EventEnd}
-use Rattle.machine_model.specs.declared.ends.EventEnd.TheVariants.{Ended, Ran, Waits}
-use Rattle.machine_model.specs.Event.{call_event_end, delivery_end, instruction_end, next_instruction}
+use Rattle.event_rules.specs.declared.ends.EventEnd.{EventEnd}
+use Rattle.event_rules.specs.declared.ends.EventEnd.TheVariants.{Ended, Ran, Waits}
+use Rattle.event_rules.specs.Event.{call_event_end, delivery_end, instruction_end, next_instruction}
 use Rattle.io_laws.proofs.StepWalk.{StepGives, step-gives}
 use Rattle.flow_laws.specs.Keys.{KeyMove, LineGoes, LineStays, UsesNone, read_call, reading_of, stay, use_up, DropsLine, EventKeys, HasAhead, ReadEnds, ReaderStops, ReadsFrom, StopsReading, WriteFails, ahead_at, keys_to_come}
 use Rattle.flow_laws.proofs.CallCodes.{none-delivering, none-executing, same-code}
 use Rattle.flow_laws.proofs.KeyAttempts.{AheadLeft, Ends, Failed, IsReader, Moved, TermLeft, WriteRefused, closed-terminals, come_of, does-come, does-moves, ended-drops, ended-left, interrupted-drops, interrupted-left, left-for, left-same, term-for}
 use Rattle.flow_laws.proofs.KeyReads.{step-reads}
 use Rattle.flow_laws.proofs.KeyWrites.{step-writes}
-use Rattle.disk_machine.specs.Event.{Acts, Event, before_delivery, files_after_delivery, files_after_instruction}
-use Rattle.disk_machine.specs.Services.{service_of}
-use Rattle.disk_machine.specs.State.{Rest, State, with_rest}
+use Rattle.machine_model.specs.Event.{Acts, Event, before_delivery, files_after_delivery, files_after_instruction}
+use Rattle.machine_model.specs.Services.{service_of}
+use Rattle.machine_model.specs.State.{Rest, State, with_rest}
 use Rattle.flow_laws.specs.Flow.{EndsIn}
 use Rattle.flow_laws.proofs.Aside.{AttemptsNoMove, IsAside, IsOnDevice, StaysOrEnds, none-moves, served}
 use Rattle.flow_laws.proofs.Asked.{device-asked}

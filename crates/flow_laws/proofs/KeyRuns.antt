@@ -12,18 +12,18 @@ use Rattle.io_model.specs.Terminal.{Terminal, key_bytes, new_terminal, typed_byt
 use Rattle.io_model.specs.declared.terminal.TheConstants.{TYPE_AHEAD}
 use Rattle.io_rules.specs.Io.{Io, first_io, terminal_at}
 use Rattle.file_rules.specs.Files.{Files}
-use Rattle.machine_model.specs.declared.ends.EventEnd.{EventEnd}
-use Rattle.machine_model.specs.declared.ends.SliceEnd.{SliceEnd}
-use Rattle.machine_model.specs.Console.{terminals_emptied}
+use Rattle.event_rules.specs.declared.ends.EventEnd.{EventEnd}
+use Rattle.event_rules.specs.declared.ends.SliceEnd.{SliceEnd}
+use Rattle.event_rules.specs.Console.{terminals_emptied}
 use Rattle.flow_laws.specs.Keys.{KeyMove, arrive, arrived_by, stay, use_up, EventKeys, FollowOn, HasAhead, IsKeyStep, KeyStep, KeysArrive, KeysPass, Stands, after_event, ahead_at, ahead_moves, keys_to_come}
 use Rattle.flow_laws.proofs.KeyAttempts.{come_of}
 use Rattle.flow_laws.proofs.KeyArrivals.{Polled, arrivals-polled, come-emptied}
-use Rattle.disk_machine.specs.Along.{IsCarriedByMoves}
-use Rattle.disk_machine.specs.Event.{Event}
-use Rattle.disk_machine.specs.Run.{Choose, Run, Slice, Tick, desk_of}
-use Rattle.disk_machine.specs.Start.{Boot, Starts}
-use Rattle.disk_machine.specs.State.{State}
-use Rattle.disk_machine.proofs.Induction.{along-run, along-slice}
+use Rattle.machine_model.specs.Along.{IsCarriedByMoves}
+use Rattle.machine_model.specs.Event.{Event}
+use Rattle.machine_model.specs.Run.{Choose, Run, Slice, Tick, desk_of}
+use Rattle.machine_model.specs.Start.{Boot, Starts}
+use Rattle.machine_model.specs.State.{State}
+use Rattle.machine_model.proofs.Induction.{along-run, along-slice}
 use Rattle.flow_laws.proofs.KeyEvents.{event-keys}
 
 -- ---- a tick

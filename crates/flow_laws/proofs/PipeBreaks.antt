@@ -18,12 +18,12 @@ use Rattle.call_rules.specs.Ready.{Act, delivers, act_of}
 use Rattle.io_model.specs.declared.kept.Kept.{Kept}
 use Rattle.io_rules.specs.Io.{target_of}
 use Rattle.io_rules.specs.Waiting.{count_by, interrupted_count}
-use Rattle.machine_model.specs.declared.ends.EventEnd.{EventEnd}
-use Rattle.machine_model.specs.declared.ends.EventEnd.TheVariants.{Ended}
-use Rattle.machine_model.specs.Event.{broken_off, delivery_end}
+use Rattle.event_rules.specs.declared.ends.EventEnd.{EventEnd}
+use Rattle.event_rules.specs.declared.ends.EventEnd.TheVariants.{Ended}
+use Rattle.event_rules.specs.Event.{broken_off, delivery_end}
 use Rattle.call_laws.proofs.OthersKept.{living-within, record-put}
-use Rattle.disk_machine.specs.Event.{Acts, Event, before_delivery}
-use Rattle.disk_machine.specs.State.{State}
+use Rattle.machine_model.specs.Event.{Acts, Event, before_delivery}
+use Rattle.machine_model.specs.State.{State}
 use Rattle.flow_laws.specs.Flow.{IsBrokenOff, TellsMoved, pushed_regs, with_y}
 
 module _ (m : Inner) (p signal moved : ℕ) (lives : IsLiving m.records p) where

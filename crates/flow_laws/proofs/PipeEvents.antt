@@ -18,15 +18,15 @@ use Rattle.io_rules.specs.Step.{IoEnd}
 use Rattle.io_rules.specs.declared.io_call.Direction.{Direction}
 use Rattle.io_rules.specs.declared.io_call.IoCall.{IoCall}
 use Rattle.file_rules.specs.Files.{place_of_target}
-use Rattle.machine_model.specs.Event.{next_instruction}
-use Rattle.machine_model.specs.declared.ends.EventEnd.{EventEnd}
+use Rattle.event_rules.specs.Event.{next_instruction}
+use Rattle.event_rules.specs.declared.ends.EventEnd.{EventEnd}
 use Rattle.flow_laws.specs.Flow.{MovesNone, ReadCounts, WriteCounts, moved_before, stored_from, AttemptsOn, EndsIn, IsNew, Passes}
 use Rattle.flow_laws.proofs.CallCodes.{none-delivering, none-executing, same-code}
 use Rattle.flow_laws.proofs.PipeAttempts.{does-fresh, does-moves, ended-left, interrupted-left, stores-none, stores-them}
 use Rattle.flow_laws.proofs.PipeSteps.{IsAbsent, IsStoring, Moved, PipeLeft, StaysEmpty, left-empty, left-held, no-pipe, step-moves}
-use Rattle.disk_machine.specs.Event.{Acts, Event, before_delivery, files_after_delivery, files_after_instruction}
-use Rattle.disk_machine.specs.Services.{service_of}
-use Rattle.disk_machine.specs.State.{Rest, State, with_rest}
+use Rattle.machine_model.specs.Event.{Acts, Event, before_delivery, files_after_delivery, files_after_instruction}
+use Rattle.machine_model.specs.Services.{service_of}
+use Rattle.machine_model.specs.State.{Rest, State, with_rest}
 use Rattle.flow_laws.proofs.Aside.{AttemptsNoMove, IsAside, IsOnDevice, StaysOrEnds, none-moves, served}
 use Rattle.flow_laws.proofs.Asked.{device-asked}
 

@@ -6,15 +6,15 @@ use Rattle.call_rules.specs.Inner.{regs_at}
 use Rattle.io_model.specs.Pipe.{Flows, IsPipe, In, Movement, Out, held_bytes}
 use Rattle.io_model.proofs.PipeLemmas.{flows-in_order}
 use Rattle.io_rules.specs.Io.{pipe_bytes}
-use Rattle.machine_model.specs.declared.ends.EventEnd.{EventEnd}
-use Rattle.machine_model.specs.declared.ends.SliceEnd.{SliceEnd}
-use Rattle.machine_model.specs.Console.{terminals_emptied}
+use Rattle.event_rules.specs.declared.ends.EventEnd.{EventEnd}
+use Rattle.event_rules.specs.declared.ends.SliceEnd.{SliceEnd}
+use Rattle.event_rules.specs.Console.{terminals_emptied}
 use Rattle.flow_laws.proofs.PipeArrivals.{DeskRests, arrivals-rest}
-use Rattle.disk_machine.specs.Along.{IsCarriedByEvents, IsCarriedByMoves}
-use Rattle.disk_machine.specs.Event.{Event}
-use Rattle.disk_machine.specs.Run.{BeginsSlice, Choose, FirstSteps, Run, Slice, Steps, Tick, desk_of}
-use Rattle.disk_machine.specs.State.{State}
-use Rattle.disk_machine.proofs.Induction.{along-first, along-part, along-run, along-slice, along-steps}
+use Rattle.machine_model.specs.Along.{IsCarriedByEvents, IsCarriedByMoves}
+use Rattle.machine_model.specs.Event.{Event}
+use Rattle.machine_model.specs.Run.{BeginsSlice, Choose, FirstSteps, Run, Slice, Steps, Tick, desk_of}
+use Rattle.machine_model.specs.State.{State}
+use Rattle.machine_model.proofs.Induction.{along-first, along-part, along-run, along-slice, along-steps}
 use Rattle.flow_laws.specs.Flow.{AllLive, IsPassing, Linked, Passes, Passing, PassesThrough, Rests, moved_by}
 use Rattle.flow_laws.proofs.PipeEvents.{event-passes}
 

@@ -25,9 +25,9 @@ use Rattle.io_rules.specs.declared.io_call.Direction.{Direction}
 use Rattle.io_rules.specs.declared.io_call.Direction.TheVariants.{Reading, Writing}
 use Rattle.io_rules.specs.declared.io_call.IoCall.{IoCall}
 use Rattle.io_rules.specs.declared.io_call.IoCall.TheVariants as Call
-use Rattle.machine_model.specs.declared.ends.EventEnd.{EventEnd}
-use Rattle.disk_machine.specs.Event.{Event}
-use Rattle.disk_machine.specs.State.{State}
+use Rattle.event_rules.specs.declared.ends.EventEnd.{EventEnd}
+use Rattle.machine_model.specs.Event.{Event}
+use Rattle.machine_model.specs.State.{State}
 
 -- ---- one attempt
 

@@ -28,12 +28,12 @@ use Rattle.io_rules.specs.Waiting.{pid, wait_target}
 use Rattle.io_rules.specs.declared.io_call.Direction.TheVariants.{Writing}
 use Rattle.io_rules.specs.declared.io_call.IoCall.{IoCall}
 use Rattle.io_rules.specs.declared.io_call.IoCall.TheVariants as Call
-use Rattle.machine_model.specs.declared.ends.EventEnd.{EventEnd}
-use Rattle.machine_model.specs.declared.ends.EventEnd.TheVariants.{Ended}
+use Rattle.event_rules.specs.declared.ends.EventEnd.{EventEnd}
+use Rattle.event_rules.specs.declared.ends.EventEnd.TheVariants.{Ended}
 use Rattle.flow_laws.specs.Flow.{EndsIn}
-use Rattle.disk_machine.specs.Event.{Event}
-use Rattle.disk_machine.specs.Run.{Tick}
-use Rattle.disk_machine.specs.State.{State}
+use Rattle.machine_model.specs.Event.{Event}
+use Rattle.machine_model.specs.Run.{Tick}
+use Rattle.machine_model.specs.State.{State}
 
 -- the keys of a terminal that are still to come
 abbrev pub keys_to_come : State → ℕ → List Key

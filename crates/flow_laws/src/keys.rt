@@ -1,12 +1,12 @@
 //! Keys of terminals over a run: each is used by one read, in order, or is dropped by a rule.
 
 ghost use Rattle.std.specs.Prelude.{◌≡◌, ℕ, ◌<◌, List, []};
-ghost use Rattle.machine_model.specs.declared.ends.EventEnd.{EventEnd};
-ghost use Rattle.machine_model.specs.declared.ends.SliceEnd.{SliceEnd};
-ghost use Rattle.disk_machine.specs.Event.{Event};
-ghost use Rattle.disk_machine.specs.Run.{Run, Slice, Tick};
-ghost use Rattle.disk_machine.specs.Start.{Boot, Starts};
-ghost use Rattle.disk_machine.specs.State.{State};
+ghost use Rattle.event_rules.specs.declared.ends.EventEnd.{EventEnd};
+ghost use Rattle.event_rules.specs.declared.ends.SliceEnd.{SliceEnd};
+ghost use Rattle.machine_model.specs.Event.{Event};
+ghost use Rattle.machine_model.specs.Run.{Run, Slice, Tick};
+ghost use Rattle.machine_model.specs.Start.{Boot, Starts};
+ghost use Rattle.machine_model.specs.State.{State};
 ghost use Rattle.os9_outer.specs.declared.terminal.Key.{Key};
 ghost use Rattle.flow_laws.specs.Keys.{KeyMove, EventKeys, HasAhead, KeysArrive, KeysPass, ahead_at};
 

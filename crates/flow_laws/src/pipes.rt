@@ -4,12 +4,12 @@ ghost use Rattle.std.specs.Prelude.{◌≡◌, ◌⊎◌, ℕ, List, [], ◌++�
 ghost use Rattle.io_model.specs.Pipe.{IsPipe};
 ghost use Rattle.io_model.specs.declared.kept.Kept.{Kept};
 ghost use Rattle.io_rules.specs.Io.{pipe_bytes};
-ghost use Rattle.machine_model.specs.declared.ends.EventEnd.{EventEnd};
-ghost use Rattle.machine_model.specs.declared.ends.EventEnd.TheVariants.{Ended};
-ghost use Rattle.machine_model.specs.declared.ends.SliceEnd.{SliceEnd};
-ghost use Rattle.disk_machine.specs.Event.{Event};
-ghost use Rattle.disk_machine.specs.Run.{BeginsSlice, FirstSteps, Run, Slice, Steps};
-ghost use Rattle.disk_machine.specs.State.{State};
+ghost use Rattle.event_rules.specs.declared.ends.EventEnd.{EventEnd};
+ghost use Rattle.event_rules.specs.declared.ends.EventEnd.TheVariants.{Ended};
+ghost use Rattle.event_rules.specs.declared.ends.SliceEnd.{SliceEnd};
+ghost use Rattle.machine_model.specs.Event.{Event};
+ghost use Rattle.machine_model.specs.Run.{BeginsSlice, FirstSteps, Run, Slice, Steps};
+ghost use Rattle.machine_model.specs.State.{State};
 ghost use Rattle.flow_laws.specs.Flow.{TellsMoved, AllLive, IsBrokenOff, IsNew, Passes, PassesThrough};
 
 /// While a pipe lives, an event moves bytes into it or out of it only as an attempt of a call on it

@@ -4,7 +4,7 @@ use Rattle.proc_model.specs.MemoryChanges.{stored, writes_from}
 use Rattle.call_rules.specs.Inner.{Inner}
 use Rattle.io_rules.specs.Attempts.{result_by}
 use Rattle.io_rules.specs.Step.{IoEffect, IoEnd, answers, fails, keeps}
-use Rattle.machine_model.specs.declared.ends.EventEnd.TheVariants.{Ran, Waits}
+use Rattle.event_rules.specs.declared.ends.EventEnd.TheVariants.{Ran, Waits}
 use Rattle.call_laws.proofs.MemoryKept.{itself-written, kept-written}
 use Rattle.call_laws.proofs.OthersKept.{changed-self}
 use Rattle.call_laws.proofs.CallsKept.{AttemptLeft, left-done, left-refused, left-waits, regs-changed}

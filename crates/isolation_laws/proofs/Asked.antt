@@ -10,7 +10,7 @@ use Rattle.file_rules.specs.Codes.{path_call_of}
 use Rattle.file_rules.specs.declared.path_call.PathCall.{PathCall}
 use Rattle.time_rules.specs.Codes.{time_call_of}
 use Rattle.time_rules.specs.declared.time_call.TimeCall.{TimeCall}
-use Rattle.disk_machine.specs.Services.{Service, loads, on_processes, on_time, on_paths, no_call, service_of}
+use Rattle.machine_model.specs.Services.{Service, loads, on_processes, on_time, on_paths, no_call, service_of}
 
 -- the code is that of the call
 abbrev pub Asks : ℕ → Service → Type 0

@@ -18,17 +18,17 @@ use Rattle.time_rules.specs.Attempts.{result_of, time_step}
 use Rattle.time_rules.specs.Packet.{packet_bytes}
 use Rattle.time_rules.specs.Step.{TimeStep, sets, tells}
 use Rattle.time_rules.specs.Step as time
-use Rattle.machine_model.specs.Event.{call_event_end, delivery_end, instruction_end, next_instruction}
-use Rattle.machine_model.specs.declared.ends.EventEnd.{EventEnd}
-use Rattle.machine_model.specs.declared.ends.EventEnd.TheVariants.{Ran}
+use Rattle.event_rules.specs.Event.{call_event_end, delivery_end, instruction_end, next_instruction}
+use Rattle.event_rules.specs.declared.ends.EventEnd.{EventEnd}
+use Rattle.event_rules.specs.declared.ends.EventEnd.TheVariants.{Ran}
 use Rattle.call_laws.proofs.CallsKept.{AttemptLeft, changed-same, left-done, left-refused}
 use Rattle.call_laws.proofs.EventsKept.{broken-left, instruction-left}
 use Rattle.io_laws.proofs.EndsKept.{by-end}
 use Rattle.call_laws.proofs.MemoryKept.{itself-written, kept-written}
 use Rattle.call_laws.proofs.OthersKept.{changed-self}
-use Rattle.disk_machine.specs.Event.{Acts, Event, before_delivery}
-use Rattle.disk_machine.specs.Services.{Serves, Service, loads, no_call, on_paths, on_processes, on_time, service_of}
-use Rattle.disk_machine.specs.State.{Rest, State}
+use Rattle.machine_model.specs.Event.{Acts, Event, before_delivery}
+use Rattle.machine_model.specs.Services.{Serves, Service, loads, no_call, on_paths, on_processes, on_time, service_of}
+use Rattle.machine_model.specs.State.{Rest, State}
 use Rattle.isolation_laws.specs.Isolation.{LeavesOthers}
 use Rattle.isolation_laws.proofs.Asked.{Asks, asks}
 use Rattle.isolation_laws.proofs.Linking.{ResultLinks, other-links}

@@ -15,14 +15,14 @@ use Rattle.call_rules.specs.declared.proc_call.ProcCall.{ProcCall}
 use Rattle.call_rules.specs.declared.proc_call.ProcCall.TheVariants as Call
 use Rattle.file_rules.specs.Load.{Loaded}
 use Rattle.file_rules.specs.ProgramFile.{ProgramFile}
-use Rattle.machine_model.specs.declared.ends.EventEnd.TheVariants.{Ran}
+use Rattle.event_rules.specs.declared.ends.EventEnd.TheVariants.{Ran}
 use Rattle.call_laws.specs.Modules.{LeavesMemory, StaysEntered, ModuleComesOf as ComesOfEntered}
 use Rattle.call_laws.specs.NewObjects.{IsParameter}
 use Rattle.call_laws.specs.Objects.{IsNewOrShared, KeepsToItself}
 use Rattle.call_laws.specs.Others.{AttemptsCall, CallsOn, ComesOf, GetsSignal, GetsWake, turns_of_others}
 use Rattle.call_laws.proofs.MemoryKept.{HoldOnly}
 use Rattle.call_laws.proofs.ModulesKept.{HasMore}
-use Rattle.disk_machine.specs.State.{State}
+use Rattle.machine_model.specs.State.{State}
 use Rattle.isolation_laws.specs.Isolation.{LeavesOthers}
 use Rattle.isolation_laws.specs.Links.{ChangesLinks}
 use Rattle.isolation_laws.specs.Loading.{LoadsFile}

@@ -13,7 +13,7 @@ use Rattle.file_rules.specs.Program.{parameters_of, tests_program}
 use Rattle.file_rules.specs.ProgramFile.{ProgramFile, ReadingIsBroken, ReadsProgram, program_file, program_on_way, reading_of}
 use Rattle.file_rules.specs.Step.{Step, refused, refuses}
 use Rattle.file_rules.specs.Way.{list_of, reads_list, way_of}
-use Rattle.disk_machine.specs.State.{State}
+use Rattle.machine_model.specs.State.{State}
 use Rattle.isolation_laws.specs.Loading.{file_at_x}
 
 -- a step comes to a file where no drive fails, and the parameters are all there

@@ -29,8 +29,8 @@ use Rattle.file_rules.specs.Attempts.{asker_of}
 use Rattle.file_rules.specs.Files.{Asker, Files, open_file}
 use Rattle.file_rules.specs.declared.path_call.PathCall.{PathCall}
 use Rattle.file_rules.specs.declared.path_call.PathCall.TheVariants as OnPath
-use Rattle.machine_model.specs.Event.{next_instruction}
-use Rattle.machine_model.specs.declared.ends.EventEnd.{EventEnd}
+use Rattle.event_rules.specs.Event.{next_instruction}
+use Rattle.event_rules.specs.declared.ends.EventEnd.{EventEnd}
 use Rattle.io_laws.specs.Terminals.{KeepsReading}
 use Rattle.call_laws.specs.Others.{AttemptsCall}
 use Rattle.call_laws.proofs.ForkedChildren.{NamesChild}
@@ -46,9 +46,9 @@ use Rattle.touch_laws.proofs.Attempts.{attempt-comes}
 use Rattle.touch_laws.proofs.Codes.{code-there}
 use Rattle.touch_laws.proofs.Keeps.{IsNamed, file-named, free-desc, io-kept}
 use Rattle.touch_laws.proofs.Loads.{chain-leaves, fork-leaves, load-leaves}
-use Rattle.disk_machine.specs.Event.{Acts, Event, before_delivery, files_after_delivery, files_after_instruction}
-use Rattle.disk_machine.specs.Services.{Serves, Service, files_after_call, files_after_fork, loads, no_call, on_paths, on_processes, on_time, service_of, with_files}
-use Rattle.disk_machine.specs.State.{Rest, State, with_rest}
+use Rattle.machine_model.specs.Event.{Acts, Event, before_delivery, files_after_delivery, files_after_instruction}
+use Rattle.machine_model.specs.Services.{Serves, Service, files_after_call, files_after_fork, loads, no_call, on_paths, on_processes, on_time, service_of, with_files}
+use Rattle.machine_model.specs.State.{Rest, State, with_rest}
 use Rattle.isolation_laws.specs.Drives.{AttemptsService}
 use Rattle.isolation_laws.specs.InputOutput.{FailsInWrite, IsGivenPaths, LeavesIo, MovesPath, StaysOpen}
 use Rattle.isolation_laws.proofs.Asked.{Asks, asks}

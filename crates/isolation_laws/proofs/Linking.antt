@@ -31,8 +31,8 @@ use Rattle.call_rules.specs.UserBytes.{user_bytes}
 use Rattle.call_rules.specs.declared.proc_call.ProcCall.{ProcCall}
 use Rattle.call_rules.specs.declared.proc_call.ProcCall.TheVariants as Call
 use Rattle.file_rules.specs.Program.{named_program}
-use Rattle.machine_model.specs.Event.{call_event_end}
-use Rattle.machine_model.specs.declared.ends.EventEnd.{EventEnd}
+use Rattle.event_rules.specs.Event.{call_event_end}
+use Rattle.event_rules.specs.declared.ends.EventEnd.{EventEnd}
 use Rattle.call_laws.specs.Links.{ChangesLinks as ChangesLinksAsBefore}
 use Rattle.call_laws.specs.Others.{AttemptsCall}
 use Rattle.call_laws.proofs.CallsKept.{AttemptLeft}

@@ -31,9 +31,9 @@ use Rattle.file_rules.specs.Files.{Files}
 use Rattle.file_rules.specs.Load.{GoesOnLoaded, LoadAttempts, Loaded, links_first}
 use Rattle.file_rules.specs.Program.{ChainAttempts, ForkAttempts, StartsFile, chains, forks, loaded_program, named_program, parameters_of, starts_first, tests_program}
 use Rattle.file_rules.specs.ProgramFile.{ProgramFile, ReadsProgram, program_file}
-use Rattle.machine_model.specs.Event.{call_event_end}
-use Rattle.machine_model.specs.declared.ends.EventEnd.{EventEnd}
-use Rattle.machine_model.specs.declared.ends.EventEnd.TheVariants.{Ran}
+use Rattle.event_rules.specs.Event.{call_event_end}
+use Rattle.event_rules.specs.declared.ends.EventEnd.{EventEnd}
+use Rattle.event_rules.specs.declared.ends.EventEnd.TheVariants.{Ran}
 use Rattle.call_laws.specs.Isolation.{LeavesOthers as LeavesOthersAsBefore}
 use Rattle.call_laws.specs.Modules.{ModuleComesOf as ComesOfEntered}
 use Rattle.call_laws.specs.NewObjects.{IsParameter}
@@ -43,7 +43,7 @@ use Rattle.call_laws.proofs.ForksKept.{HasRoom, attempt-left, chain-done, fork-d
 use Rattle.call_laws.proofs.MemoryKept.{Grows, HoldOnly, Started, mapped-grows, mapped-modules, old-kept, started-is, started-modules}
 use Rattle.call_laws.proofs.ModulesKept.{HaveMore, linked-modules, more-linked}
 use Rattle.call_laws.proofs.OthersKept.{comes-of, own-other, own-same, record-other, record-same}
-use Rattle.disk_machine.specs.State.{Rest, State, with_rest}
+use Rattle.machine_model.specs.State.{Rest, State, with_rest}
 use Rattle.isolation_laws.specs.Isolation.{LeavesOthers}
 use Rattle.isolation_laws.specs.Links.{ChangesEntered, ChangesLinks}
 use Rattle.isolation_laws.specs.Loading.{LoadsFile, StartsFileBy}

@@ -34,17 +34,17 @@ use Rattle.time_rules.specs.Clock.{IsNow}
 use Rattle.time_rules.specs.Step.{refuses, tells}
 use Rattle.time_rules.specs.declared.clock.TheConstants.{PACKET_BYTES}
 use Rattle.time_rules.specs.declared.time_call.TimeCall.TheVariants as Time
-use Rattle.machine_model.specs.Event.{next_instruction}
-use Rattle.machine_model.specs.declared.ends.EventEnd.{EventEnd}
+use Rattle.event_rules.specs.Event.{next_instruction}
+use Rattle.event_rules.specs.declared.ends.EventEnd.{EventEnd}
 use Rattle.call_laws.specs.Others.{AttemptsCall}
 use Rattle.call_laws.proofs.ForkedChildren.{NamesChild}
 use Rattle.touch_laws.specs.Devices.{IsOnDevice}
 use Rattle.touch_laws.specs.Touch.{FaultAnswers, LeavesDevices, LeavesFiles, NoVolumeChanges, OneDriveFails, OneVolumeChanges, may_change_volume}
 use Rattle.touch_laws.proofs.Attempts.{attempt-comes}
 use Rattle.touch_laws.proofs.Loads.{chain-leaves, fork-leaves, load-leaves}
-use Rattle.disk_machine.specs.Event.{Acts, Event, before_delivery, files_after_delivery, files_after_instruction}
-use Rattle.disk_machine.specs.Services.{Serves, Service, files_after_call, files_after_fork, loads, no_call, on_paths, on_processes, on_time, service_of, with_files}
-use Rattle.disk_machine.specs.State.{Rest, State, with_rest}
+use Rattle.machine_model.specs.Event.{Acts, Event, before_delivery, files_after_delivery, files_after_instruction}
+use Rattle.machine_model.specs.Services.{Serves, Service, files_after_call, files_after_fork, loads, no_call, on_paths, on_processes, on_time, service_of, with_files}
+use Rattle.machine_model.specs.State.{Rest, State, with_rest}
 use Rattle.isolation_laws.specs.Drives.{Reaches, drive_by, drive_of_program}
 use Rattle.isolation_laws.specs.Volumes.{ChangesOneVolume, FailsOneDrive, IsGivenDirectories, LeavesVolumes, SetsClock}
 use Rattle.isolation_laws.proofs.Asked.{Asks, asks}

@@ -11,8 +11,8 @@ use Rattle.file_rules.specs.ProgramFile.{program_file}
 use Rattle.file_rules.specs.Step.{drive_of}
 use Rattle.time_rules.specs.Clock.{IsNow}
 use Rattle.touch_laws.specs.Touch.{drive_reached}
-use Rattle.disk_machine.specs.Services.{Service, loads, no_call, on_paths, on_processes, on_time, service_of}
-use Rattle.disk_machine.specs.State.{State}
+use Rattle.machine_model.specs.Services.{Service, loads, no_call, on_paths, on_processes, on_time, service_of}
+use Rattle.machine_model.specs.State.{State}
 
 -- a process attempts the call of a code that asks for this
 abbrev pub AttemptsService : State → ℕ → Service → Type 0

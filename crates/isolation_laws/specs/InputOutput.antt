@@ -21,8 +21,8 @@ use Rattle.call_laws.specs.Others.{AttemptsCall}
 use Rattle.touch_laws.specs.Devices.{IsDevice, number_in}
 use Rattle.touch_laws.specs.Touch.{IsSamePath, moves_position}
 use Rattle.isolation_laws.specs.Drives.{AttemptsService}
-use Rattle.disk_machine.specs.Services.{on_paths}
-use Rattle.disk_machine.specs.State.{State}
+use Rattle.machine_model.specs.Services.{on_paths}
+use Rattle.machine_model.specs.State.{State}
 
 -- F$Fork makes a process, and gives it the standard paths of its parent
 pub record IsGivenPaths (s : State) (p q : ℕ) (numbers : List (Option SysPath)) : Type 0 where

@@ -3,11 +3,11 @@ use Rattle.std.specs.Prelude.{◌≡◌, ◌≢◌, ℕ}
 use Rattle.proc_rules.specs.Records.{record_of}
 use Rattle.call_laws.specs.Objects.{KeepsSizes, KeepsObjects, KeepsToItself}
 use Rattle.call_laws.specs.Others.{ComesOf, turns_of_others}
-use Rattle.machine_model.specs.declared.ends.EventEnd.{EventEnd}
+use Rattle.event_rules.specs.declared.ends.EventEnd.{EventEnd}
 use Rattle.isolation_laws.specs.Links.{ChangesLinks}
 use Rattle.isolation_laws.specs.Modules.{KeepsModules}
 use Rattle.isolation_laws.specs.NewObjects.{HoldNothingElse}
-use Rattle.disk_machine.specs.State.{State}
+use Rattle.machine_model.specs.State.{State}
 
 -- an event of a process, which ends so, leaves what is not its own of memory and of the processes
 pub record LeavesOthers (s : State) (p : ℕ) (end : EventEnd) (t : State) : Type 0 where

@@ -15,9 +15,9 @@ use Rattle.file_rules.specs.Program.{named_program}
 use Rattle.file_rules.specs.ProgramFile.{ProgramFile}
 use Rattle.call_laws.specs.Links.{LosesPrimary, primary_of}
 use Rattle.call_laws.specs.Others.{AttemptsCall}
-use Rattle.machine_model.specs.declared.ends.EventEnd.{EventEnd}
+use Rattle.event_rules.specs.declared.ends.EventEnd.{EventEnd}
 use Rattle.isolation_laws.specs.Loading.{LoadsFile}
-use Rattle.disk_machine.specs.State.{State}
+use Rattle.machine_model.specs.State.{State}
 
 -- ---- modules that are entered
 

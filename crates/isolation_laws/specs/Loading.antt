@@ -10,7 +10,7 @@ use Rattle.file_rules.specs.Load.{Loaded, Loads}
 use Rattle.file_rules.specs.Program.{named_program}
 use Rattle.file_rules.specs.ProgramFile.{ProgramFile, program_file, reading_of}
 use Rattle.call_laws.specs.Others.{AttemptsCall}
-use Rattle.disk_machine.specs.State.{State}
+use Rattle.machine_model.specs.State.{State}
 
 -- the file of modules to which the path list at X leads a process; the time is not asked for
 abbrev pub file_at_x : State → ℕ → Result ProgramFile ℕ

@@ -11,7 +11,7 @@ use Rattle.file_rules.specs.ProgramFile.{ProgramFile}
 use Rattle.call_laws.specs.Modules.{LeavesMemory, StaysEntered}
 use Rattle.call_laws.specs.Others.{AttemptsCall}
 use Rattle.isolation_laws.specs.Loading.{LoadsFile}
-use Rattle.disk_machine.specs.State.{State}
+use Rattle.machine_model.specs.State.{State}
 
 -- a module of this number is entered that was not: it is of the file that a process loads, and has one link at most
 pub record IsEntered (s : State) (p number : ℕ) (new : ModuleEntry) : Type 0 where

@@ -5,7 +5,7 @@ use Rattle.file_rules.specs.Load.{Loaded}
 use Rattle.file_rules.specs.ProgramFile.{ProgramFile}
 use Rattle.call_laws.specs.NewObjects.{IsParameter}
 use Rattle.isolation_laws.specs.Loading.{LoadsFile}
-use Rattle.disk_machine.specs.State.{State}
+use Rattle.machine_model.specs.State.{State}
 
 -- a byte is one of the file of modules that a process loads
 pub record IsOfFile (s : State) (p byte : ℕ) : Type 0 where

@@ -12,8 +12,8 @@ use Rattle.time_rules.specs.Codes.{time_call_of}
 use Rattle.time_rules.specs.declared.time_call.TimeCall.TheVariants as Time
 use Rattle.touch_laws.specs.Touch.{may_change_volume}
 use Rattle.isolation_laws.specs.Drives.{Reaches}
-use Rattle.disk_machine.specs.Services.{Service, on_paths}
-use Rattle.disk_machine.specs.State.{State}
+use Rattle.machine_model.specs.Services.{Service, on_paths}
+use Rattle.machine_model.specs.State.{State}
 
 -- the volume of one drive may change, by a call that changes volumes and reaches that drive; no other one does
 pub record ChangesOneVolume (s : State) (p : ℕ) (t : State) : Type 0 where

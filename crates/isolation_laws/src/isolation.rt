@@ -2,13 +2,13 @@
 
 ghost use Rattle.std.specs.Prelude.{◌≡◌, ℕ, Some};
 ghost use Rattle.call_rules.specs.Inner.{Inner, cells_at, regs_at};
-ghost use Rattle.machine_model.specs.declared.ends.EventEnd.{EventEnd};
-ghost use Rattle.machine_model.specs.Event.{next_instruction};
+ghost use Rattle.event_rules.specs.declared.ends.EventEnd.{EventEnd};
+ghost use Rattle.event_rules.specs.Event.{next_instruction};
 ghost use Rattle.isolation_laws.specs.InputOutput.{LeavesIo};
 ghost use Rattle.isolation_laws.specs.Isolation.{LeavesOthers};
 ghost use Rattle.isolation_laws.specs.Volumes.{LeavesVolumes};
-ghost use Rattle.disk_machine.specs.Event.{Event};
-ghost use Rattle.disk_machine.specs.State.{State};
+ghost use Rattle.machine_model.specs.Event.{Event};
+ghost use Rattle.machine_model.specs.State.{State};
 
 /// An event of a process, whether an instruction, an attempt of a call or the delivery of a signal,
 /// leaves the bytes of each object that the map of the process does not name. Its map comes to name

@@ -17,7 +17,7 @@ use Rattle.io_rules.specs.Again.{IsKept, path_number}
 use Rattle.io_rules.specs.Io.{Io, OpenPath, kept_at, open_path}
 use Rattle.io_rules.specs.Modes.{can_read}
 use Rattle.io_rules.specs.declared.io_call.IoCall.{IoCall}
-use Rattle.machine_model.specs.declared.ends.EventEnd.{EventEnd}
+use Rattle.event_rules.specs.declared.ends.EventEnd.{EventEnd}
 use Rattle.proc_rules.specs.declared.own.Own.{Own}
 use Rattle.call_laws.specs.Others.{ComesOf}
 use Rattle.call_laws.proofs.CallsKept.{Left}

@@ -36,8 +36,8 @@ use Rattle.file_rules.specs.declared.path_call.PathCall.{PathCall}
 use Rattle.file_laws.specs.Kinds.{AreKinds}
 use Rattle.file_laws.proofs.Attempts.{attempt-stands, chain-kinds, fork-kinds, load-kinds}
 use Rattle.file_laws.proofs.Starts.{kinds-ended, kinds-started}
-use Rattle.machine_model.specs.Event.{call_event_end}
-use Rattle.machine_model.proofs.Ticks.{attempt-tick}
+use Rattle.event_rules.specs.Event.{call_event_end}
+use Rattle.event_rules.proofs.Ticks.{attempt-tick}
 use Rattle.time_rules.specs.Attempts.{clock_after, result_of as time_result, time_step}
 use Rattle.time_rules.specs.Clock.{IsClock}
 use Rattle.time_rules.specs.Codes.{time_call_of}
@@ -68,8 +68,8 @@ use Rattle.kept_laws.proofs.WaitsMade.{HasItsCall, attempt-has}
 use Rattle.io_laws.specs.Kept.{AreKept, KeepsCall, WaitsInCall}
 use Rattle.kept_laws.proofs.CallCodes.{not-both}
 use Rattle.io_laws.proofs.Codes.{attempts-code}
-use Rattle.disk_machine.specs.Services.{Attempts, Serves, files_after_call, files_after_fork, loads, no_call, on_paths, on_processes, on_time, with_files}
-use Rattle.disk_machine.specs.State.{Rest, State, rest_of, with_rest}
+use Rattle.machine_model.specs.Services.{Attempts, Serves, files_after_call, files_after_fork, loads, no_call, on_paths, on_processes, on_time, with_files}
+use Rattle.machine_model.specs.State.{Rest, State, rest_of, with_rest}
 use Rattle.kept_laws.specs.Running.{IsRunning}
 use Rattle.kept_laws.proofs.Aside.{Aside, IoAside, aside-in, aside-kept, aside-places, leaves-aside, left-aside}
 use Rattle.kept_laws.proofs.Loads.{Child, chain-over, fork-over, load-over}

@@ -15,19 +15,19 @@ use Rattle.io_rules.specs.Waiting.{interrupted_count}
 use Rattle.file_rules.specs.Files.{Files}
 use Rattle.file_laws.specs.Kinds.{AreKinds}
 use Rattle.file_laws.proofs.Starts.{kinds-ended, kinds-interrupted}
-use Rattle.machine_model.specs.declared.ends.EventEnd.{EventEnd}
-use Rattle.machine_model.proofs.Ticks.{ended-tick}
+use Rattle.event_rules.specs.declared.ends.EventEnd.{EventEnd}
+use Rattle.event_rules.proofs.Ticks.{ended-tick}
 use Rattle.time_rules.specs.Clock.{IsClock}
-use Rattle.disk_machine.specs.Event.{Acts, Event, before_delivery, files_after_delivery, files_after_instruction}
-use Rattle.disk_machine.specs.State.{State}
+use Rattle.machine_model.specs.Event.{Acts, Event, before_delivery, files_after_delivery, files_after_instruction}
+use Rattle.machine_model.specs.State.{State}
 use Rattle.kept_laws.specs.Running.{IsRunning}
-use Rattle.machine_model.specs.Event.{after_instruction, broken_off, delivery_end, instruction_end, next_instruction}
+use Rattle.event_rules.specs.Event.{after_instruction, broken_off, delivery_end, instruction_end, next_instruction}
 use Rattle.std.specs.Prelude.{length}
 use Rattle.std.proofs.lemmas.Option.{none-some}
 use Rattle.io_rules.specs.Processes.{io_ended}
 use Rattle.io_rules.specs.Io.{kept_at}
 use Rattle.call_laws.proofs.EventsKept.{broken-left, instruction-left}
-use Rattle.disk_machine.proofs.Gains.{event-gains}
+use Rattle.machine_model.proofs.Gains.{event-gains}
 use Rattle.kept_laws.proofs.Aside.{IoAside, left-aside}
 use Rattle.kept_laws.proofs.Attempts.{attempt-runs, io-broken, io-closed, io-same, next-running}
 use Rattle.kept_laws.proofs.InCalls.{in-delivery, in-instruction}

@@ -31,7 +31,7 @@ use Rattle.io_rules.specs.Codes.{io_call_of}
 use Rattle.io_rules.specs.Io.{Io, kept_at, with_call}
 use Rattle.io_rules.specs.Step.{IoEffect, IoEnd, answers, fails, keeps}
 use Rattle.io_rules.specs.declared.io_call.IoCall.{IoCall}
-use Rattle.machine_model.specs.Event.{after_instruction, broken_off}
+use Rattle.event_rules.specs.Event.{after_instruction, broken_off}
 use Rattle.call_laws.proofs.OthersKept.{living-within, record-put}
 use Rattle.io_laws.specs.Kept.{AreInCalls, WaitsInCall}
 use Rattle.kept_laws.proofs.CallCodes.{not-both}

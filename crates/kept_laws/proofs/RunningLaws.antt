@@ -21,20 +21,20 @@ use Rattle.io_model.specs.Path.{numbers_of}
 use Rattle.io_model.specs.declared.kept.Kept.{Kept}
 use Rattle.io_rules.specs.Arrivals.{ArrivesAt, ArrivesFrom, Desk, after_key_signal, every_user}
 use Rattle.io_rules.specs.Io.{Io, first_io, kept_at, open_path}
-use Rattle.machine_model.specs.Terminals.{TerminalsOnlyGain}
+use Rattle.event_rules.specs.Terminals.{TerminalsOnlyGain}
 use Rattle.civil_time.specs.CivilTime.{is_time_packet}
 use Rattle.file_rules.specs.Files.{Files}
 use Rattle.file_laws.specs.Kinds.{AreKinds}
 use Rattle.file_laws.proofs.Starts.{kinds-same, kinds-start}
 use Rattle.time_rules.specs.Clock.{IsClock}
 use Rattle.time_rules.specs.declared.clock.Clock.{Clock}
-use Rattle.disk_machine.specs.Run.{Choose, Tick, desk_of}
-use Rattle.disk_machine.specs.Start.{Boot, Starts}
-use Rattle.disk_machine.specs.State.{State}
-use Rattle.machine_model.specs.Console.{terminals_emptied}
-use Rattle.machine_model.specs.Start.{first_priority, first_process, first_start, no_parent, superuser}
-use Rattle.machine_model.specs.Terminals.{TerminalsOnlyGain}
-use Rattle.disk_machine.proofs.Gains.{tick-gains}
+use Rattle.machine_model.specs.Run.{Choose, Tick, desk_of}
+use Rattle.machine_model.specs.Start.{Boot, Starts}
+use Rattle.machine_model.specs.State.{State}
+use Rattle.event_rules.specs.Console.{terminals_emptied}
+use Rattle.event_rules.specs.Start.{first_priority, first_process, first_start, no_parent, superuser}
+use Rattle.event_rules.specs.Terminals.{TerminalsOnlyGain}
+use Rattle.machine_model.proofs.Gains.{tick-gains}
 use Rattle.kept_laws.specs.Running.{IsRunning}
 use Rattle.call_laws.proofs.OthersKept.{living-record, living-within}
 use Rattle.io_laws.specs.Kept.{AreInCalls, AreKept, WaitsInCall}

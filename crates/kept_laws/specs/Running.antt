@@ -5,7 +5,7 @@ use Rattle.file_laws.specs.Kinds.{AreKinds}
 use Rattle.io_laws.specs.Kept.{AreInCalls, AreKept}
 use Rattle.io_laws.specs.Terminals.{AreOnTerminals}
 use Rattle.time_rules.specs.Clock.{IsClock}
-use Rattle.disk_machine.specs.State.{State}
+use Rattle.machine_model.specs.State.{State}
 
 -- what holds of a state of a run
 pub record IsRunning (s : State) : Type 0 where

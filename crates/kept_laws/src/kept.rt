@@ -2,12 +2,12 @@
 
 ghost use Rattle.std.specs.Prelude.{◌≡◌, ℕ, ◌<◌, ◌≤◌, true, List, length};
 ghost use Rattle.civil_time.specs.CivilTime.{is_time_packet};
-ghost use Rattle.machine_model.specs.declared.ends.EventEnd.{EventEnd};
-ghost use Rattle.machine_model.specs.declared.ends.SliceEnd.{SliceEnd};
-ghost use Rattle.disk_machine.specs.Event.{Event};
-ghost use Rattle.disk_machine.specs.Run.{Choose, Run, Slice, Tick};
-ghost use Rattle.disk_machine.specs.Start.{Boot, Starts};
-ghost use Rattle.disk_machine.specs.State.{State};
+ghost use Rattle.event_rules.specs.declared.ends.EventEnd.{EventEnd};
+ghost use Rattle.event_rules.specs.declared.ends.SliceEnd.{SliceEnd};
+ghost use Rattle.machine_model.specs.Event.{Event};
+ghost use Rattle.machine_model.specs.Run.{Choose, Run, Slice, Tick};
+ghost use Rattle.machine_model.specs.Start.{Boot, Starts};
+ghost use Rattle.machine_model.specs.State.{State};
 ghost use Rattle.kept_laws.specs.Running.{AllRunning, IsRunning};
 
 /// What is kept of a call that waits is of the call that its process waits in, made with the registers

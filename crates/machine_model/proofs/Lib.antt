@@ -1,3 +1,4 @@
-pub mod StartLaws
-pub mod TerminalLaws
-pub mod Ticks
+pub mod Drives
+pub mod Gains
+pub mod Induction
+pub mod Starts

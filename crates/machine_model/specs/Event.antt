@@ -1,61 +1,65 @@
--- What an event of a process makes of the processes, and how it ends: an instruction, an attempt of its call, or the
+-- One event of the chosen process, the atomic step of the machine: an instruction, an attempt of its call, or the
 -- delivery of a signal.
-use Rattle.std.specs.Prelude.{ℕ, Option, Some, None, Result, Ok, Err}
-use Rattle.cpu_model.specs.Step.{Outcome, Done, Calls, Aborts, step_of}
-use Rattle.proc_model.specs.MemoryChanges.{written}
-use Rattle.call_rules.specs.CallResult.{CallResult, done, refused, waits, ends}
-use Rattle.call_rules.specs.End.{ended}
-use Rattle.call_rules.specs.Inner.{Inner, own_at, regs_at, cells_at, with_memory, with_regs_of, with_own}
-use Rattle.call_rules.specs.Ready.{Act, attempts, delivers, executes}
-use Rattle.machine_model.specs.declared.ends.EventEnd.{EventEnd}
-use Rattle.machine_model.specs.declared.ends.EventEnd.TheVariants.{Ran, Waits, Ended}
+use Rattle.std.specs.Prelude.{◌≡◌, ℕ, Option, Some, None, Result, Ok, Err}
+use Rattle.cpu_model.specs.Step.{Outcome, Done, Calls, Aborts}
+use Rattle.proc_rules.specs.Records.{IsLiving}
+use Rattle.call_rules.specs.Attempts.{after_attempt}
+use Rattle.call_rules.specs.CallResult.{CallResult}
+use Rattle.call_rules.specs.Delivery.{delivered, after_delivery}
+use Rattle.call_rules.specs.Inner.{Inner}
+use Rattle.call_rules.specs.Ready.{Act, attempts, delivers, executes, act_of}
+use Rattle.io_rules.specs.Waiting.{io_interrupted, interrupted_count}
+use Rattle.file_rules.specs.Files.{Files, with_io}
+use Rattle.file_rules.specs.Processes.{files_ended}
+use Rattle.event_rules.specs.Event.{after_instruction, broken_off, call_event_end, cost_of, delivery_end, instruction_end, next_instruction}
+use Rattle.event_rules.specs.declared.ends.EventEnd.{EventEnd}
+use Rattle.machine_model.specs.Services.{Attempts}
+use Rattle.machine_model.specs.State.{State, Rest, with_rest}
 
--- ---- an instruction
+-- files after an instruction of a process: what it had is closed where it ends
+abbrev pub files_after_instruction : Files → ℕ → Outcome → Files
+files_after_instruction files p (Done effect) = files
+files_after_instruction files p (Calls code regs) = files
+files_after_instruction files p (Aborts status) = files_ended files p
 
--- the processes after an instruction of one: it changed its registers and bytes, or it is a system call, or the process
--- ends by it with a status
-abbrev pub after_instruction : Inner → ℕ → Outcome → Inner
-after_instruction m p (Done effect) =
-    with_regs_of (with_memory m (written m.memory p effect.writes)) p effect.regs
-after_instruction m p (Calls code regs) =
-    with_own (with_regs_of m p regs) p (record (own_at m p) { call = Some code })
-after_instruction m p (Aborts status) = ended m p status
+-- the processes that a signal finds
+abbrev pub before_delivery : State → ℕ → Inner
+before_delivery s p = broken_off s.inner p (interrupted_count s.files.io p)
 
--- how an instruction ends
-abbrev pub instruction_end : Outcome → EventEnd
-instruction_end (Done effect) = Ran
-instruction_end (Calls code regs) = Ran
-instruction_end (Aborts status) = Ended
+-- files after a delivery: the call that waits, if one does, is broken off; or the process has ended
+abbrev pub files_after_delivery : Files → ℕ → Result Inner ℕ → Files
+files_after_delivery files p (Ok t) = with_io files (io_interrupted files.io p)
+files_after_delivery files p (Err status) = files_ended files p
 
--- the instruction that a process executes next
-abbrev pub next_instruction : Inner → ℕ → Outcome
-next_instruction m p = step_of (cells_at m p) (regs_at m p)
+-- what a process does
+abbrev pub Acts : Act → State → ℕ → EventEnd → State → Type 0
+Acts executes s p end t =
+    (end ≡ instruction_end (next_instruction s.inner p))
+    × (t
+    ≡ record s {
+      inner = after_instruction s.inner p (next_instruction s.inner p);
+      files = files_after_instruction s.files p (next_instruction s.inner p);
+    })
+Acts (attempts code) s p end t =
+    (result : CallResult) × (rest : Rest) × Attempts code s p result rest × (end ≡ call_event_end result)
+    × (t ≡ with_rest s (after_attempt s.inner p result) rest)
+Acts (delivers signal) s p end t =
+    (end ≡ delivery_end (delivered (before_delivery s p) p signal))
+    × (t
+    ≡ record s {
+      inner = after_delivery (before_delivery s p) p (delivered (before_delivery s p) p signal);
+      files = files_after_delivery s.files p (delivered (before_delivery s p) p signal);
+    })
 
--- ---- an attempt of a call
+-- one event of the chosen process, which lives
+abbrev pub Event : State → EventEnd → State → Type 0
+Event s end t =
+    (p : ℕ) × (s.chosen ≡ Some p) × IsLiving s.inner.records p × Acts (act_of s.inner p) s p end t
 
--- how an attempt ends
-abbrev pub call_event_end : CallResult → EventEnd
-call_event_end (done t) = Ran
-call_event_end (refused number) = Ran
-call_event_end (waits t) = Waits
-call_event_end (ends status) = Ended
-
--- ---- the delivery of a signal
-
--- the processes where the call of one is broken off: Y has the count that it answers, if it answers one
-abbrev pub broken_off : Inner → ℕ → Option ℕ → Inner
-broken_off m p None = m
-broken_off m p (Some count) = with_regs_of m p (record (regs_at m p) { y = count })
-
--- how a delivery ends
-abbrev pub delivery_end : Result Inner ℕ → EventEnd
-delivery_end (Ok t) = Ran
-delivery_end (Err status) = Ended
-
--- ---- the cost of an event
-
--- instructions that a process executes by what it does: attempts and deliveries cost none
-abbrev pub cost_of : Act → ℕ
-cost_of (attempts code) = 0
-cost_of (delivers signal) = 0
-cost_of executes = 1
+-- instructions that the next event of the chosen process executes
+abbrev pub cost : State → ℕ
+cost s = of_chosen s.chosen
+  where
+    of_chosen : Option ℕ → ℕ
+    of_chosen None = 0
+    of_chosen (Some p) = cost_of (act_of s.inner p)

@@ -1,5 +1,7 @@
-pub mod Console
+pub mod Along
+pub mod Devices
 pub mod Event
+pub mod Run
+pub mod Services
 pub mod Start
 pub mod State
-pub mod Terminals

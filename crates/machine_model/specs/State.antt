@@ -1,8 +1,33 @@
--- Which processes live.
-use Rattle.std.specs.Prelude.{ℕ, not, count_by}
-use Rattle.proc_rules.specs.Records.{record_passes, has_ended}
+-- The states of the abstract machine: memory and the processes, the files that they share, the clock,
+-- which process was chosen, and the terminals.
+use Rattle.std.specs.Prelude.{ℕ, ◌==◌, not, Bool, Option, List}
+use Rattle.os9_outer.specs.TerminalState.{TerminalState}
 use Rattle.call_rules.specs.Inner.{Inner}
+use Rattle.file_rules.specs.Files.{Files}
+use Rattle.event_rules.specs.State.{living_count}
+use Rattle.time_rules.specs.declared.clock.Clock.{Clock}
 
--- how many processes live
-abbrev pub living_count : Inner → ℕ
-living_count inner = count_by (record_passes (λ r. not (has_ended r.life))) inner.records
+pub record State : Type 0 where
+  pub inner : Inner  -- memory and the processes
+  pub files : Files  -- paths, pipes and terminals as the kernel has them, directories, volumes and drives
+  pub clock : Clock
+  pub chosen : Option ℕ  -- the process that was chosen last
+  pub terms : List TerminalState  -- TERM, T1, T2, T3
+
+-- what an attempt of a call may change beside the processes
+pub record Rest : Type 0 where
+  pub files : Files
+  pub clock : Clock
+  pub terms : List TerminalState
+
+abbrev pub rest_of : State → Rest
+rest_of s = record { files = s.files; clock = s.clock; terms = s.terms }
+
+-- the state with these processes, and this beside them
+abbrev pub with_rest : State → Inner → Rest → State
+with_rest s inner rest =
+    record s { inner = inner; files = rest.files; clock = rest.clock; terms = rest.terms }
+
+-- some process lives
+abbrev pub has_living : State → Bool
+has_living s = not (living_count s.inner == 0)

@@ -1,6 +1,7 @@
-//! What an event makes of the processes, and the start of a boot file.
+//! The abstract machine: its states, one event of it, a slice, a whole run and the
+//! start.
 #![tactic(auto)]
 
-pub mod calls;
-pub mod ends;
+pub mod rows;
+pub mod run;
 pub mod start;

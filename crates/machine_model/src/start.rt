@@ -1,19 +1,21 @@
-//! The start of a boot file, as laws over all of them.
+//! The start of the machine, as laws over all boot files and images.
 
 ghost use Rattle.std.specs.Prelude.{◌≡◌, ◌⊎◌, ℕ, List};
-ghost use Rattle.call_rules.specs.Inner.{Inner};
-ghost use Rattle.machine_model.specs.declared.ends.BootFault.{BootFault};
-ghost use Rattle.machine_model.specs.Start.{StartsProcesses, Refuses};
+ghost use Rattle.std.specs.List.{AllZip};
+ghost use Rattle.event_rules.specs.Start.{Refuses};
+ghost use Rattle.event_rules.specs.declared.ends.BootFault.{BootFault};
+ghost use Rattle.rbf_model.specs.Volume.{DiskVolume, Vol};
+ghost use Rattle.machine_model.specs.Start.{Boot, Starts};
+ghost use Rattle.machine_model.specs.State.{State};
 
-/// A boot file comes to an end, and to one only: it starts a machine with these processes, or it is
-/// refused for one cause, and never both.
-pub fn a_boot_file_comes_to_one_end()
-    ensures one_start { (file : List ℕ) (blocks : ℕ) (m n : Inner) → StartsProcesses file blocks m
-        → StartsProcesses file blocks n → m ≡ n }
-    ensures one_cause { (file : List ℕ) (blocks : ℕ) (fault other : BootFault)
-        → Refuses file blocks fault → Refuses file blocks other → fault ≡ other }
-    ensures never_both { (file : List ℕ) (blocks : ℕ) (m : Inner) (fault : BootFault)
-        → StartsProcesses file blocks m → Refuses file blocks fault → ⊥ }
-    ensures some_end { (file : List ℕ) (blocks : ℕ) → ((m : Inner) × StartsProcesses file blocks m)
-        ⊎ ((fault : BootFault) × Refuses file blocks fault) }
+/// A boot file on well-formed images comes to an end, and to one only: it starts the machine in one
+/// state, or it is refused for one cause, and never both.
+pub fn a_boot_comes_to_one_end()
+    ensures one_start { (boot : Boot) (s t : State) → Starts boot s → Starts boot t → s ≡ t }
+    ensures never_both { (boot : Boot) (s : State) (fault : BootFault)
+        → Starts boot s → Refuses boot.file boot.blocks fault → ⊥ }
+    ensures some_end { (boot : Boot) (volumes : List DiskVolume)
+        → AllZip Vol boot.images volumes
+        → ((s : State) × Starts boot s)
+        ⊎ ((fault : BootFault) × Refuses boot.file boot.blocks fault) }
 {}

@@ -9,10 +9,10 @@ use Rattle.os9_words.specs.declared.command.Command.{Command}
 use Rattle.os9_words.specs.declared.command.Command.TheVariants.{Boot as BootCommand}
 use Rattle.os9_words.specs.declared.command.RunWords.{RunWords}
 use Rattle.os9_words.specs.Command.{command_of}
-use Rattle.machine_model.specs.Start.{Refuses}
-use Rattle.machine_model.specs.declared.ends.BootFault.{BootFault}
-use Rattle.disk_machine.specs.Run.{status_of}
-use Rattle.disk_machine.specs.State.{State, has_living}
+use Rattle.event_rules.specs.Start.{Refuses}
+use Rattle.event_rules.specs.declared.ends.BootFault.{BootFault}
+use Rattle.machine_model.specs.Run.{status_of}
+use Rattle.machine_model.specs.State.{State, has_living}
 use Rattle.rbf_model.proofs.Images.{no_image_breach}
 use Rattle.boot_images.specs.BootFile.{HasBootFile, IsVolume, boot_file_of}
 use Rattle.boot_images.specs.Images.{images_of}

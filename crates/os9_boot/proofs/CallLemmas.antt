@@ -10,7 +10,7 @@ use Rattle.os9_words.specs.Command.{command_of}
 use Rattle.os9_words.specs.Lines.{no_memory_line, words_line}
 use Rattle.os9_words.specs.Streams.{ChangesErrOnly}
 use Rattle.file_drives.specs.Drives.{drive_states}
-use Rattle.disk_kernel.specs.Outside.{Outside}
+use Rattle.os9_kernel.specs.Outside.{Outside}
 use Rattle.boot_run.specs.Console.{IsObserved}
 use Rattle.boot_run.specs.Machine.{IsUnrun}
 use Rattle.boot_run.specs.World.{World, FailsToReadFile, HasNoFault, world_of}

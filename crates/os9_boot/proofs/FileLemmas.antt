@@ -2,7 +2,7 @@
 use Rattle.std.proofs.Common.{◌≡◌, ℕ, zero, suc, Option, Some, None, Result, Ok, Err, List, [], ◌∷◌, ◌++◌, take, slice_get, refl, ap, ◌∙◌}
 use Rattle.std.specs.Prelude.{IfErr, IfSome}
 use Rattle.os9_outer.specs.Host.{Files, file_contents}
-use Rattle.disk_kernel.specs.Outside.{Outside}
+use Rattle.os9_kernel.specs.Outside.{Outside}
 use Rattle.os9_words.specs.declared.command.Command.{Command}
 use Rattle.os9_words.specs.declared.command.RunWords.{RunWords}
 use Rattle.boot_images.specs.Images.{images_of}

@@ -2,10 +2,10 @@
 use Rattle.std.proofs.Common.{◌≡◌, ◌⊎◌, ℕ, Bool, true, false, Option, Some, None, List, [], refl, ap, subst, ◌∙◌, inl, inr, All}
 use Rattle.os9_outer.specs.Host.{Files, IfObserved}
 use Rattle.file_drives.specs.Drives.{drive_states}
-use Rattle.machine_model.specs.declared.ends.BootFault.{BootFault}
-use Rattle.machine_model.specs.declared.ends.BootFault.TheVariants.{OutOfMemory, BadModule as BadModuleFault, NoFirst as NoFirstFault, TooLarge as TooLargeFault}
-use Rattle.disk_kernel.specs.Outside.{Outside}
-use Rattle.disk_machine.specs.State.{State}
+use Rattle.event_rules.specs.declared.ends.BootFault.{BootFault}
+use Rattle.event_rules.specs.declared.ends.BootFault.TheVariants.{OutOfMemory, BadModule as BadModuleFault, NoFirst as NoFirstFault, TooLarge as TooLargeFault}
+use Rattle.os9_kernel.specs.Outside.{Outside}
+use Rattle.machine_model.specs.State.{State}
 use Rattle.boot_images.specs.ImageWrites.{FailsAt}
 use Rattle.boot_images.specs.Images.{WritesAll, WritesUpTo}
 use Rattle.boot_images.specs.Outcome.{EndsWithImages, HasOutcome, RunsImages}

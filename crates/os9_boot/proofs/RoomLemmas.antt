@@ -13,7 +13,7 @@ use Rattle.os9_words.specs.Command.{command_of, most_images}
 use Rattle.os9_words.proofs.CommandLemmas.{is-complete}
 use Rattle.boot_images.specs.Drives.{HaveRoom, IsEmpty}
 use Rattle.boot_images.specs.Ready.{AreFree}
-use Rattle.disk_kernel.specs.Outside.{Outside}
+use Rattle.os9_kernel.specs.Outside.{Outside}
 use Rattle.os9_boot.specs.Devices.{drives_for}
 
 -- no command needs more drives than a boot may have images

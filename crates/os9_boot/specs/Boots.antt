@@ -5,9 +5,9 @@ use Rattle.os9_outer.specs.Host.{Files, file_contents, IfObserved}
 use Rattle.os9_outer.specs.Stream.{stream_with}
 use Rattle.script_text.specs.declared.script.ScriptKey.{ScriptKey}
 use Rattle.script_text.specs.Script.{keys_of}
-use Rattle.machine_model.specs.declared.ends.BootFault.{BootFault}
-use Rattle.machine_model.specs.Start.{Refuses}
-use Rattle.disk_machine.specs.State.{State, has_living}
+use Rattle.event_rules.specs.declared.ends.BootFault.{BootFault}
+use Rattle.event_rules.specs.Start.{Refuses}
+use Rattle.machine_model.specs.State.{State, has_living}
 use Rattle.os9_words.specs.declared.command.RunWords.{RunWords}
 use Rattle.boot_images.specs.BootFile.{IsFirstFault}
 use Rattle.boot_images.specs.Images.{WritesAll, WritesUpTo, images_of}

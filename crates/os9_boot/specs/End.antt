@@ -5,8 +5,8 @@ use Rattle.os9_words.specs.declared.command.Command.TheVariants.{Run, Boot, Chec
 use Rattle.os9_words.specs.declared.command.RunWords.{RunWords}
 use Rattle.os9_words.specs.declared.message.Message.{Message}
 use Rattle.os9_words.specs.Lines.{message_line, cannot_read_line, cannot_write_output_line, cannot_write_file_line, drive_failed_line, no_memory_line, image_fault_line, text_fault_line, boot_bounds_line, boot_module_line, boot_too_large_line, no_first_line}
-use Rattle.machine_model.specs.declared.ends.BootFault.{BootFault}
-use Rattle.machine_model.specs.declared.ends.BootFault.TheVariants.{OutOfMemory, BadModule as BadModuleFault, NoFirst as NoFirstFault, TooLarge as TooLargeFault}
+use Rattle.event_rules.specs.declared.ends.BootFault.{BootFault}
+use Rattle.event_rules.specs.declared.ends.BootFault.TheVariants.{OutOfMemory, BadModule as BadModuleFault, NoFirst as NoFirstFault, TooLarge as TooLargeFault}
 use Rattle.stress_run.specs.declared.stress.StressEnd.{StressEnd}
 use Rattle.os9_boot.specs.declared.status.Input.{Input}
 use Rattle.os9_boot.specs.declared.status.Input.TheVariants.{Script, Slices, Modules, Image}

@@ -3,10 +3,10 @@ use Rattle.std.specs.Prelude.{◌≡◌, ◌⊎◌, ℕ, List, length}
 use Rattle.os9_outer.specs.Host.{Files, IfObserved}
 use Rattle.os9_outer.specs.Stream.{stream_with}
 use Rattle.os9_words.specs.declared.command.RunWords.{RunWords}
-use Rattle.machine_model.specs.Start.{Refuses}
-use Rattle.machine_model.specs.declared.ends.BootFault.{BootFault}
-use Rattle.disk_machine.specs.Run.{Run, status_of}
-use Rattle.disk_machine.specs.State.{State}
+use Rattle.event_rules.specs.Start.{Refuses}
+use Rattle.event_rules.specs.declared.ends.BootFault.{BootFault}
+use Rattle.machine_model.specs.Run.{Run, status_of}
+use Rattle.machine_model.specs.State.{State}
 use Rattle.file_drives.specs.Drives.{drive_states}
 use Rattle.boot_run.specs.Machine.{Setup, StartsLoaded}
 use Rattle.boot_run.specs.World.{World}

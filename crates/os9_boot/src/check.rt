@@ -1,5 +1,5 @@
 ghost use Rattle.std.specs.Prelude.{◌≡◌, ℕ, List};
-ghost use Rattle.disk_kernel.specs.Outside.{Outside};
+ghost use Rattle.os9_kernel.specs.Outside.{Outside};
 ghost use Rattle.os9_boot.specs.Check.{PrintsLine, tree_line};
 ghost use Rattle.os9_boot.specs.Commands.{CommandCall};
 ghost use Rattle.boot_run.specs.World.{world_of};

@@ -1,5 +1,5 @@
 ghost use Rattle.std.specs.Prelude.{◌≡◌, ◌≤◌, ℕ, IfErr, IfOk, IfSome, List, OnOk, length};
-ghost use Rattle.disk_kernel.specs.Outside.{Outside};
+ghost use Rattle.os9_kernel.specs.Outside.{Outside};
 ghost use Rattle.os9_words.specs.Command.{most_images};
 ghost use Rattle.os9_words.specs.declared.command.Command.{Command};
 ghost use Rattle.os9_boot.specs.Setup.{script_of};

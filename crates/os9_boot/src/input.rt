@@ -1,6 +1,6 @@
 ghost use Rattle.std.specs.Prelude.{◌≡◌, ℕ, IfErr, IfOk, IfSome, List, OnOk, Some};
 ghost use Rattle.os9_outer.specs.Host.{file_contents};
-ghost use Rattle.disk_kernel.specs.Outside.{Outside};
+ghost use Rattle.os9_kernel.specs.Outside.{Outside};
 ghost use Rattle.os9_words.specs.declared.command.Command.{Command};
 ghost use Rattle.os9_boot.specs.End.{file_name};
 ghost use Rattle.os9_boot.specs.Commands.{CommandCall};

@@ -29,7 +29,7 @@ pub fn calls_without_faults_tell_none()
 
 /// The headline: a boot of a host whose files are observed, over terminals whose bytes are, of which the
 /// texts, the images and the boot file are accepted, and in which the host did not fail, is one run of
-/// the machine of disk images; or memory was out, or a drive failed when its image was mounted.
+/// the machine; or memory was out, or a drive failed when its image was mounted.
 pub fn a_boot_is_one_run()
     ensures { (words : List (List ℕ)) (boot : RunWords) (files : Files) (before after : World)
         (err_before err_after : Option (List ℕ)) (status : ℕ)

@@ -2,7 +2,7 @@ ghost use Rattle.std.specs.Prelude.{◌≡◌, [], slice_get, unwrap_or};
 ghost use Rattle.os9_words.specs.Streams.{WritesErr};
 ghost use Rattle.os9_boot.specs.End.{boot_end, stress_end, status_number, run_file_name, shown_name, end_line, text_of};
 
-use machine_model::ends::BootFault;
+use event_rules::ends::BootFault;
 use os9_outer::host::{Host, HostFault};
 use os9_words::command::{Command, RunWords};
 use os9_words::message::{Message, report};

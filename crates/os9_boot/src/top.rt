@@ -3,7 +3,7 @@
 ghost use Rattle.std.specs.Prelude.{◌≡◌, map, string_bytes};
 ghost use Rattle.boot_images.specs.Ready.{AreEmptyAgain, AreFree};
 ghost use Rattle.boot_run.specs.World.{world_of};
-ghost use Rattle.disk_kernel.specs.Outside.{outside};
+ghost use Rattle.os9_kernel.specs.Outside.{outside};
 ghost use Rattle.file_drives.specs.Drives.{drive_views};
 ghost use Rattle.os9_boot.specs.Commands.{CommandCall};
 ghost use Rattle.os9_boot.specs.Devices.{drives_for, drives_of};

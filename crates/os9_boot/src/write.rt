@@ -2,7 +2,7 @@
 
 ghost use Rattle.std.specs.Prelude.{◌≡◌, length};
 ghost use Rattle.boot_run.specs.World.{world_of};
-ghost use Rattle.disk_kernel.specs.Outside.{Outside};
+ghost use Rattle.os9_kernel.specs.Outside.{Outside};
 ghost use Rattle.os9_boot.specs.Written.{EndsBoot};
 
 use crate::start::end_of_run;

@@ -33,8 +33,8 @@ use Rattle.file_rules.specs.Load.{Loaded}
 use Rattle.file_rules.specs.Program.{ChainAttempts, ForkAttempts, StartsFile, chains, forks, loaded_program, named_program, starts_first}
 use Rattle.file_rules.specs.ProgramFile.{ProgramFile}
 use Rattle.time_rules.specs.Attempts.{result_of, time_step}
-use Rattle.machine_model.specs.Event.{after_instruction, next_instruction}
-use Rattle.machine_model.specs.declared.ends.EventEnd.{EventEnd}
+use Rattle.event_rules.specs.Event.{after_instruction, next_instruction}
+use Rattle.event_rules.specs.declared.ends.EventEnd.{EventEnd}
 use Rattle.call_laws.specs.Modules.{KeepsModules}
 use Rattle.call_laws.specs.Objects.{Appears, IsNewOrShared, IsOfModule}
 use Rattle.call_laws.specs.Others.{AttemptsCall}
@@ -44,9 +44,9 @@ use Rattle.io_laws.proofs.EndsKept.{by-end}
 use Rattle.call_laws.proofs.ForksKept.{HasRoom, attempt-left, chain-done, fork-done}
 use Rattle.call_laws.proofs.MemoryKept.{Started, low-new, map-other, started-is}
 use Rattle.own_laws.specs.Own.{IsOfArea, NameAppeared}
-use Rattle.disk_machine.specs.Event.{Acts, before_delivery}
-use Rattle.disk_machine.specs.Services.{Serves, Service, loads, no_call, on_paths, on_processes, on_time, service_of}
-use Rattle.disk_machine.specs.State.{Rest, State}
+use Rattle.machine_model.specs.Event.{Acts, before_delivery}
+use Rattle.machine_model.specs.Services.{Serves, Service, loads, no_call, on_paths, on_processes, on_time, service_of}
+use Rattle.machine_model.specs.State.{Rest, State}
 use Rattle.isolation_laws.specs.Loading.{LoadsFile}
 use Rattle.isolation_laws.proofs.Asked.{Asks, asks}
 use Rattle.isolation_laws.proofs.EventsKept.{time-left}

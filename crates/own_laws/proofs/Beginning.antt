@@ -15,9 +15,9 @@ use Rattle.proc_model.specs.ModuleList.{ModuleEntry, module_entry_at, free_numbe
 use Rattle.proc_model.specs.Objects.{file_blocks, file_objects, zero_object}
 use Rattle.proc_model.specs.Slots.{Slots, NamesBlock, block_at, no_slots}
 use Rattle.call_rules.specs.Program.{area_pages, blocks_of_pages}
-use Rattle.machine_model.specs.Start.{boot_group, boot_memory, first_start, only_process}
-use Rattle.disk_machine.specs.Start.{Boot, Starts}
-use Rattle.disk_machine.specs.State.{State}
+use Rattle.event_rules.specs.Start.{boot_group, boot_memory, first_start, only_process}
+use Rattle.machine_model.specs.Start.{Boot, Starts}
+use Rattle.machine_model.specs.State.{State}
 use Rattle.own_laws.specs.Own.{IsOfArea, IsOwn, NameAppeared}
 use Rattle.call_laws.specs.Objects.{IsOfModule}
 use Rattle.own_laws.proofs.Groups.{was-shared}

@@ -29,8 +29,8 @@ use Rattle.file_rules.specs.Load.{GoesOnLoaded, LoadAttempts, Loaded, Loads, lin
 use Rattle.file_rules.specs.Program.{ChainAttempts, ForkAttempts, StartsFile, chains, forks, loaded_program, named_program, starts_first, tests_program}
 use Rattle.file_rules.specs.ProgramFile.{ProgramFile, ReadsProgram, program_file}
 use Rattle.time_rules.specs.Attempts.{result_of, time_step}
-use Rattle.machine_model.specs.Event.{next_instruction}
-use Rattle.machine_model.specs.declared.ends.EventEnd.{EventEnd}
+use Rattle.event_rules.specs.Event.{next_instruction}
+use Rattle.event_rules.specs.declared.ends.EventEnd.{EventEnd}
 use Rattle.call_laws.specs.Isolation.{LeavesOthers}
 use Rattle.call_laws.specs.Modules.{KeepsModules, ModuleComesOf, StaysEntered}
 use Rattle.call_laws.specs.Objects.{IsNewOrShared, IsOfModule, KeepsSizes}
@@ -41,9 +41,9 @@ use Rattle.io_laws.proofs.EndsKept.{by-end}
 use Rattle.call_laws.proofs.ForksKept.{HasRoom, attempt-left, chain-done, fork-done}
 use Rattle.call_laws.proofs.MemoryKept.{Grows, mapped-grows, mapped-modules}
 use Rattle.call_laws.proofs.ModulesKept.{HaveMore, keeps-more, more-linked}
-use Rattle.disk_machine.specs.Event.{Acts, Event}
-use Rattle.disk_machine.specs.Services.{Serves, Service, loads, no_call, on_paths, on_processes, on_time, service_of}
-use Rattle.disk_machine.specs.State.{Rest, State}
+use Rattle.machine_model.specs.Event.{Acts, Event}
+use Rattle.machine_model.specs.Services.{Serves, Service, loads, no_call, on_paths, on_processes, on_time, service_of}
+use Rattle.machine_model.specs.State.{Rest, State}
 use Rattle.isolation_laws.specs.Loading.{LoadsFile}
 use Rattle.isolation_laws.proofs.Asked.{Asks, asks}
 use Rattle.isolation_laws.proofs.EventsKept.{time-left}

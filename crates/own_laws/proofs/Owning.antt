@@ -9,15 +9,15 @@ use Rattle.proc_rules.specs.declared.record.Record.{Record}
 use Rattle.proc_rules.specs.Records.{IsLiving, has_ended, record_at, record_of}
 use Rattle.call_rules.specs.Inner.{Inner}
 use Rattle.call_rules.specs.Ready.{act_of, attempts}
-use Rattle.machine_model.specs.declared.ends.EventEnd.{EventEnd}
+use Rattle.event_rules.specs.declared.ends.EventEnd.{EventEnd}
 use Rattle.call_laws.specs.Modules.{KeepsModules}
 use Rattle.call_laws.specs.Objects.{Appears, IsNewOrShared, IsOfModule, KeepsObjects, KeepsSizes, KeepsToItself}
 use Rattle.call_laws.specs.Others.{Begins, ComesOf, HasRecord, Stays}
 use Rattle.call_laws.proofs.OthersKept.{living-record}
 use Rattle.kept_laws.proofs.KeptEvents.{lives-runs, there-lives}
 use Rattle.own_laws.specs.Own.{AppearsIn, IsOfArea, IsOwn, KeepsOwnObject, NameAppeared}
-use Rattle.disk_machine.specs.Event.{Event}
-use Rattle.disk_machine.specs.State.{State}
+use Rattle.machine_model.specs.Event.{Event}
+use Rattle.machine_model.specs.State.{State}
 use Rattle.isolation_laws.specs.Isolation.{LeavesOthers}
 use Rattle.isolation_laws.proofs.EventsKept.{event-leaves}
 use Rattle.own_laws.proofs.Areas.{AreasApart, MayGain, acts-apart}

@@ -6,15 +6,15 @@ use Rattle.proc_model.specs.Slots.{NamesBlock}
 use Rattle.proc_rules.specs.Records.{IsLiving}
 use Rattle.call_rules.specs.Inner.{Inner}
 use Rattle.call_rules.specs.Ready.{Act, act_of, attempts, delivers, executes}
-use Rattle.machine_model.specs.declared.ends.EventEnd.{EventEnd}
-use Rattle.machine_model.specs.declared.ends.SliceEnd.{SliceEnd}
-use Rattle.machine_model.specs.declared.ends.SliceEnd.TheVariants.{Idle, Ran}
+use Rattle.event_rules.specs.declared.ends.EventEnd.{EventEnd}
+use Rattle.event_rules.specs.declared.ends.SliceEnd.{SliceEnd}
+use Rattle.event_rules.specs.declared.ends.SliceEnd.TheVariants.{Idle, Ran}
 use Rattle.kept_laws.proofs.RunningLaws.{SignalsLeave, tick-leaves}
 use Rattle.call_laws.specs.Objects.{IsOfModule}
 use Rattle.own_laws.specs.Own.{IsOwn, KeepsOwnObject}
-use Rattle.disk_machine.specs.Event.{Acts, Event, cost}
-use Rattle.disk_machine.specs.Run.{Choose, Slice, Steps, Tick, is_going}
-use Rattle.disk_machine.specs.State.{State}
+use Rattle.machine_model.specs.Event.{Acts, Event, cost}
+use Rattle.machine_model.specs.Run.{Choose, Slice, Steps, Tick, is_going}
+use Rattle.machine_model.specs.State.{State}
 use Rattle.own_laws.proofs.Owning.{own-event}
 
 -- ---- the chosen process stays chosen

@@ -12,12 +12,12 @@ ghost use Rattle.call_laws.specs.Modules.{KeepsModules};
 ghost use Rattle.call_laws.specs.Objects.{Appears};
 ghost use Rattle.call_laws.specs.Others.{HasRecord};
 ghost use Rattle.own_laws.specs.Own.{AppearsIn, IsOfArea, IsOwn, IsOwnOrShared, KeepsOwnObject, NameAppeared};
-ghost use Rattle.machine_model.specs.declared.ends.EventEnd.{EventEnd};
-ghost use Rattle.machine_model.specs.declared.ends.SliceEnd.{SliceEnd};
-ghost use Rattle.disk_machine.specs.Event.{Event};
-ghost use Rattle.disk_machine.specs.Run.{Slice};
-ghost use Rattle.disk_machine.specs.Start.{Boot, Starts};
-ghost use Rattle.disk_machine.specs.State.{State};
+ghost use Rattle.event_rules.specs.declared.ends.EventEnd.{EventEnd};
+ghost use Rattle.event_rules.specs.declared.ends.SliceEnd.{SliceEnd};
+ghost use Rattle.machine_model.specs.Event.{Event};
+ghost use Rattle.machine_model.specs.Run.{Slice};
+ghost use Rattle.machine_model.specs.Start.{Boot, Starts};
+ghost use Rattle.machine_model.specs.State.{State};
 
 /// From the start on, maps and groups name only objects that have appeared. An object that appears in
 /// the map of a process is its own at once, or belongs to the group of a module, as the blocks of a

@@ -1,6 +1,6 @@
 ghost use Rattle.boot_images.specs.Drives.{HaveRoom, IsEmpty};
 ghost use Rattle.boot_images.specs.Ready.{AreFree};
-ghost use Rattle.disk_kernel.specs.Outside.{outside};
+ghost use Rattle.os9_kernel.specs.Outside.{outside};
 ghost use Rattle.file_drives.specs.Drives.{drive_views};
 ghost use Rattle.key_loading.specs.Loaded.{HasNoKeys};
 ghost use Rattle.os9_outer.specs.TerminalState.{terminal_states};

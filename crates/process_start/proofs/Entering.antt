@@ -18,7 +18,7 @@ use Rattle.proc_model.specs.MemoryChanges.{entered, entered_beside}
 use Rattle.proc_model.specs.Objects.{file_blocks}
 use Rattle.proc_model.specs.ModuleList.{ModuleEntry, module_entry_at, free_number, new_entry, with_module_entry}
 use Rattle.proc_model.proofs.ModuleListLaws.{entry_at-with_entry_other}
-use Rattle.machine_model.specs.Start.{boot_group, boot_memory}
+use Rattle.event_rules.specs.Start.{boot_group, boot_memory}
 use Rattle.process_start.specs.Booting.{BeginsBoot, HasGroup, IsBooting, IsEmpty, with_modules, with_boot_module}
 use Rattle.process_start.proofs.Seen.{entered-here, free-seen, some-here}
 

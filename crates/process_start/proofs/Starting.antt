@@ -5,7 +5,7 @@ use Rattle.std.specs.Option.{option_map_or}
 use Rattle.std.proofs.lemmas.Bool.{cond-true, lt-ltb, ltb-true, or_right}
 use Rattle.os9_base.specs.declared.errors.TheConstants.{E_MEMFUL}
 use Rattle.os9_base.specs.declared.registers.Pid.{Pid}
-use Rattle.machine_model.specs.declared.ends.BootFault.TheVariants.{TooLarge}
+use Rattle.event_rules.specs.declared.ends.BootFault.TheVariants.{TooLarge}
 use Rattle.guest_memory.specs.declared.memory.Memory.{Memory}
 use Rattle.guest_memory.specs.Tie.{Represents as RepresentsMemory, modules_of}
 use Rattle.proc_model.specs.declared.memory.MemoryFault.{MemoryFault}
@@ -21,7 +21,7 @@ use Rattle.fork_calls.specs.Loading.{loads_program}
 use Rattle.proc_state.specs.declared.state.ProcState.{ProcState}
 use Rattle.proc_state.specs.Beginning.{with_made}
 use Rattle.proc_state.specs.Tie.{Represents}
-use Rattle.machine_model.specs.Start.{Refuses, StartsProcesses, first_priority, first_process, first_start, first_started, no_parent, only_process, superuser}
+use Rattle.event_rules.specs.Start.{Refuses, StartsProcesses, first_priority, first_process, first_start, first_started, no_parent, only_process, superuser}
 use Rattle.process_start.specs.Beginning.{Begins, HasFirstIn, nobody_in, with_first}
 use Rattle.process_start.proofs.Seen.{entered-here}
 

@@ -4,7 +4,7 @@ use Rattle.proc_model.specs.declared.memory.MemoryFault.{MemoryFault}
 use Rattle.proc_model.specs.Memory.{MemoryState}
 use Rattle.proc_model.specs.ModuleList.{ModuleEntry}
 use Rattle.call_rules.specs.Inner.{Inner, with_memory, with_own, with_regs_of}
-use Rattle.machine_model.specs.Start.{HasFirst, boot_memory, first_priority, first_process, first_start, no_parent, only_process, superuser}
+use Rattle.event_rules.specs.Start.{HasFirst, boot_memory, first_priority, first_process, first_start, no_parent, only_process, superuser}
 use Rattle.proc_state.specs.declared.state.ProcState.{ProcState}
 use Rattle.proc_state.specs.Beginning.{with_made}
 use Rattle.proc_state.specs.First.{first_inner}

@@ -6,7 +6,7 @@ use Rattle.proc_model.specs.declared.module.ModuleInfo.{ModuleInfo}
 use Rattle.proc_model.specs.Loading.{EntersModules, entry_refusal, no_entries, with_module}
 use Rattle.proc_model.specs.Memory.{MemoryState, first_memory}
 use Rattle.proc_model.specs.ModuleList.{ModuleEntry, module_entry_at}
-use Rattle.machine_model.specs.Start.{EntersBoot, boot_group, boot_memory}
+use Rattle.event_rules.specs.Start.{EntersBoot, boot_group, boot_memory}
 
 -- nothing has appeared in a memory of 8 blocks or more
 abbrev pub IsEmpty : Memory → Type 0

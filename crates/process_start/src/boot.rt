@@ -4,12 +4,12 @@ ghost use Rattle.std.specs.Prelude.{◌≡◌, ℕ, ◌+◌, ◌<◌, ◌≤◌,
 ghost use Rattle.guest_memory.specs.Tie.{Represents};
 ghost use Rattle.proc_model.specs.Loading.{EntersModules, entry_refusal};
 ghost use Rattle.proc_model.specs.Memory.{MemoryState, first_memory};
-ghost use Rattle.machine_model.specs.Start.{Refuses, boot_group};
+ghost use Rattle.event_rules.specs.Start.{Refuses, boot_group};
 ghost use Rattle.process_start.specs.Booting.{IsEmpty, IsBooting, HasGroup, BeginsBoot, EntersBeside, EntersRest, HasBoot};
 
 use crate::modules::{Refusal, module_from, takes};
+use event_rules::ends::BootFault;
 use guest_memory::memory::Memory;
-use machine_model::ends::BootFault;
 use os9_base::limits::MOST_GROUP_BYTES;
 use proc_model::module::{ModId, ModuleInfo};
 

@@ -7,7 +7,7 @@ ghost use Rattle.proc_model.specs.Memory.{MemoryState};
 ghost use Rattle.proc_model.specs.MemoryChanges.{started};
 ghost use Rattle.proc_model.specs.ModuleList.{ModuleEntry, module_entry_at};
 ghost use Rattle.call_rules.specs.Program.{area_pages as area_pages_lem, blocks_of_pages};
-ghost use Rattle.machine_model.specs.Start.{first_process, first_program as first_program_lem};
+ghost use Rattle.event_rules.specs.Start.{first_process, first_program as first_program_lem};
 ghost use Rattle.proc_state.specs.Tie.{Represents};
 ghost use Rattle.process_start.specs.Beginning.{HasNobody, Begins, nobody_in, with_first};
 

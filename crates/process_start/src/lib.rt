@@ -15,7 +15,7 @@ mod modules;
 #[cfg(test)]
 mod tests {
     use crate::start;
-    use machine_model::ends::BootFault;
+    use event_rules::ends::BootFault;
     use os9_base::registers::Pid;
     use proc_rules::record::Life;
     use proc_state::state::ProcState;

@@ -2,9 +2,9 @@
 
 ghost use Rattle.std.specs.Prelude.{◌≡◌, ◌≢◌, ℕ, ◌≤◌, IsSome, IfOk, IfErr, OnOk, length};
 ghost use Rattle.guest_memory.specs.Tie.{modules_of};
-ghost use Rattle.machine_model.specs.declared.ends.BootFault.{BootFault};
+ghost use Rattle.event_rules.specs.declared.ends.BootFault.{BootFault};
 ghost use Rattle.proc_model.specs.ModuleList.{module_entry_at};
-ghost use Rattle.machine_model.specs.Start.{StartsProcesses, Refuses};
+ghost use Rattle.event_rules.specs.Start.{StartsProcesses, Refuses};
 ghost use Rattle.call_rules.specs.Inner.{Inner};
 ghost use Rattle.proc_state.specs.First.{first_inner};
 ghost use Rattle.proc_state.specs.Tie.{Represents};
@@ -12,7 +12,7 @@ ghost use Rattle.process_start.specs.Beginning.{HasFirstIn};
 
 use crate::boot::enter_boot;
 use crate::first::{begin, first_program};
-use machine_model::ends::BootFault;
+use event_rules::ends::BootFault;
 use os9_base::limits::MOST_GROUP_BYTES;
 use proc_model::module::ModId;
 use proc_state::state::ProcState;

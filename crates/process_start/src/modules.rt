@@ -5,7 +5,7 @@ ghost use Rattle.proc_model.specs.Loading.{entry_refusal, module_error as module
 ghost use Rattle.proc_model.specs.Module.{step_from};
 ghost use Rattle.proc_model.specs.declared.module.ModuleFault.{ModuleFault};
 
-use machine_model::ends::BootFault;
+use event_rules::ends::BootFault;
 use module_dir::Dir;
 use module_format::next_module;
 use os9_base::errors::{E_BMCRC, E_BMHP, E_BMID, E_DIRFUL, E_KWNMOD};
@@ -22,7 +22,7 @@ pub struct Refusal {
 }
 
 impl From<Refusal> for BootFault {
-    ghost use Rattle.machine_model.specs.declared.ends.BootFault.TheVariants.{BadModule};
+    ghost use Rattle.event_rules.specs.declared.ends.BootFault.TheVariants.{BadModule};
 
     ghost from_gives = { λ refusal fault. fault ≡ BadModule refusal.at refusal.error };
 

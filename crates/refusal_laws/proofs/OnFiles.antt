@@ -24,7 +24,7 @@ use Rattle.touch_laws.proofs.CausedDeletes.{delete-caused, deletx-caused}
 use Rattle.touch_laws.proofs.CausedNames.{chgdir-caused, create-caused, makdir-caused, open-caused}
 use Rattle.touch_laws.proofs.CausedNumbers.{getstt-caused, made, perr-caused, read-caused, readln-caused, seek-caused, setstt-caused, write-caused, writln-caused}
 use Rattle.touch_laws.proofs.Splits.{Splits, not-refused}
-use Rattle.disk_machine.specs.State.{State}
+use Rattle.machine_model.specs.State.{State}
 use Rattle.refusal_laws.specs.RefusedEvents.{FailsOnDrive, made_by, step_of}
 
 step-caused : (call : PathCall) (asker : Asker) (files : Files) (terms : ℕ) → StepCaused (made call asker files terms) (file_step call asker files terms)

@@ -30,7 +30,7 @@ use Rattle.time_rules.specs.declared.clock.TheConstants.{PACKET_BYTES}
 use Rattle.time_rules.specs.declared.clock.Clock.{Clock}
 use Rattle.time_rules.specs.declared.time_call.TimeCall.{TimeCall}
 use Rattle.time_rules.specs.declared.time_call.TimeCall.TheVariants as Time
-use Rattle.machine_model.specs.declared.ends.EventEnd.TheVariants.{Ran}
+use Rattle.event_rules.specs.declared.ends.EventEnd.TheVariants.{Ran}
 use Rattle.refusal_laws.specs.Refusals.{LeavesProcesses}
 use Rattle.refusal_laws.proofs.ProcessesLeft.{leaves-processes}
 use Rattle.refusal_laws.proofs.Refusing.{Comes, refusal, same-refusal}
@@ -42,9 +42,9 @@ use Rattle.touch_laws.proofs.Attempts.{attempt-splits}
 use Rattle.touch_laws.proofs.Caused.{is_nothing}
 use Rattle.touch_laws.proofs.CausedLoads.{chain-caused, fork-caused, load-caused}
 use Rattle.touch_laws.proofs.Loads.{chain-leaves, fork-leaves, load-leaves}
-use Rattle.disk_machine.specs.Event.{Acts, Event}
-use Rattle.disk_machine.specs.Services.{Service, Serves, loads, no_call, on_paths, on_processes, on_time, service_of, with_files}
-use Rattle.disk_machine.specs.State.{Rest, State, rest_of}
+use Rattle.machine_model.specs.Event.{Acts, Event}
+use Rattle.machine_model.specs.Services.{Service, Serves, loads, no_call, on_paths, on_processes, on_time, service_of, with_files}
+use Rattle.machine_model.specs.State.{Rest, State, rest_of}
 use Rattle.refusal_laws.specs.CallCauses.{TimeCause, no_packet, no_time}
 use Rattle.refusal_laws.specs.RefusedEvents.{FailsOnDrive, IsRefused, LeavesMachine, LeavesRest, LeftOnDevice, RefusedLoad, RefusedOnDevice, RefusedOnFile, but_the_call, end_of_file, made_by, of_chain, of_fork, of_load, of_no_call, of_processes, of_time, on_device, on_files, write_error}
 use Rattle.refusal_laws.proofs.Devices.{device-caused}

@@ -4,7 +4,7 @@ use Rattle.std.specs.List.{list_any, range_with_len}
 use Rattle.call_rules.specs.declared.proc_call.ProcCall.TheVariants as Proc
 use Rattle.file_rules.specs.declared.path_call.PathCall.TheVariants as Path
 use Rattle.time_rules.specs.declared.time_call.TimeCall.TheVariants as Time
-use Rattle.disk_machine.specs.Services.{Service, loads, on_paths, on_processes, on_time}
+use Rattle.machine_model.specs.Services.{Service, loads, on_paths, on_processes, on_time}
 
 -- a code, and what it asks for
 pub record Coded : Type 0 where

@@ -25,8 +25,8 @@ use Rattle.touch_laws.specs.Causes.{FileCause, Made}
 use Rattle.touch_laws.specs.Devices.{IsOnNoFile, device_call}
 use Rattle.touch_laws.specs.LoadCauses.{ChainCause, ForkCause, LoadCause}
 use Rattle.touch_laws.specs.Touch.{FaultAnswers, NoVolumeChanges, may_change_volume}
-use Rattle.disk_machine.specs.Services.{Attempts, loads, no_call, on_paths, on_processes, on_time, service_of}
-use Rattle.disk_machine.specs.State.{State, rest_of, with_rest}
+use Rattle.machine_model.specs.Services.{Attempts, loads, no_call, on_paths, on_processes, on_time, service_of}
+use Rattle.machine_model.specs.State.{State, rest_of, with_rest}
 use Rattle.refusal_laws.specs.CallCauses.{DeviceCause, ProcCause, TimeCause, starts_program}
 
 -- the chosen process attempts the call of this code, which is refused with this number, and this is the state then

@@ -2,7 +2,7 @@
 
 ghost use Rattle.std.specs.Prelude.{◌≡◌, ◌++◌, map, true};
 ghost use Rattle.std.specs.List.{list_all, range_with_len};
-ghost use Rattle.disk_machine.specs.Services.{no_call, service_of};
+ghost use Rattle.machine_model.specs.Services.{no_call, service_of};
 ghost use Rattle.refusal_laws.specs.Codes.{f_calls, i_calls, is_told, other_codes};
 
 /// Each of the 36 codes of calls asks for its call, and each of the other 220 codes of a byte for

@@ -29,8 +29,8 @@ use Rattle.file_rules.specs.ProgramFile.{ProgramFile, ReadsProgram, program_file
 use Rattle.file_rules.specs.Step.{Step}
 use Rattle.time_rules.specs.Attempts.{clock_after, result_of, time_step}
 use Rattle.time_rules.specs.Clock.{IsNow, seconds_since}
-use Rattle.disk_machine.specs.Services.{Attempts, Serves, Service, files_after_call, files_after_fork, loads, no_call, on_paths, on_processes, on_time, service_of, with_files}
-use Rattle.disk_machine.specs.State.{Rest, State, rest_of}
+use Rattle.machine_model.specs.Services.{Attempts, Serves, Service, files_after_call, files_after_fork, loads, no_call, on_paths, on_processes, on_time, service_of, with_files}
+use Rattle.machine_model.specs.State.{Rest, State, rest_of}
 use Rattle.run_laws.specs.Mounted.{CanGo}
 use Rattle.isolation_laws.proofs.Asked.{Asks, asks}
 use Rattle.run_laws.proofs.Ends.{Ends, IsMaking, step-ends}

@@ -15,14 +15,14 @@ use Rattle.file_rules.specs.Files.{DriveState, Files, with_io}
 use Rattle.file_rules.specs.Step.{FileEffect, FileStep, deed_of, drive_of}
 use Rattle.file_rules.specs.declared.path_call.PathCall.{PathCall}
 use Rattle.touch_laws.proofs.Attempts.{step-splits}
-use Rattle.machine_model.specs.Event.{call_event_end}
-use Rattle.machine_model.specs.declared.ends.EventEnd.{EventEnd}
+use Rattle.event_rules.specs.Event.{call_event_end}
+use Rattle.event_rules.specs.declared.ends.EventEnd.{EventEnd}
 use Rattle.time_rules.specs.Attempts.{clock_after, result_of as time_result}
 use Rattle.time_rules.specs.Clock.{IsNow, seconds_since}
-use Rattle.disk_machine.specs.Event.{Acts, Event}
-use Rattle.disk_machine.specs.Run.{Tick, desk_of}
-use Rattle.disk_machine.specs.Services.{Service, Serves, files_after_call, files_after_fork, loads, no_call, on_paths, on_processes, on_time, service_of, with_files}
-use Rattle.disk_machine.specs.State.{Rest, State, rest_of, with_rest}
+use Rattle.machine_model.specs.Event.{Acts, Event}
+use Rattle.machine_model.specs.Run.{Tick, desk_of}
+use Rattle.machine_model.specs.Services.{Service, Serves, files_after_call, files_after_fork, loads, no_call, on_paths, on_processes, on_time, service_of, with_files}
+use Rattle.machine_model.specs.State.{Rest, State, rest_of, with_rest}
 use Rattle.run_laws.specs.Faults.{DeedTakes, MayChoose, NoDriveFailed, NoneFailed, SameEvent, ServiceTakes}
 use Rattle.run_laws.proofs.Deeds.{OneDeed, attempt-one}
 use Rattle.run_laws.proofs.Loading.{OneLoad, chain-one, fork-one, load-one}

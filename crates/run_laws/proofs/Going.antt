@@ -16,8 +16,8 @@ use Rattle.call_rules.specs.Delivery.{delivered, after_delivery, has_no_room, in
 use Rattle.call_rules.specs.Inner.{Inner, no_own, own_at, regs_at, with_own, with_records}
 use Rattle.call_rules.specs.Ready.{Act, attempts, delivers, executes, act_of, next_act}
 use Rattle.call_laws.proofs.OthersKept.{living-within, record-put}
-use Rattle.machine_model.specs.Event.{after_instruction, broken_off, delivery_end, instruction_end}
-use Rattle.disk_machine.specs.Run.{is_going}
+use Rattle.event_rules.specs.Event.{after_instruction, broken_off, delivery_end, instruction_end}
+use Rattle.machine_model.specs.Run.{is_going}
 use Rattle.kept_laws.proofs.KeptEvents.{lives-runs}
 
 -- ---- what a process does after an event, if it goes on

@@ -24,10 +24,10 @@ use Rattle.file_rules.specs.Files.{Asker, Files}
 use Rattle.file_rules.specs.Load.{LoadAttempts}
 use Rattle.file_rules.specs.Program.{ChainAttempts, ForkAttempts}
 use Rattle.file_rules.specs.Step.{Deed, DoesDeed, FileDoes, FileEffect, FileStep, GoesWell, as_io, changes, deed_of, leaves_so}
-use Rattle.machine_model.specs.declared.ends.EventEnd.{EventEnd}
-use Rattle.disk_machine.specs.Event.{Acts, Event}
-use Rattle.disk_machine.specs.Services.{Service, Serves, loads, no_call, on_paths, on_processes, on_time, service_of, with_files}
-use Rattle.disk_machine.specs.State.{Rest, State, with_rest}
+use Rattle.event_rules.specs.declared.ends.EventEnd.{EventEnd}
+use Rattle.machine_model.specs.Event.{Acts, Event}
+use Rattle.machine_model.specs.Services.{Service, Serves, loads, no_call, on_paths, on_processes, on_time, service_of, with_files}
+use Rattle.machine_model.specs.State.{Rest, State, with_rest}
 use Rattle.run_laws.specs.Later.{AreSameBut, Rests, SameBut, SameEventTo, SameTo}
 use Rattle.run_laws.proofs.LaterKeys.{At, at-zip, length-all, on_terms}
 

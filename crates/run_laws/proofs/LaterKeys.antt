@@ -20,8 +20,8 @@ use Rattle.io_model.specs.declared.terminal.Progress.{Progress}
 use Rattle.io_model.specs.declared.terminal.Reading.{Reading}
 use Rattle.io_rules.specs.Arrivals.{Arrivals, ArrivesAt, ArrivesFrom, Desk}
 use Rattle.io_rules.specs.Io.{Io, terminal_at}
-use Rattle.disk_machine.specs.Run.{Choose, Tick, desk_of}
-use Rattle.disk_machine.specs.State.{State}
+use Rattle.machine_model.specs.Run.{Choose, Tick, desk_of}
+use Rattle.machine_model.specs.State.{State}
 use Rattle.file_rules.specs.Files.{with_io}
 use Rattle.run_laws.specs.Later.{AreSameBut, Rests, SameBut, SameTo, SameTickTo, SameChoiceTo}
 

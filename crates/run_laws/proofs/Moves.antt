@@ -12,15 +12,15 @@ use Rattle.std.specs.Prelude.{Result, Ok, Err}
 use Rattle.file_rules.specs.Attempts.{asker_of, files_after}
 use Rattle.file_rules.specs.Files.{Files}
 use Rattle.file_laws.proofs.Attempts.{chain-many, fork-many, load-many}
-use Rattle.machine_model.specs.Console.{terminals_emptied}
-use Rattle.machine_model.specs.Event.{next_instruction}
-use Rattle.machine_model.specs.declared.ends.EventEnd.{EventEnd}
+use Rattle.event_rules.specs.Console.{terminals_emptied}
+use Rattle.event_rules.specs.Event.{next_instruction}
+use Rattle.event_rules.specs.declared.ends.EventEnd.{EventEnd}
 use Rattle.touch_laws.proofs.Loads.{chain-leaves, fork-leaves, load-leaves}
-use Rattle.disk_machine.specs.Event.{Acts, Event, before_delivery, files_after_delivery, files_after_instruction}
-use Rattle.disk_machine.specs.Run.{Choose, Tick}
-use Rattle.disk_machine.specs.Services.{Serves, Service, files_after_call, files_after_fork, loads, no_call, on_paths, on_processes, on_time, service_of}
-use Rattle.disk_machine.specs.Start.{Boot, Starts}
-use Rattle.disk_machine.specs.State.{Rest, State}
+use Rattle.machine_model.specs.Event.{Acts, Event, before_delivery, files_after_delivery, files_after_instruction}
+use Rattle.machine_model.specs.Run.{Choose, Tick}
+use Rattle.machine_model.specs.Services.{Serves, Service, files_after_call, files_after_fork, loads, no_call, on_paths, on_processes, on_time, service_of}
+use Rattle.machine_model.specs.Start.{Boot, Starts}
+use Rattle.machine_model.specs.State.{Rest, State}
 use Rattle.kept_laws.proofs.Events.{event-running}
 use Rattle.kept_laws.proofs.RunningLaws.{choice-running, emptied-running, start-running, tick-running}
 use Rattle.run_laws.specs.Mounted.{AreMounted, CanGo}

@@ -6,10 +6,10 @@ use Rattle.std.proofs.lemmas.List.{append_assoc, append-nil}
 use Rattle.os9_outer.specs.Terminal.{due_byte}
 use Rattle.os9_outer.specs.TerminalState.{TerminalState}
 use Rattle.os9_outer.specs.declared.terminal.Key.{Key}
-use Rattle.machine_model.specs.Console.{console_bytes, put_bytes, terminals_emptied, without_bytes}
-use Rattle.machine_model.specs.declared.ends.SliceEnd.{SliceEnd}
-use Rattle.disk_machine.specs.Run.{Run, Slice}
-use Rattle.disk_machine.specs.State.{State, has_living}
+use Rattle.event_rules.specs.Console.{console_bytes, put_bytes, terminals_emptied, without_bytes}
+use Rattle.event_rules.specs.declared.ends.SliceEnd.{SliceEnd}
+use Rattle.machine_model.specs.Run.{Run, Slice}
+use Rattle.machine_model.specs.State.{State, has_living}
 use Rattle.run_laws.specs.Later.{AreSameBut, Rests, SameBut, SameSliceTo, SameTo}
 use Rattle.run_laws.specs.Session.{AreLater, IsRecorded, IsRunOf, Keys, Session, Turn, counts, keys_loaded, keys_then, script, with_keys}
 use Rattle.run_laws.proofs.LaterSlices.{slice-too}

@@ -15,8 +15,8 @@ use Rattle.io_model.specs.declared.terminal.TheConstants.{TYPE_AHEAD}
 use Rattle.io_rules.specs.Arrivals.{ArrivesFrom, Desk, after_key_signal}
 use Rattle.io_rules.specs.Io.{terminal_at, with_terminal}
 use Rattle.file_rules.specs.Files.{with_io}
-use Rattle.disk_machine.specs.Run.{Tick, desk_of}
-use Rattle.disk_machine.specs.State.{State}
+use Rattle.machine_model.specs.Run.{Tick, desk_of}
+use Rattle.machine_model.specs.State.{State}
 use Rattle.run_laws.specs.Runs.{SameCounts}
 use Rattle.run_laws.proofs.SomeEffects.{counts-set, some-terminal}
 

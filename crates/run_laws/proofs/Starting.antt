@@ -5,8 +5,8 @@ use Rattle.std.specs.List.{AllZip}
 use Rattle.rbf_model.specs.Volume.{DiskVolume, Vol}
 use Rattle.file_rules.specs.Files.{DriveState, Files, volume_at}
 use Rattle.file_rules.specs.Processes.{StartsOn, first_files}
-use Rattle.disk_machine.specs.Start.{Boot, Starts}
-use Rattle.disk_machine.specs.State.{State}
+use Rattle.machine_model.specs.Start.{Boot, Starts}
+use Rattle.machine_model.specs.State.{State}
 use Rattle.run_laws.specs.Faults.{HasNoVolumes}
 
 abbrev nothing : Option DiskVolume

@@ -21,18 +21,18 @@ use Rattle.io_rules.specs.Waiting.{io_may_go}
 use Rattle.file_rules.specs.Attempts.{asker_of, io_effect}
 use Rattle.file_rules.specs.Files.{Files, NoneFailed}
 use Rattle.time_rules.specs.Attempts.{time_step}
-use Rattle.machine_model.specs.Console.{console_bytes, terminals_emptied}
-use Rattle.machine_model.specs.declared.ends.EventEnd.{EventEnd}
-use Rattle.machine_model.specs.declared.ends.SliceEnd.{SliceEnd}
+use Rattle.event_rules.specs.Console.{console_bytes, terminals_emptied}
+use Rattle.event_rules.specs.declared.ends.EventEnd.{EventEnd}
+use Rattle.event_rules.specs.declared.ends.SliceEnd.{SliceEnd}
 use Rattle.call_laws.proofs.CallsKept.{left-refused}
 use Rattle.io_laws.proofs.EndsKept.{by-end}
 use Rattle.call_laws.proofs.ForksKept.{attempt-left}
 use Rattle.call_laws.proofs.OthersKept.{living-within}
-use Rattle.disk_machine.specs.Event.{Acts, Event, before_delivery, cost, files_after_delivery, files_after_instruction}
-use Rattle.disk_machine.specs.Run.{Run, Slice, Steps, is_going}
-use Rattle.disk_machine.specs.Services.{Attempts, Serves, Service, loads, no_call, on_paths, on_processes, on_time, service_of}
-use Rattle.disk_machine.specs.Start.{Boot, Starts}
-use Rattle.disk_machine.specs.State.{Rest, State, has_living, with_rest}
+use Rattle.machine_model.specs.Event.{Acts, Event, before_delivery, cost, files_after_delivery, files_after_instruction}
+use Rattle.machine_model.specs.Run.{Run, Slice, Steps, is_going}
+use Rattle.machine_model.specs.Services.{Attempts, Serves, Service, loads, no_call, on_paths, on_processes, on_time, service_of}
+use Rattle.machine_model.specs.Start.{Boot, Starts}
+use Rattle.machine_model.specs.State.{Rest, State, has_living, with_rest}
 use Rattle.isolation_laws.proofs.Asked.{Asks, asks}
 use Rattle.isolation_laws.proofs.EventsKept.{time-left}
 use Rattle.kept_laws.proofs.Loads.{Child, chain-over, fork-over, load-over}
@@ -41,7 +41,7 @@ use Rattle.run_laws.specs.Mounted.{CanGo}
 use Rattle.run_laws.specs.Runs.{HasEvent, HasRun, HasSlice, MakesFile, SameCounts}
 use Rattle.run_laws.proofs.Calls.{SomeAttempt, same-drives, some-attempt}
 use Rattle.run_laws.proofs.Moves.{choice-can, emptied-can, event-can, start-can, tick-can}
-use Rattle.machine_model.specs.Event.{after_instruction, call_event_end, cost_of, delivery_end, instruction_end, next_instruction}
+use Rattle.event_rules.specs.Event.{after_instruction, call_event_end, cost_of, delivery_end, instruction_end, next_instruction}
 use Rattle.io_rules.specs.Waiting.{interrupted_count}
 use Rattle.os9_outer.specs.TerminalState.{TerminalState}
 use Rattle.std.specs.Prelude.{IfSome, ◌&&◌}

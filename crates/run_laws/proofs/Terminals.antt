@@ -22,8 +22,8 @@ use Rattle.io_rules.specs.Attempts.{Does}
 use Rattle.io_rules.specs.Io.{Io, terminal_at, with_terminal}
 use Rattle.io_rules.specs.Step.{Caller, IoEffect, IoEnd, IoStep, answers, refused, comes, reads, writes, leaves, TerminalRead, TerminalWrite}
 use Rattle.io_rules.specs.Terminals.{ReadsTerminal, WritesTerminal, read_ends, read_leaves, request_of, write_ends}
-use Rattle.machine_model.specs.Terminals.{TerminalsOnlyGain}
-use Rattle.machine_model.proofs.TerminalLaws.{gain-arrivals}
+use Rattle.event_rules.specs.Terminals.{TerminalsOnlyGain}
+use Rattle.event_rules.proofs.TerminalLaws.{gain-arrivals}
 use Rattle.run_laws.specs.Faults.{NotFailed}
 
 -- ---- counts that do not rise

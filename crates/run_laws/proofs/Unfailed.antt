@@ -1,7 +1,7 @@
 -- Where counts of faults stay and can rise, nothing has failed.
 use Rattle.std.proofs.Common.{◌≡◌, ℕ, List, ap}
 use Rattle.file_rules.specs.Files.{DriveState, NoneFailed as NoDriveChanged, drive_at}
-use Rattle.disk_machine.specs.State.{State}
+use Rattle.machine_model.specs.State.{State}
 use Rattle.run_laws.specs.Faults.{CanRise, NoneFailed}
 use Rattle.run_laws.specs.Runs.{SameCounts}
 use Rattle.run_laws.proofs.Terminals.{none-of, stays-none}

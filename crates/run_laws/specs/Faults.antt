@@ -10,11 +10,11 @@ use Rattle.file_rules.specs.Change.{TakesClusters}
 use Rattle.rbf_model.specs.Volume.{DiskVolume}
 use Rattle.file_rules.specs.Files.{DriveState, Files, drive_at, volume_at}
 use Rattle.file_rules.specs.Step.{Deed, leaves_so, as_io, changes, deed_of}
-use Rattle.machine_model.specs.declared.ends.EventEnd.{EventEnd}
-use Rattle.machine_model.specs.declared.ends.SliceEnd.{SliceEnd}
+use Rattle.event_rules.specs.declared.ends.EventEnd.{EventEnd}
+use Rattle.event_rules.specs.declared.ends.SliceEnd.{SliceEnd}
 use Rattle.time_rules.specs.Clock.{IsNow}
-use Rattle.disk_machine.specs.Services.{Service, on_paths, service_of}
-use Rattle.disk_machine.specs.State.{State}
+use Rattle.machine_model.specs.Services.{Service, on_paths, service_of}
+use Rattle.machine_model.specs.State.{State}
 
 -- ---- devices that do not fail
 

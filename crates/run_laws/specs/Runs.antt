@@ -5,11 +5,11 @@ use Rattle.call_rules.specs.Ready.{attempts, act_of}
 use Rattle.file_rules.specs.Codes.{path_call_of}
 use Rattle.file_rules.specs.Files.{NoneFailed}
 use Rattle.file_rules.specs.declared.path_call.PathCall.TheVariants as Call
-use Rattle.machine_model.specs.declared.ends.EventEnd.{EventEnd}
-use Rattle.machine_model.specs.declared.ends.SliceEnd.{SliceEnd}
-use Rattle.disk_machine.specs.Event.{Event}
-use Rattle.disk_machine.specs.Run.{Run, Slice}
-use Rattle.disk_machine.specs.State.{State}
+use Rattle.event_rules.specs.declared.ends.EventEnd.{EventEnd}
+use Rattle.event_rules.specs.declared.ends.SliceEnd.{SliceEnd}
+use Rattle.machine_model.specs.Event.{Event}
+use Rattle.machine_model.specs.Run.{Run, Slice}
+use Rattle.machine_model.specs.State.{State}
 
 -- the count of faults of each terminal is the same in two states
 abbrev pub SameCounts : State → State → Type 0

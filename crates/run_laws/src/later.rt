@@ -1,11 +1,11 @@
 //! States that are equal but for keys that come later, as laws of what they do.
 
 ghost use Rattle.std.specs.Prelude.{◌≡◌, ℕ, ◌+◌, ◌≤◌, List};
-ghost use Rattle.machine_model.specs.declared.ends.EventEnd.{EventEnd};
-ghost use Rattle.machine_model.specs.declared.ends.SliceEnd.{SliceEnd};
-ghost use Rattle.disk_machine.specs.Event.{Event};
-ghost use Rattle.disk_machine.specs.Run.{Choose, Slice, Tick};
-ghost use Rattle.disk_machine.specs.State.{State};
+ghost use Rattle.event_rules.specs.declared.ends.EventEnd.{EventEnd};
+ghost use Rattle.event_rules.specs.declared.ends.SliceEnd.{SliceEnd};
+ghost use Rattle.machine_model.specs.Event.{Event};
+ghost use Rattle.machine_model.specs.Run.{Choose, Slice, Tick};
+ghost use Rattle.machine_model.specs.State.{State};
 ghost use Rattle.run_laws.specs.Session.{IsRunOf, Session, Turn};
 ghost use Rattle.run_laws.specs.Later.{Rests, SameTo, SameTickTo, SameChoiceTo, SameEventTo, SameSliceTo};
 

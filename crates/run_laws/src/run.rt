@@ -3,11 +3,11 @@
 ghost use Rattle.std.specs.Prelude.{◌≡◌, ℕ, ◌<◌, ◌≤◌, List, Some, length, true};
 ghost use Rattle.civil_time.specs.CivilTime.{is_time_packet};
 ghost use Rattle.proc_rules.specs.Records.{IsLiving};
-ghost use Rattle.machine_model.specs.declared.ends.EventEnd.{EventEnd};
-ghost use Rattle.disk_machine.specs.Event.{Event};
-ghost use Rattle.disk_machine.specs.Run.{Choose, Tick};
-ghost use Rattle.disk_machine.specs.Start.{Boot, Starts};
-ghost use Rattle.disk_machine.specs.State.{State};
+ghost use Rattle.event_rules.specs.declared.ends.EventEnd.{EventEnd};
+ghost use Rattle.machine_model.specs.Event.{Event};
+ghost use Rattle.machine_model.specs.Run.{Choose, Tick};
+ghost use Rattle.machine_model.specs.Start.{Boot, Starts};
+ghost use Rattle.machine_model.specs.State.{State};
 ghost use Rattle.file_rules.specs.Files.{NoneFailed as NoDriveChanged};
 ghost use Rattle.run_laws.specs.Faults.{CanRise, NoneFailed};
 ghost use Rattle.run_laws.specs.Mounted.{CanGo};

@@ -1,12 +1,12 @@
 //! Runs of the machine without faults, as laws over all of them.
 
 ghost use Rattle.std.specs.Prelude.{◌≡◌, ◌⊎◌, ℕ, List, []};
-ghost use Rattle.machine_model.specs.declared.ends.EventEnd.{EventEnd};
-ghost use Rattle.machine_model.specs.declared.ends.SliceEnd.{SliceEnd};
-ghost use Rattle.disk_machine.specs.Event.{Event};
-ghost use Rattle.disk_machine.specs.Run.{Choose, Run, Slice, Tick};
-ghost use Rattle.disk_machine.specs.Start.{Boot, Starts};
-ghost use Rattle.disk_machine.specs.State.{State};
+ghost use Rattle.event_rules.specs.declared.ends.EventEnd.{EventEnd};
+ghost use Rattle.event_rules.specs.declared.ends.SliceEnd.{SliceEnd};
+ghost use Rattle.machine_model.specs.Event.{Event};
+ghost use Rattle.machine_model.specs.Run.{Choose, Run, Slice, Tick};
+ghost use Rattle.machine_model.specs.Start.{Boot, Starts};
+ghost use Rattle.machine_model.specs.State.{State};
 ghost use Rattle.run_laws.specs.Reached.{NeverChooses};
 ghost use Rattle.run_laws.specs.Faults.{HasNoVolumes, NoneFailed, MayChoose, SameEvent, SameRun, SameSlice};
 

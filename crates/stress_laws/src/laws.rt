@@ -2,8 +2,8 @@
 
 ghost use Rattle.std.specs.Prelude.{ℕ, List};
 ghost use Rattle.call_rules.specs.Inner.{Inner};
-ghost use Rattle.machine_model.specs.declared.ends.BootFault.{BootFault};
-ghost use Rattle.machine_model.specs.Start.{Refuses, StartsProcesses};
+ghost use Rattle.event_rules.specs.declared.ends.BootFault.{BootFault};
+ghost use Rattle.event_rules.specs.Start.{Refuses, StartsProcesses};
 ghost use Rattle.guest_mods.specs.declared.load.Load.{Load};
 ghost use Rattle.guest_mods.specs.Accepted.{IsAccepted};
 ghost use Rattle.guest_mods.specs.Stress.{IsLoad, stress_file};

@@ -8,7 +8,7 @@ use Rattle.boot_run.specs.Machine.{IsUnrun, RunsFirst}
 use Rattle.boot_run.specs.World.{FailsToWrite, HasNoFault, World, world_of}
 use Rattle.boot_run.specs.declared.machine.RunEnd.{RunEnd}
 use Rattle.boot_run.specs.declared.machine.RunEnd.TheVariants as Run
-use Rattle.disk_kernel.specs.Outside.{Outside}
+use Rattle.os9_kernel.specs.Outside.{Outside}
 use Rattle.os9_base.specs.Count.{Rose}
 use Rattle.os9_outer.specs.Stream.{GainsPrefix, stream_with}
 use Rattle.os9_outer.specs.declared.host.Host.{Ghosts}
@@ -16,8 +16,8 @@ use Rattle.os9_outer.specs.declared.host.HostFault.{HostFault}
 use Rattle.os9_outer.specs.declared.host.HostFault.TheVariants.{Failed, OutOfMemory}
 use Rattle.os9_words.specs.Streams.{WritesOut}
 use Rattle.guest_mods.specs.Stress.{IsLoad}
-use Rattle.machine_model.specs.Start.{Refuses}
-use Rattle.machine_model.specs.declared.ends.BootFault.{BootFault}
+use Rattle.event_rules.specs.Start.{Refuses}
+use Rattle.event_rules.specs.declared.ends.BootFault.{BootFault}
 use Rattle.os9_words.specs.Lines.{stress_line}
 use Rattle.rbf_model.specs.Volume.{DiskVolume}
 use Rattle.stress_laws.proofs.Started.{never-refused-accepted}

@@ -9,7 +9,7 @@ use Rattle.guest_mods.specs.declared.load.Load.{Load}
 use Rattle.guest_mods.specs.Random.{slice_lengths}
 use Rattle.guest_mods.specs.Stress.{stress_file}
 use Rattle.file_rules.specs.Files.{volume_at}
-use Rattle.disk_machine.specs.State.{State, has_living}
+use Rattle.machine_model.specs.State.{State, has_living}
 use Rattle.boot_images.specs.Outcome.{HasOutcome}
 use Rattle.boot_run.specs.Console.{IsObserved}
 use Rattle.boot_run.specs.Machine.{FailsToMount, IsUnrun, RunsFirst, Setup}

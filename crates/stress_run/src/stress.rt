@@ -4,7 +4,7 @@ ghost use Rattle.std.specs.Prelude.{◌≡◌, ◌<◌, IfOk};
 ghost use Rattle.boot_images.specs.Outcome.{setup_of};
 ghost use Rattle.boot_images.specs.Ready.{AreEmptyAgain, AreFree, CanStart};
 ghost use Rattle.boot_run.specs.World.{world_of};
-ghost use Rattle.disk_kernel.specs.Outside.{outside};
+ghost use Rattle.os9_kernel.specs.Outside.{outside};
 ghost use Rattle.file_drives.specs.Drives.{drive_views};
 ghost use Rattle.stress_run.specs.Disk.{IsDiskOf};
 ghost use Rattle.stress_run.specs.Stress.{StressCall, stress_setup};

@@ -3,7 +3,7 @@ use Rattle.std.proofs.lemmas.List.{length-map}
 use Rattle.os9_outer.specs.TerminalState.{terminal_states}
 use Rattle.file_drives.specs.Drives.{boxed_drive_view, drive_views}
 use Rattle.file_start.specs.Start.{HaveImages}
-use Rattle.disk_kernel.specs.Outside.{outside}
+use Rattle.os9_kernel.specs.Outside.{outside}
 use Rattle.boot_run.specs.Machine.{Setup}
 use Rattle.boot_run.specs.World.{world_of}
 use Rattle.boot_images.specs.Outcome.{setup_of}

@@ -6,7 +6,7 @@ use Rattle.cpu_model.specs.TenPage.{ten_page}
 use Rattle.cpu_model.specs.Reading.{reading}
 use Rattle.cpu_model.specs.Step.{window, effect_of, outcome_of, step_of}
 use Rattle.cpu_model.specs.Table.{row}
-use Rattle.machine_model.specs.declared.ends.EventEnd.TheVariants.{Ran}
+use Rattle.event_rules.specs.declared.ends.EventEnd.TheVariants.{Ran}
 use Rattle.boot_rows.specs.Rows.{after_events, after_slice, asks_for_id, at_choice, at_start}
 use Rattle.boot_rows.proofs.RowEvents.{event-is}
 use Rattle.boot_rows.proofs.Times.{first-second}

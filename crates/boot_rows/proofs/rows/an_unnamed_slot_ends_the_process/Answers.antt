@@ -5,7 +5,7 @@ use Rattle.cpu_model.specs.Places.{byte_operand, place_of}
 use Rattle.cpu_model.specs.Reading.{reading}
 use Rattle.cpu_model.specs.Step.{window, effect_of, outcome_of, step_of}
 use Rattle.cpu_model.specs.Table.{row}
-use Rattle.machine_model.specs.declared.ends.EventEnd.TheVariants.{Ended}
+use Rattle.event_rules.specs.declared.ends.EventEnd.TheVariants.{Ended}
 use Rattle.boot_rows.specs.Rows.{at_choice, at_start, loads_unnamed}
 use Rattle.boot_rows.proofs.RowEvents.{event-is}
 use Rattle.boot_rows.proofs.Times.{first-second}

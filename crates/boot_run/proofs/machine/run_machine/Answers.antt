@@ -5,7 +5,7 @@ use Rattle.os9_outer.specs.TerminalState.{TerminalState, terminal_states}
 use Rattle.key_loading.specs.Loaded.{HasNoKeys, loaded}
 use Rattle.file_rules.specs.Files.{NoneFailed}
 use Rattle.file_drives.specs.Drives.{drive_states, drive_views}
-use Rattle.disk_kernel.specs.Outside.{outside}
+use Rattle.os9_kernel.specs.Outside.{outside}
 use Rattle.boot_run.specs.Machine.{MachineCall, setup_with}
 use Rattle.boot_run.specs.World.{world_of}
 use Rattle.boot_run.proofs.MachineLemmas.{called-nothing, called-output, called-refused, called-whole, called-without_memory, drives-counted, drives-started, images-there, stands-loaded, where-refused}

@@ -1,8 +1,8 @@
 use Rattle.std.proofs.Common.{◌≡◌, ◌+◌, ◌-◌, ◌<◌, take, length, All}
 use Rattle.std.specs.Vec.{vec_len}
-use Rattle.disk_machine.specs.State.{State}
-use Rattle.disk_kernel.specs.Outside.{outside}
-use Rattle.disk_kernel.specs.Tie.{Represents, Stands, ticks}
+use Rattle.machine_model.specs.State.{State}
+use Rattle.os9_kernel.specs.Outside.{outside}
+use Rattle.os9_kernel.specs.Tie.{Represents, Stands, ticks}
 use Rattle.boot_run.specs.Console.{IsObserved}
 use Rattle.boot_run.specs.World.{HasNoFault, world_of}
 use Rattle.boot_run.proofs.ConsoleLemmas.{nowhere}

@@ -1,7 +1,7 @@
 use Rattle.std.proofs.Common.{◌≡◌, length, arith}
 use Rattle.std.proofs.lemmas.List.{length-map}
 use Rattle.os9_outer.specs.TerminalState.{terminal_states}
-use Rattle.disk_kernel.specs.Outside.{outside}
+use Rattle.os9_kernel.specs.Outside.{outside}
 use Rattle.os9_boot.proofs.BootLemmas.{boot-ended, boot-refused, boot-texts-refused}
 use Rattle.os9_boot.proofs.MachineLemmas.{runs-after}
 use Rattle.os9_boot.proofs.boot.boot_images.Goals as goal

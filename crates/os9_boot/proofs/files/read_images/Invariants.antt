@@ -1,7 +1,7 @@
 -- The images below the place are read.
 use Rattle.std.proofs.Common.{◌≡◌, ◌≤◌, length, take}
 use Rattle.std.specs.Prelude.{IfSome}
-use Rattle.disk_kernel.specs.Outside.{Outside}
+use Rattle.os9_kernel.specs.Outside.{Outside}
 use Rattle.boot_images.specs.Images.{images_of}
 use Rattle.boot_run.specs.World.{world_of}
 use Rattle.os9_boot.proofs.files.read_images.Given as goal

@@ -1,6 +1,6 @@
 use Rattle.std.proofs.Common.{map}
 use Rattle.std.specs.String.{string_bytes}
-use Rattle.disk_kernel.specs.Outside.{outside}
+use Rattle.os9_kernel.specs.Outside.{outside}
 use Rattle.os9_boot.proofs.CallLemmas.{err-only, top-command, top-memory, top-refused}
 use Rattle.os9_boot.proofs.top.os9_main.Goals as goal
 

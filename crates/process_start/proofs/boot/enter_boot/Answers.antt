@@ -4,7 +4,7 @@ use Rattle.proc_model.specs.Loading.{at_end, broken, entered, no_entries}
 use Rattle.proc_model.specs.Module.{step_from}
 use Rattle.proc_model.specs.declared.module.ModuleStep.TheVariants.{Module}
 use Rattle.proc_model.proofs.LoadingLemmas.{LiesIn-step}
-use Rattle.machine_model.specs.Start.{EntersBoot, boot_memory}
+use Rattle.event_rules.specs.Start.{EntersBoot, boot_memory}
 use Rattle.process_start.specs.Booting.{with_boot_module}
 use Rattle.process_start.proofs.boot.enter_boot.Goals as goal
 use Rattle.process_start.proofs.boot.enter_boot.Goals.{In-Some}

@@ -1,7 +1,7 @@
 use Rattle.std.proofs.Common.{sym}
 use Rattle.proc_model.specs.Memory.{first_memory}
 use Rattle.proc_model.specs.Loading.{no_entries}
-use Rattle.machine_model.specs.Start.{boot_memory}
+use Rattle.event_rules.specs.Start.{boot_memory}
 use Rattle.process_start.specs.Booting.{with_boot_module}
 use Rattle.process_start.proofs.Entering.{never-full, begins-boot}
 use Rattle.process_start.proofs.Seen.{refusal-seen}

@@ -4,7 +4,7 @@ use Rattle.proc_model.specs.Loading.{EntersModules, at_end, broken, refused, ent
 use Rattle.proc_model.specs.Module.{step_from}
 use Rattle.proc_model.specs.declared.module.ModuleStep.TheVariants.{Module}
 use Rattle.proc_model.proofs.LoadingLemmas.{LiesIn-step}
-use Rattle.machine_model.specs.Start.{boot_group}
+use Rattle.event_rules.specs.Start.{boot_group}
 use Rattle.process_start.specs.Booting.{with_modules}
 use Rattle.process_start.proofs.boot.enter_others.Goals as goal
 use Rattle.process_start.proofs.boot.enter_others.Goals.{In-Some}

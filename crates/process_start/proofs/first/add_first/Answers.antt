@@ -6,7 +6,7 @@ use Rattle.proc_rules.specs.Records.{free_process}
 use Rattle.call_rules.specs.Inner.{Inner, with_own, with_regs_of}
 use Rattle.proc_state.specs.Beginning.{with_made}
 use Rattle.proc_state.specs.Tie.{Represents}
-use Rattle.machine_model.specs.Start.{first_priority, first_process, no_parent, superuser}
+use Rattle.event_rules.specs.Start.{first_priority, first_process, no_parent, superuser}
 use Rattle.process_start.specs.Beginning.{nobody_in}
 use Rattle.process_start.proofs.Starting.{first-made}
 use Rattle.process_start.proofs.first.add_first.Goals as goal

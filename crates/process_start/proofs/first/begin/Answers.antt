@@ -5,7 +5,7 @@ use Rattle.proc_model.specs.declared.module.ModuleInfo.{ModuleInfo}
 use Rattle.proc_model.specs.MemoryChanges.{linked}
 use Rattle.proc_model.specs.ModuleList.{ModuleEntry}
 use Rattle.call_rules.specs.Program.{Program}
-use Rattle.machine_model.specs.Start.{first_process, first_start}
+use Rattle.event_rules.specs.Start.{first_process, first_start}
 use Rattle.process_start.specs.Beginning.{nobody_in}
 use Rattle.process_start.proofs.Seen.{entry-there}
 use Rattle.process_start.proofs.Starting.{loaded-is, unloaded-is, some-blocks, first-stands, begins-so, begins-not}

@@ -9,8 +9,8 @@ use Rattle.call_rules.specs.Inner.{Inner, with_memory}
 use Rattle.call_rules.specs.Program.{program_kind}
 use Rattle.proc_state.specs.Sound.{ArePrimaries}
 use Rattle.proc_state.proofs.First.{ArePrimaries-first}
-use Rattle.machine_model.specs.Start.{boot_memory, first_program}
-use Rattle.machine_model.proofs.StartLaws.{first_entry}
+use Rattle.event_rules.specs.Start.{boot_memory, first_program}
+use Rattle.event_rules.proofs.StartLaws.{first_entry}
 use Rattle.process_start.proofs.Seen.{some-here}
 use Rattle.process_start.proofs.machine.load_boot.Goals as goal
 

@@ -1,6 +1,6 @@
 use Rattle.std.proofs.lemmas.Result.{err_from_is_err_and}
-use Rattle.machine_model.specs.Start.{boot_memory}
-use Rattle.machine_model.proofs.StartLaws.{never-both}
+use Rattle.event_rules.specs.Start.{boot_memory}
+use Rattle.event_rules.proofs.StartLaws.{never-both}
 use Rattle.process_start.proofs.Starting.{starts-so, starts-at, refuses-so}
 use Rattle.process_start.proofs.machine.start.Goals as goal
 

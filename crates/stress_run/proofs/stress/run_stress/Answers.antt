@@ -2,7 +2,7 @@
 use Rattle.std.proofs.Common.{subst}
 use Rattle.boot_images.specs.Outcome.{RunsImages}
 use Rattle.boot_run.specs.World.{world_of}
-use Rattle.disk_kernel.specs.Outside.{outside}
+use Rattle.os9_kernel.specs.Outside.{outside}
 use Rattle.stress_run.proofs.DiskLemmas.{are-volumes}
 use Rattle.stress_run.proofs.EndLemmas.{called}
 use Rattle.stress_run.proofs.stress.run_stress.Goals as goal

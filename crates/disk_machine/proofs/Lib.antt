@@ -1,4 +1,0 @@
-pub mod Drives
-pub mod Gains
-pub mod Induction
-pub mod Starts

@@ -1,5 +1,0 @@
-use Rattle.disk_machine.proofs.Starts.{never-both, some-end, starts-one}
-use Rattle.disk_machine.proofs.start.a_boot_comes_to_one_end.Goals as goal
-
-pub returns : goal.returns
-returns c = record { one_start = starts-one; never_both = never-both; some_end = some-end }

@@ -1,7 +1,0 @@
-//! The abstract machine of disk images: its states, one event of it, a slice, a whole run and the
-//! start.
-#![tactic(auto)]
-
-pub mod rows;
-pub mod run;
-pub mod start;

@@ -1,0 +1,3 @@
+pub mod StartLaws
+pub mod TerminalLaws
+pub mod Ticks

@@ -1,0 +1,5 @@
+pub mod Console
+pub mod Event
+pub mod Start
+pub mod State
+pub mod Terminals

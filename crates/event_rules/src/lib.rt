@@ -1,0 +1,6 @@
+//! What an event makes of the processes, and the start of a boot file.
+#![tactic(auto)]
+
+pub mod calls;
+pub mod ends;
+pub mod start;

@@ -1,0 +1,101 @@
+-- Slices and whole runs (this project's own: a list of slices decides every interleaving).
+use Rattle.std.specs.Prelude.{◌≡◌, ℕ, ◌+◌, ◌-◌, ◌<◌, Bool, true, false, option_map, List, [], ◌∷◌, ◌++◌, if◌then◌else◌, MatchBool, MatchOption}
+use Rattle.os9_base.specs.declared.registers.Pid.{Pid}
+use Rattle.os9_outer.specs.TerminalState.{TerminalState, ChangesOneTerminal}
+use Rattle.call_rules.specs.Choice.{choice_of, after_choice}
+use Rattle.io_model.specs.Terminal.{Terminal, Arrives}
+use Rattle.io_model.specs.declared.terminal.Arrival.{Arrival}
+use Rattle.io_rules.specs.Arrivals.{Desk, Arrivals, ArrivesFrom}
+use Rattle.io_rules.specs.Io.{terminal_at}
+use Rattle.io_rules.specs.Waiting.{io_may_go}
+use Rattle.file_rules.specs.Files.{with_io}
+use Rattle.event_rules.specs.declared.ends.EventEnd.{EventEnd}
+use Rattle.event_rules.specs.declared.ends.SliceEnd.{SliceEnd}
+use Rattle.event_rules.specs.declared.ends.SliceEnd.TheVariants.{Idle, Ran}
+use Rattle.event_rules.specs.Console.{console_bytes, terminals_emptied}
+use Rattle.machine_model.specs.Event.{Event, cost}
+use Rattle.machine_model.specs.State.{State, has_living}
+
+-- ---- a slice
+
+-- what keys that arrive may change, in the tick that follows
+abbrev pub desk_of : State → Desk
+desk_of s = record { inner = record s.inner { tick = s.inner.tick + 1 }; io = s.files.io; terms = s.terms }
+
+-- the tick rises by 1, and the keys that are due arrive
+abbrev pub Tick : State → State → Type 0
+Tick s t =
+    (desk : Desk) × Arrivals (s.inner.tick + 1) (desk_of s) desk
+    × (t ≡ record s { inner = desk.inner; files = with_io s.files desk.io; terms = desk.terms })
+
+-- A tick that is broken off for want of memory: the keys of so many terminals have arrived, and then a bell of the next
+-- one found no memory. These are the terminals then.
+pub record BreaksTick (s : State) (terms : List TerminalState) : Type 0 where
+  pub count : ℕ
+  pub desk : Desk
+  pub arrivals : ArrivesFrom (s.inner.tick + 1) 0 count (desk_of s) desk
+  pub answer : Arrival
+  pub terminal : Terminal
+  pub memory : answer.memory ≡ false
+  pub device : ChangesOneTerminal
+      (λ before now. Arrives (s.inner.tick + 1) (terminal_at desk.io count) terminal before now answer) count
+      desk.terms terms
+
+-- a process that is Ready is chosen, if there is one; input and output let calls that wait go on
+abbrev pub Choose : State → State → Type 0
+Choose s t =
+    t
+    ≡ record s {
+      inner = after_choice (io_may_go s.files.io) s.inner;
+      chosen = option_map (λ (p : Pid). p.0) (choice_of (io_may_go s.files.io) s.inner).chosen;
+    }
+
+-- a slice goes on after an event that ends so: the process neither waits nor has ended
+abbrev pub is_going : EventEnd → Bool
+is_going EventEnd.Ran = true
+is_going EventEnd.Waits = false
+is_going EventEnd.Ended = false
+is_going EventEnd.NoMemory = false
+
+-- The events of a slice, of which so many instructions are left: from s through these states. It is over when they are
+-- executed, or with an event after which it does not go on.
+abbrev pub Steps : ℕ → State → List State → State → Type 0
+Steps left s [] t = (left ≡ 0) × (t ≡ s)
+Steps left s (m ∷ ms) t =
+    (0 < left) × (end : EventEnd) × Event s end m
+    × MatchBool (is_going end) (Steps (left - cost s) m ms t) ((ms ≡ []) × (t ≡ m))
+
+-- one slice of so many instructions: the states after its events, how it ends, and the state then; nobody is Ready
+-- where no process was chosen
+abbrev pub Slice : ℕ → State → List State → SliceEnd → State → Type 0
+Slice n s states end t =
+    (ticked : State) × (chosen : State) × Tick s ticked × Choose ticked chosen
+    × MatchOption chosen.chosen ((end ≡ Idle) × (states ≡ []) × (t ≡ chosen))
+    (λ p. (end ≡ Ran) × Steps n chosen states t)
+
+-- the first events of a slice that is not over then
+abbrev pub FirstSteps : ℕ → State → List State → State → Type 0
+FirstSteps left s [] t = (0 < left) × (t ≡ s)
+FirstSteps left s (m ∷ ms) t = (0 < left) × Event s EventEnd.Ran m × FirstSteps (left - cost s) m ms t
+
+-- a slice of so many instructions was begun, had its first events, and is not over
+abbrev pub BeginsSlice : ℕ → State → List State → State → Type 0
+BeginsSlice n s states t =
+    (ticked : State) × (chosen : State) × Tick s ticked × Choose ticked chosen × FirstSteps n chosen states t
+
+-- ---- a run
+
+-- A whole run over these slices: the states after all its events, the bytes that it writes, and the state at its end.
+-- It stops where no process lives, or where the slices are used up.
+abbrev pub Run : List ℕ → State → List State → List ℕ → State → Type 0
+Run [] s states written t = (states ≡ []) × (written ≡ []) × (t ≡ s)
+Run (n ∷ ns) s states written t =
+    MatchBool (has_living s)
+    ((end : SliceEnd) × (m : State) × (first later : List State) × (rest : List ℕ) × Slice n s first end m
+    × (states ≡ first ++ later) × (written ≡ console_bytes m.terms ++ rest)
+    × Run ns (record m { terms = terminals_emptied m.terms }) later rest t)
+    ((states ≡ []) × (written ≡ []) × (t ≡ s))
+
+-- the status of a run that ended so: 0 where no process lives, else 5
+abbrev pub status_of : State → ℕ
+status_of s = if has_living s then 5 else 0

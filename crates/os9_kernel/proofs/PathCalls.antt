@@ -1,0 +1,88 @@
+-- Attempts of calls on paths, files and directories.
+use Rattle.std.proofs.Common.{◌≡◌, ◌≢◌, ◌⊎◌, ◌∙◌, ℕ, Option, List, refl, sym, ap, subst, inl, inr}
+use Rattle.os9_base.specs.declared.call.CallEnd.{CallEnd}
+use Rattle.os9_base.specs.declared.call.CallEnd.TheVariants.{Done, Error, Wait, Ended, NoMemory}
+use Rattle.os9_base.specs.declared.registers.TimePacket.{TimePacket}
+use Rattle.os9_outer.specs.TerminalState.{TerminalState}
+use Rattle.proc_rules.specs.declared.record.Record.{Record}
+use Rattle.proc_rules.specs.Records.{IsLiving}
+use Rattle.proc_calls.specs.Telling.{LivesOn}
+use Rattle.call_rules.specs.Attempts.{after_attempt}
+use Rattle.call_rules.specs.CallResult.{CallResult}
+use Rattle.call_rules.specs.Inner.{Inner}
+use Rattle.io_rules.specs.Attempts.{result_by, result_of}
+use Rattle.io_rules.specs.Step.{IoEffect, IoEnd, answers, fails, keeps}
+use Rattle.event_rules.specs.declared.ends.EventEnd.TheVariants as Event
+use Rattle.file_rules.specs.Attempts.{FileAttempts, io_effect}
+use Rattle.file_rules.specs.Files.{Files}
+use Rattle.file_rules.specs.declared.path_call.PathCall.{PathCall}
+use Rattle.file_state.specs.Tie.{IsSound}
+use Rattle.civil_time.proofs.Next.{later-packet}
+use Rattle.time_rules.specs.Clock.{IsClock, IsNow, seconds_since}
+use Rattle.time_rules.specs.declared.clock.Clock.{Clock}
+use Rattle.machine_model.specs.State.{State}
+use Rattle.os9_kernel.specs.declared.kernel.Kernel.{Kernel}
+use Rattle.os9_kernel.specs.Ends.{event_end_of}
+use Rattle.os9_kernel.specs.Outside.{Outside}
+use Rattle.os9_kernel.specs.Tie.{Represents}
+
+-- ---- what an attempt asks for
+
+-- paths and directories are on what is there
+pub is-sound : (old : Kernel) (before : Outside) (s : State) → Represents old before s → IsSound old.files before.drives
+is-sound old before s tied = record { files = s.files; stands = tied.files; kinds = tied.running.kinds }
+
+-- the clock was set to a civil time, and not after this tick
+pub is-clock : (old : Kernel) (before : Outside) (s : State) → Represents old before s → IsClock old.clock old.processes.tick
+is-clock old before s tied =
+    subst (λ (clock : Clock). IsClock clock old.processes.tick) (ap (λ (s : State). s.clock) tied.is)
+    (subst (λ (tick : ℕ). IsClock s.clock tick) (ap (λ (m : Inner). m.tick) tied.inner.is) tied.running.clock)
+
+-- it shows a time
+pub some-time : (old : Kernel) (before : Outside) (s : State) → Represents old before s → (now : TimePacket) × IsNow s.clock s.inner.tick now
+some-time old before s tied = later-packet s.clock.from (seconds_since s.clock s.inner.tick) tied.running.clock.civil
+
+-- and that one is the machine's
+pub now-here : (old : Kernel) (before : Outside) (s : State) → Represents old before s → (now : TimePacket) → IsNow old.clock old.processes.tick now → IsNow s.clock s.inner.tick now
+now-here old before s tied now is =
+    subst (λ (clock : Clock). IsNow clock s.inner.tick now) (sym (ap (λ (s : State). s.clock) tied.is))
+    (subst (λ (tick : ℕ). IsNow old.clock tick now) (sym (ap (λ (m : Inner). m.tick) tied.inner.is)) is)
+
+-- ---- how it ends
+
+-- a process that lives lives on
+pub lives-on : (end : CallEnd) (records : List (Option Record)) (p : ℕ) → IsLiving records p → LivesOn end records p
+lives-on Done records p lives = lives
+lives-on (Error number) records p lives = lives
+lives-on Wait records p lives = lives
+lives-on Ended records p lives = tt
+lives-on NoMemory records p lives = tt
+
+-- memory is out where the call says so
+pub wants-so : (end : CallEnd) → event_end_of end ≡ Event.NoMemory → end ≡ NoMemory
+wants-so Done is = cc
+wants-so (Error number) is = cc
+wants-so Wait is = cc
+wants-so Ended is = cc
+wants-so NoMemory is = refl
+
+-- or memory was there
+pub cases-memory : (end : CallEnd) → (end ≡ NoMemory) ⊎ (end ≢ NoMemory)
+cases-memory Done = inr (λ is. cc)
+cases-memory (Error number) = inr (λ is. cc)
+cases-memory Wait = inr (λ is. cc)
+cases-memory Ended = inr (λ is. cc)
+cases-memory NoMemory = inl refl
+
+-- an attempt leaves the tick
+effect-tick : (m : Inner) (p : ℕ) (effect : IoEffect) → (after_attempt m p (result_of m p effect)).tick ≡ m.tick
+effect-tick m p effect = by_end effect.end
+  where
+    by_end : (end : IoEnd) → (after_attempt m p (result_by end m p effect)).tick ≡ m.tick
+    by_end (answers regs) = refl
+    by_end (fails number) = refl
+    by_end (keeps kept) = refl
+
+pub attempt-tick : (call : PathCall) (m : Inner) (files : Files) (now : TimePacket) (p : ℕ) (result : CallResult) (new : Files) (before after : List TerminalState) → FileAttempts call m files now p result new before after → (after_attempt m p result).tick ≡ m.tick
+attempt-tick call m files now p result new before after it =
+    ap (λ (result : CallResult). (after_attempt m p result).tick) it.result_is ∙ effect-tick m p (io_effect it.effect)

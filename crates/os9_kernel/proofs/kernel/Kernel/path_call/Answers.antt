@@ -1,0 +1,163 @@
+use Rattle.std.proofs.Common.{◌≡◌, ◌≢◌, ℕ, false, Option, Some, None, List, length, refl, sym, ap, ◌∙◌, subst, inl, inr}
+use Rattle.std.specs.Vec.{vec_len}
+use Rattle.std.proofs.lemmas.List.{length-map}
+use Rattle.std.specs.Prelude.{IfSome, slice_index_or}
+use Rattle.os9_base.specs.declared.call.CallEnd.{CallEnd}
+use Rattle.os9_base.specs.declared.call.CallEnd.TheVariants.{NoMemory, Wait}
+use Rattle.os9_outer.specs.TerminalState.{TerminalState}
+use Rattle.os9_sched.specs.Members.{member_of, wait_at}
+use Rattle.call_rules.specs.Attempts.{after_attempt}
+use Rattle.call_rules.specs.CallResult.{CallResult}
+use Rattle.call_rules.specs.Inner.{Inner, no_own}
+use Rattle.call_rules.specs.declared.proc_call.ProcCall.{ProcCall}
+use Rattle.file_dispatch.specs.Attempts.{LacksMemory, MayAttempt}
+use Rattle.file_drives.specs.Drives.{boxed_drive_view, drive_states, drive_views}
+use Rattle.file_rules.specs.Attempts.{FileAttempts, io_effect}
+use Rattle.file_state.specs.Tie.{StandsFor}
+use Rattle.file_state.specs.declared.state.FileState.{FileState}
+use Rattle.io_rules.specs.Attempts.{result_of}
+use Rattle.io_rules.specs.Waiting.{io_waits_for}
+use Rattle.event_rules.specs.declared.ends.EventEnd.{EventEnd}
+use Rattle.proc_rules.specs.declared.record.Record.{Record}
+use Rattle.proc_rules.specs.Records.{is_waiting, record_at}
+use Rattle.proc_state.specs.Tie.{Comes, Represents as RepresentsProcesses}
+use Rattle.machine_model.specs.Services.{Serves, Service, on_paths}
+use Rattle.machine_model.specs.State.{Rest}
+use Rattle.os9_kernel.specs.declared.act.Act.TheVariants.{Attempt}
+use Rattle.os9_kernel.specs.Causes.{wait_by}
+use Rattle.os9_kernel.specs.Ends.{event_end_of}
+use Rattle.os9_kernel.specs.Outside.{Outside, outside}
+use Rattle.os9_kernel.proofs.Acting.{acts-so, chosen-is, clock-is, event-then, lives-there, terms-are}
+use Rattle.os9_kernel.proofs.Asking.{may-attempt-here}
+use Rattle.os9_kernel.proofs.Calling.{end-tied, goes-on, lives-so}
+use Rattle.os9_kernel.proofs.Counting.{attempt-within-at, leaves-drives}
+use Rattle.os9_kernel.proofs.PathCalls.{attempt-tick, cases-memory, is-clock, is-sound, lives-on, now-here, wants-so}
+use Rattle.os9_kernel.proofs.Pending.{attempt-lowers}
+use Rattle.os9_kernel.proofs.Represented.{no-call}
+use Rattle.os9_kernel.proofs.Serving.{path-served}
+use Rattle.os9_kernel.proofs.Waiting.{cause-so, code-held, records-kept, waits-so}
+use Rattle.os9_kernel.proofs.kernel.Kernel.path_call.Goals as goal
+
+pub now-time-requires : goal.now-time-requires
+now-time-requires g c =
+    let (s, tied) = c.requires.stands in
+    is-clock c.args.self.now _ s tied
+
+pub attempt-end-requires-clause-may : goal.attempt-end-requires-clause-may
+attempt-end-requires-clause-may g c =
+    let (s, tied) = c.requires.stands in
+    let terms = c.args.devices.now.terms in
+    let before = outside (λ table. (g.dyn-1.0.entry table).1) c.args.devices.now.drives.items (λ table. (g.dyn-2.0.entry table).1) terms.items in
+    let long : length before.terms ≡ vec_len terms = simp length-map (sym terms.ok.0) in
+    subst (λ (n : ℕ). MayAttempt c.args.call c.args.self.now.processes c.args.self.now.files c.args.p.0 n) long
+    (may-attempt-here c.args.self.now c.args.p c.args.code c.requires.next before s tied c.args.call (path-served c.args.code c.args.call c.requires.serves).1)
+
+pub attempt-end-requires-clause-sound : goal.attempt-end-requires-clause-sound
+attempt-end-requires-clause-sound g c =
+    let (s, tied) = c.requires.stands in
+    is-sound c.args.self.now _ s tied
+
+pub tell_end-requires-clause-lives : goal.tell_end-requires-clause-lives
+tell_end-requires-clause-lives g c =
+    lives-on c.attempt-end.result c.attempt-end.new.s.table c.args.p.0 c.attempt-end.ensures.lives
+
+pub returns-clause-event : goal.returns-clause-event
+returns-clause-event g c =
+    let old = c.args.self.now in
+    let new = c.tell_end.new.self in
+    let time = c.now-time.result in
+    let p = c.args.p in
+    let act = Attempt c.args.code in
+    let next = c.requires.next in
+    let coded = path-served c.args.code c.args.call c.requires.serves in
+    let before : Outside = outside (λ table. (g.dyn-1.0.entry table).1) c.args.devices.now.drives.items (λ table. (g.dyn-2.0.entry table).1) c.args.devices.now.terms.items in
+    let after : Outside = outside (λ table. (g.dyn-1.0.entry table).1) c.attempt-end.new.devices.drives.items (λ table. (g.dyn-2.0.entry table).1) c.attempt-end.new.devices.terms.items in
+    let other : c.event_end.result ≢ EventEnd.NoMemory → c.attempt-end.result ≢ NoMemory = (λ other out. other (c.event_end.ensures ∙ ap event_end_of out)) in
+    let (s0, tied0) = c.requires.stands in record {
+      step = λ ran s tied.
+          let it = ((c.attempt-end.ensures.call s.inner s.files tied.inner tied.files tied.running.kinds).attempted (other ran)).attempts in
+          let (there, same) = c.tell_end.ensures.told s.inner it.result it.comes in
+          let attempt : FileAttempts c.args.call s.inner s.files time p.0 it.result it.left s.terms after.terms = subst (λ (terms : List TerminalState). FileAttempts c.args.call s.inner s.files time p.0 it.result it.left terms after.terms) (sym (terms-are old p act next before s tied)) it.attempt in
+          let stands : StandsFor new.files after.drives it.left = subst (λ (files : FileState). StandsFor files after.drives it.left) (sym c.tell_end.ensures.files) it.stands in
+          let rest : Rest = record { files = it.left; clock = s.clock; terms = after.terms } in
+          event-then old p act next before s tied new after _ (after_attempt s.inner p.0 it.result) it.left s.clock after.terms c.tell_end.ensures.chosen there stands (clock-is old p act next before s tied ∙ sym c.tell_end.ensures.clock) refl (
+            it.result,
+            rest,
+            (time, now-here old before s tied time c.now-time.ensures, subst (λ (service : Service). Serves service s time p.0 it.result rest) (sym c.requires.serves) (attempt, refl)),
+            c.event_end.ensures ∙ ap event_end_of same ∙ end-tied it.result,
+            refl,
+          );
+      memory = λ out s tied.
+          let is = wants-so c.attempt-end.result (sym c.event_end.ensures ∙ out) in record {
+            p = p.0;
+            chosen = chosen-is old p act next before s tied;
+            lives = lives-there old p act next before s tied;
+            code = c.args.code;
+            act = acts-so old p act next before s tied;
+            call = c.args.call;
+            is_call = coded.1;
+            now = time;
+            is_now = now-here old before s tied time c.now-time.ensures;
+            lacks =
+                subst (λ (terms : List TerminalState). LacksMemory c.args.call s.inner s.files time p.0 terms after.terms) (sym (terms-are old p act next before s tied)) ((c.attempt-end.ensures.call s.inner s.files tied.inner tied.files tied.running.kinds).memory is);
+            drives =
+                tied.files.drives ∙ ap (λ drives. drive_states (drive_views (λ table. (g.dyn-1.0.entry table).1) drives.items)) (sym (c.attempt-end.ensures.drives_kept is));
+          };
+      waits = λ is.
+          let waiting = waits-so c.attempt-end.result (sym c.event_end.ensures ∙ is) in
+          let now = c.attempt-end.new.s in
+          let it = ((c.attempt-end.ensures.call s0.inner s0.files tied0.inner tied0.files tied0.running.kinds).attempted (λ out. let no : Wait ≡ NoMemory = sym waiting ∙ out in cc)).attempts in
+          let effect = io_effect it.attempt.effect in
+          let came : Comes s0.inner p.0 (result_of s0.inner p.0 effect) Wait now = subst (λ (result : CallResult). Comes s0.inner p.0 result Wait now) it.attempt.result_is (subst (λ (end : CallEnd). Comes s0.inner p.0 it.result end now) waiting it.comes) in
+          let same : old.processes.table ≡ now.table = sym (records-kept s0.inner p.0 effect now came ∙ ap (λ (m : Inner). m.records) tied0.inner.is) in record {
+            p = p;
+            chosen = next.chosen;
+            code = c.args.code;
+            call = code-held (slice_index_or old.processes.own.items p.0 no_own).call (is_waiting (record_at old.processes.table p.0).life) (record_at old.processes.table p.0).signal c.args.code next.next;
+            first = λ fresh.
+                subst (λ (call : Option ProcCall). IfSome (wait_by call (slice_index_or new.processes.own.items p.0 no_own) (io_waits_for new.files.io p.0)) (λ wait. wait_at (member_of new.processes.sched.members p.0) ≡ Some wait)) (sym coded.0)
+                (subst (λ (files : FileState). IfSome (wait_by None (slice_index_or new.processes.own.items p.0 no_own) (io_waits_for files.io p.0)) (λ wait. wait_at (member_of new.processes.sched.members p.0) ≡ Some wait)) (sym c.tell_end.ensures.files)
+                (cause-so (io_waits_for c.attempt-end.new.files.io p.0) now new.processes p.0 c.attempt-end.ensures.lives (subst (λ (records : List (Option Record)). is_waiting (record_at records p.0).life ≡ false) same fresh) (c.tell_end.ensures.waits waiting)));
+          };
+      going = λ ran. (p, c.tell_end.ensures.chosen ∙ next.chosen, lives-so c.attempt-end.result new.processes.table p.0 (sym c.event_end.ensures ∙ ran) c.tell_end.ensures.lives);
+      count = λ ran.
+          let it = ((c.attempt-end.ensures.call s0.inner s0.files tied0.inner tied0.files tied0.running.kinds).attempted (other ran)).attempts in
+          let (there, same) = c.tell_end.ensures.told s0.inner it.result it.comes in
+          sym (ap (λ (m : Inner). m.tick) there.is)
+          ∙ attempt-tick c.args.call s0.inner s0.files time p.0 it.result it.left before.terms after.terms it.attempt
+          ∙ ap (λ (m : Inner). m.tick) tied0.inner.is;
+      calls = λ s now tied is.
+          elim (cases-memory c.attempt-end.result) [
+            | inl out ↦
+                leaves-drives old before after (ap (λ drives. drive_views (λ table. (g.dyn-1.0.entry table).1) drives.items) (c.attempt-end.ensures.drives_kept out)) s now tied is
+            | inr there ↦
+                attempt-within-at old p c.args.code next before s tied (on_paths c.args.call) c.requires.serves time now after (now-here old before s tied time c.now-time.ensures) is ((c.attempt-end.ensures.call s.inner s.files tied.inner tied.files tied.running.kinds).attempted there).calls
+          ];
+    }
+
+pub returns-clause-progress : goal.returns-clause-progress
+returns-clause-progress g c ran =
+    let old = c.args.self.now in
+    let new = c.tell_end.new.self in
+    let p = c.args.p in
+    let (s, tied) = c.requires.stands in
+    let other : c.attempt-end.result ≢ NoMemory = (λ out. let no : EventEnd.Ran ≡ EventEnd.NoMemory = sym ran ∙ c.event_end.ensures ∙ ap event_end_of out in cc) in
+    let it = ((c.attempt-end.ensures.call s.inner s.files tied.inner tied.files tied.running.kinds).attempted other).attempts in
+    let (there, same) = c.tell_end.ensures.told s.inner it.result it.comes in
+    let (t, regs, is) = goes-on it.result (sym (c.event_end.ensures ∙ ap event_end_of same) ∙ ran) s.inner p.0 in
+    let none = no-call new.processes t p.0 regs c.requires.next.process.1 (subst (λ (m : Inner). RepresentsProcesses new.processes m) is there) in
+    attempt-lowers old p c.args.code c.requires.next new c.tell_end.ensures.chosen none
+
+pub returns-clause-drives : goal.returns-clause-drives
+returns-clause-drives g c =
+    let (s, tied) = c.requires.stands in
+    let was = c.args.devices.now.drives in
+    let now = c.attempt-end.new.devices.drives in
+    let view = boxed_drive_view (λ table. (g.dyn-1.0.entry table).1) in
+    elim (cases-memory c.attempt-end.result) [
+      | inl out ↦ ap (λ drives. vec_len drives) (c.attempt-end.ensures.drives_kept out)
+      | inr other ↦
+          now.ok.0 ∙ sym (length-map now.items view)
+          ∙ ((c.attempt-end.ensures.call s.inner s.files tied.inner tied.files tied.running.kinds).attempted other).calls.as_many
+          ∙ length-map was.items view ∙ sym was.ok.0
+    ]

@@ -1,0 +1,39 @@
+use Rattle.std.proofs.Common.{refl, sym, subst}
+use Rattle.os9_base.specs.declared.errors.TheConstants.{E_UNKSVC}
+use Rattle.call_rules.specs.Attempts.{after_attempt, goes_on, refused_regs}
+use Rattle.call_rules.specs.CallResult.{refused}
+use Rattle.call_rules.specs.Inner.{Inner, regs_at}
+use Rattle.machine_model.specs.Services.{Serves, Service}
+use Rattle.machine_model.specs.State.{rest_of}
+use Rattle.os9_kernel.specs.declared.act.Act.TheVariants.{Attempt}
+use Rattle.os9_kernel.proofs.Acting.{event-here}
+use Rattle.os9_kernel.proofs.Counting.{leaves-drives}
+use Rattle.os9_kernel.proofs.PathCalls.{some-time}
+use Rattle.os9_kernel.proofs.Pending.{attempt-lowers}
+use Rattle.os9_kernel.proofs.Represented.{some-machine, tick-kept, no-call}
+use Rattle.os9_kernel.proofs.kernel.Kernel.refuse_unknown.Goals as goal
+
+pub returns-clause-event : goal.returns-clause-event
+returns-clause-event c devices =
+    let old = c.args.self.now in
+    let new = record old { processes = c.refuse.new.self } in
+    let p = c.args.p in
+    let act = Attempt c.args.code in
+    let next = c.requires.next in record {
+      step = λ _ s tied.
+          let (now, is_now) = some-time old devices s tied in
+          event-here old p act next devices s tied new _ (after_attempt s.inner p.0 (refused E_UNKSVC)) s.files refl refl (c.refuse.ensures.tied s.inner tied.inner) tied.files
+          (refused E_UNKSVC, rest_of s, (now, is_now, subst (λ (service : Service). Serves service s now p.0 (refused E_UNKSVC) (rest_of s)) (sym c.requires.serves) (refl, refl)), refl, refl);
+      memory = λ is. cc;
+      waits = λ is. cc;
+      going = λ _. (p, next.chosen, c.refuse.ensures.lives);
+      count = λ _. tick-kept old.processes c.refuse.new.self (λ (m : Inner). goes_on m p.0 (refused_regs (regs_at m p.0) E_UNKSVC)) c.refuse.ensures.tied (λ m. refl);
+      calls = leaves-drives old devices devices refl;
+    }
+
+pub returns-clause-progress : goal.returns-clause-progress
+returns-clause-progress c =
+    let old = c.args.self.now in
+    let (m, tied) = some-machine old.processes in
+    let none = no-call c.refuse.new.self m c.args.p.0 (refused_regs (regs_at m c.args.p.0) E_UNKSVC) c.requires.next.process.1 (c.refuse.ensures.tied m tied) in
+    attempt-lowers old c.args.p c.args.code c.requires.next (record old { processes = c.refuse.new.self }) refl none

@@ -1,0 +1,60 @@
+-- What the calls of a kernel leave; the devices are those before and after.
+use Rattle.std.specs.Prelude.{◌≡◌, ◌≢◌, ◌⊎◌, ℕ, ◌+◌, Result, IsOk, IsErr, List}
+use Rattle.os9_base.specs.declared.call.OutOfMemory.{OutOfMemory}
+use Rattle.event_rules.specs.declared.ends.EventEnd.{EventEnd}
+use Rattle.event_rules.specs.declared.ends.SliceEnd.{SliceEnd}
+use Rattle.file_drives.specs.Drives.{drive_states}
+use Rattle.machine_model.specs.Event.{Event}
+use Rattle.machine_model.specs.Run.{BeginsSlice, BreaksTick, Slice, Tick}
+use Rattle.machine_model.specs.State.{State}
+use Rattle.os9_kernel.specs.declared.kernel.Kernel.{Kernel}
+use Rattle.os9_kernel.specs.Breaks.{BreaksEvent}
+use Rattle.os9_kernel.specs.Causes.{WaitsInCall}
+use Rattle.os9_kernel.specs.DriverCalls.{CallsWithin}
+use Rattle.os9_kernel.specs.Outside.{Outside}
+use Rattle.os9_kernel.specs.Tie.{Represents, IsGoing, ticks}
+
+-- an event that was not done, since memory is out: it is broken off
+abbrev pub WantsMemory : Kernel → Outside → Outside → Type 0
+WantsMemory old before after = (s : State) → Represents old before s → BreaksEvent s after
+
+-- a tick
+pub record HasTick (old new : Kernel) (before after : Outside) (result : Result (Unit {0}) OutOfMemory) : Type 0
+  where
+    -- it is one of the machine
+    pub step : IsOk result → (s : State) → Represents old before s
+        → (t : State) × Tick s t × Represents new after t
+    -- memory is out: it is broken off
+    pub broken : IsErr result → (s : State) → Represents old before s → BreaksTick s after.terms
+    pub drives : after.drives ≡ before.drives
+    pub count : ticks new ≡ ticks old + 1
+
+-- an event
+pub record HasEvent (old new : Kernel) (before after : Outside) (end : EventEnd) : Type 0
+  where
+    -- it is one of the machine
+    pub step : end ≢ EventEnd.NoMemory → (s : State) → Represents old before s
+        → (t : State) × Event s end t × Represents new after t
+    pub memory : end ≡ EventEnd.NoMemory → WantsMemory old before after
+    -- the chosen process lives still, where it goes on
+    pub going : end ≡ EventEnd.Ran → IsGoing new
+    pub waits : end ≡ EventEnd.Waits → WaitsInCall old new
+    pub count : end ≢ EventEnd.NoMemory → ticks new ≡ ticks old
+    -- it calls the drives so often, also where memory is out
+    pub calls : CallsWithin old before after
+
+-- Memory is out in a slice of so many instructions: its tick is broken off, or the event behind its first ones. The
+-- drives are as that state has them.
+abbrev pub StopsSlice : ℕ → State → Outside → Type 0
+StopsSlice n s after =
+    (BreaksTick s after.terms × (s.files.drives ≡ drive_states after.drives))
+    ⊎ ((states : List State) × (t : State) × BeginsSlice n s states t × BreaksEvent t after)
+
+-- a slice of so many instructions
+pub record HasSlice (n : ℕ) (old new : Kernel) (before after : Outside) (end : SliceEnd) : Type 0
+  where
+    -- it is one of the machine
+    pub step : end ≢ SliceEnd.NoMemory → (s : State) → Represents old before s
+        → (states : List State) × (t : State) × Slice n s states end t × Represents new after t
+    pub part : end ≡ SliceEnd.NoMemory → (s : State) → Represents old before s → StopsSlice n s after
+    pub count : end ≢ SliceEnd.NoMemory → ticks new ≡ ticks old + 1

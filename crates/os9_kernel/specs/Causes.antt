@@ -1,0 +1,33 @@
+-- What a process waits for since an attempt of its call.
+use Rattle.std.specs.Prelude.{◌≡◌, ℕ, false, Option, None, Some, IfSome, option_map, slice_index_or}
+use Rattle.os9_base.specs.declared.registers.Pid.{Pid}
+use Rattle.os9_sched.specs.Members.{member_of, wait_at}
+use Rattle.os9_sched.specs.declared.member.Cause.{Cause}
+use Rattle.os9_sched.specs.declared.member.Wait.{Wait}
+use Rattle.proc_rules.specs.Records.{record_at, is_waiting}
+use Rattle.proc_rules.specs.declared.own.Own.{Own}
+use Rattle.call_rules.specs.Codes.{call_of}
+use Rattle.call_rules.specs.Inner.{no_own}
+use Rattle.call_rules.specs.declared.proc_call.ProcCall.{ProcCall}
+use Rattle.call_dispatch.specs.Waits.{waits_for}
+use Rattle.io_rules.specs.Waiting.{io_waits_for}
+use Rattle.os9_kernel.specs.declared.kernel.Kernel.{Kernel}
+
+-- what a call on processes waits for, or a call on a path that has this cause
+abbrev pub wait_by : Option ProcCall → Own → Option Cause → Option Wait
+wait_by None own cause = option_map (λ (cause : Cause). record { cause = cause; until = None }) cause
+wait_by (Some call) own cause = waits_for call own
+
+-- what the call of this code waits for, of a process that waits in it
+abbrev pub wait_for : Kernel → ℕ → ℕ → Option Wait
+wait_for kernel code p =
+    wait_by (call_of code) (slice_index_or kernel.processes.own.items p no_own) (io_waits_for kernel.files.io p)
+
+-- The chosen process waits in its call. Since the first attempt of it the scheduler has what it waits for.
+pub record WaitsInCall (old new : Kernel) : Type 0 where
+  pub p : Pid
+  pub chosen : old.chosen ≡ Some p
+  pub code : ℕ
+  pub call : (slice_index_or old.processes.own.items p.0 no_own).call ≡ Some code
+  pub first : is_waiting (record_at old.processes.table p.0).life ≡ false → IfSome (wait_for new code p.0)
+      (λ wait. wait_at (member_of new.processes.sched.members p.0) ≡ Some wait)

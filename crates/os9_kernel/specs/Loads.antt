@@ -1,0 +1,44 @@
+-- What an attempt of a call that may load a file comes to, of the kernel's processes and its files.
+use Rattle.std.specs.Prelude.{ℕ, List}
+use Rattle.std.specs.declared.alloc.Global.{Global}
+use Rattle.std.specs.declared.dyn_box.DynBox.{DynBox}
+use Rattle.os9_base.specs.declared.call.CallEnd.{CallEnd}
+use Rattle.os9_base.specs.declared.registers.TimePacket.{TimePacket}
+use Rattle.os9_outer.specs.declared.drive.BlockDriver.{Ghosts}
+use Rattle.call_rules.specs.CallResult.{CallResult}
+use Rattle.call_rules.specs.Inner.{Inner}
+use Rattle.file_rules.specs.Attempts.{asker_of}
+use Rattle.file_rules.specs.Files.{Asker, Files}
+use Rattle.file_rules.specs.Load.{LoadAttempts}
+use Rattle.file_rules.specs.Program.{ChainAttempts, ForkAttempts}
+use Rattle.file_state.specs.Attempt.{OnEach, Standing, standing}
+use Rattle.load_calls.specs.Attempts.{AttemptsBy}
+use Rattle.os9_kernel.specs.DriverCalls.{service_calls}
+use Rattle.os9_kernel.specs.Services.{load_in_machine}
+use Rattle.os9_kernel.specs.declared.kernel.Kernel.{Kernel}
+use Rattle.os9_kernel.specs.declared.service.LoadCall.{LoadCall}
+use Rattle.os9_kernel.specs.declared.service.LoadCall.TheVariants.{Load, Fork, Chain}
+
+-- a kernel's processes and its files, and the drives in these boxes, as
+-- `kernel_standing ⟦<dyn BlockDriver as BlockDriver>⟧ self.old devices.old.drives.items`
+abbrev pub kernel_standing : {Table : Type 0} {Driver : Table → Type 0} → ((table : Table) → Ghosts (Driver table))
+    → Kernel → List (DynBox Table Global Driver) → Standing
+kernel_standing members kernel drives = standing members kernel.processes kernel.files drives
+
+-- the attempt of the machine
+abbrev pub AttemptsLoad : LoadCall → Inner → Asker → Files → ℕ → ℕ → CallResult → Files → Type 0
+AttemptsLoad Load m asker old terms p result new = LoadAttempts m asker old terms p result new
+AttemptsLoad Fork m asker old terms p result new = ForkAttempts m asker old terms p result new
+AttemptsLoad Chain m asker old terms p result new = ChainAttempts m asker old terms p result new
+
+-- an attempt of a call by a process, at a time, on a machine with so many terminals: how it ends, the processes, the
+-- files and the drives then, and how often these are called; its process is not told yet
+abbrev pub LoadsSo : LoadCall → Inner → Files → TimePacket → ℕ → ℕ → CallEnd → Standing → Standing → Type 0
+LoadsSo call m files now terms p end before after =
+    AttemptsBy (AttemptsLoad call m (asker_of m p now) files terms p) m p end
+    (service_calls (load_in_machine call) m p now files terms) before after
+
+-- from each state of the machine
+abbrev pub LoadsOnEach : LoadCall → TimePacket → ℕ → ℕ → CallEnd → Standing → Standing → Type 0
+LoadsOnEach call now terms p end before after =
+    OnEach before (λ m was. LoadsSo call m was now terms p end before after)

@@ -1,0 +1,46 @@
+//! What a process does next.
+
+ghost use Rattle.std.specs.Prelude.{◌≡◌};
+ghost use Rattle.proc_rules.specs.Records.{IsLiving, IsProcess};
+ghost use Rattle.os9_kernel.specs.Next.{act_in_machine, next_of};
+
+use crate::kernel::Kernel;
+use os9_base::registers::Pid;
+use proc_rules::record::Life;
+
+/// What a process does next.
+#[derive(Clone, Copy, Debug, PartialEq, Eq)]
+pub enum Act {
+    /// An attempt of the call with this code.
+    Attempt(u8),
+    /// The delivery of this signal.
+    Delivery(u8),
+    /// An instruction.
+    Instruction,
+}
+
+impl Kernel {
+    /// What a process does next: the first that applies of the first attempt of its call, the
+    /// delivery of a pending signal, a further attempt, an instruction.
+    pub(crate) fn act(&self, p: Pid) -> Act
+        requires { IsLiving self.now.processes.table p.0 }
+        ensures next { next_of self.now.processes p.0 ≡ act_in_machine result }
+        ensures process { IsProcess p.0 }
+    {
+        let waits = self.processes.table.life(p) == Some(Life::Waiting);
+        let call = self.processes.own[p.0 as usize].call;
+        let signal = self.processes.table.due_signal(p);
+        match (call, signal) {
+            (Some(code), Some(signal)) => {
+                if waits {
+                    Act::Delivery(signal)
+                } else {
+                    Act::Attempt(code)
+                }
+            }
+            (Some(code), None) => Act::Attempt(code),
+            (None, Some(signal)) => Act::Delivery(signal),
+            (None, None) => Act::Instruction,
+        }
+    }
+}

@@ -1,0 +1,80 @@
+//! Attempts of calls on processes and modules that load nothing, and codes that are no call's.
+
+ghost use Rattle.std.specs.Prelude.{◌≡◌, ◌<◌, List};
+ghost use Rattle.call_rules.specs.Codes.{call_of};
+ghost use Rattle.file_drives.specs.Drives.{DriveView};
+ghost use Rattle.file_rules.specs.Files.{Files};
+ghost use Rattle.file_state.specs.Tie.{StandsFor};
+ghost use Rattle.machine_model.specs.Services.{no_call, on_processes, service_of};
+ghost use Rattle.os9_kernel.specs.Calls.{HasEvent};
+ghost use Rattle.os9_kernel.specs.Ends.{event_end_of};
+ghost use Rattle.os9_kernel.specs.Next.{DoesNext};
+ghost use Rattle.os9_kernel.specs.Outside.{Outside};
+ghost use Rattle.os9_kernel.specs.Paths.{files_then};
+ghost use Rattle.os9_kernel.specs.Services.{IsPlain};
+ghost use Rattle.os9_kernel.specs.Tie.{HasState, pending};
+
+use crate::act::Act;
+use crate::kernel::Kernel;
+use call_rules::proc_call::ProcCall;
+use event_rules::ends::EventEnd;
+use os9_base::call::CallEnd;
+use os9_base::errors::E_UNKSVC;
+use os9_base::registers::Pid;
+
+impl Kernel {
+    /// An attempt of a call on processes and modules that loads nothing.
+    pub(crate) fn process_call(&mut self, p: Pid, code: u8, call: ProcCall) -> EventEnd
+        requires next { DoesNext self.old p (Act.Attempt code) }
+        requires serves { service_of code ≡ on_processes call }
+        requires plain { IsPlain call }
+        requires stands { HasState self.old }
+        ensures event { (devices : Outside) → HasEvent self.old self.new devices devices result }
+        ensures progress { result ≡ EventEnd.Ran → pending self.new < pending self.old }
+    {
+        let end = call_dispatch::attempt(&mut self.processes, p, call);
+        self.follow(p, end);
+        event_end(end)
+    }
+
+    /// Files follow a call on processes and modules that ended so: the paths of a process that ended
+    /// are closed, and it has no directory any more.
+    fn follow(&mut self, p: Pid, end: CallEnd)
+        requires { p.0 < 33 }
+        ensures files { (views : List DriveView) (files : Files)
+            → StandsFor self.old.files views files
+            → StandsFor self.new.files views (files_then end files p.0) }
+        ensures processes { self.new.processes ≡ self.old.processes }
+        ensures clock { self.new.clock ≡ self.old.clock }
+        ensures chosen { self.new.chosen ≡ self.old.chosen }
+    {
+        match end {
+            CallEnd::Ended => self.files.end(p),
+            CallEnd::Done | CallEnd::Error(_) | CallEnd::Wait | CallEnd::NoMemory => {}
+        }
+    }
+
+    /// The code is no call's: it is refused with E$UnkSvc.
+    pub(crate) fn refuse_unknown(&mut self, p: Pid, code: u8) -> EventEnd
+        requires next { DoesNext self.old p (Act.Attempt code) }
+        requires serves { service_of code ≡ no_call }
+        ensures event { (devices : Outside) → HasEvent self.old self.new devices devices result }
+        ensures progress { pending self.new < pending self.old }
+    {
+        self.processes.refuse(p, E_UNKSVC);
+        EventEnd::Ran
+    }
+}
+
+/// How a call that came to this ends its event.
+pub(crate) fn event_end(end: CallEnd) -> EventEnd
+    ensures { result ≡ event_end_of end }
+{
+    match end {
+        CallEnd::Done => EventEnd::Ran,
+        CallEnd::Error(_) => EventEnd::Ran,
+        CallEnd::Wait => EventEnd::Waits,
+        CallEnd::Ended => EventEnd::Ended,
+        CallEnd::NoMemory => EventEnd::NoMemory,
+    }
+}

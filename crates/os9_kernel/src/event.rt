@@ -1,0 +1,97 @@
+//! The events of a process: attempts of its call, deliveries of signals, and instructions.
+
+ghost use Rattle.std.specs.Prelude.{◌≡◌, ◌≢◌, ◌<◌, vec_len};
+ghost use Rattle.os9_kernel.specs.Calls.{HasEvent};
+ghost use Rattle.os9_kernel.specs.Next.{DoesNext, HasTurn};
+ghost use Rattle.os9_kernel.specs.Outside.{OnDevices, Outside, outside};
+ghost use Rattle.os9_kernel.specs.Tie.{Stands, pending};
+
+use crate::act::Act;
+use crate::kernel::Kernel;
+use crate::service::{Service, service_by_code};
+use crate::turn::Turn;
+use cpu6809::Stop;
+use device_table::devices::Devices;
+use event_rules::ends::EventEnd;
+use os9_base::call::CallEnd;
+use os9_base::registers::Pid;
+use os9_outer::drive::BlockDriver;
+use os9_outer::terminal::CharDriver;
+
+impl Kernel {
+    /// An attempt of the call of the chosen process, which has this code.
+    pub(crate) fn attempt(&mut self, p: Pid, code: u8, devices: &mut Devices) -> EventEnd
+        requires next { DoesNext self.old p (Act.Attempt code) }
+        requires stands { Stands self.old
+            (outside ⟦<dyn BlockDriver as BlockDriver>⟧ devices.old.drives.items
+            ⟦<dyn CharDriver as CharDriver>⟧ devices.old.terms.items) }
+        ensures event { OnDevices (λ before after. HasEvent self.old self.new before after result)
+            ⟦<dyn BlockDriver as BlockDriver>⟧ devices.old.drives.items devices.new.drives.items
+            ⟦<dyn CharDriver as CharDriver>⟧ devices.old.terms.items devices.new.terms.items }
+        ensures progress { result ≡ EventEnd.Ran → pending self.new < pending self.old }
+        ensures terminals { vec_len devices.new.terms ≡ vec_len devices.old.terms }
+        ensures drives { vec_len devices.new.drives ≡ vec_len devices.old.drives }
+    {
+        match service_by_code(code) {
+            Service::Load(call) => self.load(p, code, call, devices),
+            Service::Process(call) => self.process_call(p, code, call),
+            Service::Time(call) => self.time_call(p, code, call),
+            Service::Path(call) => self.path_call(p, code, call, devices),
+            Service::Unknown => self.refuse_unknown(p, code),
+        }
+    }
+
+    /// The delivery of the pending signal of the chosen process. Its call that waits, if one does,
+    /// is broken off, and Y has what that has moved, if it answers a count. Where the process ends,
+    /// its paths are closed.
+    pub(crate) fn deliver(&mut self, p: Pid, signal: u8) -> EventEnd
+        requires next { DoesNext self.old p (Act.Delivery signal) }
+        ensures event { (devices : Outside)
+            → HasEvent self.old self.new devices devices result }
+        ensures progress { result ≡ EventEnd.Ran → pending self.new < pending self.old }
+    {
+        self.break_off(p);
+        match self.processes.deliver(p) {
+            CallEnd::Ended => {
+                self.files.end(p);
+                EventEnd::Ended
+            }
+            _ => EventEnd::Ran,
+        }
+    }
+
+    /// Executes instructions of the chosen process, at most so many: until one is a system call or
+    /// ends the process.
+    pub(crate) fn instructions(&mut self, p: Pid, most: u32) -> Turn
+        requires next { DoesNext self.old p Act.Instruction }
+        requires some { 0 < most }
+        ensures turn { (devices : Outside)
+            → HasTurn most self.old self.new devices devices result }
+        ensures kept { result.end ≢ EventEnd.NoMemory }
+        ensures goes_on { result.end ≢ EventEnd.Waits }
+    {
+        let mut regs = self.processes.regs(p);
+        let ran = self.processes.memory.run(p, &mut regs, most);
+        self.processes.set_regs(p, regs);
+        match ran.stop {
+            Stop::Next => Turn {
+                count: ran.followed,
+                end: EventEnd::Ran,
+            },
+            Stop::Call(code) => {
+                self.begin_call(p, code);
+                Turn {
+                    count: ran.followed + 1,
+                    end: EventEnd::Ran,
+                }
+            }
+            Stop::Abort(status) => {
+                self.end_process(p, status);
+                Turn {
+                    count: ran.followed + 1,
+                    end: EventEnd::Ended,
+                }
+            }
+        }
+    }
+}

@@ -1,0 +1,132 @@
+ghost use Rattle.std.specs.Prelude.{◌≡◌, ◌<◌, IfSome, option_map, vec_len};
+ghost use Rattle.event_rules.specs.State.{living_count};
+ghost use Rattle.machine_model.specs.State.{State};
+ghost use Rattle.machine_model.specs.Run.{Choose};
+ghost use Rattle.os9_kernel.specs.Calls.{HasEvent, HasSlice, HasTick};
+ghost use Rattle.os9_kernel.specs.Outside.{OnDevices, Outside, outside};
+ghost use Rattle.os9_kernel.specs.Tie.{Represents, Stands, IsGoing, ticks};
+
+use crate::act::Act;
+use device_table::devices::Devices;
+use event_rules::ends::{EventEnd, SliceEnd};
+use file_state::state::FileState;
+use key_arrivals::keys::arrive_keys;
+use os9_base::call::OutOfMemory;
+use os9_base::limits::LAST_TICK;
+use os9_base::registers::Pid;
+use os9_outer::drive::BlockDriver;
+use os9_outer::terminal::CharDriver;
+use proc_state::state::ProcState;
+use time_rules::clock::Clock;
+
+/// The kernel and the processes that it runs.
+#[derive(Drop)]
+pub struct Kernel {
+    pub(crate) processes: ProcState,
+    /// Paths, terminals, pipes and the calls that wait on them; volumes and directories.
+    pub(crate) files: FileState,
+    pub(crate) clock: Clock,
+    /// The process that was chosen last, if one was Ready.
+    pub(crate) chosen: Option<Pid>,
+}
+
+impl Kernel {
+    /// How many processes live.
+    pub fn living(&self) -> u8
+        ensures { (devices : Outside) (s : State) → Represents self.now devices s
+            → result ≡ living_count s.inner }
+    {
+        self.processes.living()
+    }
+
+    /// How many slices were begun.
+    pub fn ticks(&self) -> u32
+        ensures machine { (devices : Outside) (s : State) → Represents self.now devices s
+            → result ≡ s.inner.tick }
+        ensures count { result ≡ ticks self.now }
+    {
+        self.processes.tick
+    }
+
+    /// Begins a slice: the tick rises by 1, and the keys that are due arrive. It is below
+    /// 4,294,000,000 before.
+    ///
+    /// # Errors
+    ///
+    /// `OutOfMemory` if a bell found no memory. The kernel is used no more then.
+    pub fn tick(&mut self, devices: &mut Devices) -> Result<(), OutOfMemory>
+        requires count { ticks self.old < LAST_TICK }
+        requires stands { Stands self.old
+            (outside ⟦<dyn BlockDriver as BlockDriver>⟧ devices.old.drives.items
+            ⟦<dyn CharDriver as CharDriver>⟧ devices.old.terms.items) }
+        ensures tick { OnDevices (λ before after. HasTick self.old self.new before after result)
+            ⟦<dyn BlockDriver as BlockDriver>⟧ devices.old.drives.items devices.new.drives.items
+            ⟦<dyn CharDriver as CharDriver>⟧ devices.old.terms.items devices.new.terms.items }
+        ensures terminals { vec_len devices.new.terms ≡ vec_len devices.old.terms }
+        ensures drives { vec_len devices.new.drives ≡ vec_len devices.old.drives }
+    {
+        self.processes.tick += 1;
+        arrive_keys(&mut self.processes, &mut self.files.io, devices)
+    }
+
+    /// Chooses a process that is Ready; None exactly where none is.
+    pub fn choose(&mut self) -> Option<Pid>
+        ensures step { (devices : Outside) (s : State) → Represents self.old devices s
+            → (t : State) × Choose s t × Represents self.new devices t
+            × (option_map (λ p. p.0) result ≡ t.chosen) }
+        ensures going { IfSome result (λ p. IsGoing self.new) }
+        ensures count { ticks self.new ≡ ticks self.old }
+    {
+        let ready = self.files.io.ready_set();
+        self.chosen = self.processes.choose(&ready);
+        self.chosen
+    }
+
+    /// One event of the process that was chosen, which has to live: the first attempt of its call,
+    /// the delivery of a pending signal, a further attempt, or an instruction. The process goes on
+    /// where the answer is `Ran`. Each drive is called at most as often as that attempt may call it,
+    /// and never in another event. At `NoMemory` the kernel is used no more.
+    pub fn event(&mut self, devices: &mut Devices) -> EventEnd
+        requires going { IsGoing self.old }
+        requires stands { Stands self.old
+            (outside ⟦<dyn BlockDriver as BlockDriver>⟧ devices.old.drives.items
+            ⟦<dyn CharDriver as CharDriver>⟧ devices.old.terms.items) }
+        ensures event { OnDevices (λ before after. HasEvent self.old self.new before after result)
+            ⟦<dyn BlockDriver as BlockDriver>⟧ devices.old.drives.items devices.new.drives.items
+            ⟦<dyn CharDriver as CharDriver>⟧ devices.old.terms.items devices.new.terms.items }
+        ensures terminals { vec_len devices.new.terms ≡ vec_len devices.old.terms }
+        ensures drives { vec_len devices.new.drives ≡ vec_len devices.old.drives }
+    {
+        let p = self.chosen.unwrap();
+        match self.act(p) {
+            Act::Attempt(code) => self.attempt(p, code, devices),
+            Act::Delivery(signal) => self.deliver(p, signal),
+            Act::Instruction => self.instructions(p, 1).end,
+        }
+    }
+
+    /// A slice: the tick rises and the keys that are due arrive, a process that is Ready is chosen,
+    /// and it has its events until it has executed `n` instructions, waits or has ended. `Idle`
+    /// comes exactly where no process is Ready. At `NoMemory` the kernel is used no more.
+    pub fn slice(&mut self, n: u32, devices: &mut Devices) -> SliceEnd
+        requires tick { ticks self.old < LAST_TICK }
+        requires stands { Stands self.old
+            (outside ⟦<dyn BlockDriver as BlockDriver>⟧ devices.old.drives.items
+            ⟦<dyn CharDriver as CharDriver>⟧ devices.old.terms.items) }
+        ensures slice { OnDevices (λ before after. HasSlice n self.old self.new before after result)
+            ⟦<dyn BlockDriver as BlockDriver>⟧ devices.old.drives.items devices.new.drives.items
+            ⟦<dyn CharDriver as CharDriver>⟧ devices.old.terms.items devices.new.terms.items }
+        ensures terminals { vec_len devices.new.terms ≡ vec_len devices.old.terms }
+        ensures drives { vec_len devices.new.drives ≡ vec_len devices.old.drives }
+    {
+        match self.tick(devices) {
+            Ok(()) => {}
+            Err(OutOfMemory) => return SliceEnd::NoMemory,
+        }
+        let chosen = self.choose();
+        match chosen {
+            None => SliceEnd::Idle,
+            Some(_) => self.events(n, devices),
+        }
+    }
+}

@@ -1,0 +1,18 @@
+//! The kernel: its start, and slices of events, each of which is one of the abstract machine.
+#![tactic(auto)]
+
+pub use event_rules::ends::{BootFault, EventEnd, SliceEnd};
+pub use kernel::Kernel;
+pub use new::{Config, StartError};
+
+mod act;
+mod calls;
+mod event;
+mod kernel;
+mod load;
+mod new;
+mod path_call;
+mod process;
+mod service;
+mod time_call;
+mod turn;

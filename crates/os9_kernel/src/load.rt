@@ -1,0 +1,114 @@
+//! Attempts of calls that may load a file: F$Load, F$Fork and F$Chain.
+
+ghost use Rattle.std.specs.Prelude.{◌≡◌, ◌<◌, List, vec_len};
+ghost use Rattle.os9_base.specs.declared.registers.TimePacket.{TimePacket};
+ghost use Rattle.proc_calls.specs.Telling.{LivesOn};
+ghost use Rattle.proc_rules.specs.Records.{IsLiving};
+ghost use Rattle.file_drives.specs.Drives.{DriveView, drive_views};
+ghost use Rattle.file_rules.specs.Files.{Files};
+ghost use Rattle.file_state.specs.Tie.{IsSound, StandsFor};
+ghost use Rattle.machine_model.specs.Services.{service_of};
+ghost use Rattle.os9_kernel.specs.Calls.{HasEvent};
+ghost use Rattle.os9_kernel.specs.Loads.{LoadsOnEach, kernel_standing};
+ghost use Rattle.os9_kernel.specs.Next.{DoesNext};
+ghost use Rattle.os9_kernel.specs.Outside.{OnDevices, outside};
+ghost use Rattle.os9_kernel.specs.Paths.{MayBegin, files_begun, number_in_a};
+ghost use Rattle.os9_kernel.specs.Services.{load_in_machine};
+ghost use Rattle.os9_kernel.specs.Tie.{Stands, pending};
+
+use crate::act::Act;
+use crate::calls::event_end;
+use crate::kernel::Kernel;
+use crate::service::LoadCall;
+use device_table::devices::Devices;
+use event_rules::ends::EventEnd;
+use load_calls::chain::f_chain;
+use load_calls::fork::f_fork;
+use load_calls::load::f_load;
+use os9_base::call::CallEnd;
+use os9_base::registers::Pid;
+use os9_outer::drive::BlockDriver;
+use os9_outer::terminal::CharDriver;
+
+impl Kernel {
+    /// An attempt of a call that may load a file.
+    pub(crate) fn load(
+        &mut self,
+        p: Pid,
+        code: u8,
+        call: LoadCall,
+        devices: &mut Devices,
+    ) -> EventEnd
+        requires next { DoesNext self.old p (Act.Attempt code) }
+        requires serves { service_of code ≡ load_in_machine call }
+        requires stands { Stands self.old
+            (outside ⟦<dyn BlockDriver as BlockDriver>⟧ devices.old.drives.items
+            ⟦<dyn CharDriver as CharDriver>⟧ devices.old.terms.items) }
+        ensures event { OnDevices (λ before after. HasEvent self.old self.new before after result)
+            ⟦<dyn BlockDriver as BlockDriver>⟧ devices.old.drives.items devices.new.drives.items
+            ⟦<dyn CharDriver as CharDriver>⟧ devices.old.terms.items devices.new.terms.items }
+        ensures progress { result ≡ EventEnd.Ran → pending self.new < pending self.old }
+        ensures terminals { vec_len devices.new.terms ≡ vec_len devices.old.terms }
+        ensures drives { vec_len devices.new.drives ≡ vec_len devices.old.drives }
+    {
+        let end = self.try_load(p, call, devices);
+        self.begin(p, call, end);
+        self.tell_end(p, end);
+        event_end(end)
+    }
+
+    /// An attempt of the call. Its process is not told yet what it comes to, and a child has no
+    /// paths yet.
+    fn try_load(&mut self, p: Pid, call: LoadCall, devices: &mut Devices) -> CallEnd
+        requires lives { IsLiving self.old.processes.table p.0 }
+        requires sound { IsSound self.old.files
+            (drive_views ⟦<dyn BlockDriver as BlockDriver>⟧ devices.old.drives.items) }
+        ensures call { (now : TimePacket)
+            → LoadsOnEach call now (vec_len devices.old.terms) p.0 result
+            (kernel_standing ⟦<dyn BlockDriver as BlockDriver>⟧ self.old devices.old.drives.items)
+            (kernel_standing ⟦<dyn BlockDriver as BlockDriver>⟧ self.new devices.new.drives.items) }
+        ensures lives { LivesOn result self.new.processes.table p.0 }
+        ensures clock { self.new.clock ≡ self.old.clock }
+        ensures chosen { self.new.chosen ≡ self.old.chosen }
+        ensures terms_kept { devices.new.terms ≡ devices.old.terms }
+    {
+        match call {
+            LoadCall::Load => f_load(&mut self.processes, &mut self.files, p, devices),
+            LoadCall::Fork => f_fork(&mut self.processes, &mut self.files, p, devices),
+            LoadCall::Chain => f_chain(&mut self.processes, &mut self.files, p, devices),
+        }
+    }
+
+    /// The child that F$Fork started, whose number its parent finds in A, is given the standard
+    /// paths and the directories of its parent.
+    fn begin(&mut self, p: Pid, call: LoadCall, end: CallEnd)
+        requires process { p.0 < 33 }
+        requires begins { call ≡ LoadCall.Fork → end ≡ CallEnd.Done
+            → IsLiving self.old.processes.table p.0
+            × MayBegin self.old.files.io (number_in_a self.old.processes.table p.0) }
+        ensures files { (views : List DriveView) (files : Files)
+            → StandsFor self.old.files views files → StandsFor self.new.files views
+            (files_begun call end files p.0 (number_in_a self.old.processes.table p.0)) }
+        ensures processes { self.new.processes ≡ self.old.processes }
+        ensures clock { self.new.clock ≡ self.old.clock }
+        ensures chosen { self.new.chosen ≡ self.old.chosen }
+    {
+        match (call, end) {
+            (LoadCall::Fork, CallEnd::Done) => {
+                let child = Pid(self.number_in_a(p));
+                self.files.start(p, child);
+            }
+            (LoadCall::Fork, CallEnd::Error(_) | CallEnd::Wait | CallEnd::Ended | CallEnd::NoMemory)
+            | (LoadCall::Load | LoadCall::Chain, _) => {}
+        }
+    }
+
+    /// The number that a process finds in A.
+    fn number_in_a(&self, p: Pid) -> u8
+        requires { IsLiving self.now.processes.table p.0 }
+        ensures number { result ≡ number_in_a self.now.processes.table p.0 }
+        ensures process { p.0 < 33 }
+    {
+        self.processes.regs(p).a
+    }
+}

@@ -1,0 +1,77 @@
+//! Attempts of calls on paths, files and directories.
+
+ghost use Rattle.std.specs.Prelude.{◌≡◌, ◌<◌, IfSome, vec_len};
+ghost use Rattle.proc_calls.specs.Telling.{LivesOn, WaitsFor};
+ghost use Rattle.proc_state.specs.Tie.{Comes, Represents};
+ghost use Rattle.call_rules.specs.Attempts.{after_attempt, attempt_end};
+ghost use Rattle.call_rules.specs.CallResult.{CallResult};
+ghost use Rattle.call_rules.specs.Inner.{Inner};
+ghost use Rattle.io_rules.specs.Waiting.{io_waits_for};
+ghost use Rattle.machine_model.specs.Services.{on_paths, service_of};
+ghost use Rattle.os9_kernel.specs.Calls.{HasEvent};
+ghost use Rattle.os9_kernel.specs.Next.{DoesNext};
+ghost use Rattle.os9_kernel.specs.Outside.{OnDevices, outside};
+ghost use Rattle.os9_kernel.specs.Tie.{Stands, pending};
+
+use crate::act::Act;
+use crate::calls::event_end;
+use crate::kernel::Kernel;
+use device_table::devices::Devices;
+use event_rules::ends::EventEnd;
+use file_dispatch::calls::attempt;
+use file_rules::path_call::PathCall;
+use os9_base::call::CallEnd;
+use os9_base::registers::Pid;
+use os9_outer::drive::BlockDriver;
+use os9_outer::terminal::CharDriver;
+use os9_sched::{Cause, Wait};
+use proc_calls::telling::tell;
+use time_calls::clock::now;
+
+impl Kernel {
+    /// An attempt of a call on paths, files and directories.
+    pub(crate) fn path_call(
+        &mut self,
+        p: Pid,
+        code: u8,
+        call: PathCall,
+        devices: &mut Devices,
+    ) -> EventEnd
+        requires next { DoesNext self.old p (Act.Attempt code) }
+        requires serves { service_of code ≡ on_paths call }
+        requires stands { Stands self.old
+            (outside ⟦<dyn BlockDriver as BlockDriver>⟧ devices.old.drives.items
+            ⟦<dyn CharDriver as CharDriver>⟧ devices.old.terms.items) }
+        ensures event { OnDevices (λ before after. HasEvent self.old self.new before after result)
+            ⟦<dyn BlockDriver as BlockDriver>⟧ devices.old.drives.items devices.new.drives.items
+            ⟦<dyn CharDriver as CharDriver>⟧ devices.old.terms.items devices.new.terms.items }
+        ensures progress { result ≡ EventEnd.Ran → pending self.new < pending self.old }
+        ensures terminals { vec_len devices.new.terms ≡ vec_len devices.old.terms }
+        ensures drives { vec_len devices.new.drives ≡ vec_len devices.old.drives }
+    {
+        let time = now(&self.clock, self.processes.tick);
+        let end = attempt(&mut self.processes, &mut self.files, p, call, time, devices);
+        self.tell_end(p, end);
+        event_end(end)
+    }
+
+    /// Tells a process what its call came to, if it lives. Where it waits, that is on what its path
+    /// was opened on; where it does not, no cause is asked for.
+    pub(crate) fn tell_end(&mut self, p: Pid, end: CallEnd)
+        requires lives { LivesOn end self.old.processes.table p.0 }
+        requires process { p.0 < 33 }
+        ensures told { (m : Inner) (call : CallResult) → Comes m p.0 call end self.old.processes
+            → Represents self.new.processes (after_attempt m p.0 call) × (end ≡ attempt_end call) }
+        ensures lives { LivesOn end self.new.processes.table p.0 }
+        ensures waits { end ≡ CallEnd.Wait → IfSome (io_waits_for self.old.files.io p.0)
+            (λ cause. WaitsFor self.old.processes self.new.processes p.0
+            (record { cause = cause; until = None })) }
+        ensures files { self.new.files ≡ self.old.files }
+        ensures clock { self.new.clock ≡ self.old.clock }
+        ensures chosen { self.new.chosen ≡ self.old.chosen }
+    {
+        let cause = self.files.io.waits_for(p).unwrap_or(Cause::Child);
+        let until = None;
+        tell(&mut self.processes, p, end, Wait { cause, until });
+    }
+}

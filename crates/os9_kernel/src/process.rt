@@ -1,0 +1,79 @@
+//! What becomes of one process: it begins a call, its call is broken off, or it ends.
+
+ghost use Rattle.std.specs.Prelude.{◌≡◌, ◌<◌, List, Some};
+ghost use Rattle.proc_rules.specs.Records.{IsLiving, record_at};
+ghost use Rattle.proc_state.specs.Tie.{Represents};
+ghost use Rattle.call_rules.specs.End.{ended};
+ghost use Rattle.call_rules.specs.Inner.{Inner, own_at, with_own};
+ghost use Rattle.io_rules.specs.Waiting.{interrupted_count, io_interrupted};
+ghost use Rattle.file_drives.specs.Drives.{DriveView};
+ghost use Rattle.file_rules.specs.Files.{Files, with_io};
+ghost use Rattle.file_rules.specs.Processes.{files_ended};
+ghost use Rattle.file_state.specs.Tie.{StandsFor};
+ghost use Rattle.event_rules.specs.Event.{broken_off};
+
+use crate::kernel::Kernel;
+use os9_base::registers::{Pid, Regs};
+use proc_rules::own::Own;
+
+impl Kernel {
+    /// A process has executed a system call with this code.
+    pub(crate) fn begin_call(&mut self, p: Pid, code: u8)
+        requires lives { IsLiving self.old.processes.table p.0 }
+        ensures tied { (m : Inner) → Represents self.old.processes m
+            → Represents self.new.processes
+            (with_own m p.0 (record (own_at m p.0) { call = Some code })) }
+        ensures chosen { self.new.chosen ≡ self.old.chosen }
+        ensures records { self.new.processes.table ≡ self.old.processes.table }
+        ensures count { self.new.processes.tick ≡ self.old.processes.tick }
+        ensures files { self.new.files ≡ self.old.files }
+        ensures clock { self.new.clock ≡ self.old.clock }
+    {
+        let own = self.processes.own(p);
+        self.processes.set_own(
+            p,
+            Own {
+                call: Some(code),
+                ..own
+            },
+        );
+    }
+
+    /// The call of a process that waits on a terminal or a pipe is broken off, if one does: Y has
+    /// what it has moved, if it answers a count.
+    pub(crate) fn break_off(&mut self, p: Pid)
+        requires lives { IsLiving self.old.processes.table p.0 }
+        ensures tied { (m : Inner) → Represents self.old.processes m
+            → Represents self.new.processes
+            (broken_off m p.0 (interrupted_count self.old.files.io p.0)) }
+        ensures files { (views : List DriveView) (files : Files)
+            → StandsFor self.old.files views files → StandsFor self.new.files views
+            (with_io files (io_interrupted files.io p.0)) }
+        ensures clock { self.new.clock ≡ self.old.clock }
+        ensures chosen { self.new.chosen ≡ self.old.chosen }
+        ensures lives { IsLiving self.new.processes.table p.0 }
+        ensures signal { (record_at self.new.processes.table p.0).signal
+            ≡ (record_at self.old.processes.table p.0).signal }
+    {
+        let regs = self.processes.regs(p);
+        if let Some(y) = self.files.io.interrupt(p) {
+            self.processes.set_regs(p, Regs { y, ..regs });
+        }
+    }
+
+    /// A process ends with this status, its paths are closed, and it has no directory any more.
+    pub(crate) fn end_process(&mut self, p: Pid, status: u8)
+        requires lives { IsLiving self.old.processes.table p.0 }
+        requires process { p.0 < 33 }
+        ensures tied { (m : Inner) → Represents self.old.processes m
+            → Represents self.new.processes (ended m p.0 status) }
+        ensures files { (views : List DriveView) (files : Files)
+            → StandsFor self.old.files views files
+            → StandsFor self.new.files views (files_ended files p.0) }
+        ensures clock { self.new.clock ≡ self.old.clock }
+        ensures chosen { self.new.chosen ≡ self.old.chosen }
+    {
+        self.processes.end(p, status);
+        self.files.end(p);
+    }
+}

@@ -1,0 +1,31 @@
+//! Attempts of calls on the time.
+
+ghost use Rattle.std.specs.Prelude.{◌≡◌, ◌<◌};
+ghost use Rattle.machine_model.specs.Services.{on_time, service_of};
+ghost use Rattle.os9_kernel.specs.Calls.{HasEvent};
+ghost use Rattle.os9_kernel.specs.Next.{DoesNext};
+ghost use Rattle.os9_kernel.specs.Outside.{Outside};
+ghost use Rattle.os9_kernel.specs.Tie.{HasState, pending};
+
+use crate::act::Act;
+use crate::calls::event_end;
+use crate::kernel::Kernel;
+use event_rules::ends::EventEnd;
+use os9_base::registers::Pid;
+use time_calls::calls::attempt;
+use time_rules::time_call::TimeCall;
+
+impl Kernel {
+    /// An attempt of a call on the time.
+    pub(crate) fn time_call(&mut self, p: Pid, code: u8, call: TimeCall) -> EventEnd
+        requires next { DoesNext self.old p (Act.Attempt code) }
+        requires serves { service_of code ≡ on_time call }
+        requires stands { HasState self.old }
+        ensures event { (devices : Outside) → HasEvent self.old self.new devices devices result }
+        ensures progress { result ≡ EventEnd.Ran → pending self.new < pending self.old }
+    {
+        let end = attempt(&mut self.processes, &mut self.clock, p, call);
+        self.tell_end(p, end);
+        event_end(end)
+    }
+}
