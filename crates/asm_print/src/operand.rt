@@ -339,7 +339,8 @@ fn add_bare(out: &mut ArrayVec<u8, OPERAND>, meaning: Indexing)
 
 // Is the text an operand of this meaning, without a number and in any case of letters?
 fn is_bare_index(meaning: Indexing, text: &[u8]) -> bool
-    ensures { result ≡ same_word (in_brackets meaning.2 (plain_index meaning.0 meaning.1)) text.now }
+    ensures { result
+        ≡ same_word (in_brackets meaning.2 (plain_index meaning.0 meaning.1)) text.now }
 {
     let mut out = ArrayVec::new();
     add_bare(&mut out, meaning);

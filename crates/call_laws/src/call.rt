@@ -13,5 +13,6 @@ ghost use Rattle.proc_rules.specs.Records.{IsLiving};
 /// the process, and every other process but for what the call changes of it.
 pub fn a_call_leaves_what_it_does_not_name()
     ensures { (m : Inner) (p : ℕ) (call : ProcCall) → IsLiving m.records p → AttemptsCall m p call
-        → LeavesOthers m p (call_event_end (attempted call m p)) (after_attempt m p (attempted call m p)) }
+        → LeavesOthers m p
+        (call_event_end (attempted call m p)) (after_attempt m p (attempted call m p)) }
 {}

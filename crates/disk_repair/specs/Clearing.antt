@@ -5,8 +5,8 @@ use Rattle.rbf_model.specs.Segments.{has}
 use Rattle.rbf_model.specs.Volume.{DiskVolume, Vol}
 use Rattle.tool_rules.specs.Tool.{repaired}
 
--- a bit of an image from its byte 256 on, where the map begins, the most significant of a byte first: that of a cluster,
--- and past the map any other
+-- a bit of an image from its byte 256 on, where the map begins, the most significant of a byte first: that of a
+-- cluster, and past the map any other
 abbrev pub bit_of : List ℕ → ℕ → Bool
 bit_of image c = bit_at (slice_index image (256 + c / 8)) (7 - c % 8) == 1
 

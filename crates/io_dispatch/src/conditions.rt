@@ -16,8 +16,8 @@ ghost use Rattle.proc_state.specs.declared.state.ProcState.{ProcState};
 /// [`attempt`](crate::attempt) asks for holds: what is kept of pending calls is of them, and the
 /// terminal of each open path is there.
 pub fn a_process_may_attempt_its_call()
-    ensures { (processes : ProcState) (inner : Inner) (io : Io) (terms p code : ℕ) (call : IoCall) → p < 33
-        → Represents processes inner → AreKept inner io → AreOnTerminals terms io.paths
+    ensures { (processes : ProcState) (inner : Inner) (io : Io) (terms p code : ℕ) (call : IoCall)
+        → p < 33 → Represents processes inner → AreKept inner io → AreOnTerminals terms io.paths
         → act_of inner p ≡ attempts code → io_call_of code ≡ Some call
         → MayAttempt call processes io p terms }
 {}

@@ -1,5 +1,5 @@
--- Locks and requests (Level Two manual, RBF record locking). A system path holds at most one lock, and a process waits in
--- at most one request.
+-- Locks and requests (Level Two manual, RBF record locking). A system path holds at most one lock, and a process waits
+-- in at most one request.
 use Rattle.std.specs.Prelude.{ℕ, Option, None, List, replicate, slice_index_or, slice_set}
 use Rattle.lock_model.specs.declared.lock.Held.{Held}
 use Rattle.lock_model.specs.declared.lock.Request.{Request}

@@ -61,8 +61,9 @@ pub fn waits_have_no_cycle()
 /// at the start, and after each change by the rules.
 pub fn locks_are_kept()
     ensures first { AreLocks no_locks }
-    ensures waiting { (locks : Locks) (request : Asked) → request_of locks request.lock.owner.0 ≡ None
-        → closes locks request.lock ≡ false → AreLocks locks → AreLocks (with_request locks request.lock.owner.0 (Some request)) }
+    ensures waiting { (locks : Locks) (request : Asked)
+        → request_of locks request.lock.owner.0 ≡ None → closes locks request.lock ≡ false
+        → AreLocks locks → AreLocks (with_request locks request.lock.owner.0 (Some request)) }
     ensures granted { (locks : Locks) (s : ℕ) (lock : Lock) → MayHold locks lock → AreLocks locks
         → AreLocks (with_lock locks s (Some lock)) }
     ensures ended { (locks : Locks) (s : ℕ) → AreLocks locks

@@ -25,8 +25,8 @@ ghost use Rattle.machine_model.specs.State.{State};
 /// its own in every event except F$Load, which maps a group and gives no area: so the blocks that
 /// F$Fork, F$Chain and F$Mem give a process are its own until it gives them up.
 pub fn what_appears_is_its_own()
-    ensures own { (s t : State) (end : EventEnd) (p object : ℕ) → Event s end t → NameAppeared s.inner
-        → AppearsIn s.inner p object t.inner → IsOwnOrShared t.inner p object }
+    ensures own { (s t : State) (end : EventEnd) (p object : ℕ) → Event s end t
+        → NameAppeared s.inner → AppearsIn s.inner p object t.inner → IsOwnOrShared t.inner p object }
     ensures unless_entered { (s t : State) (end : EventEnd) (p object : ℕ) → Event s end t
         → NameAppeared s.inner → KeepsModules s.inner.memory.modules t.inner.memory.modules
         → AppearsIn s.inner p object t.inner → IsOwn t.inner p object }
