@@ -377,6 +377,48 @@ start   nop
                      64 - BOOT_SECTORS - needed(modules) - 4))], "1000*30")
 
 
+def slash_behind_a_name():
+    """F$Fork of one name with a slash behind it, and of path lists. A line has how far X has moved, and then what the
+    program shows, or the refusal: `Pr/` and `Pr//` are the name `Pr`, which is entered; `Qr/` is the name of no entered
+    module, so the file of the path list is loaded, and there is none of `No/`; `/Pr` begins at a device, and `Pr/x` is
+    looked up on the disk. F$Chain of `Pr/` comes last."""
+    shows = {name: assemble(program(name, f"""
+start   ldd     #{number}
+        lbsr    show
+{EXIT}""")) for name, number in [("Pr", "$AA"), ("Qr", "$BB")]}
+    texts = ["Pr/\r", "Pr//", "Qr/\r", "No/\r", "/Pr\r", "Pr/x\r"]
+    forks = "".join(f"        leax    text{n},pcr\n        lbsr    fork\n" for n in range(len(texts)))
+    held = "".join(f"text{n}   fcb     {','.join(str(ord(c)) for c in text)}\n" for n, text in enumerate(texts))
+    modules = assemble(program("SysGo", f"""
+start   nop
+{forks}        leax    text0,pcr
+        lbsr    taken
+        os9     $05
+        lbsr    answer
+{EXIT}
+taken   ldy     #0
+        ldu     #0
+        lda     #$11
+        clrb
+        rts
+fork    stx     <$30
+        lbsr    taken
+        os9     $03
+        bcs     refused
+        tfr     x,d
+        subd    <$30
+        lbsr    show
+        os9     $04
+        rts
+refused lbsr    answer
+        rts
+{held}""")) + shows["Pr"]
+    disk = boot_disk(modules, files=[("Qr", MORE, 7, shows["Qr"], [(MORE + 1, 1)])])
+    row("a slash behind the name of a program", lines("0002 00AA 0002 00AA 0002 00BB 01D8 01DD 01D8 00AA"),
+        [(disk, tree([directory_line("/", ["OS9Boot", "Qr"]), file_line("/OS9Boot", 3, modules),
+                      file_line("/Qr", 7, shows["Qr"])], 64 - BOOT_SECTORS - needed(modules) - 2))], "1000*30")
+
+
 SYSTEM = [("OS9p1", "$C1"), ("OS9p2", "$C1"), ("Init", "$C0"), ("IOMan", "$C1"), ("RBF", "$D1"), ("CC3Disk", "$E1"),
           ("D0", "$F1"), ("SCF", "$D1"), ("VTIO", "$E1"), ("Term", "$F1"), ("PipeMan", "$D1"), ("Clock", "$21")]
 NATIVE = bytes(n * n // 7 % 256 for n in range(1900))  # what stands in the place of a native module's code
@@ -594,6 +636,7 @@ def main():
     write_fault()
     delete_faults()
     driver_calls()
+    slash_behind_a_name()
 
 
 if __name__ == "__main__":

@@ -12,7 +12,7 @@ use Rattle.call_rules.specs.CallResult.{CallResult, done, refused, waits, ends, 
 use Rattle.call_rules.specs.Fork.{f_fork, forked_regs, with_child, with_child_record}
 use Rattle.call_rules.specs.Inner.{Inner, regs_at, cells_at, with_regs_of}
 use Rattle.call_rules.specs.ModuleLinks.{Entered, found_entry}
-use Rattle.call_rules.specs.Program.{Program, area_pages, asks_for_program, blocks_of_pages, most_pages, program_kind, program_name, reads_program}
+use Rattle.call_rules.specs.Program.{Program, area_pages, asks_for_program, blocks_of_pages, most_pages, program_kind, is_unreadable, module_name, name_at_x, reads_program}
 use Rattle.call_rules.specs.UserBytes.{user_bytes}
 use Rattle.call_laws.proofs.OthersKept.{living-within, record-put}
 
@@ -53,16 +53,16 @@ module _ (m : Inner) (p : ℕ) where
     with-name parameters name =
         needs (found_entry m.memory.modules name (regs_at m p).a) E_MNF (with-found parameters name)
 
-    abbrev with-read : Option (List ℕ) → List ℕ → CallResult
-    with-read read parameters =
-        refuses (not (asks_for_program (regs_at m p).a)) E_NEMOD (needs read E_BNAM (with-name parameters))
+    abbrev with-parameters-read : List ℕ → CallResult
+    with-parameters-read parameters =
+        refuses (not (asks_for_program (regs_at m p).a)) E_NEMOD (needs (module_name (name_at_x m p)) E_BNAM (with-name parameters))
 
     program-names : NamesChild m p (reads_program m p next)
     program-names =
-        of-needs (program_name (cells_at m p) (regs_at m p).x) E_BPADDR (λ read. needs (user_bytes (cells_at m p) (regs_at m p).u (regs_at m p).y) E_BPADDR (with-read read))
-        (λ read read_is. of-needs (user_bytes (cells_at m p) (regs_at m p).u (regs_at m p).y) E_BPADDR (with-read read)
-        (λ parameters parameters_are. of-refuses (not (asks_for_program (regs_at m p).a)) E_NEMOD (needs read E_BNAM (with-name parameters))
-        (of-needs read E_BNAM (with-name parameters)
+        of-refuses (is_unreadable (name_at_x m p)) E_BPADDR (needs (user_bytes (cells_at m p) (regs_at m p).u (regs_at m p).y) E_BPADDR with-parameters-read)
+        (of-needs (user_bytes (cells_at m p) (regs_at m p).u (regs_at m p).y) E_BPADDR with-parameters-read
+        (λ parameters parameters_are. of-refuses (not (asks_for_program (regs_at m p).a)) E_NEMOD (needs (module_name (name_at_x m p)) E_BNAM (with-name parameters))
+        (of-needs (module_name (name_at_x m p)) E_BNAM (with-name parameters)
         (λ name name_is. of-needs (found_entry m.memory.modules name (regs_at m p).a) E_MNF (with-found parameters name)
         (λ found found_is. of-refuses (not (found.entry.info.kind == program_kind)) E_NEMOD (next (program-of found parameters (length name)))
         (names (program-of found parameters (length name))))))))

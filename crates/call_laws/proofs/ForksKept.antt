@@ -21,7 +21,7 @@ use Rattle.call_rules.specs.Chain.{f_chain, begun_anew, with_program}
 use Rattle.call_rules.specs.Fork.{f_fork, with_child, with_child_record, forked_regs}
 use Rattle.call_rules.specs.Inner.{Inner, no_own, own_at, regs_at, cells_at, with_regs_of}
 use Rattle.call_rules.specs.ModuleLinks.{Entered, found_entry, without_module_link, without_primary_link}
-use Rattle.call_rules.specs.Program.{Program, program_name, asks_for_program, program_kind, area_pages, most_pages, blocks_of_pages, parameters_at, start_regs, start_own, with_parameters, reads_program}
+use Rattle.call_rules.specs.Program.{Program, is_unreadable, module_name, name_at_x, asks_for_program, program_kind, area_pages, most_pages, blocks_of_pages, parameters_at, start_regs, start_own, with_parameters, reads_program}
 use Rattle.call_rules.specs.UserBytes.{user_bytes}
 use Rattle.event_rules.specs.declared.ends.EventEnd.TheVariants.{Ran}
 use Rattle.call_laws.specs.Others.{AttemptsCall, KeepsOwn, ComesOf}
@@ -61,16 +61,16 @@ module _ (m : Inner) (p : ℕ) where
     with-name parameters name =
         needs (found_entry m.memory.modules name (regs_at m p).a) E_MNF (with-found parameters name)
 
-    abbrev with-read : Option (List ℕ) → List ℕ → CallResult
-    with-read read parameters =
-        refuses (not (asks_for_program (regs_at m p).a)) E_NEMOD (needs read E_BNAM (with-name parameters))
+    abbrev with-parameters-read : List ℕ → CallResult
+    with-parameters-read parameters =
+        refuses (not (asks_for_program (regs_at m p).a)) E_NEMOD (needs (module_name (name_at_x m p)) E_BNAM (with-name parameters))
 
     reads-left : AttemptsCall m p Call.Fork ⊎ AttemptsCall m p Call.Chain → ((program : Program) → HasRoom program → AttemptLeft m p (next program)) → AttemptLeft m p (reads_program m p next)
     reads-left starts left =
-        of-needs m p (program_name (cells_at m p) (regs_at m p).x) E_BPADDR (λ read. needs (user_bytes (cells_at m p) (regs_at m p).u (regs_at m p).y) E_BPADDR (with-read read))
-        (λ read read_is. of-needs m p (user_bytes (cells_at m p) (regs_at m p).u (regs_at m p).y) E_BPADDR (with-read read)
-        (λ parameters parameters_are. of-refuses m p (not (asks_for_program (regs_at m p).a)) E_NEMOD (needs read E_BNAM (with-name parameters))
-        (λ asks. of-needs m p read E_BNAM (with-name parameters)
+        of-refuses m p (is_unreadable (name_at_x m p)) E_BPADDR (needs (user_bytes (cells_at m p) (regs_at m p).u (regs_at m p).y) E_BPADDR with-parameters-read)
+        (λ there. of-needs m p (user_bytes (cells_at m p) (regs_at m p).u (regs_at m p).y) E_BPADDR with-parameters-read
+        (λ parameters parameters_are. of-refuses m p (not (asks_for_program (regs_at m p).a)) E_NEMOD (needs (module_name (name_at_x m p)) E_BNAM (with-name parameters))
+        (λ asks. of-needs m p (module_name (name_at_x m p)) E_BNAM (with-name parameters)
         (λ name name_is. of-needs m p (found_entry m.memory.modules name (regs_at m p).a) E_MNF (with-found parameters name)
         (λ found found_is. of-refuses m p (not (found.entry.info.kind == program_kind)) E_NEMOD (next (program-of found parameters (length name)))
         (λ kind. left (program-of found parameters (length name)) (record { fits = room-of found.entry (regs_at m p).b (length parameters); given = λ k byte at. record { starts = starts; parameters = parameters; given = parameters_are; member = (k, at) } })))))))

@@ -2,9 +2,10 @@
 -- A is its type and language, B the pages of its data area, X its name, Y and U the size and the address of its
 -- parameters.
 -- Errors, in this order: E$BPAddr; E$NEMod (of A); E$BNam and E$MNF, since no file is loaded; E$NEMod (of the module).
-use Rattle.std.specs.Prelude.{ℕ, ◌+◌, ◌-◌, ◌*◌, ◌/◌, ◌%◌, ◌==◌, ◌||◌, ◌&&◌, not, is_none, max, Bool, Option, Some, None, unwrap_or, option_map, option_and_then, List, length, slice_get, replicate, slice_set, if◌then◌else◌}
+use Rattle.std.specs.Prelude.{ℕ, ◌+◌, ◌-◌, ◌*◌, ◌/◌, ◌%◌, ◌==◌, ◌||◌, not, max, Bool, true, false, Option, Some, None, unwrap_or, List, length, slice_get, replicate, slice_set, if◌then◌else◌}
+use Rattle.std.specs.Option.{option_map_or}
 use Rattle.os9_base.specs.Cells.{Cells}
-use Rattle.os9_base.specs.Name.{parsed_name}
+use Rattle.os9_base.specs.Name.{is_name_character, low_bits, parsed_name}
 use Rattle.os9_base.specs.declared.errors.TheConstants.{E_BPADDR, E_NEMOD, E_BNAM, E_MNF}
 use Rattle.os9_base.specs.declared.limits.TheConstants.{MOST_GROUP_BYTES}
 use Rattle.os9_base.specs.declared.registers.Regs.{Regs}
@@ -13,6 +14,8 @@ use Rattle.proc_model.specs.Memory.{MemoryState}
 use Rattle.proc_model.specs.MemoryChanges.{stored}
 use Rattle.proc_rules.specs.declared.own.Own.{Own}
 use Rattle.user_names.specs.UserNames.{user_cell, run_bytes}
+use Rattle.call_rules.specs.declared.program_name.ProgramName.{ProgramName}
+use Rattle.call_rules.specs.declared.program_name.ProgramName.TheVariants.{Unreadable, OneName, PathList}
 use Rattle.call_rules.specs.Inner.{Inner, no_own, regs_at, cells_at}
 use Rattle.call_rules.specs.ModuleLinks.{Entered, found_entry, header_address}
 use Rattle.call_rules.specs.CallResult.{CallResult, needs, refuses}
@@ -28,18 +31,40 @@ slash = 47
 abbrev pub ends_in_slash : List ℕ → Bool
 ends_in_slash bytes = unwrap_or (slice_get bytes (length bytes - 1)) 0 == slash
 
--- The bytes of a run whose slash, if it ends in one, stands before a byte that is there.
-abbrev pub before_slash : Cells → ℕ → List ℕ → Option (List ℕ)
-before_slash cells at bytes =
-    if ends_in_slash bytes && is_none (user_cell cells (at + length bytes)) then None else Some bytes
+-- the name that the bytes of a run are, if they are one
+abbrev pub name_of_run : List ℕ → ProgramName
+name_of_run bytes = option_map_or OneName (parsed_name bytes) PathList
 
--- The name of a program at an address, if the bytes there are one; nothing at all if one that has to be read is not
--- there. A name with a slash before or behind it is a path list, and no name of an entered module; the byte behind the
--- slash is read too.
-abbrev pub program_name : Cells → ℕ → Option (Option (List ℕ))
-program_name cells at =
-    option_map (λ bytes. if ends_in_slash bytes then None else parsed_name bytes)
-    (option_and_then (before_slash cells at) (run_bytes cells at 30))
+-- the same of a run that ends in a slash, by the byte behind it: a character of a name makes it a path list
+abbrev pub name_before_slash : List ℕ → Option ℕ → ProgramName
+name_before_slash bytes None = Unreadable
+name_before_slash bytes (Some byte) = if is_name_character (low_bits byte) then PathList else name_of_run bytes
+
+-- the same of the run at an address: the byte behind a slash is read
+abbrev pub name_by_run : Cells → ℕ → List ℕ → ProgramName
+name_by_run cells at bytes =
+    if ends_in_slash bytes then name_before_slash bytes (user_cell cells (at + length bytes)) else name_of_run bytes
+
+-- What the bytes at an address name. They are one name unless they begin with a slash, or a slash with a character of a
+-- name stands behind the first name; else they are a path list, or nothing that names a program.
+abbrev pub program_name : Cells → ℕ → ProgramName
+program_name cells at = option_map_or (name_by_run cells at) (run_bytes cells at 30) Unreadable
+
+-- a byte that has to be read is not there
+abbrev pub is_unreadable : ProgramName → Bool
+is_unreadable Unreadable = true
+is_unreadable (OneName name) = false
+is_unreadable PathList = false
+
+-- the name of the entered module that is meant, if the bytes are one name
+abbrev pub module_name : ProgramName → Option (List ℕ)
+module_name Unreadable = None
+module_name (OneName name) = Some name
+module_name PathList = None
+
+-- what the bytes at X name
+abbrev pub name_at_x : Inner → ℕ → ProgramName
+name_at_x s p = program_name (cells_at s p) (regs_at s p).x
 
 -- ---- its type
 
@@ -122,10 +147,10 @@ with_parameters m p program = stored m p (parameters_at program) program.paramet
 -- the call goes on with the program that the registers of its process name
 abbrev pub reads_program : Inner → ℕ → (Program → CallResult) → CallResult
 reads_program s p next =
-    needs (program_name (cells_at s p) (regs_at s p).x) E_BPADDR
-    (λ read. needs (user_bytes (cells_at s p) (regs_at s p).u (regs_at s p).y) E_BPADDR
+    refuses (is_unreadable (name_at_x s p)) E_BPADDR
+    (needs (user_bytes (cells_at s p) (regs_at s p).u (regs_at s p).y) E_BPADDR
     (λ parameters. refuses (not (asks_for_program (regs_at s p).a)) E_NEMOD
-    (needs read E_BNAM
+    (needs (module_name (name_at_x s p)) E_BNAM
     (λ name. needs (found_entry s.memory.modules name (regs_at s p).a) E_MNF
     (λ found. refuses (not (found.entry.info.kind == program_kind)) E_NEMOD
     (next (record {

@@ -125,6 +125,10 @@ forker blocks = record {
   tick = 1;
 }
 
+-- the state where it has these bytes at 0
+abbrev pub forker_of : List ℕ → Inner
+forker_of bytes = with_memory (forker 64) (record (forker 64).memory { objects = zero_object ∷ bytes ∷ [] })
+
 -- the state where process 2 has these registers
 abbrev pub calling : Regs → Inner → Inner
 calling regs s = with_regs_of s 2 regs

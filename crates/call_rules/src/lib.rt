@@ -4,4 +4,5 @@
 
 pub mod io_ready;
 pub mod proc_call;
+pub mod program_name;
 pub mod rows;

@@ -1,8 +1,9 @@
-ghost use Rattle.std.specs.Prelude.{◌≡◌, ◌∷◌, ◌++◌, [], Some, replicate};
-ghost use Rattle.os9_base.specs.declared.errors.TheConstants.{E_BNAM, E_USIGP, E_PRCFUL, E_NORAM, E_BPADDR, E_PRCABT};
+ghost use Rattle.std.specs.Prelude.{◌≡◌, ◌∷◌, ◌++◌, [], Some, codes, replicate, slice_get};
+ghost use Rattle.os9_base.specs.declared.errors.TheConstants.{E_BNAM, E_MNF, E_USIGP, E_PRCFUL, E_NORAM, E_BPADDR, E_PRCABT};
 ghost use Rattle.proc_model.specs.Memory.{free_blocks};
 ghost use Rattle.proc_rules.specs.Records.{zero_regs};
 ghost use Rattle.call_rules.specs.declared.proc_call.ProcCall.TheVariants as Call;
+ghost use Rattle.call_rules.specs.declared.program_name.ProgramName.TheVariants.{Unreadable, OneName, PathList};
 ghost use Rattle.call_rules.specs.CmpNam.{f_cmpnam};
 ghost use Rattle.call_rules.specs.End.{ended};
 ghost use Rattle.call_rules.specs.Fork.{f_fork};
@@ -10,9 +11,10 @@ ghost use Rattle.call_rules.specs.Inner.{regs_at, cells_at};
 ghost use Rattle.call_rules.specs.PrsNam.{f_prsnam};
 ghost use Rattle.call_rules.specs.Attempts.{refused_regs};
 ghost use Rattle.call_rules.specs.CallResult.{done, refused};
+ghost use Rattle.call_rules.specs.Program.{program_name};
 ghost use Rattle.call_rules.specs.Send.{f_send};
 ghost use Rattle.call_rules.specs.UserBytes.{user_bytes};
-ghost use Rattle.call_rules.specs.Rows.{regs_after, parsing, comparing, sent_asleep, sent_seven, seven_delivered, forker, with_five, first_child, after_forks, both_linked, stored_by_one};
+ghost use Rattle.call_rules.specs.Rows.{regs_after, parsing, comparing, sent_asleep, sent_seven, seven_delivered, forker, forker_of, with_five, first_child, after_forks, both_linked, stored_by_one};
 
 /// F$PrsNam of `/D0/CMDS` answers its first name and the `/` behind it; a carriage return is no
 /// name. F$CmpNam finds `abc` and `ABC` the same by three characters, and not by two.
@@ -47,6 +49,30 @@ pub fn programs_start_with_their_parameters()
     ensures stored { user_bytes (cells_at (first_child (with_five 1)) 3) 0xFB 5
         ≡ Some (5 ∷ 6 ∷ 7 ∷ 8 ∷ 9 ∷ []) }
     ensures unnamed { f_fork (with_five 2) 2 ≡ refused E_BPADDR }
+{}
+
+/// `Pr/` and a carriage return is the name `Pr`, and so is `Pr` with two slashes behind it; `/Pr` is
+/// a path list, and so is `Pr/x`, also if bit 7 ends it. The byte behind the slash is read.
+pub fn a_slash_may_end_a_name()
+    ensures bare { program_name (slice_get (codes "Pr\r")) 0 ≡ OneName (codes "Pr") }
+    ensures slash { program_name (slice_get (codes "Pr/\r")) 0 ≡ OneName (codes "Pr") }
+    ensures slashes { program_name (slice_get (codes "Pr//")) 0 ≡ OneName (codes "Pr") }
+    ensures device { program_name (slice_get (codes "/Pr\r")) 0 ≡ PathList }
+    ensures another { program_name (slice_get (codes "Pr/x\r")) 0 ≡ PathList }
+    ensures marked { program_name (slice_get (codes "Pr/" ++ (0xF8 ∷ []))) 0 ≡ PathList }
+    ensures cut { program_name (slice_get (codes "Pr/")) 0 ≡ Unreadable }
+{}
+
+/// F$Fork of `P/` starts the entered program `P`, with X left behind the name; of `Q/` it finds no
+/// module. `/P` and `P/x` name no entered module.
+pub fn a_slash_behind_the_name_of_a_program()
+    ensures entered { regs_after Call.Fork 2 (forker_of (codes "P/\r"))
+        ≡ record zero_regs { a = 3; x = 1 } }
+    ensures twice { regs_after Call.Fork 2 (forker_of (codes "P//"))
+        ≡ record zero_regs { a = 3; x = 1 } }
+    ensures none { f_fork (forker_of (codes "Q/\r")) 2 ≡ refused E_MNF }
+    ensures device { f_fork (forker_of (codes "/P\r")) 2 ≡ refused E_BNAM }
+    ensures another { f_fork (forker_of (codes "P/x\r")) 2 ≡ refused E_BNAM }
 {}
 
 /// With 64 blocks process 2 has 30 children, and the next is refused; with 8 blocks, of which it

@@ -34,7 +34,7 @@ use Rattle.call_rules.specs.Inner.{Inner, own_at, regs_at, user_at, cells_at, wi
 use Rattle.call_rules.specs.Link.{f_link, mapped_group, links_at, after_link}
 use Rattle.call_rules.specs.Mem.{f_mem, sets_pages, resized, with_size, size_regs}
 use Rattle.call_rules.specs.ModuleLinks.{found_entry, module_at, without_module_link, without_primary_link, Entered}
-use Rattle.call_rules.specs.Program.{Program, program_name, asks_for_program, program_kind, area_pages, page_count, most_pages, blocks_of_pages}
+use Rattle.call_rules.specs.Program.{Program, is_unreadable, module_name, name_at_x, asks_for_program, program_kind, area_pages, page_count, most_pages, blocks_of_pages}
 use Rattle.call_rules.specs.PrsNam.{f_prsnam, past_slash, name_regs}
 use Rattle.call_rules.specs.SPrior.{f_sprior}
 use Rattle.call_rules.specs.Send.{f_send, is_asleep, woken, after_signal}
@@ -120,10 +120,10 @@ module _ (m : Inner) (p : ℕ) where
   f_unload-tick = of-name m (name_at (cells_at m p) (regs_at m p).x) E_BNAM (λ name. needs (found_entry m.memory.modules name (regs_at m p).a) E_MNF (λ found. done (without_module_link m found.number))) (λ name. of-needs m (found_entry m.memory.modules name (regs_at m p).a) E_MNF (λ found. done (without_module_link m found.number)) (λ found. refl))
 
   f_fork-tick : KeepsTick m (f_fork m p)
-  f_fork-tick = of-needs m (program_name (cells_at m p) (regs_at m p).x) E_BPADDR (λ read. needs (user_bytes (cells_at m p) (regs_at m p).u (regs_at m p).y) E_BPADDR (λ parameters. refuses (not (asks_for_program (regs_at m p).a)) E_NEMOD (needs (read) E_BNAM (λ name. needs (found_entry m.memory.modules name (regs_at m p).a) E_MNF (λ found. refuses (not (found.entry.info.kind == program_kind)) E_NEMOD (forking (record { entered = found; pages = area_pages found.entry (regs_at m p).b (length parameters); parameters = parameters; count = length name }))))))) (λ read. of-needs m (user_bytes (cells_at m p) (regs_at m p).u (regs_at m p).y) E_BPADDR (λ parameters. refuses (not (asks_for_program (regs_at m p).a)) E_NEMOD (needs (read) E_BNAM (λ name. needs (found_entry m.memory.modules name (regs_at m p).a) E_MNF (λ found. refuses (not (found.entry.info.kind == program_kind)) E_NEMOD (forking (record { entered = found; pages = area_pages found.entry (regs_at m p).b (length parameters); parameters = parameters; count = length name })))))) (λ parameters. of-refuses m (not (asks_for_program (regs_at m p).a)) E_NEMOD (needs (read) E_BNAM (λ name. needs (found_entry m.memory.modules name (regs_at m p).a) E_MNF (λ found. refuses (not (found.entry.info.kind == program_kind)) E_NEMOD (forking (record { entered = found; pages = area_pages found.entry (regs_at m p).b (length parameters); parameters = parameters; count = length name }))))) (of-needs m (read) E_BNAM (λ name. needs (found_entry m.memory.modules name (regs_at m p).a) E_MNF (λ found. refuses (not (found.entry.info.kind == program_kind)) E_NEMOD (forking (record { entered = found; pages = area_pages found.entry (regs_at m p).b (length parameters); parameters = parameters; count = length name })))) (λ name. of-needs m (found_entry m.memory.modules name (regs_at m p).a) E_MNF (λ found. refuses (not (found.entry.info.kind == program_kind)) E_NEMOD (forking (record { entered = found; pages = area_pages found.entry (regs_at m p).b (length parameters); parameters = parameters; count = length name }))) (λ found. of-refuses m (not (found.entry.info.kind == program_kind)) E_NEMOD (forking (record { entered = found; pages = area_pages found.entry (regs_at m p).b (length parameters); parameters = parameters; count = length name })) (forking-tick (record { entered = found; pages = area_pages found.entry (regs_at m p).b (length parameters); parameters = parameters; count = length name })))))))
+  f_fork-tick = of-refuses m (is_unreadable (name_at_x m p)) E_BPADDR (needs (user_bytes (cells_at m p) (regs_at m p).u (regs_at m p).y) E_BPADDR (λ parameters. refuses (not (asks_for_program (regs_at m p).a)) E_NEMOD (needs (module_name (name_at_x m p)) E_BNAM (λ name. needs (found_entry m.memory.modules name (regs_at m p).a) E_MNF (λ found. refuses (not (found.entry.info.kind == program_kind)) E_NEMOD (forking (record { entered = found; pages = area_pages found.entry (regs_at m p).b (length parameters); parameters = parameters; count = length name }))))))) (of-needs m (user_bytes (cells_at m p) (regs_at m p).u (regs_at m p).y) E_BPADDR (λ parameters. refuses (not (asks_for_program (regs_at m p).a)) E_NEMOD (needs (module_name (name_at_x m p)) E_BNAM (λ name. needs (found_entry m.memory.modules name (regs_at m p).a) E_MNF (λ found. refuses (not (found.entry.info.kind == program_kind)) E_NEMOD (forking (record { entered = found; pages = area_pages found.entry (regs_at m p).b (length parameters); parameters = parameters; count = length name })))))) (λ parameters. of-refuses m (not (asks_for_program (regs_at m p).a)) E_NEMOD (needs (module_name (name_at_x m p)) E_BNAM (λ name. needs (found_entry m.memory.modules name (regs_at m p).a) E_MNF (λ found. refuses (not (found.entry.info.kind == program_kind)) E_NEMOD (forking (record { entered = found; pages = area_pages found.entry (regs_at m p).b (length parameters); parameters = parameters; count = length name }))))) (of-needs m (module_name (name_at_x m p)) E_BNAM (λ name. needs (found_entry m.memory.modules name (regs_at m p).a) E_MNF (λ found. refuses (not (found.entry.info.kind == program_kind)) E_NEMOD (forking (record { entered = found; pages = area_pages found.entry (regs_at m p).b (length parameters); parameters = parameters; count = length name })))) (λ name. of-needs m (found_entry m.memory.modules name (regs_at m p).a) E_MNF (λ found. refuses (not (found.entry.info.kind == program_kind)) E_NEMOD (forking (record { entered = found; pages = area_pages found.entry (regs_at m p).b (length parameters); parameters = parameters; count = length name }))) (λ found. of-refuses m (not (found.entry.info.kind == program_kind)) E_NEMOD (forking (record { entered = found; pages = area_pages found.entry (regs_at m p).b (length parameters); parameters = parameters; count = length name })) (forking-tick (record { entered = found; pages = area_pages found.entry (regs_at m p).b (length parameters); parameters = parameters; count = length name })))))))
 
   f_chain-tick : KeepsTick m (f_chain m p)
-  f_chain-tick = of-needs m (program_name (cells_at m p) (regs_at m p).x) E_BPADDR (λ read. needs (user_bytes (cells_at m p) (regs_at m p).u (regs_at m p).y) E_BPADDR (λ parameters. refuses (not (asks_for_program (regs_at m p).a)) E_NEMOD (needs (read) E_BNAM (λ name. needs (found_entry m.memory.modules name (regs_at m p).a) E_MNF (λ found. refuses (not (found.entry.info.kind == program_kind)) E_NEMOD (chaining (record { entered = found; pages = area_pages found.entry (regs_at m p).b (length parameters); parameters = parameters; count = length name }))))))) (λ read. of-needs m (user_bytes (cells_at m p) (regs_at m p).u (regs_at m p).y) E_BPADDR (λ parameters. refuses (not (asks_for_program (regs_at m p).a)) E_NEMOD (needs (read) E_BNAM (λ name. needs (found_entry m.memory.modules name (regs_at m p).a) E_MNF (λ found. refuses (not (found.entry.info.kind == program_kind)) E_NEMOD (chaining (record { entered = found; pages = area_pages found.entry (regs_at m p).b (length parameters); parameters = parameters; count = length name })))))) (λ parameters. of-refuses m (not (asks_for_program (regs_at m p).a)) E_NEMOD (needs (read) E_BNAM (λ name. needs (found_entry m.memory.modules name (regs_at m p).a) E_MNF (λ found. refuses (not (found.entry.info.kind == program_kind)) E_NEMOD (chaining (record { entered = found; pages = area_pages found.entry (regs_at m p).b (length parameters); parameters = parameters; count = length name }))))) (of-needs m (read) E_BNAM (λ name. needs (found_entry m.memory.modules name (regs_at m p).a) E_MNF (λ found. refuses (not (found.entry.info.kind == program_kind)) E_NEMOD (chaining (record { entered = found; pages = area_pages found.entry (regs_at m p).b (length parameters); parameters = parameters; count = length name })))) (λ name. of-needs m (found_entry m.memory.modules name (regs_at m p).a) E_MNF (λ found. refuses (not (found.entry.info.kind == program_kind)) E_NEMOD (chaining (record { entered = found; pages = area_pages found.entry (regs_at m p).b (length parameters); parameters = parameters; count = length name }))) (λ found. of-refuses m (not (found.entry.info.kind == program_kind)) E_NEMOD (chaining (record { entered = found; pages = area_pages found.entry (regs_at m p).b (length parameters); parameters = parameters; count = length name })) (chaining-tick (record { entered = found; pages = area_pages found.entry (regs_at m p).b (length parameters); parameters = parameters; count = length name })))))))
+  f_chain-tick = of-refuses m (is_unreadable (name_at_x m p)) E_BPADDR (needs (user_bytes (cells_at m p) (regs_at m p).u (regs_at m p).y) E_BPADDR (λ parameters. refuses (not (asks_for_program (regs_at m p).a)) E_NEMOD (needs (module_name (name_at_x m p)) E_BNAM (λ name. needs (found_entry m.memory.modules name (regs_at m p).a) E_MNF (λ found. refuses (not (found.entry.info.kind == program_kind)) E_NEMOD (chaining (record { entered = found; pages = area_pages found.entry (regs_at m p).b (length parameters); parameters = parameters; count = length name }))))))) (of-needs m (user_bytes (cells_at m p) (regs_at m p).u (regs_at m p).y) E_BPADDR (λ parameters. refuses (not (asks_for_program (regs_at m p).a)) E_NEMOD (needs (module_name (name_at_x m p)) E_BNAM (λ name. needs (found_entry m.memory.modules name (regs_at m p).a) E_MNF (λ found. refuses (not (found.entry.info.kind == program_kind)) E_NEMOD (chaining (record { entered = found; pages = area_pages found.entry (regs_at m p).b (length parameters); parameters = parameters; count = length name })))))) (λ parameters. of-refuses m (not (asks_for_program (regs_at m p).a)) E_NEMOD (needs (module_name (name_at_x m p)) E_BNAM (λ name. needs (found_entry m.memory.modules name (regs_at m p).a) E_MNF (λ found. refuses (not (found.entry.info.kind == program_kind)) E_NEMOD (chaining (record { entered = found; pages = area_pages found.entry (regs_at m p).b (length parameters); parameters = parameters; count = length name }))))) (of-needs m (module_name (name_at_x m p)) E_BNAM (λ name. needs (found_entry m.memory.modules name (regs_at m p).a) E_MNF (λ found. refuses (not (found.entry.info.kind == program_kind)) E_NEMOD (chaining (record { entered = found; pages = area_pages found.entry (regs_at m p).b (length parameters); parameters = parameters; count = length name })))) (λ name. of-needs m (found_entry m.memory.modules name (regs_at m p).a) E_MNF (λ found. refuses (not (found.entry.info.kind == program_kind)) E_NEMOD (chaining (record { entered = found; pages = area_pages found.entry (regs_at m p).b (length parameters); parameters = parameters; count = length name }))) (λ found. of-refuses m (not (found.entry.info.kind == program_kind)) E_NEMOD (chaining (record { entered = found; pages = area_pages found.entry (regs_at m p).b (length parameters); parameters = parameters; count = length name })) (chaining-tick (record { entered = found; pages = area_pages found.entry (regs_at m p).b (length parameters); parameters = parameters; count = length name })))))))
 
   f_crc-tick : KeepsTick m (f_crc m p)
   f_crc-tick = of-needs m (user_bytes (cells_at m p) (regs_at m p).x (regs_at m p).y) E_BPADDR (λ bytes. needs (user_bytes (cells_at m p) (regs_at m p).u 3) E_BPADDR (λ accumulator. done (with_memory m (stored m.memory p (regs_at m p).u (crc_continued accumulator bytes))))) (λ bytes. of-needs m (user_bytes (cells_at m p) (regs_at m p).u 3) E_BPADDR (λ accumulator. done (with_memory m (stored m.memory p (regs_at m p).u (crc_continued accumulator bytes)))) (λ accumulator. refl))

@@ -13,7 +13,7 @@ use Rattle.call_rules.specs.Chain.{f_chain, begun_anew, with_program}
 use Rattle.call_rules.specs.Fork.{f_fork, with_child, forked_regs}
 use Rattle.call_rules.specs.Inner.{Inner, own_at, regs_at, cells_at, with_memory, with_regs_of}
 use Rattle.call_rules.specs.ModuleLinks.{Entered, found_entry, without_primary_link}
-use Rattle.call_rules.specs.Program.{Program, program_name, program_kind, asks_for_program, area_pages, most_pages, blocks_of_pages}
+use Rattle.call_rules.specs.Program.{Program, module_name, name_at_x, program_kind, asks_for_program, area_pages, most_pages, blocks_of_pages}
 use Rattle.call_rules.specs.UserBytes.{user_bytes}
 use Rattle.file_rules.specs.Files.{Files, Asker}
 use Rattle.file_rules.specs.Load.{Loaded, GoesOnLoaded}
@@ -26,7 +26,7 @@ use Rattle.file_rules.specs.Step.{Step, refuses as step_refuses}
 abbrev pub named_program : Inner → ℕ → Option Entered
 named_program s p =
     option_and_then (λ name. found_entry s.memory.modules name (regs_at s p).a)
-    (option_and_then (λ read. read) (program_name (cells_at s p) (regs_at s p).x))
+    (module_name (name_at_x s p))
 
 -- the parameters of a program that a process starts, if they are all there
 abbrev pub parameters_of : Inner → ℕ → Option (List ℕ)

@@ -13,7 +13,7 @@ use Rattle.call_rules.specs.Fork.{f_fork, forked_regs, with_child}
 use Rattle.call_rules.specs.Inner.{Inner, cells_at, own_at, regs_at, with_memory, with_regs_of}
 use Rattle.call_rules.specs.Link.{Mapped, after_link, links_at, mapped_group}
 use Rattle.call_rules.specs.ModuleLinks.{Entered, found_entry, without_primary_link}
-use Rattle.call_rules.specs.Program.{Program, area_pages, asks_for_program, blocks_of_pages, most_pages, program_kind, program_name, reads_program}
+use Rattle.call_rules.specs.Program.{Program, area_pages, asks_for_program, blocks_of_pages, most_pages, program_kind, is_unreadable, module_name, name_at_x, reads_program}
 use Rattle.call_rules.specs.UserBytes.{user_bytes}
 use Rattle.file_rules.specs.Files.{Asker, Files}
 use Rattle.file_rules.specs.Load.{GoesOnLoaded, LoadAttempts, Loaded, links_first}
@@ -59,16 +59,16 @@ module _ (m : Inner) (p : ℕ) where
     with-name parameters name =
         needs (found_entry m.memory.modules name (regs_at m p).a) E_MNF (with-found parameters name)
 
-    abbrev with-read : Option (List ℕ) → List ℕ → CallResult
-    with-read read parameters =
-        refuses (not (asks_for_program (regs_at m p).a)) E_NEMOD (needs read E_BNAM (with-name parameters))
+    abbrev with-parameters-read : List ℕ → CallResult
+    with-parameters-read parameters =
+        refuses (not (asks_for_program (regs_at m p).a)) E_NEMOD (needs (module_name (name_at_x m p)) E_BNAM (with-name parameters))
 
     program-goes : GoesOn (reads_program m p next)
     program-goes =
-        of-needs (program_name (cells_at m p) (regs_at m p).x) E_BPADDR (λ read. needs (user_bytes (cells_at m p) (regs_at m p).u (regs_at m p).y) E_BPADDR (with-read read))
-        (λ read. of-needs (user_bytes (cells_at m p) (regs_at m p).u (regs_at m p).y) E_BPADDR (with-read read)
-        (λ parameters. of-refuses (not (asks_for_program (regs_at m p).a)) E_NEMOD (needs read E_BNAM (with-name parameters))
-        (of-needs read E_BNAM (with-name parameters)
+        of-refuses (is_unreadable (name_at_x m p)) E_BPADDR (needs (user_bytes (cells_at m p) (regs_at m p).u (regs_at m p).y) E_BPADDR with-parameters-read)
+        (of-needs (user_bytes (cells_at m p) (regs_at m p).u (regs_at m p).y) E_BPADDR with-parameters-read
+        (λ parameters. of-refuses (not (asks_for_program (regs_at m p).a)) E_NEMOD (needs (module_name (name_at_x m p)) E_BNAM (with-name parameters))
+        (of-needs (module_name (name_at_x m p)) E_BNAM (with-name parameters)
         (λ name. of-needs (found_entry m.memory.modules name (regs_at m p).a) E_MNF (with-found parameters name)
         (λ found. of-refuses (not (found.entry.info.kind == program_kind)) E_NEMOD (next (program-of found parameters (length name)))
         (goes (program-of found parameters (length name))))))))

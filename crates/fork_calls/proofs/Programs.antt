@@ -6,7 +6,8 @@ use Rattle.proc_model.proofs.ModuleListLaws.{found_entry}
 use Rattle.call_rules.specs.CallResult.{CallResult, needs, refuses}
 use Rattle.call_rules.specs.Inner.{Inner, regs_at, cells_at}
 use Rattle.call_rules.specs.ModuleLinks.{Entered, entered_at}
-use Rattle.call_rules.specs.Program.{Program, program_kind, reads_program, program_name, asks_for_program, area_pages}
+use Rattle.call_rules.specs.Program.{Program, program_kind, reads_program, name_at_x, is_unreadable, module_name, asks_for_program, area_pages}
+use Rattle.call_rules.specs.declared.program_name.ProgramName.{ProgramName}
 use Rattle.call_rules.specs.UserBytes.{user_bytes}
 use Rattle.guest_memory.specs.Tie.{IsSame as IsSameMemory}
 use Rattle.proc_state.specs.declared.state.ProcState.{ProcState}
@@ -73,9 +74,6 @@ module _ (entries : List (Option ModuleEntry)) (kind : ℕ) where
 -- ---- what is read
 
 module _ (m : Inner) (p : ℕ) where
-  abbrev name_there : Option (Option (List ℕ))
-  name_there = program_name (cells_at m p) (regs_at m p).x
-
   abbrev bytes_there : Option (List ℕ)
   bytes_there = user_bytes (cells_at m p) (regs_at m p).u (regs_at m p).y
 
@@ -91,41 +89,46 @@ module _ (m : Inner) (p : ℕ) where
   abbrev bytes_next : (Program → CallResult) → Option (List ℕ) → Option (List ℕ) → CallResult
   bytes_next next read bytes = needs bytes E_BPADDR (λ parameters. finds_program m.memory.modules (regs_at m p).a read (found_next next parameters))
 
-  -- a byte of the name is not there
-  pub read-no_name : name_there ≡ None → IsUnread m p E_BPADDR
-  read-no_name none next = ap (λ (name : Option (Option (List ℕ))). needs name E_BPADDR (λ read. bytes_next next read bytes_there)) none
+  abbrev name_next : (Program → CallResult) → ProgramName → CallResult
+  name_next next name = refuses (is_unreadable name) E_BPADDR (bytes_next next (module_name name) bytes_there)
 
-  module _ (read : Option (List ℕ)) (named : name_there ≡ Some read) where
-    -- a byte of the parameters is not there
-    pub read-no_bytes : bytes_there ≡ None → IsUnread m p E_BPADDR
-    read-no_bytes none next =
-        ap (λ (name : Option (Option (List ℕ))). needs name E_BPADDR (λ read. bytes_next next read bytes_there)) named
-        ∙ ap (bytes_next next read) none
+  module _ (name : ProgramName) (named : name_at_x m p ≡ name) where
+    -- a byte of the name is not there
+    pub read-no_name : is_unreadable name ≡ true → IsUnread m p E_BPADDR
+    read-no_name none next =
+        ap (name_next next) named ∙ ap (λ (b : Bool). refuses b E_BPADDR (bytes_next next (module_name name) bytes_there)) none
 
-    module _ (bytes : List ℕ) (passed : bytes_there ≡ Some bytes) where
-      by_program : (next : Program → CallResult) → reads_program m p next ≡ finds_program m.memory.modules (regs_at m p).a read (found_next next bytes)
-      by_program next =
-          ap (λ (name : Option (Option (List ℕ))). needs name E_BPADDR (λ read. bytes_next next read bytes_there)) named
-          ∙ ap (bytes_next next read) passed
+    module _ (there : is_unreadable name ≡ false) where
+      by_name : (next : Program → CallResult) → reads_program m p next ≡ bytes_next next (module_name name) bytes_there
+      by_name next =
+          ap (name_next next) named ∙ ap (λ (b : Bool). refuses b E_BPADDR (bytes_next next (module_name name) bytes_there)) there
 
-      -- there is no program
-      pub read-unfound : (number : ℕ) → IsUnfound m.memory.modules (regs_at m p).a read number → IsUnread m p number
-      read-unfound number unfound next = by_program next ∙ unfound (found_next next bytes)
+      -- a byte of the parameters is not there
+      pub read-no_bytes : bytes_there ≡ None → IsUnread m p E_BPADDR
+      read-no_bytes none next = by_name next ∙ ap (bytes_next next (module_name name)) none
 
-      -- there is one
-      pub read-found : (program : NamedProgram) (buffer : List ℕ) → IsFound m.memory.modules (regs_at m p).a read program.id.0 program.count → ((entry : ModuleEntry) → module_entry_at m.memory.modules program.id.0 ≡ Some entry → program.pages ≡ area_pages entry (regs_at m p).b (length bytes)) → bytes ≡ take program.parameters buffer → IsRead m p program buffer
-      read-found program buffer found pages front = record {
-        entry = found.entry;
-        is = found.is;
-        goes = λ next.
-            by_program next ∙ found.goes (found_next next bytes)
-            ∙ (λ i. next (record {
-              entered = record { number = program.id.0; entry = found.entry };
-              pages = sym (pages found.entry found.is) i;
-              parameters = front i;
-              count = found.long i;
-            }));
-      }
+      module _ (bytes : List ℕ) (passed : bytes_there ≡ Some bytes) where
+        by_program : (next : Program → CallResult) → reads_program m p next ≡ finds_program m.memory.modules (regs_at m p).a (module_name name) (found_next next bytes)
+        by_program next = by_name next ∙ ap (bytes_next next (module_name name)) passed
+
+        -- there is no program
+        pub read-unfound : (number : ℕ) → IsUnfound m.memory.modules (regs_at m p).a (module_name name) number → IsUnread m p number
+        read-unfound number unfound next = by_program next ∙ unfound (found_next next bytes)
+
+        -- there is one
+        pub read-found : (program : NamedProgram) (buffer : List ℕ) → IsFound m.memory.modules (regs_at m p).a (module_name name) program.id.0 program.count → ((entry : ModuleEntry) → module_entry_at m.memory.modules program.id.0 ≡ Some entry → program.pages ≡ area_pages entry (regs_at m p).b (length bytes)) → bytes ≡ take program.parameters buffer → IsRead m p program buffer
+        read-found program buffer found pages front = record {
+          entry = found.entry;
+          is = found.is;
+          goes = λ next.
+              by_program next ∙ found.goes (found_next next bytes)
+              ∙ (λ i. next (record {
+                entered = record { number = program.id.0; entry = found.entry };
+                pages = sym (pages found.entry found.is) i;
+                parameters = front i;
+                count = found.long i;
+              }));
+        }
 
 -- ---- the state is the same for all that is read
 

@@ -2,11 +2,13 @@
 
 ghost use Rattle.std.specs.Prelude.{◌≡◌, ℕ, ◌*◌, ◌<◌, ◌≤◌, IsSome, IfOk, MatchResult};
 ghost use Rattle.guest_memory.specs.Tie.{Represents, IsSame, modules_of, cells_of, seen_cells};
+ghost use Rattle.os9_base.specs.Name.{is_name_character as is_name_character_lem};
 ghost use Rattle.proc_model.specs.Memory.{MemoryState};
 ghost use Rattle.proc_model.specs.ModuleList.{ModuleEntry, module_entry_at};
-ghost use Rattle.call_rules.specs.Program.{program_name, ends_in_slash as ends_in_slash_lem, asks_for_program as asks_for_program_lem, area_pages as area_pages_lem};
+ghost use Rattle.call_rules.specs.Program.{program_name, name_of_run as name_of_run_lem, ends_in_slash as ends_in_slash_lem, asks_for_program as asks_for_program_lem, area_pages as area_pages_lem};
 ghost use Rattle.fork_calls.specs.Naming.{IsFound, IsUnfound};
 
+use call_rules::program_name::ProgramName;
 use guest_memory::memory::Memory;
 use module_calls::program::PAGE_BYTES;
 use os9_base::errors::{E_BNAM, E_MNF, E_NEMOD};
@@ -20,23 +22,44 @@ const PROGRAM: u8 = 0x11;
 /// The type of a program, in any language.
 const ANY_PROGRAM: u8 = 0x10;
 
-/// Reads the name of a program at an address of a process, of which at most 30 bytes are read, and
-/// the byte behind a `/` that ends it. The answer is None if one of these bytes is in no named slot
-/// or past `FFFF`, and `Some(None)` if they are no name: so is a path list.
-pub fn read_name(memory: &mut Memory, p: Pid, at: u16) -> Option<Option<Name>>
+/// Reads what the bytes at an address of a process name: of a run of name characters at most 30
+/// bytes, and the byte behind a `/` that ends it (System Programmer's Manual, F$Fork and F$Chain).
+pub fn read_name(memory: &mut Memory, p: Pid, at: u16) -> ProgramName
     requires { p.0 < 33 }
     ensures name { (m : MemoryState) → Represents memory.old m
         → result ≡ program_name (seen_cells m p.0) at }
     ensures same { IsSame memory.old memory.new }
 {
     let mut run = [0; 30];
-    let count = memory.name_run(p, at, &mut run)?;
+    let Some(count) = memory.name_run(p, at, &mut run) else {
+        return ProgramName::Unreadable;
+    };
     let bytes = &run[..count];
-    if ends_in_slash(bytes) {
-        memory.byte(p, at, count as u16)?;
-        return Some(None);
+    if !ends_in_slash(bytes) {
+        return name_of_run(bytes);
     }
-    Some(parse_name(bytes).ok())
+    match memory.byte(p, at, count as u16) {
+        None => ProgramName::Unreadable,
+        Some(byte) if is_name_character(byte % 128) => ProgramName::PathList,
+        Some(_) => name_of_run(bytes),
+    }
+}
+
+/// The name that the bytes of a run are, if they are one.
+fn name_of_run(bytes: &[u8]) -> ProgramName
+    ensures { result ≡ name_of_run_lem bytes.now }
+{
+    match parse_name(bytes) {
+        Ok(name) => ProgramName::OneName(name),
+        Err(_) => ProgramName::PathList,
+    }
+}
+
+/// A letter, a digit, `_` or `.`.
+fn is_name_character(character: u8) -> bool
+    ensures { result ≡ is_name_character_lem character }
+{
+    matches!(character, b'a'..=b'z' | b'A'..=b'Z' | b'0'..=b'9' | b'_' | b'.')
 }
 
 /// Do the bytes end in a slash?

@@ -21,8 +21,8 @@ use proc_state::state::ProcState;
 /// # Errors
 ///
 /// E$BPAddr exactly if a byte of the name or of the parameters is in no named slot or past `FFFF`;
-/// else E$NEMod if A asks for no program; else E$BNam if the bytes at X are no name; else E$MNF if no
-/// such module is entered; else E$NEMod if the module is no program in 6809 code.
+/// else E$NEMod if A asks for no program; else E$BNam if the bytes at X are not one name; else E$MNF if
+/// no such module is entered; else E$NEMod if the module is no program in 6809 code.
 pub fn read_program(s: &mut ProcState, p: Pid) -> Result<NamedProgram, u8>
     requires lives { IsLiving s.old.table p.0 }
     ensures read { (m : Inner) → Represents s.old m
@@ -33,13 +33,14 @@ pub fn read_program(s: &mut ProcState, p: Pid) -> Result<NamedProgram, u8>
     ensures same { IsSame s.old s.new }
 {
     let regs = s.regs(p);
-    let Some(name) = read_name(&mut s.memory, p, regs.x) else {
+    let name = read_name(&mut s.memory, p, regs.x);
+    if name.is_unreadable() {
         return Err(E_BPADDR);
-    };
+    }
     if !s.read_bytes(p, regs.u, regs.y) {
         return Err(E_BPADDR);
     }
-    let (id, count) = find_program(&s.memory, regs.a, name)?;
+    let (id, count) = find_program(&s.memory, regs.a, name.module_name())?;
     let info = s.memory.info(id);
     Ok(NamedProgram {
         id,

@@ -24,7 +24,7 @@ use Rattle.call_rules.specs.Fork.{f_fork, forked_regs, with_child}
 use Rattle.call_rules.specs.Inner.{Inner, cells_at, own_at, regs_at, with_regs_of}
 use Rattle.call_rules.specs.Link.{Mapped, after_link, f_link, links_at, mapped_group}
 use Rattle.call_rules.specs.ModuleLinks.{Entered, found_entry, module_at, without_module_link, without_primary_link}
-use Rattle.call_rules.specs.Program.{Program, area_pages, asks_for_program, blocks_of_pages, most_pages, program_kind, program_name, reads_program}
+use Rattle.call_rules.specs.Program.{Program, area_pages, asks_for_program, blocks_of_pages, most_pages, program_kind, is_unreadable, module_name, name_at_x, reads_program}
 use Rattle.call_rules.specs.UnLink.{after_unlink, f_unlink, without_group_link}
 use Rattle.call_rules.specs.UnLoad.{f_unload}
 use Rattle.call_rules.specs.UserBytes.{user_bytes}
@@ -158,22 +158,22 @@ module _ (m : Inner) (p : ℕ) where
     with-name parameters name =
         needs (found_entry m.memory.modules name (regs_at m p).a) E_MNF (with-found parameters name)
 
-    abbrev with-read : Option (List ℕ) → List ℕ → CallResult
-    with-read read parameters =
-        refuses (not (asks_for_program (regs_at m p).a)) E_NEMOD (needs read E_BNAM (with-name parameters))
+    abbrev with-parameters-read : List ℕ → CallResult
+    with-parameters-read parameters =
+        refuses (not (asks_for_program (regs_at m p).a)) E_NEMOD (needs (module_name (name_at_x m p)) E_BNAM (with-name parameters))
 
     abbrev found_by : Option (List ℕ) → Option Entered
     found_by read = option_and_then (λ (name : List ℕ). found_entry m.memory.modules name (regs_at m p).a) read
 
     reads-links : ((program : Program) → named_program m p ≡ Some program.entered → ResultLinks (next program)) → ResultLinks (reads_program m p next)
     reads-links links =
-        of-needs (program_name (cells_at m p) (regs_at m p).x) E_BPADDR (λ read. needs (user_bytes (cells_at m p) (regs_at m p).u (regs_at m p).y) E_BPADDR (with-read read))
-        (λ read read_is. of-needs (user_bytes (cells_at m p) (regs_at m p).u (regs_at m p).y) E_BPADDR (with-read read)
-        (λ parameters given. of-refuses (not (asks_for_program (regs_at m p).a)) E_NEMOD (needs read E_BNAM (with-name parameters))
-        (of-needs read E_BNAM (with-name parameters)
+        of-refuses (is_unreadable (name_at_x m p)) E_BPADDR (needs (user_bytes (cells_at m p) (regs_at m p).u (regs_at m p).y) E_BPADDR with-parameters-read)
+        (of-needs (user_bytes (cells_at m p) (regs_at m p).u (regs_at m p).y) E_BPADDR with-parameters-read
+        (λ parameters given. of-refuses (not (asks_for_program (regs_at m p).a)) E_NEMOD (needs (module_name (name_at_x m p)) E_BNAM (with-name parameters))
+        (of-needs (module_name (name_at_x m p)) E_BNAM (with-name parameters)
         (λ name name_is. of-needs (found_entry m.memory.modules name (regs_at m p).a) E_MNF (with-found parameters name)
         (λ found found_is. of-refuses (not (found.entry.info.kind == program_kind)) E_NEMOD (next _)
-        (links _ (ap (λ (read : Option (Option (List ℕ))). found_by (option_and_then (λ (read : Option (List ℕ)). read) read)) read_is ∙ ap found_by name_is ∙ found_is)))))))
+        (links _ (ap found_by name_is ∙ found_is)))))))
 
   fork-links : AttemptsCall m p Call.Fork → ResultLinks (f_fork m p)
   fork-links did =

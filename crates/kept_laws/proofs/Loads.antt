@@ -22,7 +22,7 @@ use Rattle.call_rules.specs.Fork.{f_fork, forked_regs, with_child, with_child_re
 use Rattle.call_rules.specs.Inner.{Inner, cells_at, no_own, own_at, regs_at, with_memory, with_regs_of}
 use Rattle.call_rules.specs.Link.{Mapped, after_link, links_at, mapped_group}
 use Rattle.call_rules.specs.ModuleLinks.{Entered, found_entry, still_primary, without_module_link, without_primary_link}
-use Rattle.call_rules.specs.Program.{Program, area_pages, asks_for_program, blocks_of_pages, most_pages, parameters_at, program_kind, program_name, reads_program, start_own, start_regs, with_parameters}
+use Rattle.call_rules.specs.Program.{Program, area_pages, asks_for_program, blocks_of_pages, most_pages, parameters_at, program_kind, is_unreadable, module_name, name_at_x, reads_program, start_own, start_regs, with_parameters}
 use Rattle.call_rules.specs.UserBytes.{user_bytes}
 use Rattle.file_rules.specs.Files.{Asker, Files}
 use Rattle.file_rules.specs.Load.{GoesOnLoaded, LoadAttempts, Loaded, first_entered, links_first, loaded_by, with_file_entered}
@@ -179,16 +179,16 @@ module _ (m : Inner) (p : ℕ) (So : Inner → Type 0) (next : Program → CallR
   with-name parameters name =
       needs (found_entry m.memory.modules name (regs_at m p).a) E_MNF (with-found parameters name)
 
-  abbrev with-read : Option (List ℕ) → List ℕ → CallResult
-  with-read read parameters =
-      refuses (not (asks_for_program (regs_at m p).a)) E_NEMOD (needs read E_BNAM (with-name parameters))
+  abbrev with-parameters-read : List ℕ → CallResult
+  with-parameters-read parameters =
+      refuses (not (asks_for_program (regs_at m p).a)) E_NEMOD (needs (module_name (name_at_x m p)) E_BNAM (with-name parameters))
 
   reads-over : IsOver So (reads_program m p next)
   reads-over =
-      of-needs So (program_name (cells_at m p) (regs_at m p).x) E_BPADDR (λ read. needs (user_bytes (cells_at m p) (regs_at m p).u (regs_at m p).y) E_BPADDR (with-read read))
-      (λ read read_is. of-needs So (user_bytes (cells_at m p) (regs_at m p).u (regs_at m p).y) E_BPADDR (with-read read)
-      (λ parameters parameters_are. of-refuses So (not (asks_for_program (regs_at m p).a)) E_NEMOD (needs read E_BNAM (with-name parameters))
-      (of-needs So read E_BNAM (with-name parameters)
+      of-refuses So (is_unreadable (name_at_x m p)) E_BPADDR (needs (user_bytes (cells_at m p) (regs_at m p).u (regs_at m p).y) E_BPADDR with-parameters-read)
+      (of-needs So (user_bytes (cells_at m p) (regs_at m p).u (regs_at m p).y) E_BPADDR with-parameters-read
+      (λ parameters parameters_are. of-refuses So (not (asks_for_program (regs_at m p).a)) E_NEMOD (needs (module_name (name_at_x m p)) E_BNAM (with-name parameters))
+      (of-needs So (module_name (name_at_x m p)) E_BNAM (with-name parameters)
       (λ name name_is. of-needs So (found_entry m.memory.modules name (regs_at m p).a) E_MNF (with-found parameters name)
       (λ found found_is. of-refuses So (not (found.entry.info.kind == program_kind)) E_NEMOD (next (program-of found parameters (length name)))
       (over (program-of found parameters (length name)) (room-of found.entry (regs_at m p).b (length parameters))))))))

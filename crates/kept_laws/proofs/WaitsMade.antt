@@ -32,7 +32,7 @@ use Rattle.call_rules.specs.Inner.{Inner, no_own, own_at, regs_at, user_at, cell
 use Rattle.call_rules.specs.Link.{Mapped, f_link, mapped_group, links_at, after_link}
 use Rattle.call_rules.specs.Mem.{f_mem, sets_pages, resized, with_size, size_regs}
 use Rattle.call_rules.specs.ModuleLinks.{Entered, found_entry, module_at, without_module_link, without_primary_link}
-use Rattle.call_rules.specs.Program.{Program, area_pages, asks_for_program, blocks_of_pages, most_pages, page_count, program_kind, program_name, reads_program}
+use Rattle.call_rules.specs.Program.{Program, area_pages, asks_for_program, blocks_of_pages, most_pages, page_count, program_kind, is_unreadable, module_name, name_at_x, reads_program}
 use Rattle.call_rules.specs.PrsNam.{f_prsnam, parses_name, past_slash, name_regs}
 use Rattle.call_rules.specs.SPrior.{f_sprior}
 use Rattle.call_rules.specs.Send.{f_send, after_signal}
@@ -115,16 +115,16 @@ module _ (m : Inner) (p : ℕ) where
     with-name parameters name =
         needs (found_entry m.memory.modules name (regs_at m p).a) E_MNF (with-found parameters name)
 
-    abbrev with-read : Option (List ℕ) → List ℕ → CallResult
-    with-read read parameters =
-        refuses (not (asks_for_program (regs_at m p).a)) E_NEMOD (needs read E_BNAM (with-name parameters))
+    abbrev with-parameters-read : List ℕ → CallResult
+    with-parameters-read parameters =
+        refuses (not (asks_for_program (regs_at m p).a)) E_NEMOD (needs (module_name (name_at_x m p)) E_BNAM (with-name parameters))
 
     program-has : HasItsCall (reads_program m p next)
     program-has =
-        of-needs (program_name (cells_at m p) (regs_at m p).x) E_BPADDR (λ read. needs (user_bytes (cells_at m p) (regs_at m p).u (regs_at m p).y) E_BPADDR (with-read read))
-        (λ read. of-needs (user_bytes (cells_at m p) (regs_at m p).u (regs_at m p).y) E_BPADDR (with-read read)
-        (λ parameters. of-refuses (not (asks_for_program (regs_at m p).a)) E_NEMOD (needs read E_BNAM (with-name parameters))
-        (of-needs read E_BNAM (with-name parameters)
+        of-refuses (is_unreadable (name_at_x m p)) E_BPADDR (needs (user_bytes (cells_at m p) (regs_at m p).u (regs_at m p).y) E_BPADDR with-parameters-read)
+        (of-needs (user_bytes (cells_at m p) (regs_at m p).u (regs_at m p).y) E_BPADDR with-parameters-read
+        (λ parameters. of-refuses (not (asks_for_program (regs_at m p).a)) E_NEMOD (needs (module_name (name_at_x m p)) E_BNAM (with-name parameters))
+        (of-needs (module_name (name_at_x m p)) E_BNAM (with-name parameters)
         (λ name. of-needs (found_entry m.memory.modules name (regs_at m p).a) E_MNF (with-found parameters name)
         (λ found. of-refuses (not (found.entry.info.kind == program_kind)) E_NEMOD (next (program-of found parameters (length name)))
         (has (program-of found parameters (length name))))))))

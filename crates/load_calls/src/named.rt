@@ -23,10 +23,8 @@ pub(crate) fn names_program(s: &mut ProcState, p: Pid) -> bool
     ensures same { IsSame s.old s.new }
 {
     let regs = s.regs(p);
-    match read_name(&mut s.memory, p, regs.x) {
-        Some(name) => is_entered(&s.memory, name, regs.a),
-        None => false,
-    }
+    let name = read_name(&mut s.memory, p, regs.x);
+    is_entered(&s.memory, name.module_name(), regs.a)
 }
 
 /// Is there a name, and is a module of that name entered that has this type and language?

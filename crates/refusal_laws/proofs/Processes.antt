@@ -31,7 +31,9 @@ use Rattle.call_rules.specs.Inner.{Inner, cells_at, own_at, regs_at, user_at, wi
 use Rattle.call_rules.specs.Link.{links_at, mapped_group}
 use Rattle.call_rules.specs.ModuleLinks.{Entered, entered_at, found_entry, module_at, without_primary_link}
 use Rattle.call_rules.specs.Mem.{resized}
-use Rattle.call_rules.specs.Program.{Program, area_pages, asks_for_program, blocks_of_pages, most_pages, page_count, program_kind, program_name, reads_program}
+use Rattle.call_rules.specs.declared.program_name.ProgramName.{ProgramName}
+use Rattle.call_rules.specs.declared.program_name.ProgramName.TheVariants.{Unreadable, OneName, PathList}
+use Rattle.call_rules.specs.Program.{Program, area_pages, asks_for_program, blocks_of_pages, most_pages, page_count, program_kind, is_unreadable, module_name, name_at_x, reads_program}
 use Rattle.call_rules.specs.PrsNam.{past_slash}
 use Rattle.call_rules.specs.Send.{after_signal}
 use Rattle.call_rules.specs.Sleep.{falls_asleep, may_wake, ticks_left}
@@ -319,17 +321,18 @@ module _ (m : Inner) (p number : ℕ) where
             count = length name;
           }))) ≡ refused number) there is)
 
-      by-program : (read : Option (Option (List ℕ))) → option_and_then (λ name. found_entry m.memory.modules name (regs_at m p).a) (option_and_then (λ read. read) read) ≡ Some found → needs read E_BPADDR (λ read. needs (parameters_of m p) E_BPADDR (λ parameters. refuses (not (asks_for_program (regs_at m p).a)) E_NEMOD (after_name parameters read))) ≡ refused number → Why call
-      by-program None there is = absurd (none-some found there)
-      by-program (Some read) there is =
+      by-program : (name : ProgramName) → option_and_then (λ name. found_entry m.memory.modules name (regs_at m p).a) (module_name name) ≡ Some found → refuses (is_unreadable name) E_BPADDR (needs (parameters_of m p) E_BPADDR (λ parameters. refuses (not (asks_for_program (regs_at m p).a)) E_NEMOD (after_name parameters (module_name name)))) ≡ refused number → Why call
+      by-program Unreadable there is = absurd (none-some found there)
+      by-program PathList there is = absurd (none-some found there)
+      by-program (OneName name) there is =
           by-needs number (parameters_of m p) E_BPADDR _
           (λ none number_is. not_tested starts (no_parameters number_is none))
           (λ parameters bytes is. by-refuses number (not (asks_for_program (regs_at m p).a)) E_NEMOD _
           (λ other number_is. not_tested starts (other_type number_is (not-is (asks_for_program (regs_at m p).a) other)))
-          (λ asks is. by-read parameters (user-length (cells_at m p) (regs_at m p).u (regs_at m p).y parameters bytes) read there is) is) is
+          (λ asks is. by-read parameters (user-length (cells_at m p) (regs_at m p).u (regs_at m p).y parameters bytes) (Some name) there is) is) is
 
       reads-caused : reads_program m p next ≡ refused number → Why call
-      reads-caused is = by-program (program_name (cells_at m p) (regs_at m p).x) named is
+      reads-caused is = by-program (name_at_x m p) named is
 
   pages-same : (found : Entered) (parameters : List ℕ) → length parameters ≡ (regs_at m p).y → area_pages found.entry (regs_at m p).b (length parameters) ≡ pages_for m p no_file (in_memory m found)
   pages-same found parameters long = ap (area_pages found.entry (regs_at m p).b) long

@@ -1,0 +1,35 @@
+ghost use Rattle.std.specs.Prelude.{◌≡◌};
+ghost use Rattle.call_rules.specs.Program.{is_unreadable as is_unreadable_lem, module_name as module_name_lem};
+
+use os9_base::name::Name;
+
+/// What the bytes at an address name for F$Fork and F$Chain (System Programmer's Manual, F$Fork and
+/// F$Chain).
+#[derive(Clone, Copy, Debug)]
+pub enum ProgramName {
+    /// A byte that has to be read is in no named slot or past `FFFF`.
+    Unreadable,
+    /// One name: the entered module of that name is meant, if there is one.
+    OneName(Name),
+    /// No one name: a path list, or bytes that name nothing.
+    PathList,
+}
+
+impl ProgramName {
+    /// Is a byte that has to be read not there?
+    pub fn is_unreadable(&self) -> bool
+        ensures { result ≡ is_unreadable_lem self.now }
+    {
+        matches!(self, ProgramName::Unreadable)
+    }
+
+    /// The name of the entered module that is meant, if the bytes are one name.
+    pub fn module_name(self) -> Option<Name>
+        ensures { result ≡ module_name_lem self }
+    {
+        match self {
+            ProgramName::OneName(name) => Some(name),
+            ProgramName::Unreadable | ProgramName::PathList => None,
+        }
+    }
+}
