@@ -1,6 +1,7 @@
 -- What is left when images were written under their names.
-use Rattle.std.specs.Prelude.{◌≡◌, ℕ, Some, Result, List, slice_get, OnOk, IfErr}
+use Rattle.std.specs.Prelude.{◌≡◌, ℕ, suc, Some, Result, Ok, Err, List, take, slice_get, OnOk, IfErr}
 use Rattle.os9_outer.specs.Host.{IfObserved}
+use Rattle.os9_words.specs.Notes.{HasWritten, Notes}
 use Rattle.boot_run.specs.World.{World, FailsToWriteFile, HasNoFault}
 use Rattle.boot_images.specs.Images.{WritesAll, WritesUpTo}
 use Rattle.boot_images.specs.declared.write.WriteFault.{WriteFault}
@@ -26,3 +27,10 @@ pub record WritesImages {Value : Type 0} (names images : List (List ℕ)) (answe
   pub stopped : IfErr answer (StopsWrite names images before after)
   pub out_kept : after.out ≡ before.out
   pub devices_kept : after.devices ≡ before.devices
+
+-- the files that were written, by their names: each once, in order; those up to the one that was not, or the first ones
+-- if memory was out
+abbrev pub NotesWrites : {Value : Type 0} → List (List ℕ) → Result Value WriteFault → Notes → Notes → Type 0
+NotesWrites names (Ok _) before after = HasWritten names before after
+NotesWrites names (Err (Image number)) before after = HasWritten (take (suc number) names) before after
+NotesWrites names (Err OutOfMemory) before after = (count : ℕ) × HasWritten (take count names) before after

@@ -6,6 +6,7 @@ ghost use Rattle.boot_images.specs.Outcome.{RunsImages, setup_of};
 ghost use Rattle.boot_images.specs.Ready.{AreFree, CanStart};
 ghost use Rattle.boot_run.specs.World.{OnWorld};
 ghost use Rattle.os9_kernel.specs.Outside.{outside};
+ghost use Rattle.os9_words.specs.Notes.{notes_of};
 
 use crate::drives::{eject_images, insert_images};
 use crate::images::Images;
@@ -53,7 +54,7 @@ pub fn run_images<H: Host>(
         ⟦<dyn BlockDriver as BlockDriver>⟧ devices.old.drives.items devices.new.drives.items
         ⟦<dyn CharDriver as CharDriver>⟧ devices.old.terms.items devices.new.terms.items }
     ensures count { length images.new ≡ length images.old }
-    ensures err_kept { H.bytes_err host.new ≡ H.bytes_err host.old }
+    ensures notes_kept { notes_of H.Host host.new ≡ notes_of H.Host host.old }
     ensures terminals { vec_len devices.new.terms ≡ vec_len devices.old.terms }
 {
     insert_images(alloc, images, devices);

@@ -2,7 +2,8 @@
 
 ghost use Rattle.std.specs.Prelude.{◌≡◌, length};
 ghost use Rattle.os9_kernel.specs.Outside.{Outside};
-ghost use Rattle.boot_images.specs.ImageWrites.{WritesImages};
+ghost use Rattle.os9_words.specs.Notes.{notes_of};
+ghost use Rattle.boot_images.specs.ImageWrites.{NotesWrites, WritesImages};
 ghost use Rattle.boot_run.specs.World.{world_of};
 
 use crate::images::Images;
@@ -22,7 +23,7 @@ pub enum WriteFault {
     OutOfMemory,
 }
 
-/// Writes the images under these names, in order.
+/// Writes the images under these names, in order, each file once.
 ///
 /// # Errors
 ///
@@ -31,7 +32,8 @@ pub fn write_images<H: Host>(names: &Words, images: &Images, host: &mut H) -> Re
     requires { length images.now ≡ length names.now }
     ensures wrote { (devices : Outside) → WritesImages names.now images.now result
         (world_of H.Host host.old devices) (world_of H.Host host.new devices) }
-    ensures err_kept { H.bytes_err host.new ≡ H.bytes_err host.old }
+    ensures noted { NotesWrites names.now result
+        (notes_of H.Host host.old) (notes_of H.Host host.new) }
 {
     for number in 0..images.len() {
         let name = names.word(u32::from(number));

@@ -1,6 +1,7 @@
 ghost use Rattle.std.specs.Prelude.{◌≡◌, ◌<◌, IfSome, vec_len};
 ghost use Rattle.os9_outer.specs.Stream.{emptied};
 ghost use Rattle.os9_outer.specs.TerminalState.{terminal_states, ChangesOneTerminal};
+ghost use Rattle.os9_words.specs.Notes.{notes_of};
 ghost use Rattle.os9_words.specs.Streams.{WritesOut};
 ghost use Rattle.boot_run.specs.Console.{TakesBytes};
 ghost use Rattle.boot_run.specs.PassedBytes.{PassesBytes};
@@ -52,7 +53,7 @@ pub fn pass_on<H: Host>(devices: &mut Devices, host: &mut H) -> Result<(), HostF
     ensures passed { OnWorld (PassesBytes result) H.Host host.old host.new
         ⟦<dyn BlockDriver as BlockDriver>⟧ devices.old.drives.items devices.new.drives.items
         ⟦<dyn CharDriver as CharDriver>⟧ devices.old.terms.items devices.new.terms.items }
-    ensures err_kept { H.bytes_err host.new ≡ H.bytes_err host.old }
+    ensures notes_kept { notes_of H.Host host.new ≡ notes_of H.Host host.old }
     ensures terminals { vec_len devices.new.terms ≡ vec_len devices.old.terms }
     ensures drives_kept { devices.new.drives ≡ devices.old.drives }
 {

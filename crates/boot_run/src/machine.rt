@@ -2,6 +2,7 @@
 
 ghost use Rattle.std.specs.Prelude.{◌≡◌, ◌≢◌, vec_len};
 ghost use Rattle.os9_kernel.specs.Outside.{outside};
+ghost use Rattle.os9_words.specs.Notes.{notes_of};
 ghost use Rattle.boot_run.specs.Machine.{CanRun, MachineRuns};
 ghost use Rattle.boot_run.specs.RunEnd.{start_end};
 ghost use Rattle.boot_run.specs.World.{OnWorld};
@@ -53,7 +54,7 @@ pub fn run_machine<H: Host>(
         H.Host host.old host.new
         ⟦<dyn BlockDriver as BlockDriver>⟧ devices.old.drives.items devices.new.drives.items
         ⟦<dyn CharDriver as CharDriver>⟧ devices.old.terms.items devices.new.terms.items }
-    ensures err_kept { H.bytes_err host.new ≡ H.bytes_err host.old }
+    ensures notes_kept { notes_of H.Host host.new ≡ notes_of H.Host host.old }
     ensures terminals { vec_len devices.new.terms ≡ vec_len devices.old.terms }
     ensures drives { vec_len devices.new.drives ≡ vec_len devices.old.drives }
 {

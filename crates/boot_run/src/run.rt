@@ -1,6 +1,7 @@
 ghost use Rattle.std.specs.Prelude.{◌≡◌, ◌+◌, ◌<◌, length, vec_len};
 ghost use Rattle.os9_kernel.specs.Outside.{outside};
 ghost use Rattle.os9_kernel.specs.Tie.{Stands, ticks};
+ghost use Rattle.os9_words.specs.Notes.{notes_of};
 ghost use Rattle.boot_run.specs.Slices.{RunsSlices};
 ghost use Rattle.boot_run.specs.World.{OnWorld};
 
@@ -41,7 +42,7 @@ pub fn run_slices<H: Host>(
         H.Host host.old host.new
         ⟦<dyn BlockDriver as BlockDriver>⟧ devices.old.drives.items devices.new.drives.items
         ⟦<dyn CharDriver as CharDriver>⟧ devices.old.terms.items devices.new.terms.items }
-    ensures err_kept { H.bytes_err host.new ≡ H.bytes_err host.old }
+    ensures notes_kept { notes_of H.Host host.new ≡ notes_of H.Host host.old }
     ensures terminals { vec_len devices.new.terms ≡ vec_len devices.old.terms }
     ensures drives { vec_len devices.new.drives ≡ vec_len devices.old.drives }
 {

@@ -1,19 +1,26 @@
 //! The program: the real host, four drives and four terminals for the top call.
 #![tactic(auto)]
 
+ghost use Rattle.std.specs.Prelude.{map, string_bytes};
 ghost use Rattle.boot_images.specs.Drives.{HaveRoom};
+ghost use Rattle.boot_run.specs.World.{world_of};
 ghost use Rattle.file_drives.specs.Drives.{drive_views};
 ghost use Rattle.key_loading.specs.Loaded.{AreUnloaded};
+ghost use Rattle.os9_boot.specs.TopCall.{TopCall};
+ghost use Rattle.os9_kernel.specs.Outside.{outside};
 ghost use Rattle.os9_outer.specs.TerminalState.{terminal_states};
+ghost use Rattle.os9_words.specs.Notes.{notes_of};
 
 use device_table::devices::Devices;
 use os9_boot::{add_drive, os9_main};
 use os9_outer::drive::BlockDriver;
+use os9_outer::host::Host;
 use os9_outer::real_host::RealHost;
 use os9_outer::sure_drive::SureDrive;
 use os9_outer::sure_tty::SureTty;
 use os9_outer::terminal::CharDriver;
 use os9_words::message::{Message, report};
+use std::alloc::Global;
 use std::env;
 use std::io::{self, ErrorKind};
 use std::process::ExitCode;
@@ -59,21 +66,33 @@ fn run_on(rt: HostRuntime, words: &[String], drives: Vec<Box<dyn BlockDriver>>) 
     terms.push(Box::new(alloc, SureTty::new(alloc))?)?;
     terms.push(Box::new(alloc, SureTty::new(alloc))?)?;
     terms.push(Box::new(alloc, SureTty::new(alloc))?)?;
-    Ok(run_with(rt, words, Devices { drives, terms }))
+    let mut devices = Devices { drives, terms };
+    Ok(run_with(alloc, words, &mut RealHost::new(rt), &mut devices))
 }
 
 /// Does what the words say on the real host and these devices, four drives without an image and one
-/// to four terminals without keys.
-fn run_with(rt: HostRuntime, words: &[String], devices: Devices) -> u8
+/// to four terminals without keys: the status is that of the top call.
+fn run_with(
+    alloc: Global,
+    words: &[String],
+    host: &mut RealHost<HostRuntime>,
+    devices: &mut Devices,
+) -> u8
     requires terminals { AreUnloaded
-        (terminal_states ⟦<dyn CharDriver as CharDriver>⟧ devices.terms.items) }
+        (terminal_states ⟦<dyn CharDriver as CharDriver>⟧ devices.old.terms.items) }
     requires drives { HaveRoom 4
-        (drive_views ⟦<dyn BlockDriver as BlockDriver>⟧ devices.drives.items) }
+        (drive_views ⟦<dyn BlockDriver as BlockDriver>⟧ devices.old.drives.items) }
+    ensures call { TopCall (map string_bytes words.now)
+        (world_of ⟦<RealHost<HostRuntime> as Host>⟧ host.old (outside
+        ⟦<dyn BlockDriver as BlockDriver>⟧ devices.old.drives.items
+        ⟦<dyn CharDriver as CharDriver>⟧ devices.old.terms.items))
+        (world_of ⟦<RealHost<HostRuntime> as Host>⟧ host.new (outside
+        ⟦<dyn BlockDriver as BlockDriver>⟧ devices.new.drives.items
+        ⟦<dyn CharDriver as CharDriver>⟧ devices.new.terms.items))
+        (notes_of ⟦<RealHost<HostRuntime> as Host>⟧ host.old)
+        (notes_of ⟦<RealHost<HostRuntime> as Host>⟧ host.new) result }
 {
-    let alloc = rt.alloc();
-    let mut devices = devices;
-    let mut host = RealHost::new(rt);
-    os9_main(alloc, words, &mut host, &mut devices)
+    os9_main(alloc, words, host, devices)
 }
 
 /// Reports that the words are no command line.

@@ -9,6 +9,7 @@ use Rattle.os9_words.specs.declared.command.Command.{Command}
 use Rattle.os9_words.specs.declared.command.Command.TheVariants.{Boot as BootCommand}
 use Rattle.os9_words.specs.declared.command.RunWords.{RunWords}
 use Rattle.os9_words.specs.Command.{command_of}
+use Rattle.os9_words.specs.Notes.{Notes}
 use Rattle.event_rules.specs.Start.{Refuses}
 use Rattle.event_rules.specs.declared.ends.BootFault.{BootFault}
 use Rattle.machine_model.specs.Run.{status_of}
@@ -101,12 +102,12 @@ module _ (files : Files) (boot : RunWords) (before after : World) (accepted : Is
     by-end NoFirst host comes is = absurd (not-refused comes.0 comes.1 comes.2.0 comes.2.1)
     by-end TooLarge host comes is = absurd (not-refused comes.0 comes.1 comes.2.0 comes.2.1)
 
-pub is-one-run : (words : List (List ℕ)) (boot : RunWords) (files : Files) (before after : World) (err_before err_after : Option (List ℕ)) (status : ℕ) → command_of words ≡ Some (BootCommand boot) → TopCall words before after err_before err_after status → before.files ≡ Some files → All IsObserved before.devices.terms → IsAccepted files boot (length before.devices.terms) → ¬ Rose before.faults after.faults → BootIsOneRun files boot before after status
-is-one-run words boot files before after err_before err_after status spelled call told observed accepted kept =
+pub is-one-run : (words : List (List ℕ)) (boot : RunWords) (files : Files) (before after : World) (noted notes : Notes) (status : ℕ) → command_of words ≡ Some (BootCommand boot) → TopCall words before after noted notes status → before.files ≡ Some files → All IsObserved before.devices.terms → IsAccepted files boot (length before.devices.terms) → ¬ Rose before.faults after.faults → BootIsOneRun files boot before after status
+is-one-run words boot files before after noted notes status spelled call told observed accepted kept =
     by-end files boot before after accepted kept status report.end report.call.host (comes observed) report.status_is
   where
-    report : CommandReport (BootCommand boot) before after err_before err_after status
-    report = subst (λ (found : Option Command). MatchOption found (WordsReport before after err_before err_after status) (λ command. CommandReport command before after err_before err_after status)) spelled call
+    report : CommandReport (BootCommand boot) before after noted notes status
+    report = subst (λ (found : Option Command). MatchOption found (WordsReport before after noted notes status) (λ command. CommandReport command before after noted notes status)) spelled call
 
     comes : IfSome (Some files) (λ (files : Files). All IsObserved before.devices.terms → BootComesTo files boot before after report.end)
     comes = subst (λ (some : Option Files). IfSome some (λ (files : Files). All IsObserved before.devices.terms → BootComesTo files boot before after report.end)) told report.call.comes

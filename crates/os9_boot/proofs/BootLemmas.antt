@@ -19,7 +19,8 @@ use Rattle.os9_boot.specs.declared.status.End.TheVariants.{CannotRead, CannotWri
 use Rattle.os9_boot.specs.declared.status.Input.TheVariants.{Script as ScriptInput, Slices as SlicesInput}
 use Rattle.os9_boot.specs.Boots.{BootComesTo, MachineComesTo}
 use Rattle.os9_boot.specs.Commands.{CommandCall}
-use Rattle.os9_boot.specs.Host.{FailsAsTold, IfAllObserved}
+use Rattle.os9_boot.specs.Host.{FailsAsTold}
+use Rattle.os9_boot.specs.Meaning.{IfAllObserved}
 use Rattle.os9_boot.specs.Images.{RefusesImages}
 use Rattle.os9_boot.specs.Reading.{HasBootFiles, RefusesTexts}
 use Rattle.os9_boot.specs.Setup.{HaveTexts, SetsUpBoot}
@@ -115,5 +116,4 @@ module _ (before : World) (boot : RunWords) (read : BootFiles) (has : IfSome bef
             devices = it.devices;
             host = boot-fails boot before after answer it.host;
             files = it.files;
-            check_keeps = λ image is. absurd (cc is);
           }

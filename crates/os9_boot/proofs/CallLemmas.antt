@@ -1,14 +1,15 @@
 -- Commands that end before anything ran, stresses, and the top call.
-use Rattle.std.proofs.Common.{◌≡◌, ℕ, Option, Some, None, List, refl, ap, subst, inl, inr, All}
-use Rattle.std.specs.Prelude.{IfSome}
+use Rattle.std.proofs.Common.{◌≡◌, ◌⊎◌, ℕ, Option, Some, None, Ok, Err, List, refl, ap, subst, inl, inr, All}
+use Rattle.std.specs.Prelude.{IfSome, Result}
 use Rattle.os9_outer.specs.Host.{Files, IfObserved, file_contents}
-use Rattle.os9_outer.specs.Stream.{GainsPrefix}
 use Rattle.os9_outer.specs.declared.host.Host.{Ghosts}
+use Rattle.os9_outer.specs.declared.host.HostFault.{HostFault}
 use Rattle.os9_words.specs.declared.command.Command.{Command}
 use Rattle.os9_words.specs.declared.command.Command.TheVariants.{Run as RunCommand, Boot as BootCommand, Check as CheckCommand, Stress as StressCommand}
 use Rattle.os9_words.specs.Command.{command_of}
 use Rattle.os9_words.specs.Lines.{no_memory_line, words_line}
-use Rattle.os9_words.specs.Streams.{ChangesErrOnly}
+use Rattle.os9_words.specs.Notes.{Notes, notes_of}
+use Rattle.os9_words.specs.Streams.{ChangesErrOnly, WritesErr}
 use Rattle.file_drives.specs.Drives.{drive_states}
 use Rattle.os9_kernel.specs.Outside.{Outside}
 use Rattle.boot_run.specs.Console.{IsObserved}
@@ -22,10 +23,15 @@ use Rattle.os9_boot.specs.declared.status.End.TheVariants.{Ended, Living, Cannot
 use Rattle.os9_boot.specs.declared.status.Input.{Input}
 use Rattle.os9_boot.specs.Boots.{BootComesTo, IsUndone, RunComesTo}
 use Rattle.os9_boot.specs.Check.{CheckComesTo}
-use Rattle.os9_boot.specs.Commands.{BootLeavesFiles, ChangesOnly, CommandCall, ComesOf, IsSilent, LeavesDevices, LeavesFiles, MayEnd, StressMayEnd}
-use Rattle.os9_boot.specs.End.{end_line, file_name, status_number, stress_end}
-use Rattle.os9_boot.specs.Host.{FailsAsTold, IfAllObserved}
-use Rattle.os9_boot.specs.TopCall.{CommandReport, TopCall}
+use Rattle.os9_boot.specs.Commands.{CommandCall}
+use Rattle.os9_boot.specs.End.{status_number, stress_end}
+use Rattle.os9_boot.specs.EndLines.{end_line}
+use Rattle.os9_boot.specs.Host.{FailsAsTold}
+use Rattle.os9_boot.specs.Left.{BootLeavesFiles, ChangesOnly, IsSilent, LeavesDevices, StressMayEnd}
+use Rattle.os9_boot.specs.Meaning.{IfAllObserved, meaning}
+use Rattle.os9_boot.specs.TopCall.{CommandReport, GainsLine, LosesLine, Reports, TopCall}
+use Rattle.os9_boot.specs.FilesNoted.{NotesFiles}
+use Rattle.os9_boot.proofs.NameLemmas.{names-none}
 
 -- ---- worlds
 
@@ -84,26 +90,34 @@ boot-leaves names before after (CannotWriteImage number) same = same-changes nam
 boot-leaves names before after NoMemory same = same-changes names before.files after.files same
 boot-leaves names before after end same = same
 
-pub leaves-same : (command : Command) (before after : World) (end : End) → after.files ≡ before.files → LeavesFiles command before after end
+pub leaves-same : (command : Command) (before after : World) (end : End) → after.files ≡ before.files → (meaning command).files before after end
 leaves-same (BootCommand boot) before after end same = boot-leaves boot.files before after end same
 leaves-same (RunCommand run) before after end same = same
 leaves-same (CheckCommand image) before after end same = same
 leaves-same (StressCommand seed) before after end same = same
 
+-- ---- devices
+
+-- what is left of the devices, which are as they were
+leaves-as : (command : Command) (before after : World) (end : End) → LeavesDevices before after end → after.devices ≡ before.devices → (meaning command).devices before after end
+leaves-as (RunCommand run) before after end left same = left
+leaves-as (BootCommand boot) before after end left same = left
+leaves-as (CheckCommand image) before after end left same = record { out = left; devices = same }
+leaves-as (StressCommand seed) before after end left same = left
+
 -- ---- commands that end before anything ran
 
 -- nothing was changed
-pub unchanged : (command : Command) (before after : World) (end : End) → after ≡ before → MayEnd command end → LeavesDevices before after end → FailsAsTold command end before after → ComesOf command before after end → CommandCall command before after end
+pub unchanged : (command : Command) (before after : World) (end : End) → after ≡ before → (meaning command).may end → LeavesDevices before after end → FailsAsTold command end before after → (meaning command).comes before after end → CommandCall command before after end
 unchanged command before after end same may left told comes = record {
   comes = comes;
   may = may;
-  devices = left;
+  devices = leaves-as command before after end left (ap (λ (w : World). w.devices) same);
   host = told;
   files = leaves-same command before after end (ap (λ (w : World). w.files) same);
-  check_keeps = λ image is. ap (λ (w : World). w.devices) same;
 }
 
-nothing-comes : (command : Command) (before after : World) → after ≡ before → ComesOf command before after NoMemory
+nothing-comes : (command : Command) (before after : World) → after ≡ before → (meaning command).comes before after NoMemory
 nothing-comes (RunCommand run) before after same =
     always before (λ files. RunComesTo files run before after NoMemory) (λ files observed. inl (still-undone before after same))
 nothing-comes (BootCommand boot) before after same =
@@ -113,7 +127,7 @@ nothing-comes (CheckCommand image) before after same =
 nothing-comes (StressCommand seed) before after same =
     λ observed. (Stress.NoMemory, refl, inl (still-unrun before after same))
 
-nothing-may : (command : Command) → MayEnd command NoMemory
+nothing-may : (command : Command) → (meaning command).may NoMemory
 nothing-may (RunCommand run) = tt
 nothing-may (BootCommand boot) = tt
 nothing-may (CheckCommand image) = tt
@@ -124,7 +138,7 @@ pub out-of-memory : (command : Command) (before after : World) → after ≡ bef
 out-of-memory command before after same =
     unchanged command before after NoMemory same (nothing-may command) tt (kept-counts before after same) (nothing-comes command before after same)
 
-unread-comes : (command : Command) (input : Input) (name : List ℕ) (before after : World) → file_name command input ≡ Some name → ComesOf command before after (CannotRead input)
+unread-comes : (command : Command) (input : Input) (name : List ℕ) (before after : World) → (meaning command).file_name input ≡ Some name → (meaning command).comes before after (CannotRead input)
 unread-comes (RunCommand run) input name before after named =
     always before (λ files. RunComesTo files run before after (CannotRead input)) (λ files observed. tt)
 unread-comes (BootCommand boot) input name before after named =
@@ -133,21 +147,20 @@ unread-comes (CheckCommand image) input name before after named =
     of-any before.files (λ files. CheckComesTo (file_contents files image) before after (CannotRead input)) (λ files. tt)
 unread-comes (StressCommand seed) input name before after named = absurd (cc named)
 
-unread-may : (command : Command) (input : Input) (name : List ℕ) → file_name command input ≡ Some name → MayEnd command (CannotRead input)
+unread-may : (command : Command) (input : Input) (name : List ℕ) → (meaning command).file_name input ≡ Some name → (meaning command).may (CannotRead input)
 unread-may (RunCommand run) input name named = tt
 unread-may (BootCommand boot) input name named = tt
 unread-may (CheckCommand image) input name named = tt
 unread-may (StressCommand seed) input name named = absurd (cc named)
 
 -- a file could not be read
-pub could-not-read : (command : Command) (input : Input) (name : List ℕ) (before after : World) → file_name command input ≡ Some name → FailsToReadFile name before after → after.files ≡ before.files → after.out ≡ before.out → after.devices ≡ before.devices → CommandCall command before after (CannotRead input)
+pub could-not-read : (command : Command) (input : Input) (name : List ℕ) (before after : World) → (meaning command).file_name input ≡ Some name → FailsToReadFile name before after → after.files ≡ before.files → after.out ≡ before.out → after.devices ≡ before.devices → CommandCall command before after (CannotRead input)
 could-not-read command input name before after named failed files out devices = record {
   comes = unread-comes command input name before after named;
   may = unread-may command input name named;
-  devices = record { out = out; devices = devices };
+  devices = leaves-as command before after (CannotRead input) (record { out = out; devices = devices }) devices;
   host = (name, named, failed);
   files = leaves-same command before after (CannotRead input) files;
-  check_keeps = λ image is. devices;
 }
 
 -- ---- stresses
@@ -159,7 +172,6 @@ stressed seed before after end call = record {
   devices = left end call;
   host = told end call;
   files = call.files_kept;
-  check_keeps = λ image is. absurd (cc is);
 }
   where
     may : (end : StressEnd) → StressMayEnd (stress_end end)
@@ -190,29 +202,50 @@ ended-after command before between after end same call = subst (λ world. Comman
 
 -- ---- the top call
 
+-- the line was written to the error stream, as far as the answer says
+pub reported : {Host Value : Type 0} (members : Ghosts Host) (line : List ℕ) (answer : Result Value HostFault) (before after : Host) → WritesErr members line answer before after → Reports line (notes_of members before) (notes_of members after)
+reported {Value = Value} members line answer before after wrote = record {
+  told = by answer wrote;
+  read_kept = wrote.others.read;
+  written_kept = wrote.others.written;
+}
+  where
+    by : (answer : Result Value HostFault) → WritesErr members line answer before after → GainsLine line (notes_of members before) (notes_of members after) ⊎ LosesLine line (notes_of members before) (notes_of members after)
+    by (Ok value) wrote = inl (record { gained = wrote.whole; no_fault = wrote.count_kept })
+    by (Err fault) wrote = inr (record { gained = wrote.prefix; fault = wrote.fault_counted })
+
 -- a command was done, and then only the error stream was written
-pub command-reported : (command : Command) (before between after : World) (err_before err_between err_after : Option (List ℕ)) (end : End) (answer : ℕ) → after ≡ between → answer ≡ status_number end → CommandCall command before between end → err_between ≡ err_before → GainsPrefix err_between (end_line command end) err_after → CommandReport command before after err_before err_after answer
-command-reported command before between after err_before err_between err_after end answer same is call kept prefix = record {
+pub command-reported : (command : Command) (before between after : World) (noted done notes : Notes) (end : End) (answer : ℕ) → after ≡ between → answer ≡ status_number end → CommandCall command before between end → NotesFiles command end noted done → Reports (end_line command end) done notes → CommandReport command before after noted notes answer
+command-reported command before between after noted done notes end answer same is call files line = record {
   end = end;
   status_is = is;
   call = rw same call;
-  line = subst (λ err. GainsPrefix err (end_line command end) err_after) kept prefix;
+  done = done;
+  files = files;
+  line = line;
 }
 
-module _ (words : List (List ℕ)) (before after : World) (err_before err_after : Option (List ℕ)) where
+module _ (words : List (List ℕ)) (before after : World) (noted notes : Notes) where
   -- the words are a command
-  pub top-command : (command : Command) (status : ℕ) → command_of words ≡ Some command → CommandReport command before after err_before err_after status → TopCall words before after err_before err_after status
+  pub top-command : (command : Command) (status : ℕ) → command_of words ≡ Some command → CommandReport command before after noted notes status → TopCall words before after noted notes status
   top-command command status spelled report = rw spelled report
 
   -- they are none
-  pub top-refused : GainsPrefix err_before words_line err_after → command_of words ≡ None → after ≡ before → TopCall words before after err_before err_after 1
-  top-refused prefix refused same = rw refused (record { undone = same; line = inl (refl, prefix) })
+  pub top-refused : Reports words_line noted notes → command_of words ≡ None → after ≡ before → TopCall words before after noted notes 1
+  top-refused line refused same = rw refused (record { undone = same; line = inl (refl, line) })
 
   -- memory was out before it was known
-  pub top-memory : GainsPrefix err_before no_memory_line err_after → after ≡ before → TopCall words before after err_before err_after 4
-  top-memory prefix same = by (command_of words) refl
+  pub top-memory : Reports no_memory_line noted notes → after ≡ before → TopCall words before after noted notes 4
+  top-memory line same = by (command_of words) refl
     where
-      by : (found : Option Command) → command_of words ≡ found → TopCall words before after err_before err_after 4
-      by None is = rw is (record { undone = same; line = inr (refl, prefix) })
+      by : (found : Option Command) → command_of words ≡ found → TopCall words before after noted notes 4
+      by None is = rw is (record { undone = same; line = inr (refl, line) })
       by (Some command) is =
-          rw is (record { end = NoMemory; status_is = refl; call = out-of-memory command before after same; line = prefix })
+          rw is (record {
+            end = NoMemory;
+            status_is = refl;
+            call = out-of-memory command before after same;
+            done = noted;
+            files = names-none command noted;
+            line = line;
+          })

@@ -13,7 +13,8 @@ use Rattle.boot_run.specs.World.{World}
 use Rattle.os9_boot.specs.declared.status.End.{End}
 use Rattle.os9_boot.specs.declared.status.End.TheVariants.{Ended, CannotWrite, NoMemory, BadImage}
 use Rattle.os9_boot.specs.Check.{CheckComesTo, PrintFails, PrintsAs, PrintsLine, counts_of, tree_line}
-use Rattle.os9_boot.specs.Commands.{CheckMayEnd, CommandCall, LeavesDevices}
+use Rattle.os9_boot.specs.Commands.{CommandCall}
+use Rattle.os9_boot.specs.Left.{CheckMayEnd, LeavesDevices}
 use Rattle.os9_boot.specs.Host.{FailsAsTold}
 use Rattle.os9_boot.proofs.CallLemmas.{kept-counts, still-silent, unchanged}
 
@@ -64,10 +65,9 @@ module _ (before after : World) (image bytes : List ℕ) (read : IfSome before.f
     counts-printed end call = record {
       comes = of-image (λ bytes. CheckComesTo bytes before after end) (comes-of end call.printed);
       may = may end call.printed;
-      devices = leaves end call.printed;
+      devices = record { out = leaves end call.printed; devices = call.devices };
       host = told end call.printed call.host;
       files = call.files;
-      check_keeps = λ image is. call.devices;
     }
 
 pub printed-after : (line : List ℕ) (before between after : World) (end : End) → between ≡ before → PrintsLine line between after end → PrintsLine line before after end

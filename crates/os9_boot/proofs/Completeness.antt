@@ -1,24 +1,34 @@
 -- Where no count of faults rose, a call tells no fault of the host or of a drive.
 use Rattle.std.proofs.Common.{◌≡◌, ℕ, Option, Some, None, List, ◌⊎◌, inl, inr, arith}
 use Rattle.std.specs.Prelude.{MatchOption}
-use Rattle.os9_outer.specs.Stream.{GainsPrefix}
 use Rattle.os9_words.specs.declared.command.Command.{Command}
+use Rattle.os9_words.specs.declared.command.Command.TheVariants.{Run, Boot, Check, Stress}
 use Rattle.os9_words.specs.Command.{command_of}
+use Rattle.os9_words.specs.Notes.{Notes}
 use Rattle.os9_words.specs.Lines.{no_memory_line, words_line}
+use Rattle.boot_run.specs.Machine.{FailsToMount}
 use Rattle.boot_run.specs.World.{World}
 use Rattle.os9_boot.specs.declared.status.End.{End}
 use Rattle.os9_boot.specs.declared.status.End.TheVariants.{CannotRead, CannotWrite, CannotWriteImage, DriveFailed}
 use Rattle.os9_boot.specs.Commands.{CommandCall}
 use Rattle.os9_boot.specs.Completeness.{IsNoFault, NoneRose, TellsNoFault}
 use Rattle.os9_boot.specs.End.{status_number}
-use Rattle.os9_boot.specs.TopCall.{CommandReport, TopCall, WordsReport}
+use Rattle.os9_boot.specs.Meaning.{meaning}
+use Rattle.os9_boot.specs.TopCall.{CommandReport, Reports, TopCall, WordsReport}
+
+-- a drive failed
+drive-failed : (command : Command) (before after : World) (drive number : ℕ) → (meaning command).devices before after (DriveFailed drive number) → FailsToMount drive number before after
+drive-failed (Run run) before after drive number left = left
+drive-failed (Boot boot) before after drive number left = left
+drive-failed (Check image) before after drive number left = left.out
+drive-failed (Stress seed) before after drive number left = left
 
 -- the end of a command
 pub tells-no-fault : (command : Command) (before after : World) (end : End) → CommandCall command before after end → NoneRose before after → TellsNoFault end
 tells-no-fault command before after (CannotRead input) call none = none.host call.host.2.0
 tells-no-fault command before after CannotWrite call none = none.host call.host.0
 tells-no-fault command before after (CannotWriteImage number) call none = none.host call.host.2.0
-tells-no-fault command before after (DriveFailed drive number) call none = none.drives drive call.devices.failed.rose
+tells-no-fault command before after (DriveFailed drive number) call none = none.drives drive (drive-failed command before after drive number call.devices).failed.rose
 tells-no-fault command before after end call none = tt
 
 no-fault : (end : End) → TellsNoFault end → IsNoFault (status_number end)
@@ -33,17 +43,17 @@ no-fault end tells = record {
 }
 
 -- the status of a call
-pub status-tells-no-fault : (words : List (List ℕ)) (before after : World) (err_before err_after : Option (List ℕ)) (status : ℕ) → TopCall words before after err_before err_after status → NoneRose before after → IsNoFault status
-status-tells-no-fault words before after err_before err_after status call none = by (command_of words) call
+pub status-tells-no-fault : (words : List (List ℕ)) (before after : World) (noted notes : Notes) (status : ℕ) → TopCall words before after noted notes status → NoneRose before after → IsNoFault status
+status-tells-no-fault words before after noted notes status call none = by (command_of words) call
   where
-    no-words : WordsReport before after err_before err_after status → IsNoFault status
+    no-words : WordsReport before after noted notes status → IsNoFault status
     no-words report = of report.line
       where
-        of : ((status ≡ 1) × GainsPrefix err_before words_line err_after) ⊎ ((status ≡ 4) × GainsPrefix err_before no_memory_line err_after) → IsNoFault status
+        of : ((status ≡ 1) × Reports words_line noted notes) ⊎ ((status ≡ 4) × Reports no_memory_line noted notes) → IsNoFault status
         of (inl (is, line)) = rw is (record { read = λ e. omega (arith, e); written = λ e. omega (arith, e); mounted = λ e. omega (arith, e) })
         of (inr (is, line)) = rw is (record { read = λ e. omega (arith, e); written = λ e. omega (arith, e); mounted = λ e. omega (arith, e) })
 
-    by : (found : Option Command) → MatchOption found (WordsReport before after err_before err_after status) (λ command. CommandReport command before after err_before err_after status) → IsNoFault status
+    by : (found : Option Command) → MatchOption found (WordsReport before after noted notes status) (λ command. CommandReport command before after noted notes status) → IsNoFault status
     by None report = no-words report
     by (Some command) report =
         rw report.status_is (no-fault report.end (tells-no-fault command before after report.end report.call none))

@@ -12,12 +12,12 @@ use Rattle.os9_boot.specs.declared.files.RunFiles.{RunFiles}
 use Rattle.os9_boot.specs.declared.status.End.{End}
 use Rattle.os9_boot.specs.declared.status.Input.{Input}
 use Rattle.os9_boot.specs.Commands.{CommandCall}
-use Rattle.os9_boot.specs.End.{file_name}
+use Rattle.os9_boot.specs.Meaning.{meaning}
 use Rattle.os9_boot.specs.Reading.{HasBootFiles, HasRunFiles}
 use Rattle.os9_boot.specs.Setup.{script_of}
 
 -- a command that names the file as this input, by a name that is known, ended so
-pub ended-as : {Value : Type 0} (answer : Result Value End) (input : Input) (name : List ℕ) (given : Option (List ℕ)) (before after : Outside → World) → given ≡ Some name → IfErr answer (λ end. (devices : Outside) (command : Command) → file_name command input ≡ Some name → CommandCall command (before devices) (after devices) end) → IfErr answer (λ end. (devices : Outside) (command : Command) → file_name command input ≡ given → CommandCall command (before devices) (after devices) end)
+pub ended-as : {Value : Type 0} (answer : Result Value End) (input : Input) (name : List ℕ) (given : Option (List ℕ)) (before after : Outside → World) → given ≡ Some name → IfErr answer (λ end. (devices : Outside) (command : Command) → (meaning command).file_name input ≡ Some name → CommandCall command (before devices) (after devices) end) → IfErr answer (λ end. (devices : Outside) (command : Command) → (meaning command).file_name input ≡ given → CommandCall command (before devices) (after devices) end)
 ended-as (Ok value) input name given before after is ended = tt
 ended-as (Err end) input name given before after is ended = λ devices command named. ended devices command (named ∙ is)
 

@@ -8,3 +8,5 @@ pub mod BootLemmas
 pub mod RoomLemmas
 pub mod Completeness
 pub mod Accepted
+pub mod NameLemmas
+pub mod ByStatus

@@ -17,7 +17,7 @@ use Rattle.boot_run.specs.declared.machine.RunEnd.TheVariants as Run
 use Rattle.os9_boot.specs.declared.status.End.{End}
 use Rattle.os9_boot.specs.declared.status.End.TheVariants.{Ended, Living, CannotRead, CannotWrite, CannotWriteImage, NoMemory, BadImage, BadText, BadBounds, DriveFailed}
 use Rattle.os9_boot.specs.Boots.{MachineComesTo, RunsToEnd, RunsUnwritten}
-use Rattle.os9_boot.specs.Commands.{BootLeavesFiles, ChangesOnly, LeavesDevices}
+use Rattle.os9_boot.specs.Left.{BootLeavesFiles, ChangesOnly, LeavesDevices}
 use Rattle.os9_boot.specs.End.{boot_end}
 use Rattle.os9_boot.specs.Written.{EndsBoot, StopsAt, WritesBack, ends_run}
 use Rattle.os9_boot.proofs.CallLemmas.{kept-counts, same-changes, still-silent, still-undone}

@@ -17,8 +17,10 @@ use Rattle.os9_boot.specs.declared.status.End.{End}
 use Rattle.os9_boot.specs.declared.status.End.TheVariants.{CannotRead, CannotWrite, CannotWriteImage, NoMemory, BadImage, BadText, BadBounds}
 use Rattle.os9_boot.specs.declared.status.Input.TheVariants.{Script as ScriptInput, Slices as SlicesInput}
 use Rattle.os9_boot.specs.Boots.{MachineComesTo, RunComesTo}
-use Rattle.os9_boot.specs.Commands.{CommandCall, RunMayEnd}
-use Rattle.os9_boot.specs.Host.{FailsAsTold, IfAllObserved}
+use Rattle.os9_boot.specs.Commands.{CommandCall}
+use Rattle.os9_boot.specs.Left.{RunMayEnd}
+use Rattle.os9_boot.specs.Host.{FailsAsTold}
+use Rattle.os9_boot.specs.Meaning.{IfAllObserved}
 use Rattle.os9_boot.specs.Reading.{HasRunFiles, RefusesTexts}
 use Rattle.os9_boot.specs.Setup.{SetsUpRun}
 use Rattle.os9_boot.specs.Written.{ends_run}
@@ -110,5 +112,4 @@ module _ (before : World) (run : RunWords) (read : RunFiles) (has : IfSome befor
           devices = it.devices;
           host = run-fails run before after (ends_run end) it.host;
           files = run_call.files_kept;
-          check_keeps = λ image is. absurd (cc is);
         }

@@ -11,7 +11,7 @@ use Rattle.boot_run.specs.declared.machine.RunEnd.{RunEnd}
 use Rattle.boot_run.specs.declared.machine.RunEnd.TheVariants as Run
 use Rattle.os9_boot.specs.declared.status.End.{End}
 use Rattle.os9_boot.specs.declared.status.End.TheVariants.{CannotWriteImage, NoMemory}
-use Rattle.os9_boot.specs.Commands.{ChangesOnly}
+use Rattle.os9_boot.specs.Left.{ChangesOnly}
 use Rattle.os9_boot.specs.Written.{EndsBoot, WritesBack, ends_run}
 
 -- no name of these is that one

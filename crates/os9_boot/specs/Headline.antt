@@ -1,7 +1,8 @@
 -- The headline of a boot, in one place (this project's own).
-use Rattle.std.specs.Prelude.{◌≡◌, ◌⊎◌, ℕ, List, length}
+use Rattle.std.specs.Prelude.{◌≡◌, ◌⊎◌, ◌≤◌, ◌++◌, ℕ, List, length}
 use Rattle.os9_outer.specs.Host.{Files, IfObserved}
 use Rattle.os9_outer.specs.Stream.{stream_with}
+use Rattle.os9_words.specs.Notes.{Notes}
 use Rattle.os9_words.specs.declared.command.RunWords.{RunWords}
 use Rattle.event_rules.specs.Start.{Refuses}
 use Rattle.event_rules.specs.declared.ends.BootFault.{BootFault}
@@ -43,3 +44,9 @@ pub record IsOneRun (files : Files) (boot : RunWords) (before after : World) (st
 abbrev pub BootIsOneRun : Files → RunWords → World → World → ℕ → Type 0
 BootIsOneRun files boot before after status =
     IsOneRun files boot before after status ⊎ ((status ≡ 4) ⊎ (status ≡ 9))
+
+-- A boot of images of these names has written each once and in their order if its machine ran to the end, and no file if
+-- something was refused or a drive failed.
+pub record WritesByStatus (names : List (List ℕ)) (status : ℕ) (noted notes : Notes) : Type 0 where
+  pub whole : (status ≡ 0) ⊎ (status ≡ 5) → notes.written ≡ noted.written ++ names
+  pub none : 6 ≤ status → status ≤ 9 → notes.written ≡ noted.written

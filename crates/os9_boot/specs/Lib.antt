@@ -4,9 +4,14 @@ pub mod Commands
 pub mod Completeness
 pub mod Devices
 pub mod End
+pub mod EndLines
+pub mod FileNames
+pub mod FilesNoted
 pub mod Headline
 pub mod Host
 pub mod Images
+pub mod Left
+pub mod Meaning
 pub mod Reading
 pub mod Setup
 pub mod TopCall

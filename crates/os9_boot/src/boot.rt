@@ -6,6 +6,8 @@ ghost use Rattle.boot_run.specs.World.{world_of};
 ghost use Rattle.os9_kernel.specs.Outside.{outside};
 ghost use Rattle.file_drives.specs.Drives.{drive_views};
 ghost use Rattle.os9_boot.specs.Commands.{CommandCall};
+ghost use Rattle.os9_boot.specs.FilesNoted.{NotesFiles};
+ghost use Rattle.os9_words.specs.Notes.{notes_of};
 ghost use Rattle.os9_words.specs.Command.{IsCommand};
 
 use crate::files::{read_boot_files, read_files};
@@ -38,7 +40,8 @@ pub fn boot_images<H: Host>(
         devices.old.drives.items ⟦<dyn CharDriver as CharDriver>⟧ devices.old.terms.items))
         (world_of H.Host host.new (outside ⟦<dyn BlockDriver as BlockDriver>⟧
         devices.new.drives.items ⟦<dyn CharDriver as CharDriver>⟧ devices.new.terms.items)) result }
-    ensures err_kept { H.bytes_err host.new ≡ H.bytes_err host.old }
+    ensures noted { NotesFiles (Command.Boot boot.now) result
+        (notes_of H.Host host.old) (notes_of H.Host host.new) }
     ensures drives { AreEmptyAgain
         (drive_views ⟦<dyn BlockDriver as BlockDriver>⟧ devices.old.drives.items)
         (drive_views ⟦<dyn BlockDriver as BlockDriver>⟧ devices.new.drives.items) }
@@ -89,7 +92,8 @@ pub fn run_modules<H: Host>(
         devices.old.drives.items ⟦<dyn CharDriver as CharDriver>⟧ devices.old.terms.items))
         (world_of H.Host host.new (outside ⟦<dyn BlockDriver as BlockDriver>⟧
         devices.new.drives.items ⟦<dyn CharDriver as CharDriver>⟧ devices.new.terms.items)) result }
-    ensures err_kept { H.bytes_err host.new ≡ H.bytes_err host.old }
+    ensures noted { NotesFiles (Command.Run run.now) result
+        (notes_of H.Host host.old) (notes_of H.Host host.new) }
     ensures drives { AreEmptyAgain
         (drive_views ⟦<dyn BlockDriver as BlockDriver>⟧ devices.old.drives.items)
         (drive_views ⟦<dyn BlockDriver as BlockDriver>⟧ devices.new.drives.items) }

@@ -2,6 +2,8 @@ ghost use Rattle.std.specs.Prelude.{◌≡◌, ℕ, List};
 ghost use Rattle.os9_kernel.specs.Outside.{Outside};
 ghost use Rattle.os9_boot.specs.Check.{PrintsLine, tree_line};
 ghost use Rattle.os9_boot.specs.Commands.{CommandCall};
+ghost use Rattle.os9_boot.specs.FilesNoted.{NotesFiles};
+ghost use Rattle.os9_words.specs.Notes.{notes_of};
 ghost use Rattle.boot_run.specs.World.{world_of};
 
 use crate::input::read_input;
@@ -18,7 +20,8 @@ use std::alloc::Global;
 pub fn check_image<H: Host>(alloc: Global, image: &Word, host: &mut H) -> End
     ensures call { (devices : Outside) → CommandCall (Command.Check image.now)
         (world_of H.Host host.old devices) (world_of H.Host host.new devices) result }
-    ensures err_kept { H.bytes_err host.new ≡ H.bytes_err host.old }
+    ensures noted { NotesFiles (Command.Check image.now) result
+        (notes_of H.Host host.old) (notes_of H.Host host.new) }
 {
     let bytes = match read_input(host, image, Input::Image(0)) {
         Ok(bytes) => bytes,
@@ -35,7 +38,7 @@ pub fn check_image<H: Host>(alloc: Global, image: &Word, host: &mut H) -> End
 fn print_counts<H: Host>(tree: &Tree, host: &mut H) -> End
     ensures call { (devices : Outside) → PrintsLine (tree_line tree.now)
         (world_of H.Host host.old devices) (world_of H.Host host.new devices) result }
-    ensures err_kept { H.bytes_err host.new ≡ H.bytes_err host.old }
+    ensures notes_kept { notes_of H.Host host.new ≡ notes_of H.Host host.old }
 {
     let counts = Counts {
         files: tree.files(),

@@ -1,9 +1,13 @@
 ghost use Rattle.std.specs.Prelude.{◌≡◌, ◌≤◌, ℕ, IfErr, IfOk, IfSome, List, OnOk, length};
 ghost use Rattle.os9_kernel.specs.Outside.{Outside};
 ghost use Rattle.os9_words.specs.Command.{most_images};
+ghost use Rattle.os9_words.specs.Notes.{HasRead, notes_of};
 ghost use Rattle.os9_words.specs.declared.command.Command.{Command};
 ghost use Rattle.os9_boot.specs.Setup.{script_of};
-ghost use Rattle.os9_boot.specs.End.{file_name};
+ghost use Rattle.os9_boot.specs.End.{run_file_name};
+ghost use Rattle.os9_boot.specs.FileNames.{run_inputs, script_names};
+ghost use Rattle.os9_boot.specs.FilesNoted.{NotesFiles, NotesStop};
+ghost use Rattle.os9_boot.specs.Meaning.{meaning};
 ghost use Rattle.boot_images.specs.Images.{images_of};
 ghost use Rattle.os9_boot.specs.Reading.{HasBootFiles, HasRunFiles};
 ghost use Rattle.os9_boot.specs.Commands.{CommandCall};
@@ -52,7 +56,10 @@ pub fn read_files<H: Host>(alloc: Global, run: &RunWords, host: &mut H) -> Resul
     ensures ended { IfErr result (λ end. (devices : Outside)
         → CommandCall (Command.Run run.now)
         (world_of H.Host host.old devices) (world_of H.Host host.new devices) end) }
-    ensures err_kept { H.bytes_err host.new ≡ H.bytes_err host.old }
+    ensures noted { OnOk result (HasRead (run_inputs run.now)
+        (notes_of H.Host host.old) (notes_of H.Host host.new)) }
+    ensures stopped { IfErr result (λ end. NotesFiles (Command.Run run.now) end
+        (notes_of H.Host host.old) (notes_of H.Host host.new)) }
 {
     let script = read_script(alloc, run, host)?;
     let slices = read_input(host, &run.slices, Input::Slices)?;
@@ -84,7 +91,10 @@ pub fn read_boot_files<H: Host>(
     ensures ended { IfErr result (λ end. (devices : Outside)
         → CommandCall (Command.Boot run.now)
         (world_of H.Host host.old devices) (world_of H.Host host.new devices) end) }
-    ensures err_kept { H.bytes_err host.new ≡ H.bytes_err host.old }
+    ensures noted { OnOk result (HasRead (run_inputs run.now)
+        (notes_of H.Host host.old) (notes_of H.Host host.new)) }
+    ensures stopped { IfErr result (λ end. NotesFiles (Command.Boot run.now) end
+        (notes_of H.Host host.old) (notes_of H.Host host.new)) }
 {
     let script = read_script(alloc, run, host)?;
     let slices = read_input(host, &run.slices, Input::Slices)?;
@@ -107,7 +117,11 @@ fn read_images<H: Host>(alloc: Global, run: &RunWords, host: &mut H) -> Result<I
     ensures ended { IfErr result (λ end. (devices : Outside)
         → CommandCall (Command.Boot run.now)
         (world_of H.Host host.old devices) (world_of H.Host host.new devices) end) }
-    ensures err_kept { H.bytes_err host.new ≡ H.bytes_err host.old }
+    ensures noted { OnOk result (HasRead run.now.files
+        (notes_of H.Host host.old) (notes_of H.Host host.new)) }
+    ensures stopped { IfErr result (λ end. NotesStop (run_file_name run.now)
+        run.now.files end
+        (notes_of H.Host host.old) (notes_of H.Host host.new)) }
 {
     let mut images = Images::none(alloc);
     for place in 0..run.files.len() {
@@ -127,9 +141,14 @@ fn read_script<H: Host>(alloc: Global, run: &RunWords, host: &mut H) -> Result<V
     ensures kept { OnOk result ((devices : Outside)
         → world_of H.Host host.new devices ≡ world_of H.Host host.old devices) }
     ensures ended { IfErr result (λ end. (devices : Outside)
-        (command : Command) → file_name command Input.Script ≡ run.now.script → CommandCall command
+        (command : Command) → (meaning command).file_name Input.Script ≡ run.now.script
+        → CommandCall command
         (world_of H.Host host.old devices) (world_of H.Host host.new devices) end) }
-    ensures err_kept { H.bytes_err host.new ≡ H.bytes_err host.old }
+    ensures noted { OnOk result (HasRead (script_names run.now)
+        (notes_of H.Host host.old) (notes_of H.Host host.new)) }
+    ensures stopped { IfErr result (λ end. NotesStop (run_file_name run.now)
+        (script_names run.now) end
+        (notes_of H.Host host.old) (notes_of H.Host host.new)) }
 {
     match &run.script {
         Some(name) => read_input(host, name, Input::Script),

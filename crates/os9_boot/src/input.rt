@@ -1,8 +1,11 @@
-ghost use Rattle.std.specs.Prelude.{◌≡◌, ℕ, IfErr, IfOk, IfSome, List, OnOk, Some};
+ghost use Rattle.std.specs.Prelude.{◌≡◌, ◌∷◌, [], ℕ, IfErr, IfOk, IfSome, List, OnOk, Option, Some};
 ghost use Rattle.os9_outer.specs.Host.{file_contents};
 ghost use Rattle.os9_kernel.specs.Outside.{Outside};
 ghost use Rattle.os9_words.specs.declared.command.Command.{Command};
-ghost use Rattle.os9_boot.specs.End.{file_name};
+ghost use Rattle.os9_boot.specs.FilesNoted.{NotesStop};
+ghost use Rattle.os9_boot.specs.Meaning.{meaning};
+ghost use Rattle.os9_words.specs.Notes.{HasRead, notes_of};
+ghost use Rattle.os9_boot.specs.declared.status.Input.{Input};
 ghost use Rattle.os9_boot.specs.Commands.{CommandCall};
 ghost use Rattle.boot_run.specs.World.{world_of};
 
@@ -21,9 +24,14 @@ pub fn read_input<H: Host>(host: &mut H, name: &Word, input: Input) -> Result<Ve
     ensures kept { OnOk result ((devices : Outside)
         → world_of H.Host host.new devices ≡ world_of H.Host host.old devices) }
     ensures ended { IfErr result (λ end. (devices : Outside)
-        (command : Command) → file_name command input ≡ Some name.now → CommandCall command
+        (command : Command) → (meaning command).file_name input ≡ Some name.now
+        → CommandCall command
         (world_of H.Host host.old devices) (world_of H.Host host.new devices) end) }
-    ensures err_kept { H.bytes_err host.new ≡ H.bytes_err host.old }
+    ensures noted { OnOk result (HasRead (name.now ∷ [])
+        (notes_of H.Host host.old) (notes_of H.Host host.new)) }
+    ensures stopped { IfErr result (λ end. (name_of : Input → Option (List ℕ))
+        → name_of input ≡ Some name.now → NotesStop name_of (name.now ∷ []) end
+        (notes_of H.Host host.old) (notes_of H.Host host.new)) }
 {
     match host.read_file(name.text()) {
         Ok(bytes) => Ok(bytes),

@@ -1,9 +1,10 @@
 //! Calls in which nothing failed, as laws over all of them.
 
-ghost use Rattle.std.specs.Prelude.{◌≡◌, ℕ, List, Option, Some, All, length};
+ghost use Rattle.std.specs.Prelude.{◌≡◌, ℕ, List, Some, All, length};
 ghost use Rattle.os9_base.specs.Count.{Rose};
 ghost use Rattle.os9_outer.specs.Host.{Files};
 ghost use Rattle.os9_words.specs.Command.{command_of};
+ghost use Rattle.os9_words.specs.Notes.{Notes};
 ghost use Rattle.os9_words.specs.declared.command.Command.{Command};
 ghost use Rattle.os9_words.specs.declared.command.Command.TheVariants.{Boot};
 ghost use Rattle.os9_words.specs.declared.command.RunWords.{RunWords};
@@ -12,7 +13,7 @@ ghost use Rattle.boot_run.specs.World.{World};
 ghost use Rattle.os9_boot.specs.declared.status.End.{End};
 ghost use Rattle.os9_boot.specs.Commands.{CommandCall};
 ghost use Rattle.os9_boot.specs.Completeness.{IsNoFault, NoneRose, TellsNoFault};
-ghost use Rattle.os9_boot.specs.Headline.{BootIsOneRun, IsAccepted};
+ghost use Rattle.os9_boot.specs.Headline.{BootIsOneRun, IsAccepted, WritesByStatus};
 ghost use Rattle.os9_boot.specs.TopCall.{TopCall};
 
 /// A call in which no count of faults rose, neither the host's nor a drive's, ends as the words, the
@@ -22,8 +23,8 @@ pub fn calls_without_faults_tell_none()
     ensures end { (command : Command) (before after : World) (end : End)
         → CommandCall command before after end → NoneRose before after → TellsNoFault end }
     ensures status { (words : List (List ℕ)) (before after : World)
-        (err_before err_after : Option (List ℕ)) (status : ℕ)
-        → TopCall words before after err_before err_after status → NoneRose before after
+        (noted notes : Notes) (status : ℕ)
+        → TopCall words before after noted notes status → NoneRose before after
         → IsNoFault status }
 {}
 
@@ -32,10 +33,20 @@ pub fn calls_without_faults_tell_none()
 /// the machine; or memory was out, or a drive failed when its image was mounted.
 pub fn a_boot_is_one_run()
     ensures { (words : List (List ℕ)) (boot : RunWords) (files : Files) (before after : World)
-        (err_before err_after : Option (List ℕ)) (status : ℕ)
+        (noted notes : Notes) (status : ℕ)
         → command_of words ≡ Some (Boot boot)
-        → TopCall words before after err_before err_after status
+        → TopCall words before after noted notes status
         → before.files ≡ Some files → All IsObserved before.devices.terms
         → IsAccepted files boot (length before.devices.terms) → ¬ Rose before.faults after.faults
         → BootIsOneRun files boot before after status }
+{}
+
+/// Which files a boot writes, on any host, files and terminals observed or not: with status 0 or 5 each
+/// image once, in the order of the words, and no other file; with 6 to 9 none.
+pub fn a_boot_writes_its_images_once()
+    ensures { (words : List (List ℕ)) (boot : RunWords) (before after : World)
+        (noted notes : Notes) (status : ℕ)
+        → command_of words ≡ Some (Boot boot)
+        → TopCall words before after noted notes status
+        → WritesByStatus boot.files status noted notes }
 {}

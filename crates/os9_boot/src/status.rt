@@ -1,6 +1,7 @@
 ghost use Rattle.std.specs.Prelude.{◌≡◌, [], slice_get, unwrap_or};
 ghost use Rattle.os9_words.specs.Streams.{WritesErr};
-ghost use Rattle.os9_boot.specs.End.{boot_end, stress_end, status_number, run_file_name, shown_name, end_line, text_of};
+ghost use Rattle.os9_boot.specs.End.{boot_end, run_file_name, status_number, stress_end};
+ghost use Rattle.os9_boot.specs.EndLines.{end_line, shown_name, text_of};
 
 use event_rules::ends::BootFault;
 use os9_outer::host::{Host, HostFault};

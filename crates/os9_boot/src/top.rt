@@ -7,8 +7,10 @@ ghost use Rattle.os9_kernel.specs.Outside.{outside};
 ghost use Rattle.file_drives.specs.Drives.{drive_views};
 ghost use Rattle.os9_boot.specs.Commands.{CommandCall};
 ghost use Rattle.os9_boot.specs.Devices.{drives_for, drives_of};
+ghost use Rattle.os9_boot.specs.FilesNoted.{NotesFiles};
 ghost use Rattle.os9_boot.specs.TopCall.{CommandReport, TopCall};
 ghost use Rattle.os9_words.specs.Command.{IsCommand};
+ghost use Rattle.os9_words.specs.Notes.{notes_of};
 
 use crate::boot::{boot_images, run_modules};
 use crate::check::check_image;
@@ -54,7 +56,8 @@ const NO_MEMORY: u8 = 4;
 /// are as they were. At 9 the output, the terminals and the files are as they were, and no other
 /// drive has failed. No image is in a drive behind the call.
 ///
-/// The line that says why the call ended goes to the error stream, as far as that takes it.
+/// The line that says why the call ended goes to the error stream: the whole of it, or that stream
+/// counts a fault.
 pub fn os9_main<H: Host>(alloc: Global, words: &[String], host: &mut H, devices: &mut Devices) -> u8
     requires devices { AreFree (drives_for (map string_bytes words.now)) (outside
         ⟦<dyn BlockDriver as BlockDriver>⟧ devices.old.drives.items
@@ -64,7 +67,7 @@ pub fn os9_main<H: Host>(alloc: Global, words: &[String], host: &mut H, devices:
         devices.old.drives.items ⟦<dyn CharDriver as CharDriver>⟧ devices.old.terms.items))
         (world_of H.Host host.new (outside ⟦<dyn BlockDriver as BlockDriver>⟧
         devices.new.drives.items ⟦<dyn CharDriver as CharDriver>⟧ devices.new.terms.items))
-        (H.bytes_err host.old) (H.bytes_err host.new) result }
+        (notes_of H.Host host.old) (notes_of H.Host host.new) result }
     ensures drives { AreEmptyAgain
         (drive_views ⟦<dyn BlockDriver as BlockDriver>⟧ devices.old.drives.items)
         (drive_views ⟦<dyn BlockDriver as BlockDriver>⟧ devices.new.drives.items) }
@@ -92,7 +95,7 @@ fn do_command<H: Host>(alloc: Global, command: &Command, host: &mut H, devices: 
         devices.old.drives.items ⟦<dyn CharDriver as CharDriver>⟧ devices.old.terms.items))
         (world_of H.Host host.new (outside ⟦<dyn BlockDriver as BlockDriver>⟧
         devices.new.drives.items ⟦<dyn CharDriver as CharDriver>⟧ devices.new.terms.items))
-        (H.bytes_err host.old) (H.bytes_err host.new) result }
+        (notes_of H.Host host.old) (notes_of H.Host host.new) result }
     ensures drives { AreEmptyAgain
         (drive_views ⟦<dyn BlockDriver as BlockDriver>⟧ devices.old.drives.items)
         (drive_views ⟦<dyn BlockDriver as BlockDriver>⟧ devices.new.drives.items) }
@@ -112,7 +115,8 @@ fn perform<H: Host>(alloc: Global, command: &Command, host: &mut H, devices: &mu
         devices.old.drives.items ⟦<dyn CharDriver as CharDriver>⟧ devices.old.terms.items))
         (world_of H.Host host.new (outside ⟦<dyn BlockDriver as BlockDriver>⟧
         devices.new.drives.items ⟦<dyn CharDriver as CharDriver>⟧ devices.new.terms.items)) result }
-    ensures err_kept { H.bytes_err host.new ≡ H.bytes_err host.old }
+    ensures noted { NotesFiles command.now result
+        (notes_of H.Host host.old) (notes_of H.Host host.new) }
     ensures drives { AreEmptyAgain
         (drive_views ⟦<dyn BlockDriver as BlockDriver>⟧ devices.old.drives.items)
         (drive_views ⟦<dyn BlockDriver as BlockDriver>⟧ devices.new.drives.items) }

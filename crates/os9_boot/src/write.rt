@@ -3,7 +3,9 @@
 ghost use Rattle.std.specs.Prelude.{◌≡◌, length};
 ghost use Rattle.boot_run.specs.World.{world_of};
 ghost use Rattle.os9_kernel.specs.Outside.{Outside};
+ghost use Rattle.os9_boot.specs.FilesNoted.{NotesBack};
 ghost use Rattle.os9_boot.specs.Written.{EndsBoot};
+ghost use Rattle.os9_words.specs.Notes.{notes_of};
 
 use crate::start::end_of_run;
 use crate::status::End;
@@ -19,7 +21,8 @@ pub fn write_back<H: Host>(names: &Words, images: &Images, end: RunEnd, host: &m
     requires { length images.now ≡ length names.now }
     ensures ended { (devices : Outside) → EndsBoot names.now images.now end result
         (world_of H.Host host.old devices) (world_of H.Host host.new devices) }
-    ensures err_kept { H.bytes_err host.new ≡ H.bytes_err host.old }
+    ensures noted { NotesBack names.now result
+        (notes_of H.Host host.old) (notes_of H.Host host.new) }
 {
     match end {
         RunEnd::Ended(_) | RunEnd::Living(_) => {}

@@ -1,4 +1,4 @@
-ghost use Rattle.std.specs.Prelude.{◌≡◌, ◌≢◌, ℕ, ◌≤◌, Bool, true, false, Option, Some, None, IfSome, IfOk, OnOk, List};
+ghost use Rattle.std.specs.Prelude.{◌≡◌, ◌≢◌, ℕ, ◌≤◌, Bool, true, false, Option, Some, None, IfSome, IfOk, OnOk, OnErr, List};
 ghost use Rattle.os9_base.specs.Count.{Rose};
 ghost use Rattle.os9_outer.specs.Host.{file_contents, OnFailed, UnlessFailed, IfObserved, KeepsOrHoldsPrefix, NotesName};
 ghost use Rattle.os9_outer.specs.Stream.{stream_with, GainsPrefix};
@@ -127,16 +127,16 @@ pub trait Host {
 
     /// Writes these bytes to the error stream.
     ///
-    /// `Failed` comes only with a count of the error stream's own, and leaves what is observed of the
-    /// last failed call. After a refusal a part of the bytes may be out.
+    /// Every `Err` is counted, memory that is out too, by a count of the error stream's own, and leaves
+    /// what is observed of the last failed call. After a refusal a part of the bytes may be out.
     fn err(&mut self, bytes: &[u8]) -> Result<(), HostFault>
         ensures gained { OnOk result
             (bytes_err self.new ≡ stream_with (bytes_err self.old) bytes.now) }
         ensures prefix_gained { GainsPrefix (bytes_err self.old) bytes.now (bytes_err self.new) }
 
-        ensures fault_counted { OnFailed result
+        ensures fault_counted { OnErr result
             (Rose (err_stream_faults self.old) (err_stream_faults self.new)) }
-        ensures err_count_kept { UnlessFailed result
+        ensures err_count_kept { OnOk result
             (err_stream_faults self.new ≡ err_stream_faults self.old) }
         ensures never_falls { err_stream_faults self.old ≤ err_stream_faults self.new }
 

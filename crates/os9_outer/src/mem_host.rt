@@ -102,6 +102,18 @@ impl MemHost {
         HostFault::Failed
     }
 
+    // Counts a fault of the error stream.
+    fn fail_err(&mut self, fault: HostFault) -> HostFault
+        ensures kept { self.new ≡ record self.old {
+          err_faults = min (self.old.err_faults + 1) (2 ^ 64 - 1);
+        } }
+        ensures fault { result ≡ fault }
+        ensures never_falls { self.old.err_faults ≤ self.new.err_faults }
+    {
+        self.err_faults = self.err_faults.saturating_add(1);
+        fault
+    }
+
     fn alloc(&self) -> Global {
         *self.files.allocator()
     }
@@ -161,12 +173,12 @@ impl Host for MemHost {
 
     fn err(&mut self, bytes: &[u8]) -> Result<(), HostFault> {
         if self.fails_next() {
-            self.err_faults = self.err_faults.saturating_add(1);
-            return Err(HostFault::Failed);
+            return Err(self.fail_err(HostFault::Failed));
         }
-        self.err_bytes
-            .extend_from_slice(bytes)
-            .map_err(|_| HostFault::OutOfMemory)
+        match self.err_bytes.extend_from_slice(bytes) {
+            Ok(()) => Ok(()),
+            Err(_) => Err(self.fail_err(HostFault::OutOfMemory)),
+        }
     }
 }
 

@@ -66,17 +66,17 @@ impl<R: Runtime + AllocGlobal> RealHost<R> {
     }
 
     // Counts a fault of the error stream.
-    fn fail_err(&mut self) -> HostFault
+    fn fail_err(&mut self, fault: HostFault) -> HostFault
         ensures counted { self.new.err_faults ≡ min (self.old.err_faults + 1) (2 ^ 64 - 1) }
         ensures never_falls { self.old.err_faults ≤ self.new.err_faults }
         ensures last_kept { self.new.last ≡ self.old.last }
         ensures faults_kept { self.new.faults ≡ self.old.faults }
         ensures reads_kept { self.new.files_read ≡ self.old.files_read }
         ensures written_kept { self.new.files_written ≡ self.old.files_written }
-        ensures failed { result ≡ HostFault.Failed }
+        ensures fault { result ≡ fault }
     {
         self.err_faults = self.err_faults.saturating_add(1);
-        HostFault::Failed
+        fault
     }
 }
 
@@ -133,12 +133,12 @@ impl<R: Runtime + AllocGlobal> Host for RealHost<R> {
 
     fn err(&mut self, bytes: &[u8]) -> Result<(), HostFault> {
         let Ok(text) = str::from_utf8(bytes) else {
-            return Err(self.fail_err());
+            return Err(self.fail_err(HostFault::Failed));
         };
         match self.rt.eprint(text) {
             Ok(()) => Ok(()),
-            Err(error) if wants_memory(&error) => Err(HostFault::OutOfMemory),
-            Err(_) => Err(self.fail_err()),
+            Err(error) if wants_memory(&error) => Err(self.fail_err(HostFault::OutOfMemory)),
+            Err(_) => Err(self.fail_err(HostFault::Failed)),
         }
     }
 }

@@ -6,13 +6,15 @@ use crate::host_file::{HostFile, bytes_of, copied, put_file};
 use crate::names::note;
 use std::alloc::Global;
 
-/// A host in memory that never fails: its counts of faults are always 0. All that it has is observed,
-/// and reads a name that it does not hold as the empty list.
+/// A host in memory that never fails: its count of faults is always 0, and that of the error stream rises
+/// only if memory is out. All that it has is observed, and reads a name that it does not hold as the empty
+/// list.
 #[derive(Debug, Drop)]
 pub struct SureHost {
     files: Vec<HostFile>,
     out_bytes: Vec<u8>,
     err_bytes: Vec<u8>,
+    err_faults: u64,
     files_read: Vec<String>,
     files_written: Vec<String>,
 }
@@ -32,6 +34,7 @@ impl SureHost {
             files,
             out_bytes: Vec::new(alloc),
             err_bytes: Vec::new(alloc),
+            err_faults: 0,
             files_read: Vec::new(alloc),
             files_written: Vec::new(alloc),
         }
@@ -47,7 +50,7 @@ impl Host for SureHost {
 
     ghost host_faults = { λ _. 0 };
 
-    ghost err_stream_faults = { λ _. 0 };
+    ghost err_stream_faults = { λ host. host.err_faults };
 
     ghost failed_name = { λ _. None };
 
@@ -81,8 +84,12 @@ impl Host for SureHost {
     }
 
     fn err(&mut self, bytes: &[u8]) -> Result<(), HostFault> {
-        self.err_bytes
-            .extend_from_slice(bytes)
-            .map_err(|_| HostFault::OutOfMemory)
+        match self.err_bytes.extend_from_slice(bytes) {
+            Ok(()) => Ok(()),
+            Err(_) => {
+                self.err_faults = self.err_faults.saturating_add(1);
+                Err(HostFault::OutOfMemory)
+            }
+        }
     }
 }

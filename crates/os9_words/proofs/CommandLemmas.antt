@@ -59,9 +59,7 @@ run-complete (Some modules) script (Some slices) (Some n) None command bounded c
 run-complete (Some modules) script (Some slices) (Some n) (Some t) command bounded civil is =
     subst IsCommand (some-is _ command is) (record {
       files = refl;
-      blocks = bounded n refl;
-      time = civil t refl;
-      seed = tt;
+      machine = record { blocks = bounded n refl; time = civil t refl };
     })
 
 boot-complete : (images : List (List ℕ)) (script slices : Option (List ℕ)) (blocks : Option ℕ) (start : Option TimePacket) (command : Command) → IsBounded blocks → IsTime start → boot_with images script slices blocks start ≡ Some command → IsCommand command
@@ -80,9 +78,7 @@ boot-complete images (Some script) (Some slices) (Some n) (Some t) command bound
             few = leb-true (length images) most_images few;
             script = refl;
           };
-          blocks = bounded n refl;
-          time = civil t refl;
-          seed = tt;
+          machine = record { blocks = bounded n refl; time = civil t refl };
         })
     by true false some few is = absurd (cc is)
     by false few some fewer is = absurd (cc is)
@@ -90,18 +86,13 @@ boot-complete images (Some script) (Some slices) (Some n) (Some t) command bound
 check-complete : (image : Option (List ℕ)) (command : Command) → option_map Check image ≡ Some command → IsCommand command
 check-complete None command is = absurd (cc is)
 check-complete (Some image) command is =
-    subst IsCommand (some-is (Check image) command is) (record { files = tt; blocks = tt; time = tt; seed = tt })
+    subst IsCommand (some-is (Check image) command is) tt
 
 stress-complete : (seed : Option ℕ) (command : Command) → ((n : ℕ) → seed ≡ Some n → n ≤ most_seed) → option_map Stress seed ≡ Some command → IsCommand command
 stress-complete None command most is = absurd (cc is)
 stress-complete (Some n) command most is =
     let few : n ≤ most_seed = most n refl in
-    subst IsCommand (some-is (Stress n) command is) (record {
-      files = tt;
-      blocks = tt;
-      time = tt;
-      seed = omega (arith, few);
-    })
+    subst IsCommand (some-is (Stress n) command is) (omega (arith, few))
 
 -- the seed has its bound, where there is one
 seed-most : (number : Option (List ℕ)) (n : ℕ) → option_and_then seed_of number ≡ Some n → n ≤ most_seed

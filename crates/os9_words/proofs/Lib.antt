@@ -1,3 +1,4 @@
 pub mod PieceLemmas
 pub mod Prefixes
 pub mod CommandLemmas
+pub mod NoteLemmas

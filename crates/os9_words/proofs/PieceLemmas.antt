@@ -27,6 +27,8 @@ pub record WroteOut {Host : Type 0} (members : Ghosts Host) (pieces : List (Bor 
   pub files_kept : members.file_map now ≡ members.file_map before
   pub err_kept : members.bytes_err now ≡ members.bytes_err before
   pub err_count_kept : members.err_stream_faults now ≡ members.err_stream_faults before
+  pub reads_kept : members.files_read now ≡ members.files_read before
+  pub writes_kept : members.files_written now ≡ members.files_written before
 
 -- the text is that of the pieces before one, of the piece, and of those behind it
 text_of-at : (pieces : List (Bor (List ℕ))) (i : ℕ) (other : Bor (List ℕ)) → i < length pieces → text_of pieces ≡ (text_of (take i pieces) ++ (get_or pieces i other).now) ++ text_of (drop (suc i) pieces)

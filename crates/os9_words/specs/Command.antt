@@ -111,40 +111,27 @@ pub record HasImages (run : RunWords) : Type 0 where
   pub few : length run.files ≤ most_images
   pub script : IsSome run.script
 
--- a run names one file of modules, and a boot its images and a script
-abbrev pub HasFiles : Command → Type 0
-HasFiles (Run run) = length run.files ≡ 1
-HasFiles (Boot run) = HasImages run
-HasFiles (Check image) = ⊤
-HasFiles (Stress seed) = ⊤
+-- a machine has from 8 to 256 blocks, and starts at a date and time of 1900 to 2155
+pub record SetsMachine (run : RunWords) : Type 0 where
+  pub blocks : (8 ≤ run.blocks) × (run.blocks ≤ 256)
+  pub time : is_time_packet run.start ≡ true
 
--- a command that runs programs has from 8 to 256 blocks
-abbrev pub HasBlocks : Command → Type 0
-HasBlocks (Run run) = (8 ≤ run.blocks) × (run.blocks ≤ 256)
-HasBlocks (Boot run) = (8 ≤ run.blocks) × (run.blocks ≤ 256)
-HasBlocks (Check image) = ⊤
-HasBlocks (Stress seed) = ⊤
+-- a run names one file of modules
+pub record IsRun (run : RunWords) : Type 0 where
+  pub files : length run.files ≡ 1
+  pub machine : SetsMachine run
 
--- and starts at a date and time of 1900 to 2155
-abbrev pub HasTime : Command → Type 0
-HasTime (Run run) = is_time_packet run.start ≡ true
-HasTime (Boot run) = is_time_packet run.start ≡ true
-HasTime (Check image) = ⊤
-HasTime (Stress seed) = ⊤
+-- a boot names its images and a script
+pub record IsBoot (boot : RunWords) : Type 0 where
+  pub files : HasImages boot
+  pub machine : SetsMachine boot
 
--- the seed of a stress is one of 31 bits
-abbrev pub HasSeed : Command → Type 0
-HasSeed (Run run) = ⊤
-HasSeed (Boot run) = ⊤
-HasSeed (Check image) = ⊤
-HasSeed (Stress seed) = seed < 2147483648
-
--- what each command has that words spell
-pub record IsCommand (command : Command) : Type 0 where
-  pub files : HasFiles command
-  pub blocks : HasBlocks command
-  pub time : HasTime command
-  pub seed : HasSeed command
+-- what each command has that words spell; the seed of a stress is one of 31 bits
+abbrev pub IsCommand : Command → Type 0
+IsCommand (Run run) = IsRun run
+IsCommand (Boot boot) = IsBoot boot
+IsCommand (Check image) = ⊤
+IsCommand (Stress seed) = seed < 2147483648
 
 -- the fact holds where the words are refused
 abbrev pub OnRefused : {T : Type 0} → Result T WordsFault → Type 0 → Type 0

@@ -1,5 +1,5 @@
 -- What a text that is written to a stream of a host leaves.
-use Rattle.std.specs.Prelude.{◌≡◌, None, false, Result, List, ℕ, OnOk}
+use Rattle.std.specs.Prelude.{◌≡◌, None, false, Result, List, ℕ, OnOk, OnErr}
 use Rattle.os9_base.specs.Count.{Rose}
 use Rattle.os9_outer.specs.Host.{OnFailed, UnlessFailed}
 use Rattle.os9_outer.specs.Stream.{stream_with, GainsPrefix}
@@ -13,6 +13,8 @@ pub record ChangesErrOnly {Host : Type 0} (members : Ghosts Host) (before now : 
   pub faults : members.host_faults now ≡ members.host_faults before
   pub name : members.failed_name now ≡ members.failed_name before
   pub in_read : members.failed_in_read now ≡ members.failed_in_read before
+  pub read : members.files_read now ≡ members.files_read before
+  pub written : members.files_written now ≡ members.files_written before
 
 -- the text was written to the error stream, as far as the answer says
 pub record WritesErr {Host Value : Type 0} (members : Ghosts Host) (text : List ℕ) (answer : Result Value HostFault)
@@ -21,9 +23,9 @@ pub record WritesErr {Host Value : Type 0} (members : Ghosts Host) (text : List 
   pub whole : OnOk answer (members.bytes_err now ≡ stream_with (members.bytes_err before) text)
   -- and always its beginning
   pub prefix : GainsPrefix (members.bytes_err before) text (members.bytes_err now)
-  -- the stream failed only with a count
-  pub fault_counted : OnFailed answer (Rose (members.err_stream_faults before) (members.err_stream_faults now))
-  pub count_kept : UnlessFailed answer (members.err_stream_faults now ≡ members.err_stream_faults before)
+  -- whatever the error, it is counted
+  pub fault_counted : OnErr answer (Rose (members.err_stream_faults before) (members.err_stream_faults now))
+  pub count_kept : OnOk answer (members.err_stream_faults now ≡ members.err_stream_faults before)
   -- nothing else changed
   pub others : ChangesErrOnly members before now
 
@@ -41,7 +43,9 @@ pub record WritesOut {Host Value : Type 0} (members : Ghosts Host) (text : List 
   pub count_kept : UnlessFailed answer (members.host_faults now ≡ members.host_faults before)
   pub name_kept : UnlessFailed answer (members.failed_name now ≡ members.failed_name before)
   pub read_kept : UnlessFailed answer (members.failed_in_read now ≡ members.failed_in_read before)
-  -- files and error stream did not change
+  -- no file was read or written, and the error stream did not change
   pub files_kept : members.file_map now ≡ members.file_map before
   pub err_kept : members.bytes_err now ≡ members.bytes_err before
   pub err_count_kept : members.err_stream_faults now ≡ members.err_stream_faults before
+  pub reads_kept : members.files_read now ≡ members.files_read before
+  pub writes_kept : members.files_written now ≡ members.files_written before

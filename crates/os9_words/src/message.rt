@@ -43,7 +43,7 @@ pub enum Message<'a> {
 ///
 /// # Errors
 ///
-/// Those of [`Host::err`]. A part of the line may be out then.
+/// Those of [`Host::err`], each counted as a fault of the error stream. A part of the line may be out then.
 pub fn report<H: Host>(host: &mut H, message: &Message) -> Result<(), HostFault>
     ensures { WritesErr H.Host (message_line message.now) result host.old host.new }
 {

@@ -51,6 +51,8 @@ writes-none members text host = record {
   files_kept = refl;
   err_kept = refl;
   err_count_kept = refl;
+  reads_kept = refl;
+  writes_kept = refl;
 }
 
 -- text behind text

@@ -5,6 +5,7 @@ ghost use Rattle.boot_images.specs.Outcome.{setup_of};
 ghost use Rattle.boot_images.specs.Ready.{AreEmptyAgain, AreFree, CanStart};
 ghost use Rattle.boot_run.specs.World.{world_of};
 ghost use Rattle.os9_kernel.specs.Outside.{outside};
+ghost use Rattle.os9_words.specs.Notes.{notes_of};
 ghost use Rattle.file_drives.specs.Drives.{drive_views};
 ghost use Rattle.stress_run.specs.Disk.{IsDiskOf};
 ghost use Rattle.stress_run.specs.Stress.{StressCall, stress_setup};
@@ -81,7 +82,7 @@ pub fn run_stress<H: Host>(
         devices.old.drives.items ⟦<dyn CharDriver as CharDriver>⟧ devices.old.terms.items))
         (world_of H.Host host.new (outside ⟦<dyn BlockDriver as BlockDriver>⟧
         devices.new.drives.items ⟦<dyn CharDriver as CharDriver>⟧ devices.new.terms.items)) result }
-    ensures err_kept { H.bytes_err host.new ≡ H.bytes_err host.old }
+    ensures notes_kept { notes_of H.Host host.new ≡ notes_of H.Host host.old }
     ensures drives { AreEmptyAgain
         (drive_views ⟦<dyn BlockDriver as BlockDriver>⟧ devices.old.drives.items)
         (drive_views ⟦<dyn BlockDriver as BlockDriver>⟧ devices.new.drives.items) }
@@ -141,7 +142,7 @@ fn stress_start(alloc: Global, seed: u32, images: &Images) -> Result<Start, OutO
 /// output stream if the run came to its end.
 fn tell_end<H: Host>(alloc: Global, end: RunEnd, image: &[u8], host: &mut H) -> StressEnd
     ensures told { TellsEnd H.Host end image.now result host.old host.new }
-    ensures err_kept { H.bytes_err host.new ≡ H.bytes_err host.old }
+    ensures notes_kept { notes_of H.Host host.new ≡ notes_of H.Host host.old }
 {
     match end {
         RunEnd::Ended(begun) => {
@@ -178,7 +179,7 @@ fn tell_counts<H: Host>(
     host: &mut H,
 ) -> Result<(), HostFault>
     ensures counts { WritesCounts H.Host slices image.now result host.old host.new }
-    ensures err_kept { H.bytes_err host.new ≡ H.bytes_err host.old }
+    ensures notes_kept { notes_of H.Host host.new ≡ notes_of H.Host host.old }
 {
     match count_volume(alloc, slices, image) {
         Ok(counts) => put_stress_counts(host, &counts),

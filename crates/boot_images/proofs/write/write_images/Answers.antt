@@ -1,6 +1,8 @@
 use Rattle.std.proofs.Common.{◌≡◌, ◌<◌, ◌+◌, suc, Some, length, slice_get, refl, ◌∙◌, arith, rules}
+use Rattle.std.proofs.lemmas.List.{take_all}
 use Rattle.boot_run.specs.World.{world_of}
 use Rattle.boot_images.proofs.ImageLemmas.{all-written, none-written, stopped-failed, stopped-without_memory, writes-more}
+use Rattle.boot_images.proofs.NoteLemmas.{noted-more, noted-none, noted-some}
 use Rattle.boot_images.proofs.write.write_images.Goals as goal
 
 pub loop-number-init : goal.loop-number-init
@@ -9,7 +11,7 @@ loop-number-init g c = record {
   files = none-written c.args.names.now c.args.images.now _;
   count = (refl, refl, refl);
   out = refl;
-  err = refl;
+  notes = noted-none c.args.names.now _;
 }
 
 pub loop-number-preserved : goal.loop-number-preserved
@@ -25,7 +27,7 @@ loop-number-preserved g c =
       files = rw next (writes-more c.loop-number.number c.args.names.now c.args.images.now c.text.result.now c.image.result.now _ _ _ named c.image.ensures so_far.files wrote.written wrote.others_kept);
       count = (wrote.count_kept ∙ so_far.count.0, wrote.name_kept ∙ so_far.count.1, wrote.read_kept ∙ so_far.count.2);
       out = wrote.out_kept ∙ so_far.out;
-      err = wrote.err_kept ∙ so_far.err;
+      notes = rw next (noted-more c.loop-number.number c.args.names.now c.text.result.now _ _ _ named so_far.notes wrote.reads_kept wrote.err_kept wrote.err_count_kept wrote.write_noted);
     }
 
 pub returns-in-Err-Failed-clause-wrote : goal.returns-in-Err-Failed-clause-wrote
@@ -55,3 +57,21 @@ returns-clause-wrote g c devices =
       out_kept = so_far.out;
       devices_kept = refl;
     }
+
+pub returns-in-Err-Failed-clause-noted : goal.returns-in-Err-Failed-clause-noted
+returns-in-Err-Failed-clause-noted g c =
+    let wrote = c.in-Err-Failed.ensures in
+    let place : c.from.result ≡ c.loop-number.number = search rules in
+    let named : slice_get c.args.names.now c.loop-number.number ≡ Some c.text.result.now = rw c.text.ensures (rw place at c.word-name.ensures) in
+    noted-more c.loop-number.number c.args.names.now c.text.result.now _ _ _ named c.loop-number.invariant.notes wrote.reads_kept wrote.err_kept wrote.err_count_kept (rw c.in-Err-Failed.field-0-is at wrote.write_noted)
+
+pub returns-in-Err-OutOfMemory-clause-noted : goal.returns-in-Err-OutOfMemory-clause-noted
+returns-in-Err-OutOfMemory-clause-noted g c =
+    let wrote = c.in-Err-OutOfMemory.ensures in
+    let place : c.from.result ≡ c.loop-number.number = search rules in
+    let named : slice_get c.args.names.now c.loop-number.number ≡ Some c.text.result.now = rw c.text.ensures (rw place at c.word-name.ensures) in
+    noted-some c.loop-number.number c.args.names.now c.text.result.now _ _ _ named c.loop-number.invariant.notes wrote.reads_kept wrote.err_kept wrote.err_count_kept (rw c.in-Err-OutOfMemory.field-0-is at wrote.write_noted)
+
+pub returns-clause-noted : goal.returns-clause-noted
+returns-clause-noted g c =
+    rw (take_all c.loop-number.number c.args.names.now (omega (arith, c.requires, c.len-number-end.ensures))) at c.loop-number.invariant.notes

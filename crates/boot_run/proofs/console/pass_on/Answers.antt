@@ -2,6 +2,7 @@ use Rattle.std.proofs.Common.{◌+◌, ◌<◌, arith, rules, ◌∙◌}
 use Rattle.std.proofs.lemmas.Grind.{common_steps}
 use Rattle.std.proofs.lemmas.List.{length-map}
 use Rattle.std.specs.Vec.{vec_len}
+use Rattle.os9_words.proofs.NoteLemmas.{notes-kept}
 use Rattle.boot_run.specs.World.{world_of}
 use Rattle.boot_run.proofs.ConsoleLemmas.{failed-then, kept-then, left-on_error, nowhere, passes, prefix-on_error, written-more}
 use Rattle.boot_run.proofs.console.pass_on.Goals as goal
@@ -20,7 +21,7 @@ loop-n-preserved g c =
       emptied = passed.emptied;
       written = written-more c.loop-n.n c.take_from-bytes.result.items _ _ _ _ _ passed so_far.written (rw (← c.as_slice.ensures.value) wrote.whole);
       count = (wrote.count_kept ∙ so_far.count.0, wrote.name_kept ∙ so_far.count.1, wrote.read_kept ∙ so_far.count.2);
-      err = wrote.err_kept ∙ so_far.err;
+      notes = notes-kept g.H.Host _ _ _ _ wrote ∙ so_far.notes;
       files = wrote.files_kept ∙ so_far.files;
     }
 
@@ -40,6 +41,10 @@ returns-in_err-write_out-clause-passed g c =
       no_fault = kept-then c.from_residual.result (world_of g.H.Host c.args.host.now nowhere) (world_of g.H.Host c.loop-n.host nowhere) (world_of g.H.Host c.write_out.new.host nowhere) so_far.count (search rules) (search rules) (search rules);
       files_kept = wrote.files_kept ∙ so_far.files;
     }
+
+pub returns-in_err-write_out-clause-notes_kept : goal.returns-in_err-write_out-clause-notes_kept
+returns-in_err-write_out-clause-notes_kept g c =
+    notes-kept g.H.Host _ _ _ _ c.in_err-write_out.ensures ∙ c.loop-n.invariant.notes
 
 pub returns-clause-passed : goal.returns-clause-passed
 returns-clause-passed g c =

@@ -3,6 +3,7 @@ use Rattle.std.specs.Vec.{vec_len}
 use Rattle.os9_outer.specs.Stream.{stream_with}
 use Rattle.os9_outer.specs.TerminalState.{terminal_states}
 use Rattle.event_rules.specs.Console.{console_bytes}
+use Rattle.os9_words.specs.Notes.{notes_of}
 use Rattle.boot_run.specs.Console.{IsObserved, emptied_front}
 use Rattle.boot_run.specs.World.{HasNoFault, world_of}
 use Rattle.boot_run.proofs.ConsoleLemmas.{nowhere}
@@ -18,6 +19,6 @@ invariant-loop-n g l =
       emptied : terminal_states (λ table. (g.dyn-2.0.entry table).1) l.devices.terms.items ≡ emptied_front l.n before;
       written : All IsObserved before → g.H.Host.bytes_out l.host ≡ stream_with (g.H.Host.bytes_out l.initial.host) (console_bytes (take l.n before));
       count : HasNoFault (world_of g.H.Host l.initial.host nowhere) (world_of g.H.Host l.host nowhere);
-      err : g.H.Host.bytes_err l.host ≡ g.H.Host.bytes_err l.initial.host;
+      notes : notes_of g.H.Host l.host ≡ notes_of g.H.Host l.initial.host;
       files : g.H.Host.file_map l.host ≡ g.H.Host.file_map l.initial.host;
     }

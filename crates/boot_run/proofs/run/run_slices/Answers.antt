@@ -13,7 +13,7 @@ loop-n-init g c = record {
   reaches = λ s told stood. reaches-none _ s c.args.kernel.now _ told stood;
   count = (refl, refl, refl);
   files = refl;
-  err = refl;
+  notes = refl;
   terminals = refl;
   drives = refl;
 }
@@ -32,7 +32,7 @@ loop-n-preserved g c =
           rw more (reaches-more (take c.loop-n.n-index c.args.slices.now) s _ c.loop-n.kernel c.slice.new.self _ _ _ _ _ _ c.slice.result (so_far.reaches s told stood) (λ m tied none. c.if-living-eq0.false (c.living.ensures _ m tied ∙ none)) (slice.step (λ e. c.in_default.not-NoMemory e)) drives passed.passed.taken passed.passed.written);
       count = (passed.passed.no_fault.0 ∙ so_far.count.0, passed.passed.no_fault.1 ∙ so_far.count.1, passed.passed.no_fault.2 ∙ so_far.count.2);
       files = passed.passed.files_kept ∙ so_far.files;
-      err = passed.err_kept ∙ so_far.err;
+      notes = passed.notes_kept ∙ so_far.notes;
       terminals = passed.terminals ∙ c.slice.ensures.terminals ∙ so_far.terminals;
       drives = omega (arith, ap vec_len passed.drives_kept, c.slice.ensures.drives, so_far.drives);
     }

@@ -2,6 +2,7 @@ use Rattle.std.proofs.Common.{◌≡◌, ◌+◌, ◌-◌, ◌<◌, take, length
 use Rattle.std.specs.Vec.{vec_len}
 use Rattle.machine_model.specs.State.{State}
 use Rattle.os9_kernel.specs.Outside.{outside}
+use Rattle.os9_words.specs.Notes.{notes_of}
 use Rattle.os9_kernel.specs.Tie.{Represents, Stands, ticks}
 use Rattle.boot_run.specs.Console.{IsObserved}
 use Rattle.boot_run.specs.World.{HasNoFault, world_of}
@@ -19,7 +20,7 @@ invariant-loop-n g l =
       reaches : (s : State) → All IsObserved before.terms → Represents l.initial.kernel before s → Reaches (g.H.Host.bytes_out l.initial.host) (take l.n-index l.slices) s l.kernel now (g.H.Host.bytes_out l.host);
       count : HasNoFault (world_of g.H.Host l.initial.host nowhere) (world_of g.H.Host l.host nowhere);
       files : g.H.Host.file_map l.host ≡ g.H.Host.file_map l.initial.host;
-      err : g.H.Host.bytes_err l.host ≡ g.H.Host.bytes_err l.initial.host;
+      notes : notes_of g.H.Host l.host ≡ notes_of g.H.Host l.initial.host;
       terminals : vec_len l.devices.terms ≡ vec_len l.initial.devices.terms;
       drives : vec_len l.devices.drives ≡ vec_len l.initial.devices.drives;
     }

@@ -1,9 +1,12 @@
-use Rattle.std.proofs.Common.{◌≡◌, length, arith}
+use Rattle.std.proofs.Common.{◌≡◌, length, refl, arith}
 use Rattle.std.proofs.lemmas.List.{length-map}
 use Rattle.os9_outer.specs.TerminalState.{terminal_states}
 use Rattle.os9_kernel.specs.Outside.{outside}
 use Rattle.os9_boot.proofs.RunLemmas.{run-ended, run-texts-refused}
 use Rattle.os9_boot.proofs.MachineLemmas.{runs-after}
+use Rattle.os9_words.specs.declared.command.Command.TheVariants.{Run as RunCommand}
+use Rattle.os9_boot.specs.Written.{ends_run}
+use Rattle.os9_boot.proofs.NameLemmas.{behind-run, behind-texts, names-read}
 use Rattle.os9_boot.proofs.boot.run_modules.Goals as goal
 
 pub returns-in-Err-clause-call : goal.returns-in-Err-clause-call
@@ -24,3 +27,14 @@ returns-clause-call g c =
 
 pub returns-clause-drives : goal.returns-clause-drives
 returns-clause-drives g c = c.run_images.ensures.run.drives
+
+-- ---- the names
+
+pub returns-in-Err-read_texts-clause-noted : goal.returns-in-Err-read_texts-clause-noted
+returns-in-Err-read_texts-clause-noted g c =
+    let refused = c.in-Err-read_texts.ensures.refused in
+    names-read (RunCommand c.args.run.now) c.in-Err-read_texts.end _ _ (behind-texts _ _ _ c.in-Err-read_texts.end refused) c.in-Ok.ensures.noted _ refl refl
+
+pub returns-clause-noted : goal.returns-clause-noted
+returns-clause-noted g c =
+    rw c.end_of_run.ensures (names-read (RunCommand c.args.run.now) (ends_run c.run_images.result) _ _ (behind-run c.run_images.result) c.in-Ok.ensures.noted _ refl c.run_images.ensures.notes_kept)

@@ -1,12 +1,15 @@
-use Rattle.std.proofs.Common.{◌≡◌, [], refl, ap, subst, ◌∙◌}
+use Rattle.std.proofs.Common.{◌≡◌, [], ◌∷◌, refl, ap, subst, ◌∙◌}
 use Rattle.std.specs.Prelude.{IfSome}
 use Rattle.std.proofs.lemmas.Result.{err_from_is_err_and}
 use Rattle.os9_outer.specs.Host.{file_contents}
 use Rattle.os9_words.specs.declared.command.Command.TheVariants.{Boot as BootCommand}
 use Rattle.boot_images.specs.Images.{images_of}
 use Rattle.boot_run.specs.World.{World}
+use Rattle.os9_boot.specs.End.{run_file_name}
+use Rattle.os9_boot.specs.FileNames.{script_names}
 use Rattle.os9_boot.proofs.CallLemmas.{ended-after}
 use Rattle.os9_boot.proofs.FileLemmas.{has-boot-files}
+use Rattle.os9_boot.proofs.NameLemmas.{names-stopped, read-then, stop-before, stop-behind}
 use Rattle.os9_boot.proofs.files.read_boot_files.Goals as goal
 
 pub returns-in_err-script-clause-ended : goal.returns-in_err-script-clause-ended
@@ -33,3 +36,28 @@ returns-clause-contents g c =
 pub returns-clause-kept : goal.returns-clause-kept
 returns-clause-kept g c devices =
     c.in_ok-images.ensures.kept devices ∙ c.in_ok-slices.ensures.kept devices ∙ c.in_ok-script.ensures.kept devices
+
+-- ---- the names
+
+pub returns-in_err-script-clause-stopped : goal.returns-in_err-script-clause-stopped
+returns-in_err-script-clause-stopped g c =
+    let run = c.args.run.now in
+    let gave = err_from_is_err_and c.from_residual.result c.from_residual.ensures.1 in
+    rw (gave.1, gave.2) (names-stopped (BootCommand run) _ _ _ (stop-before (run_file_name run) _ _ (script_names run) (run.slices ∷ run.files) _ c.in_err-script.ensures.stopped))
+
+pub returns-in_err-slices-clause-stopped : goal.returns-in_err-slices-clause-stopped
+returns-in_err-slices-clause-stopped g c =
+    let run = c.args.run.now in
+    let gave = err_from_is_err_and c.from_residual-in_err-slices.result c.from_residual-in_err-slices.ensures.1 in
+    rw (gave.1, gave.2) (names-stopped (BootCommand run) _ _ _ (stop-behind (run_file_name run) _ _ _ (script_names run) (run.slices ∷ run.files) _ c.in_ok-script.ensures.noted (stop-before (run_file_name run) _ _ (run.slices ∷ []) run.files _ (c.in_err-slices.ensures.stopped (run_file_name run) refl))))
+
+pub returns-in_err-images-clause-stopped : goal.returns-in_err-images-clause-stopped
+returns-in_err-images-clause-stopped g c =
+    let run = c.args.run.now in
+    let gave = err_from_is_err_and c.from_residual-in_err-images.result c.from_residual-in_err-images.ensures.1 in
+    rw (gave.1, gave.2) (names-stopped (BootCommand run) _ _ _ (stop-behind (run_file_name run) _ _ _ (script_names run) (run.slices ∷ run.files) _ c.in_ok-script.ensures.noted (stop-behind (run_file_name run) _ _ _ (run.slices ∷ []) run.files _ c.in_ok-slices.ensures.noted c.in_err-images.ensures.stopped)))
+
+pub returns-clause-noted : goal.returns-clause-noted
+returns-clause-noted g c =
+    let run = c.args.run.now in
+    read-then (script_names run) (run.slices ∷ run.files) _ _ _ c.in_ok-script.ensures.noted (read-then (run.slices ∷ []) run.files _ _ _ c.in_ok-slices.ensures.noted c.in_ok-images.ensures.noted)

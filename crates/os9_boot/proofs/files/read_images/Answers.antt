@@ -1,12 +1,14 @@
 use Rattle.std.proofs.Common.{◌≡◌, ◌<◌, ◌+◌, ◌∙◌, [], suc, length, ap, subst, arith}
 use Rattle.std.specs.Prelude.{IfSome}
-use Rattle.std.proofs.lemmas.List.{length-append}
+use Rattle.std.proofs.lemmas.List.{length-append, take_all}
 use Rattle.std.proofs.lemmas.Result.{err_from_is_err_and}
 use Rattle.os9_outer.specs.Host.{file_contents}
 use Rattle.os9_words.specs.declared.command.Command.TheVariants.{Boot as BootCommand}
 use Rattle.boot_run.specs.World.{World}
+use Rattle.os9_boot.specs.End.{run_file_name}
 use Rattle.os9_boot.proofs.CallLemmas.{ended-after, out-of-memory}
 use Rattle.os9_boot.proofs.FileLemmas.{images-more}
+use Rattle.os9_boot.proofs.NameLemmas.{read-none, read-one, stop-at, stop-behind-read}
 use Rattle.os9_boot.proofs.files.read_images.Goals as goal
 
 pub returns-in_err-image-clause-ended : goal.returns-in_err-image-clause-ended
@@ -30,5 +32,22 @@ loop-place-preserved g c =
       count = rw (pushed, length-append, so_far.count) (omega arith);
       contents = rw (pushed, next) (images-more _ c.args.run.now.files c.loop-place.images c.loop-place.place c.word.result.now c.in_ok-image.image.items c.word.ensures so_far.contents (subst (λ told. IfSome told (λ files. c.in_ok-image.image.items ≡ file_contents files c.word.result.now)) same c.in_ok-image.ensures.contents));
       kept = λ devices. c.in_ok-image.ensures.kept devices ∙ so_far.kept devices;
-      err = c.in_ok-image.ensures.err_kept ∙ so_far.err;
+      notes = rw next (read-one c.loop-place.place c.args.run.now.files c.word.result.now c.word.ensures _ _ _ so_far.notes c.in_ok-image.ensures.noted);
     }
+
+-- ---- the names
+
+pub returns-in_err-image-clause-stopped : goal.returns-in_err-image-clause-stopped
+returns-in_err-image-clause-stopped g c =
+    let run = c.args.run.now in
+    let gave = err_from_is_err_and c.from_residual.result c.from_residual.ensures.1 in
+    rw (gave.1, gave.2) (stop-at c.loop-place.place run.files c.word.result.now c.word.ensures (run_file_name run) _ _ _ _ c.loop-place.invariant.notes (c.in_err-image.ensures.stopped (run_file_name run) c.word.ensures))
+
+pub returns-in-Err-clause-stopped : goal.returns-in-Err-clause-stopped
+returns-in-Err-clause-stopped g c =
+    let run = c.args.run.now in
+    stop-behind-read c.loop-place.place run.files c.word.result.now c.word.ensures (run_file_name run) _ _ _ c.loop-place.invariant.notes c.in_ok-image.ensures.noted
+
+pub returns-clause-noted : goal.returns-clause-noted
+returns-clause-noted g c =
+    rw (take_all c.loop-place.place c.args.run.now.files (omega (arith, c.len-place-end.ensures))) at c.loop-place.invariant.notes

@@ -1,8 +1,19 @@
 use Rattle.boot_run.specs.World.{world_of}
 use Rattle.os9_boot.specs.declared.status.Input.TheVariants.{Script}
 use Rattle.os9_boot.proofs.FileLemmas.{ended-as}
+use Rattle.os9_boot.proofs.NameLemmas.{script-none, script-read, script-stopped}
 use Rattle.os9_boot.proofs.files.read_script.Goals as goal
 
 pub returns-in-Some-clause-ended : goal.returns-in-Some-clause-ended
 returns-in-Some-clause-ended g c =
     ended-as c.read_input.result Script _ c.args.run.now.script (λ devices. world_of g.H.Host c.args.host.now devices) (λ devices. world_of g.H.Host c.read_input.new.host devices) (cc) c.read_input.ensures.ended
+
+pub returns-in-Some-clause-noted : goal.returns-in-Some-clause-noted
+returns-in-Some-clause-noted g c = script-read c.read_input.result c.args.run.now _ (cc) _ _ c.read_input.ensures.noted
+
+pub returns-in-Some-clause-stopped : goal.returns-in-Some-clause-stopped
+returns-in-Some-clause-stopped g c =
+    script-stopped c.read_input.result c.args.run.now _ (cc) _ _ c.read_input.ensures.stopped
+
+pub returns-clause-noted : goal.returns-clause-noted
+returns-clause-noted g c = script-none c.args.run.now _ (cc)

@@ -1,7 +1,8 @@
 use Rattle.std.proofs.Common.{map}
 use Rattle.std.specs.String.{string_bytes}
 use Rattle.os9_kernel.specs.Outside.{outside}
-use Rattle.os9_boot.proofs.CallLemmas.{err-only, top-command, top-memory, top-refused}
+use Rattle.os9_words.specs.Notes.{notes_of}
+use Rattle.os9_boot.proofs.CallLemmas.{err-only, reported, top-command, top-memory, top-refused}
 use Rattle.os9_boot.proofs.top.os9_main.Goals as goal
 
 pub do_command-requires-clause-devices : goal.do_command-requires-clause-devices
@@ -14,9 +15,9 @@ returns-in-Ok-clause-call g c =
 pub returns-in-Err-Refused-clause-call : goal.returns-in-Err-Refused-clause-call
 returns-in-Err-Refused-clause-call g c =
     let devices = outside (λ table. (g.dyn-1.0.entry table).1) c.args.devices.now.drives.items (λ table. (g.dyn-2.0.entry table).1) c.args.devices.now.terms.items in
-    top-refused (map string_bytes c.args.words.now) _ _ (g.H.Host.bytes_err c.args.host.now) (g.H.Host.bytes_err c.report.new.host) c.report.ensures.prefix (rw c.in-Err-Refused.field-0-is at c.in-Err-Refused.ensures.refused) (err-only g.H.Host c.args.host.now c.report.new.host devices c.report.ensures.others)
+    top-refused (map string_bytes c.args.words.now) _ _ (notes_of g.H.Host c.args.host.now) (notes_of g.H.Host c.report.new.host) (reported g.H.Host _ _ _ _ c.report.ensures) (rw c.in-Err-Refused.field-0-is at c.in-Err-Refused.ensures.refused) (err-only g.H.Host c.args.host.now c.report.new.host devices c.report.ensures.others)
 
 pub returns-in-Err-OutOfMemory-clause-call : goal.returns-in-Err-OutOfMemory-clause-call
 returns-in-Err-OutOfMemory-clause-call g c =
     let devices = outside (λ table. (g.dyn-1.0.entry table).1) c.args.devices.now.drives.items (λ table. (g.dyn-2.0.entry table).1) c.args.devices.now.terms.items in
-    top-memory (map string_bytes c.args.words.now) _ _ (g.H.Host.bytes_err c.args.host.now) (g.H.Host.bytes_err c.report-in-Err-OutOfMemory.new.host) c.report-in-Err-OutOfMemory.ensures.prefix (err-only g.H.Host c.args.host.now c.report-in-Err-OutOfMemory.new.host devices c.report-in-Err-OutOfMemory.ensures.others)
+    top-memory (map string_bytes c.args.words.now) _ _ (notes_of g.H.Host c.args.host.now) (notes_of g.H.Host c.report-in-Err-OutOfMemory.new.host) (reported g.H.Host _ _ _ _ c.report-in-Err-OutOfMemory.ensures) (err-only g.H.Host c.args.host.now c.report-in-Err-OutOfMemory.new.host devices c.report-in-Err-OutOfMemory.ensures.others)

@@ -17,6 +17,8 @@ returns-in_err-out g c = record {
   files_kept = search rules;
   err_kept = search rules;
   err_count_kept = search rules;
+  reads_kept = search rules;
+  writes_kept = search rules;
 }
 
 pub returns : goal.returns
@@ -32,4 +34,6 @@ returns g c = record {
   files_kept = search rules;
   err_kept = search rules;
   err_count_kept = search rules;
+  reads_kept = search rules;
+  writes_kept = search rules;
 }

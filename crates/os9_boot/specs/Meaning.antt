@@ -1,0 +1,94 @@
+-- What a command means for a call of the program: one record for each (this project's own).
+use Rattle.std.specs.Prelude.{◌≡◌, ℕ, ⊤, IfSome, Option, Some, None, List, [], ◌∷◌, All, length}
+use Rattle.os9_outer.specs.Host.{Files, file_contents}
+use Rattle.os9_words.specs.declared.command.Command.{Command}
+use Rattle.os9_words.specs.declared.command.Command.TheVariants.{Run as RunCommand, Boot as BootCommand, Check as CheckCommand, Stress as StressCommand}
+use Rattle.os9_words.specs.declared.command.RunWords.{RunWords}
+use Rattle.boot_run.specs.Console.{IsObserved}
+use Rattle.boot_run.specs.World.{World}
+use Rattle.stress_run.specs.Stress.{StressComesTo}
+use Rattle.stress_run.specs.declared.stress.StressEnd.{StressEnd}
+use Rattle.os9_boot.specs.declared.status.End.{End}
+use Rattle.os9_boot.specs.declared.status.Input.{Input}
+use Rattle.os9_boot.specs.Boots.{BootComesTo, RunComesTo}
+use Rattle.os9_boot.specs.Check.{CheckComesTo}
+use Rattle.os9_boot.specs.End.{run_file_name, stress_end}
+use Rattle.os9_boot.specs.FileNames.{BootWrites, WritesNone, run_inputs}
+use Rattle.os9_boot.specs.Left.{BootLeavesFiles, CheckLeaves, CheckMayEnd, KeepsFiles, LeavesDevices, RunMayEnd, StressMayEnd}
+
+pub record Meaning : Type 1 where
+  pub comes : World → World → End → Type 0  -- what comes of it, where that can be observed
+  pub may : End → Type 0  -- how it may end
+  pub devices : World → World → End → Type 0  -- what it leaves of the output and the devices, observed or not
+  pub files : World → World → End → Type 0  -- and of what the files hold
+  pub file_name : Input → Option (List ℕ)  -- the files that its words name
+  pub inputs : List (List ℕ)  -- those that it reads, in order
+  pub writes : End → List (List ℕ) → Type 0  -- the files that it has written when it ends so, in order
+  pub drives : ℕ  -- how many drives it needs
+
+-- the fact holds of the files, if they and the bytes of all terminals are observed
+abbrev pub IfAllObserved : World → (Files → Type 0) → Type 0
+IfAllObserved world fact = IfSome world.files (λ files. All IsObserved world.devices.terms → fact files)
+
+-- what comes of a stress, by how the command ends
+abbrev pub StressGives : ℕ → World → World → End → Type 0
+StressGives seed before after end = (it : StressEnd) × (end ≡ stress_end it) × StressComesTo seed before after it
+
+-- `run`
+abbrev pub run_meaning : RunWords → Meaning
+run_meaning run = record {
+  comes = λ before after end. IfAllObserved before (λ files. RunComesTo files run before after end);
+  may = RunMayEnd;
+  devices = LeavesDevices;
+  files = KeepsFiles;
+  file_name = run_file_name run;
+  inputs = run_inputs run;
+  writes = WritesNone;
+  drives = 0;
+}
+
+-- `boot`, which may end in each way, and needs a drive for each of its images
+abbrev pub boot_meaning : RunWords → Meaning
+boot_meaning boot = record {
+  comes = λ before after end. IfAllObserved before (λ files. BootComesTo files boot before after end);
+  may = λ end. ⊤;
+  devices = LeavesDevices;
+  files = BootLeavesFiles boot.files;
+  file_name = run_file_name boot;
+  inputs = run_inputs boot;
+  writes = BootWrites boot.files;
+  drives = length boot.files;
+}
+
+-- `check`
+abbrev pub check_meaning : List ℕ → Meaning
+check_meaning image = record {
+  comes = λ before after end. IfSome before.files (λ files. CheckComesTo (file_contents files image) before after end);
+  may = CheckMayEnd;
+  devices = CheckLeaves;
+  files = KeepsFiles;
+  file_name = λ input. Some image;
+  inputs = image ∷ [];
+  writes = WritesNone;
+  drives = 0;
+}
+
+-- `stress`, which names no file, and needs a drive for the disk that it makes
+abbrev pub stress_meaning : ℕ → Meaning
+stress_meaning seed = record {
+  comes = λ before after end. All IsObserved before.devices.terms → StressGives seed before after end;
+  may = StressMayEnd;
+  devices = LeavesDevices;
+  files = KeepsFiles;
+  file_name = λ input. None;
+  inputs = [];
+  writes = WritesNone;
+  drives = 1;
+}
+
+-- an arm for each command
+abbrev pub meaning : Command → Meaning
+meaning (RunCommand run) = run_meaning run
+meaning (BootCommand boot) = boot_meaning boot
+meaning (CheckCommand image) = check_meaning image
+meaning (StressCommand seed) = stress_meaning seed
