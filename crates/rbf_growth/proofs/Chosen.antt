@@ -14,8 +14,9 @@ use Rattle.rbf_model.proofs.Segments.{has_range}
 use Rattle.rbf_model.proofs.Growth.{cluster_of_range}
 use Rattle.rbf_segs.proofs.Runs.{sectors_of-appended}
 use Rattle.rbf_map.specs.Map.{ClusterMap, IsFreeInMap, MayTake}
-use Rattle.rbf_change.specs.Growth.{uses, MayGain, free_beside, with_clusters, Gains}
-use Rattle.rbf_growth.specs.Gained.{is_clear, last_cluster, cluster_at, clusters_from}
+use Rattle.rbf_map.specs.Runs.{is_clear, IsChosen}
+use Rattle.rbf_change.specs.Growth.{uses, IsAfter, MayGain, free_beside, with_clusters, Gains}
+use Rattle.rbf_growth.specs.Gained.{IsChosenFor, AreChosen, last_cluster, cluster_at, clusters_from}
 use Rattle.rbf_growth.proofs.Clear.{clear_is, free_is, unclear_is}
 
 -- what the map takes is what the file may gain
@@ -45,6 +46,28 @@ may_gain k kept segments c may = record {
       (λ used. or_right (c == 0) (not (is_clear kept (c - 1))) (not_from_false (is_clear kept (c - 1)) (unclear_is kept (c - 1) used))) begins)))
       may.run;
 }
+
+-- and what it chooses is chosen for the file
+pub chosen_for : (k wanted : ℕ) (kept : ClusterMap) (segments : List (ℕ × ℕ)) (c : ℕ) → IsChosen kept (last_cluster k segments) wanted c → IsChosenFor k (is_clear kept) segments wanted c
+chosen_for k wanted kept segments c chosen none = chosen (λ at is free.
+    let some = some_last k (sectors_of segments) at is in
+    let last : ℕ = get_or (sectors_of segments) (length (sectors_of segments) - 1) 0 / k in
+    let both : Some last ≡ Some at = sym (last_is k segments some) ∙ is in
+    let same : at ≡ last = cc in
+    both_ways (is_clear kept (at + 1)) (none (at + 1) (record { some = some; next = ap (λ n. n + 1) same })) (clear_is kept (at + 1) free))
+
+-- one more is chosen
+pub chosen_more : (k : ℕ) (free : ℕ → Bool) (segments : List (ℕ × ℕ)) (wanted : ℕ) (taken : List ℕ) (c : ℕ) → AreChosen k free segments wanted taken
+    → IsChosenFor k (free_beside k free (with_clusters k segments taken)) (with_clusters k segments taken) (wanted - length taken) c → AreChosen k free segments wanted (taken ++ c ∷ [])
+chosen_more k free segments wanted [] c chosen one =
+    let all : wanted - 0 ≡ wanted = omega arith in
+    (subst (λ n. IsChosenFor k (free_beside k free segments) segments n c) all one, tt)
+chosen_more k free segments wanted (b ∷ taken) c chosen one =
+    let fewer : wanted - suc (length taken) ≡ wanted - 1 - length taken = omega arith in (
+      chosen.0,
+      chosen_more k free (appended_segments segments (b * k) k) (wanted - 1) taken c chosen.1
+          (subst (λ n. IsChosenFor k (free_beside k free (with_clusters k (appended_segments segments (b * k) k) taken)) (with_clusters k (appended_segments segments (b * k) k) taken) n c) fewer one),
+    )
 
 -- the sectors of one cluster are in it alone
 uses_cluster : (k c d : ℕ) → 1 ≤ k → list_any (λ s. s / k == d) (range_with_len (c * k) k) ≡ (c == d)

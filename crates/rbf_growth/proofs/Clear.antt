@@ -6,7 +6,8 @@ use Rattle.std.proofs.lemmas.List.Folds.{list_any-append}
 use Rattle.rbf_model.specs.Segments.{has}
 use Rattle.rbf_map.specs.Map.{ClusterMap, mark, clear_below, MarkedFrom, IsFreeInMap, Marks, NoneIsFree, map_free_clusters}
 use Rattle.rbf_map.proofs.Marks.{mark-set_or_clear, clear_below-marked, clear_below-set}
-use Rattle.rbf_growth.specs.Gained.{is_clear, SameMap, MarksBesides}
+use Rattle.rbf_map.specs.Runs.{is_clear}
+use Rattle.rbf_growth.specs.Gained.{SameMap, MarksBesides}
 
 pub clear_is : (kept : ClusterMap) (c : ℕ) → IsFreeInMap kept c → is_clear kept c ≡ true
 clear_is kept c free = and_from (nat_lt c kept.whole) (mark kept.bytes c == 0) (lt-ltb c kept.whole free.whole) (eq-eqb (mark kept.bytes c) 0 free.clear)

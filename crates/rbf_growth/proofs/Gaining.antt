@@ -1,5 +1,5 @@
 -- Clusters that are gained one after the other, and given back.
-use Rattle.std.proofs.Common.{◌≡◌, ◌⊎◌, ◌↔◌, inl, inr, ℕ, ◌+◌, ◌*◌, ◌/◌, ◌<◌, ◌≤◌, zero, suc, Bool, true, false, not, ◌==◌, ◌&&◌, ◌||◌, Option, Some, IfSome, List, [], ◌∷◌, ◌++◌, length, get_or, refl, sym, ap, ◌∙◌, subst, ⊎_elim, arith, eq-eqb, eqb-true, length-append}
+use Rattle.std.proofs.Common.{◌≡◌, ◌⊎◌, ◌↔◌, inl, inr, ℕ, ◌+◌, ◌-◌, ◌*◌, ◌/◌, ◌<◌, ◌≤◌, zero, suc, Bool, true, false, not, ◌==◌, ◌&&◌, ◌||◌, Option, Some, IfSome, List, [], ◌∷◌, ◌++◌, length, get_or, refl, sym, ap, ◌∙◌, subst, ⊎_elim, arith, eq-eqb, eqb-true, length-append}
 use Rattle.std.specs.Prelude.{if◌then◌else◌, replicate}
 use Rattle.std.proofs.lemmas.List.FromFn.{map-range_with_len_more}
 use mathlib.Core.Path.{fun_ext}
@@ -9,9 +9,10 @@ use Rattle.rbf_model.specs.Segments.{sectors_of, appended_segments, has}
 use Rattle.rbf_map.proofs.Marks.{length-clear_below}
 use Rattle.rbf_map.specs.Map.{ClusterMap, mark, MayTake, map_free_clusters}
 use Rattle.rbf_change.specs.Growth.{uses, MayGain, free_beside, with_clusters, Gains}
-use Rattle.rbf_growth.specs.Gained.{is_clear, AreSizes, AreApart, SameMap, last_cluster, GainsOne, IsOneFull, IsGain, IsTooMany, cluster_at, clusters_from, ArePlaces, ReturnsOne, is_written, IsGivenBack}
+use Rattle.rbf_map.specs.Runs.{is_clear, IsChosen}
+use Rattle.rbf_growth.specs.Gained.{AreSizes, AreApart, SameMap, last_cluster, GainsOne, IsOneFull, IsGain, IsChosenFor, AreChosen, IsChosenGain, IsTooMany, cluster_at, clusters_from, ArePlaces, ReturnsOne, is_written, IsGivenBack}
 use Rattle.rbf_growth.proofs.Clear.{free_is, has_more, one_fewer, clear_more, no_marks, more_marks}
-use Rattle.rbf_growth.proofs.Chosen.{may_gain, uses_more, with_more, gains_more, gained_free, has_free, length-with, cluster_there, clusters_are}
+use Rattle.rbf_growth.proofs.Chosen.{may_gain, chosen_for, chosen_more, uses_more, with_more, gains_more, gained_free, has_free, length-with, cluster_there, clusters_are}
 
 -- a fact of what an option has
 pub some_at : (P : ℕ → Type 0) (o : Option ℕ) (c : ℕ) → o ≡ Some c → IfSome o P → P c
@@ -22,6 +23,11 @@ pub taken_may : (k : ℕ) (kept : ClusterMap) (segments : List (ℕ × ℕ)) (la
 taken_may k kept segments last taken c is some may =
     may_gain k kept segments c (subst (λ o. MayTake kept o c) is (some_at (MayTake kept last) taken c some may))
 
+pub taken_chosen : (k wanted : ℕ) (kept : ClusterMap) (segments : List (ℕ × ℕ)) (last taken : Option ℕ) (c : ℕ) → last ≡ last_cluster k segments → taken ≡ Some c
+    → IfSome taken (IsChosen kept last wanted) → IsChosenFor k (is_clear kept) segments wanted c
+taken_chosen k wanted kept segments last taken c is some chosen =
+    chosen_for k wanted kept segments c (subst (λ o. IsChosen kept o wanted c) is (some_at (IsChosen kept last wanted) taken c some chosen))
+
 -- a cluster that is free begins where a segment can
 pub begins_within : (k : ℕ) (kept : ClusterMap) (c : ℕ) → AreSizes k kept → c < kept.whole → c * k < 524280
 begins_within k kept c sizes low =
@@ -30,16 +36,18 @@ begins_within k kept c sizes low =
     let more : (c + 1) * k ≤ kept.whole * k = mul-le-mul_right k (omega arith) in
     omega arith
 
--- so many clusters have been gained
-pub record IsSoFar (k j : ℕ) (old now : ClusterMap) (before segments : List (ℕ × ℕ)) : Type 0 where
+-- so many clusters have been gained, of those that are needed
+pub record IsSoFar (k count j : ℕ) (old now : ClusterMap) (before segments : List (ℕ × ℕ)) : Type 0 where
   pub gain : IsGain k j old now before segments
+  pub chosen : AreChosen k (is_clear old) before count gain.taken
   pub clear : (c : ℕ) → is_clear now c ≡ free_beside k (is_clear old) segments c
   pub counted : length (map_free_clusters now) + j ≡ length (map_free_clusters old)
   pub sizes : AreSizes k now
 
-pub none_yet : (k : ℕ) (old : ClusterMap) (before : List (ℕ × ℕ)) → AreSizes k old → length before ≤ 48 → AreApart k old before → IsSoFar k 0 old old before before
-none_yet k old before sizes few apart = record {
+pub none_yet : (k count : ℕ) (old : ClusterMap) (before : List (ℕ × ℕ)) → AreSizes k old → length before ≤ 48 → AreApart k old before → IsSoFar k count 0 old old before before
+none_yet k count old before sizes few apart = record {
   gain = record { taken = []; counted = refl; gained = tt; segments = refl; fits = few; marks = no_marks old };
+  chosen = tt;
   clear = λ c. ⊎_elim
       (λ used. apart c used ∙ sym (ap (λ t. is_clear old c && not t) used ∙ and_false (is_clear old c)))
       (λ none. sym (ap (λ t. is_clear old c && not t) none ∙ and_true (is_clear old c)))
@@ -62,6 +70,13 @@ may_beside : (k : ℕ) (old now : ClusterMap) (segments : List (ℕ × ℕ)) (c 
 may_beside k old now segments c same may =
     let all : is_clear now ≡ free_beside k (is_clear old) segments = fun_ext same in
     subst (λ free. MayGain k free segments c) all may
+
+-- and what is chosen beside it
+chosen_beside : (k wanted : ℕ) (old now : ClusterMap) (segments : List (ℕ × ℕ)) (c : ℕ) → ((d : ℕ) → is_clear now d ≡ free_beside k (is_clear old) segments d)
+    → IsChosenFor k (is_clear now) segments wanted c → IsChosenFor k (free_beside k (is_clear old) segments) segments wanted c
+chosen_beside k wanted old now segments c same chosen =
+    let all : is_clear now ≡ free_beside k (is_clear old) segments = fun_ext same in
+    subst (λ free. IsChosenFor k free segments wanted c) all chosen
 
 and_or : (a b c : Bool) → ((a && not b) && not c) ≡ (a && not (b || c))
 and_or true true c = refl
@@ -100,7 +115,7 @@ module _ (k j : ℕ) (old now : ClusterMap) (before segments : List (ℕ × ℕ)
       ∙ ap (clusters_from k (with_clusters k before gain.taken) (length (sectors_of before))) (sym gain.counted)
       ∙ clusters_are k before gain.taken positive
 
-module _ (k j : ℕ) (old now : ClusterMap) (before segments : List (ℕ × ℕ)) (far : IsSoFar k j old now before segments) where
+module _ (k count j : ℕ) (old now : ClusterMap) (before segments : List (ℕ × ℕ)) (far : IsSoFar k count j old now before segments) where
   abbrev taken : List ℕ
   taken = far.gain.taken
 
@@ -109,10 +124,17 @@ module _ (k j : ℕ) (old now : ClusterMap) (before segments : List (ℕ × ℕ)
       gains_more k (is_clear old) before taken c far.gain.gained
       (subst (λ xs. MayGain k (free_beside k (is_clear old) xs) xs c) far.gain.segments (may_beside k old now segments c far.clear may))
 
+  chosen_next : (c : ℕ) → IsChosenFor k (is_clear now) segments (count - j) c → AreChosen k (is_clear old) before count (taken ++ c ∷ [])
+  chosen_next c chosen =
+      let left : count - j ≡ count - length taken = ap (λ n. count - n) (sym far.gain.counted) in
+      chosen_more k (is_clear old) before count taken c far.chosen
+      (subst (λ n. IsChosenFor k (free_beside k (is_clear old) (with_clusters k before taken)) (with_clusters k before taken) n c) left
+      (subst (λ xs. IsChosenFor k (free_beside k (is_clear old) xs) xs (count - j) c) far.gain.segments (chosen_beside k (count - j) old now segments c far.clear chosen)))
+
   segments_next : (c : ℕ) → appended_segments segments (c * k) k ≡ with_clusters k before (taken ++ c ∷ [])
   segments_next c = ap (λ xs. appended_segments xs (c * k) k) far.gain.segments ∙ sym (with_more k before taken c)
 
-  pub one_more : (new : ClusterMap) (after : List (ℕ × ℕ)) → GainsOne k now new segments after → IsSoFar k (j + 1) old new before after
+  pub one_more : (new : ClusterMap) (after : List (ℕ × ℕ)) → GainsOne k (count - j) now new segments after → IsSoFar k count (j + 1) old new before after
   one_more new after one =
       let c = one.cluster in
       let positive = far.sizes.some in
@@ -127,6 +149,7 @@ module _ (k j : ℕ) (old now : ClusterMap) (before segments : List (ℕ × ℕ)
           fits = one.fits;
           marks = more_marks old now new taken c far.gain.marks one.marks;
         };
+        chosen = chosen_next c one.chosen;
         clear = λ d.
             clear_more now new c d one.marks ∙ ap (λ t. t && not (c == d)) (far.clear d) ∙ and_or (is_clear old d) (uses k segments d) (c == d)
             ∙ ap (λ t. is_clear old d && not t) (sym (uses_more k segments c d positive))
@@ -140,8 +163,8 @@ module _ (k j : ℕ) (old now : ClusterMap) (before segments : List (ℕ × ℕ)
         };
       }
 
-  pub too_many : (count : ℕ) → j < count → IsOneFull k now segments → IsTooMany k count (is_clear old) before
-  too_many count low full =
+  pub too_many : j < count → IsOneFull k (count - j) now segments → IsTooMany k count (is_clear old) before
+  too_many low full =
       let c = full.cluster in
       let size = length-append taken (c ∷ []) in
       let counted = far.gain.counted in
@@ -150,8 +173,23 @@ module _ (k j : ℕ) (old now : ClusterMap) (before segments : List (ℕ × ℕ)
         taken = taken ++ c ∷ [];
         needed = omega arith;
         gained = gained_next c full.may;
+        chosen = chosen_next c full.chosen;
         full = subst (λ xs. 48 < length xs) (segments_next c) full.full;
       }
+
+  -- all that are needed
+  pub all_gained : j ≡ count → IsChosenGain k count old now before segments
+  all_gained end = record {
+    gain = record {
+      taken = far.gain.taken;
+      counted = far.gain.counted ∙ end;
+      gained = far.gain.gained;
+      segments = far.gain.segments;
+      fits = far.gain.fits;
+      marks = far.gain.marks;
+    };
+    chosen = far.chosen;
+  }
 
   -- the places of what was gained
   pub places_of : (first : ℕ) → first ≡ length (sectors_of before) → first ≤ 48 * 65535 → ArePlaces k now segments first j

@@ -27,7 +27,8 @@ use Rattle.rbf_access.specs.Cached.{IsCacheOf}
 use Rattle.rbf_access.specs.Mounted.{kept, Represents, IsMounted}
 use Rattle.rbf_access.proofs.Counting.{counts_most}
 use Rattle.rbf_access.proofs.MapMarks.{below, below_of, below_all, mark_there}
-use Rattle.rbf_growth.specs.Gained.{is_clear, AreSizes, AreApart, SameMap, IsGain, IsTooMany, ArePlaces, cluster_at, clusters_from, is_written, IsGivenBack}
+use Rattle.rbf_map.specs.Runs.{is_clear}
+use Rattle.rbf_growth.specs.Gained.{AreSizes, AreApart, SameMap, IsGain, IsChosenGain, IsTooMany, ArePlaces, cluster_at, clusters_from, is_written, IsGivenBack}
 use Rattle.rbf_growth.specs.Marked.{is_new_mark, IsAhead, IsMarkedTo, IsMarkedOn, AllWritten, AreWanted, unwritten}
 use Rattle.rbf_growth.specs.Grown.{ChangesMap, IsChosen, IsGrown, GrowthEnds, is_gained}
 use Rattle.rbf_growth.proofs.Clear.{clear_is, free_is}
@@ -114,22 +115,22 @@ module _ (volume : Volume) (image : List ℕ) (v : DiskVolume) (vol : Vol image 
   pub too_many_is : (count : ℕ) (segments : List (ℕ × ℕ)) → IsTooMany k count (is_clear volume.map) segments → IsTooMany (cluster_size v) count (is_free_in v) segments
   too_many_is count segments many = subst (λ n. IsTooMany n count (is_free_in v) segments) k_is (subst (λ free. IsTooMany k count free segments) free_is_clear many)
 
-  module _ (map1 : ClusterMap) (count : ℕ) (before after : List (ℕ × ℕ)) (gain : IsGain k count volume.map map1 before after) where
+  module _ (map1 : ClusterMap) (count : ℕ) (before after : List (ℕ × ℕ)) (best : IsChosenGain k count volume.map map1 before after) where
     abbrev taken : List ℕ
-    taken = gain.taken
+    taken = best.gain.taken
 
     abbrev kept1 : KeptVolume
     kept1 = record { sizes = (kept volume).sizes; map = map1 }
 
     taken_free : (c : ℕ) → has taken c ≡ true → is_free_in v c ≡ true
-    taken_free c h = subst (λ (free : ℕ → Bool). free c ≡ true) free_is_clear (has_free k (is_clear volume.map) before taken c gain.gained h)
+    taken_free c h = subst (λ (free : ℕ → Bool). free c ≡ true) free_is_clear (has_free k (is_clear volume.map) before taken c best.gain.gained h)
 
     -- a gained cluster has its mark in the kept map, and another one that of the media
     mark_taken : (c : ℕ) → has taken c ≡ true → (mark map1.bytes c == 1) ≡ true
-    mark_taken c h = ap (λ m. m == 1) (gain.marks.marks c ∙ ap (λ t. if t then 1 else mark volume.map.bytes c) h)
+    mark_taken c h = ap (λ m. m == 1) (best.gain.marks.marks c ∙ ap (λ t. if t then 1 else mark volume.map.bytes c) h)
 
     mark_other : (c : ℕ) → has taken c ≡ false → mark map1.bytes c ≡ mark volume.map.bytes c
-    mark_other c h = gain.marks.marks c ∙ ap (λ t. if t then 1 else mark volume.map.bytes c) h
+    mark_other c h = best.gain.marks.marks c ∙ ap (λ t. if t then 1 else mark volume.map.bytes c) h
 
     free_unmarked : (c : ℕ) → is_free_in v c ≡ true → (mark volume.map.bytes c == 1) ≡ false
     free_unmarked c free =
@@ -153,13 +154,13 @@ module _ (volume : Volume) (image : List ℕ) (v : DiskVolume) (vol : Vol image 
     ahead = record {
       vol = vol;
       sizes_are = agrees.sizes_are;
-      clusters_are = gain.marks.clusters ∙ agrees.map.clusters_are;
-      whole_are = gain.marks.whole ∙ agrees.map.whole_are;
-      sectors = gain.marks.bytes ∙ agrees.map.sectors;
+      clusters_are = best.gain.marks.clusters ∙ agrees.map.clusters_are;
+      whole_are = best.gain.marks.whole ∙ agrees.map.whole_are;
+      sectors = best.gain.marks.bytes ∙ agrees.map.sectors;
       marks = λ c low. ⊎_elim
           (λ there. mark_taken c there ∙ sym (ap (λ t. is_marked (sector image) c || t) (new_is c ∙ there) ∙ or_true (is_marked (sector image) c)))
           (λ none.
-          let size = gain.marks.bytes in
+          let size = best.gain.marks.bytes in
           ap (λ m. m == 1) (mark_other c none) ∙ sym (agrees.map.marks c (omega arith))
           ∙ sym (ap (λ t. is_marked (sector image) c || t) (new_is c ∙ none) ∙ or_none (is_marked (sector image) c)))
           (cases_Bool (has taken c));
@@ -196,9 +197,10 @@ module _ (volume : Volume) (image : List ℕ) (v : DiskVolume) (vol : Vol image 
     chosen : IsChosen (cluster_size v) count (is_free_in v) before taken
     chosen =
         let one : IsChosen k count (is_clear volume.map) before taken = record {
-          counted = gain.counted;
-          gained = gain.gained;
-          fits = subst (λ xs. length xs ≤ 48) gain.segments gain.fits;
+          counted = best.gain.counted;
+          gained = best.gain.gained;
+          best = best.chosen;
+          fits = subst (λ xs. length xs ≤ 48) best.gain.segments best.gain.fits;
         } in
         subst (λ n. IsChosen n count (is_free_in v) before taken) k_is (subst (λ free. IsChosen k count free before taken) free_is_clear one)
 
@@ -213,8 +215,8 @@ module _ (volume : Volume) (image : List ℕ) (v : DiskVolume) (vol : Vol image 
 
       place_free : (i : ℕ) → i < count → is_free_in v (cluster_of_place i) ≡ true
       place_free i low =
-          let counted = gain.counted in
-          let clear = gained_free k (is_clear volume.map) before taken i gain.gained (omega arith) in
+          let counted = best.gain.counted in
+          let clear = gained_free k (is_clear volume.map) before taken i best.gain.gained (omega arith) in
           subst (λ (free : ℕ → Bool). free (cluster_of_place i) ≡ true) free_is_clear (ap (is_clear volume.map) (place_taken i low) ∙ clear)
 
       in_map_sectors : (i : ℕ) → i < count → cluster_of_place i / 2048 < map_sectors (shape v)
@@ -232,8 +234,8 @@ module _ (volume : Volume) (image : List ℕ) (v : DiskVolume) (vol : Vol image 
           let there = places.in_map i low in
           let sizes = sizes_are in
           let whole_ones = sizes.whole_ones in
-          let whole = gain.marks.whole in
-          let clusters = gain.marks.clusters in
+          let whole = best.gain.marks.whole in
+          let clusters = best.gain.marks.clusters in
           let ahead_clusters = ahead.clusters_are in
           let same : cluster_count (shape v) ≡ cluster_count g = ap cluster_count (shape-image image v vol) in
           let fits : (i + 1) * k ≤ count * k = mul-le-mul_right k (omega arith) in
@@ -307,7 +309,7 @@ module _ (volume : Volume) (image : List ℕ) (v : DiskVolume) (vol : Vol image 
           is = on.is;
           taken = taken;
           chosen = chosen;
-          segments = gain.segments ∙ ap (λ n. with_clusters n before taken) k_is;
+          segments = best.gain.segments ∙ ap (λ n. with_clusters n before taken) k_is;
           vol = subst (λ lost. Vol now (with_lost v lost)) (fun_ext lost_all) on.marked.vol;
           changes = changes;
         }
@@ -317,7 +319,7 @@ module _ (volume : Volume) (image : List ℕ) (v : DiskVolume) (vol : Vol image 
             (λ w. ap (λ t. if t then mark map1.bytes c == 1 else is_marked (sector image) c) w)
             (λ unwritten.
             let none : has taken c ≡ false = false_from_ne_true (has taken c) (λ h. both_ways (is_written written c) unwritten (all c h)) in
-            let size = gain.marks.bytes in
+            let size = best.gain.marks.bytes in
             ap (λ t. if t then mark map1.bytes c == 1 else is_marked (sector image) c) unwritten ∙ agrees.map.marks c (omega arith) ∙ ap (λ m. m == 1) (sym (mark_other c none)))
             (cases_Bool (is_written written c)))
 
@@ -352,7 +354,7 @@ module _ (volume : Volume) (image : List ℕ) (v : DiskVolume) (vol : Vol image 
 
           back_mark : (c : ℕ) → c < 8 * length map1.bytes → (mark map2.bytes c == 1) ≡ (if is_written written c then mark map1.bytes c == 1 else is_marked (sector image) c)
           back_mark c low =
-              let size = gain.marks.bytes in
+              let size = best.gain.marks.bytes in
               let is : mark map2.bytes c ≡ (if (has taken c && not (is_written written c)) then 0 else mark map1.bytes c) =
               back.marks c ∙ ap (λ xs. if (has xs c && not (is_written written c)) then 0 else mark map1.bytes c) those in
               ⊎_elim

@@ -1,13 +1,10 @@
 -- How a segment list gains clusters of a map.
-use Rattle.std.specs.Prelude.{◌≡◌, ◌≢◌, ℕ, ◌+◌, ◌-◌, ◌*◌, ◌/◌, ◌^◌, ◌<◌, ◌≤◌, ◌==◌, ◌&&◌, nat_lt, Bool, true, false, not, List, length, map, get_or, slice_get, slice_index_or, option_map, Option, if◌then◌else◌}
+use Rattle.std.specs.Prelude.{◌≡◌, ◌≢◌, ℕ, ◌+◌, ◌-◌, ◌*◌, ◌/◌, ◌^◌, ◌<◌, ◌≤◌, ◌==◌, ◌&&◌, nat_lt, Bool, true, false, not, List, [], ◌∷◌, length, map, get_or, slice_get, slice_index_or, option_map, Option, if◌then◌else◌}
 use Rattle.std.specs.List.{range_with_len}
 use Rattle.rbf_model.specs.Segments.{sectors_of, appended_segments, has}
 use Rattle.rbf_map.specs.Map.{ClusterMap, mark, Marks}
-use Rattle.rbf_change.specs.Growth.{uses, with_clusters, MayGain, Gains}
-
--- a cluster of the map is whole and not in use
-abbrev pub is_clear : ClusterMap → ℕ → Bool
-is_clear kept c = nat_lt c kept.whole && (mark kept.bytes c == 0)
+use Rattle.rbf_map.specs.Runs.{is_clear, BeginsBestRun}
+use Rattle.rbf_change.specs.Growth.{uses, free_beside, with_clusters, IsAfter, MayGain, Gains}
 
 -- clusters of so many sectors, in a map of a volume that this project takes
 pub record AreSizes (k : ℕ) (kept : ClusterMap) : Type 0 where
@@ -38,18 +35,33 @@ pub record MarksBesides (old new : ClusterMap) (taken : List ℕ) : Type 0 where
 abbrev pub last_cluster : ℕ → List (ℕ × ℕ) → Option ℕ
 last_cluster k segments = option_map (λ s. s / k) (slice_get (sectors_of segments) (length (sectors_of segments) - 1))
 
--- one cluster has been gained
-pub record GainsOne (k : ℕ) (old new : ClusterMap) (before after : List (ℕ × ℕ)) : Type 0 where
+-- the cluster that is chosen for a file with these segments that still needs so many: if the one after its last sector's
+-- is not free, the first of the best run
+abbrev pub IsChosenFor : ℕ → (ℕ → Bool) → List (ℕ × ℕ) → ℕ → ℕ → Type 0
+IsChosenFor k free segments wanted c =
+    ((d : ℕ) → IsAfter k segments d → free d ≡ false) → BeginsBestRun free wanted c
+
+-- each of these clusters is the one that is chosen, for itself and those behind it
+abbrev pub AreChosen : ℕ → (ℕ → Bool) → List (ℕ × ℕ) → ℕ → List ℕ → Type 0
+AreChosen k free segments wanted [] = Unit {0}
+AreChosen k free segments wanted (c ∷ clusters) =
+    IsChosenFor k (free_beside k free segments) segments wanted c
+    × AreChosen k free (appended_segments segments (c * k) k) (wanted - 1) clusters
+
+-- one cluster of so many has been gained
+pub record GainsOne (k wanted : ℕ) (old new : ClusterMap) (before after : List (ℕ × ℕ)) : Type 0 where
   pub cluster : ℕ
   pub may : MayGain k (is_clear old) before cluster
+  pub chosen : IsChosenFor k (is_clear old) before wanted cluster
   pub marks : Marks old new cluster 1
   pub segments : after ≡ appended_segments before (cluster * k) k
   pub fits : length after ≤ 48
 
--- a cluster that may be chosen and does not fit the list
-pub record IsOneFull (k : ℕ) (old : ClusterMap) (before : List (ℕ × ℕ)) : Type 0 where
+-- the cluster that is chosen does not fit the list
+pub record IsOneFull (k wanted : ℕ) (old : ClusterMap) (before : List (ℕ × ℕ)) : Type 0 where
   pub cluster : ℕ
   pub may : MayGain k (is_clear old) before cluster
+  pub chosen : IsChosenFor k (is_clear old) before wanted cluster
   pub full : 48 < length (appended_segments before (cluster * k) k)
 
 -- so many have been gained
@@ -61,11 +73,17 @@ pub record IsGain (k count : ℕ) (old new : ClusterMap) (before after : List (�
   pub fits : length after ≤ 48
   pub marks : MarksBesides old new taken
 
--- clusters that may be chosen, of which the last does not fit the list
+-- and they are those that are chosen
+pub record IsChosenGain (k count : ℕ) (old new : ClusterMap) (before after : List (ℕ × ℕ)) : Type 0 where
+  pub gain : IsGain k count old new before after
+  pub chosen : AreChosen k (is_clear old) before count gain.taken
+
+-- clusters that are chosen, of which the last does not fit the list
 pub record IsTooMany (k count : ℕ) (free : ℕ → Bool) (before : List (ℕ × ℕ)) : Type 0 where
   pub taken : List ℕ
   pub needed : length taken ≤ count
   pub gained : Gains k free before taken
+  pub chosen : AreChosen k free before count taken
   pub full : 48 < length (with_clusters k before taken)
 
 -- the cluster of the sector in a place

@@ -14,17 +14,18 @@ use Rattle.rbf_access.specs.declared.faults.FileFault.{FileFault}
 use Rattle.rbf_access.specs.declared.faults.FileFault.TheVariants as fault
 use Rattle.rbf_access.specs.MapMarks.{marking_sectors}
 use Rattle.rbf_access.specs.Mounted.{Represents}
-use Rattle.rbf_growth.specs.Gained.{IsTooMany}
+use Rattle.rbf_growth.specs.Gained.{AreChosen, IsTooMany}
 
 -- no sector has changed but those of the map, and no mark past the clusters
 pub record ChangesMap (old now : List ℕ) : Type 0 where
   pub others : (s : ℕ) → ¬ IsMapSector (image_geometry old) s → sector now s ≡ sector old s
   pub end : KeepsMapEnd old now (λ _. false)
 
--- so many clusters that may be gained, all of which find their place
+-- so many clusters that may be gained and are chosen, all of which find their place
 pub record IsChosen (k count : ℕ) (free : ℕ → Bool) (before : List (ℕ × ℕ)) (taken : List ℕ) : Type 0 where
   pub counted : length taken ≡ count
   pub gained : Gains k free before taken
+  pub best : AreChosen k free before count taken
   pub fits : length (with_clusters k before taken) ≤ 48
 
 -- the clusters have been taken: in the volume they are lost

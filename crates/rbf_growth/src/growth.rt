@@ -15,7 +15,8 @@ use rbf_segs::Segs;
 /// Takes clusters for a file with these segments, on the media too, and answers its segments with
 /// the sectors of those clusters behind them. In the volume the clusters are lost until a
 /// descriptor has them (OS-9 Technical Reference, Random Block File Manager, "Disk Allocation
-/// Map").
+/// Map"). Which ones is our choice: if the file's next cluster is not free, it goes on in the first
+/// run that has all that are still needed, and if none has, in the longest.
 ///
 /// # Errors
 ///

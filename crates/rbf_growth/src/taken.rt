@@ -2,8 +2,9 @@ ghost use Rattle.std.specs.Prelude.{◌≡◌, ◌↔◌, ℕ, ◌+◌, ◌*◌,
 ghost use Rattle.std.specs.Option.{option_map};
 ghost use Rattle.rbf_model.specs.Segments.{sectors_of};
 ghost use Rattle.rbf_map.specs.Map.{NoneIsFree, map_free_clusters};
+ghost use Rattle.rbf_map.specs.Runs.{is_clear};
 ghost use Rattle.rbf_access.specs.Faults.{file_fault};
-ghost use Rattle.rbf_growth.specs.Gained.{AreSizes, AreApart, SameMap, last_cluster, GainsOne, IsOneFull, is_clear, IsGain, IsTooMany};
+ghost use Rattle.rbf_growth.specs.Gained.{AreSizes, AreApart, SameMap, last_cluster, GainsOne, IsOneFull, IsChosenGain, IsTooMany};
 
 use crate::returned::give_back;
 use rbf_access::FileFault;
@@ -11,7 +12,8 @@ use rbf_map::RbfMap;
 use rbf_segs::{Segs, SegsFull};
 
 /// Takes clusters in a map for a file with these segments, and answers its segments with the
-/// sectors of those clusters behind them.
+/// sectors of those clusters behind them. If the file's next cluster is not free, it goes on in the
+/// first run that has all that are still needed, and if none has, in the longest.
 ///
 /// # Errors
 ///
@@ -21,7 +23,7 @@ pub fn gain(map: &mut RbfMap, k: u16, segs: &Segs, count: u32) -> Result<Segs, F
     requires sizes { AreSizes k map.old }
     requires few { length segs.now ≤ 48 }
     requires apart { AreApart k map.old segs.now }
-    ensures ok { IfOk result (IsGain k count map.old map.new segs.now) }
+    ensures ok { IfOk result (IsChosenGain k count map.old map.new segs.now) }
     ensures full { IsErrOf result FileFault.NoCluster
         ↔ (length (map_free_clusters map.old) < count) }
     ensures runs { IsErrOf result FileFault.TooManyRuns
@@ -35,7 +37,7 @@ pub fn gain(map: &mut RbfMap, k: u16, segs: &Segs, count: u32) -> Result<Segs, F
     let first = segs.sectors();
     let mut longer = *segs;
     for taken in 0..count {
-        match gain_one(map, k, &mut longer) {
+        match gain_one(map, k, &mut longer, count - taken) {
             Ok(()) => {}
             Err(_full) => {
                 give_back(map, k, &longer, first, taken, &[false; 256]);
@@ -46,16 +48,17 @@ pub fn gain(map: &mut RbfMap, k: u16, segs: &Segs, count: u32) -> Result<Segs, F
     Ok(longer)
 }
 
-// Takes one cluster, unless its sectors do not fit the list.
-fn gain_one(map: &mut RbfMap, k: u16, segs: &mut Segs) -> Result<(), SegsFull>
+// Takes one cluster for a file that needs `wanted`, unless its sectors do not fit the list.
+fn gain_one(map: &mut RbfMap, k: u16, segs: &mut Segs, wanted: u32) -> Result<(), SegsFull>
     requires sizes { AreSizes k map.old }
     requires some { ¬ NoneIsFree map.old }
-    ensures ok { OnOk result (GainsOne k map.old map.new segs.old segs.new) }
-    ensures full { OnErr result (IsOneFull k map.old segs.old) }
+    requires wanted { 1 ≤ wanted }
+    ensures ok { OnOk result (GainsOne k wanted map.old map.new segs.old segs.new) }
+    ensures full { OnErr result (IsOneFull k wanted map.old segs.old) }
     ensures back { OnErr result (SameMap map.old map.new) }
     ensures segs_kept { OnErr result (segs.new ≡ segs.old) }
 {
-    let cluster = map.take_after(last_of(segs, k)).unwrap();
+    let cluster = map.take_after(last_of(segs, k), wanted).unwrap();
     match segs.append(cluster * u32::from(k), k) {
         Ok(()) => Ok(()),
         Err(full) => {

@@ -1,3 +1,4 @@
 pub mod Changed
 pub mod Marks
+pub mod Searched
 pub mod Volume

@@ -1,5 +1,6 @@
 ghost use Rattle.std.specs.Prelude.{◌≡◌, ◌≢◌, ℕ, ◌+◌, ◌-◌, ◌*◌, ◌/◌, ◌<◌, ◌≤◌, length, slice_index, MatchBool, MatchOption};
 ghost use Rattle.rbf_map.specs.Map.{mark, clear_below, MarkedFrom, IsFirstClear, ChangesMark};
+ghost use Rattle.rbf_map.specs.Search.{IsFirstMarked};
 
 // Is this cluster in use?
 pub fn is_marked(bytes: &[u8], cluster: u32) -> bool
@@ -37,6 +38,20 @@ pub fn first_clear(bytes: &[u8], first: u32, end: u32) -> Option<u32>
         }
     }
     None
+}
+
+// Where the clusters that are not in use stop: the first from `first` on that is in use, or `end`.
+pub fn first_marked(bytes: &[u8], first: u32, end: u32) -> u32
+    requires bits { end ≤ 8 * length bytes.now }
+    requires ordered { first ≤ end }
+    ensures { IsFirstMarked bytes.now first end result }
+{
+    for next in first..end {
+        if is_marked(bytes, next) {
+            return next;
+        }
+    }
+    end
 }
 
 // How many of the clusters below `end` are not in use.

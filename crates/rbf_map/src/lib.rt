@@ -5,3 +5,4 @@ pub use map::RbfMap;
 
 mod bits;
 mod map;
+mod runs;

@@ -1,7 +1,10 @@
 ghost use Rattle.std.specs.Prelude.{◌≡◌, ◌≢◌, ℕ, ◌+◌, ◌-◌, ◌*◌, ◌/◌, ◌<◌, ◌≤◌, ◌↔◌, ◌==◌, length, IsNone, IfNone, IfSome, IsTrue, MatchOption};
+ghost use Rattle.rbf_map.specs.Runs.{is_clear, is_clear_below, BeginsBestRun, IsChosen};
+ghost use Rattle.rbf_map.specs.Search.{IsLongestWith};
 ghost use Rattle.rbf_map.specs.Map.{mark, map_free_clusters, IsFreeInMap, BeginsRun, NextIsUsed, IsNextFree, IsFreeRun, NoneIsFree, MayTake, Marks, IsSectorOf};
 
 use crate::bits::{clear_mark, count_clear, first_clear, is_marked, set_mark};
+use crate::runs::{best_run, is_alone};
 use std::marker::Model;
 
 /// The allocation map of a volume: a bit for each cluster, the most significant first, set if
@@ -17,6 +20,7 @@ pub struct RbfMap {
     bytes: Vec<u8>,
     free: u32,
     first: u32,
+    longest: u32,
 }
 
 impl Model for RbfMap {
@@ -45,6 +49,7 @@ impl RbfMap {
             bytes,
             free,
             first: 0,
+            longest: whole,
         }
     }
 
@@ -63,11 +68,14 @@ impl RbfMap {
         self.free
     }
 
-    /// Takes a free cluster: the next after `c` if that is free, and else, as without a `c`, one that
-    /// begins a run. None exactly if no cluster is free.
-    pub fn take_after(&mut self, c: Option<u32>) -> Option<u32>
+    /// Takes a free cluster for a file that needs `wanted` more, this one among them: the next after
+    /// `c` if that is free, and else, as without a `c`, the first of a run: of the first run that has
+    /// all of them, and if none has, of the longest. None exactly if no cluster is free.
+    pub fn take_after(&mut self, c: Option<u32>, wanted: u32) -> Option<u32>
+        requires { 1 ≤ wanted }
         ensures none { IsNone result ↔ NoneIsFree self.old }
         ensures taken { IfSome result (MayTake self.old c) }
+        ensures chosen { IfSome result (IsChosen self.old c wanted) }
         ensures marked { IfSome result (λ cluster. Marks self.old self.new cluster 1) }
         ensures unchanged { IfNone result (self.new ≡ self.old) }
         ensures whole_ones { self.old.whole ≤ self.old.clusters }
@@ -76,7 +84,7 @@ impl RbfMap {
             self.take(next);
             return Some(next);
         }
-        let cluster = self.first_free()?;
+        let cluster = self.best_run(wanted)?;
         self.take(cluster);
         Some(cluster)
     }
@@ -90,14 +98,21 @@ impl RbfMap {
         self.free -= 1;
     }
 
-    // The first free cluster, which begins a run.
-    fn first_free(&mut self) -> Option<u32>
+    // The first cluster of the best run for so many.
+    fn best_run(&mut self, wanted: u32) -> Option<u32>
+        requires { 1 ≤ wanted }
         ensures none { IfNone result (NoneIsFree self.old) }
         ensures found { IfSome result (IsFreeRun self.old) }
+        ensures best { IfSome result (BeginsBestRun (is_clear self.old) wanted) }
         ensures unchanged { self.new ≡ self.old }
     {
         self.first = first_clear(&self.bytes, self.first, self.whole)?;
-        Some(self.first)
+        let enough = wanted.min(self.longest);
+        let run = best_run(&self.bytes, self.first, self.whole, enough);
+        if run.length < enough {
+            self.longest = run.length;
+        }
+        Some(run.first)
     }
 
     // The next cluster after `last`, if it is free.
@@ -125,6 +140,7 @@ impl RbfMap {
         if c < self.whole {
             self.free += 1;
             self.first = self.first.min(c);
+            self.longest = longest_with(&self.bytes, c, self.whole, self.longest);
         }
     }
 
@@ -140,6 +156,20 @@ impl RbfMap {
     }
 }
 
+// How long a run may be now that this cluster is free too, if none was longer than `longest`. A
+// cluster alone makes no run longer, and otherwise only the next search can tell.
+fn longest_with(bytes: &[u8], cluster: u32, whole: u32, longest: u32) -> u32
+    requires bits { whole ≤ 8 * length bytes.now }
+    requires within { cluster < whole }
+    ensures { IsLongestWith (is_clear_below bytes.now whole) cluster whole longest result }
+{
+    if is_alone(bytes, cluster, whole) {
+        longest.max(1)
+    } else {
+        whole
+    }
+}
+
 #[cfg(test)]
 mod tests {
     use super::*;
@@ -151,9 +181,9 @@ mod tests {
         assert_eq!(rt; bytes.len(), 2);
         let mut map = RbfMap::new(16, 15, bytes);
         assert_eq!(rt; map.free_count(), 11);
-        assert_eq!(rt; map.take_after(Some(9)), Some(10));
-        assert_eq!(rt; map.take_after(Some(9)), Some(4));
-        assert_eq!(rt; map.take_after(None), Some(5));
+        assert_eq!(rt; map.take_after(Some(9), 1), Some(10));
+        assert_eq!(rt; map.take_after(Some(9), 1), Some(4));
+        assert_eq!(rt; map.take_after(None, 1), Some(5));
         assert_eq!(rt; map.free_count(), 8);
         let mut bytes = [7; 256];
         map.sector(0, &mut bytes);
@@ -168,7 +198,7 @@ mod tests {
     fn bytes_past_the_clusters_are_kept(rt: HostRuntime) -> Result<(), Fail> {
         let mut map = RbfMap::new(12, 12, vec![in rt.alloc(); 0xA5u8; 512]?);
         assert_eq!(rt; map.free_count(), 6);
-        assert_eq!(rt; map.take_after(None), Some(1));
+        assert_eq!(rt; map.take_after(None, 1), Some(1));
         let mut bytes = [7; 256];
         map.sector(0, &mut bytes);
         assert_eq!(rt; (bytes[0], bytes[1], bytes[255]), (0xE5, 0xA5, 0xA5));

@@ -49,7 +49,7 @@ pub write_marks-requires-clause-places : goal.write_marks-requires-clause-places
 write_marks-requires-clause-places g c =
     let m = c.requires.mounted in
     let sizes = sizes_are c.args.volume.now m.on.image m.content m.on.vol m.agrees in
-    places_gained c.args.volume.now.ident.cluster c.args.count c.args.volume.now.map c.gain.new.map c.args.segs.now c.in_ok-longer.longer c.in_ok-longer.ensures.ok sizes.some sizes.sectors
+    places_gained c.args.volume.now.ident.cluster c.args.count c.args.volume.now.map c.gain.new.map c.args.segs.now c.in_ok-longer.longer c.in_ok-longer.ensures.ok.gain sizes.some sizes.sectors
     (enough_free _ _ _ _ c.in_ok-longer.ensures.full) c.sectors-first.result c.sectors-first.ensures.count c.sectors-first.ensures.few
 
 pub give_back-requires-clause-sizes : goal.give_back-requires-clause-sizes
@@ -57,7 +57,7 @@ give_back-requires-clause-sizes g c =
     let m = c.requires.mounted in
     let same = ap (λ (kv : KeptVolume). kv.map) c.in-Err.ensures.volume_kept in
     subst (AreSizes c.args.volume.now.ident.cluster) (sym same)
-    (sizes_after _ _ _ _ _ _ c.in_ok-longer.ensures.ok (sizes_are c.args.volume.now m.on.image m.content m.on.vol m.agrees))
+    (sizes_after _ _ _ _ _ _ c.in_ok-longer.ensures.ok.gain (sizes_are c.args.volume.now m.on.image m.content m.on.vol m.agrees))
 
 pub give_back-requires-clause-places : goal.give_back-requires-clause-places
 give_back-requires-clause-places g c =
@@ -65,14 +65,14 @@ give_back-requires-clause-places g c =
     let sizes = sizes_are c.args.volume.now m.on.image m.content m.on.vol m.agrees in
     let same = ap (λ (kv : KeptVolume). kv.map) c.in-Err.ensures.volume_kept in
     subst (λ n. ArePlaces c.args.volume.now.ident.cluster n c.in_ok-longer.longer c.sectors-first.result c.args.count) (sym same)
-    (places_gained c.args.volume.now.ident.cluster c.args.count c.args.volume.now.map c.gain.new.map c.args.segs.now c.in_ok-longer.longer c.in_ok-longer.ensures.ok sizes.some sizes.sectors
+    (places_gained c.args.volume.now.ident.cluster c.args.count c.args.volume.now.map c.gain.new.map c.args.segs.now c.in_ok-longer.longer c.in_ok-longer.ensures.ok.gain sizes.some sizes.sectors
     (enough_free _ _ _ _ c.in_ok-longer.ensures.full) c.sectors-first.result c.sectors-first.ensures.count c.sectors-first.ensures.few)
 
 pub returns-in-Ok-clause-grows : goal.returns-in-Ok-clause-grows
 returns-in-Ok-clause-grows g c v on =
     let agrees = agrees_on c.args.volume.now _ v c.requires.mounted on in
     let sizes = sizes_are c.args.volume.now on.image v on.vol agrees in
-    let those = those_gained c.args.volume.now.ident.cluster c.args.count c.args.volume.now.map c.gain.new.map c.args.segs.now c.in_ok-longer.longer c.in_ok-longer.ensures.ok sizes.some c.sectors-first.result c.sectors-first.ensures.count in
+    let those = those_gained c.args.volume.now.ident.cluster c.args.count c.args.volume.now.map c.gain.new.map c.args.segs.now c.in_ok-longer.longer c.in_ok-longer.ensures.ok.gain sizes.some c.sectors-first.result c.sectors-first.ensures.count in
     record {
       grown = grown c.args.volume.now on.image v on.vol agrees c.gain.new.map c.args.count c.args.segs.now c.in_ok-longer.longer c.in_ok-longer.ensures.ok _ _ on.is c.write_marks.new.written
           (c.in-Ok.ensures.on v on.image (marked_fresh c.args.volume.now on.image v on.vol agrees c.gain.new.map c.args.count c.args.segs.now c.in_ok-longer.longer c.in_ok-longer.ensures.ok _ on.is))
@@ -86,7 +86,7 @@ pub returns-in-Ok-clause-mounted : goal.returns-in-Ok-clause-mounted
 returns-in-Ok-clause-mounted g c =
     let m = c.requires.mounted in
     let sizes = sizes_are c.args.volume.now m.on.image m.content m.on.vol m.agrees in
-    let those = those_gained c.args.volume.now.ident.cluster c.args.count c.args.volume.now.map c.gain.new.map c.args.segs.now c.in_ok-longer.longer c.in_ok-longer.ensures.ok sizes.some c.sectors-first.result c.sectors-first.ensures.count in
+    let those = those_gained c.args.volume.now.ident.cluster c.args.count c.args.volume.now.map c.gain.new.map c.args.segs.now c.in_ok-longer.longer c.in_ok-longer.ensures.ok.gain sizes.some c.sectors-first.result c.sectors-first.ensures.count in
     let marked = c.in-Ok.ensures.on m.content m.on.image (marked_fresh c.args.volume.now m.on.image m.content m.on.vol m.agrees c.gain.new.map c.args.count c.args.segs.now c.in_ok-longer.longer c.in_ok-longer.ensures.ok _ m.on.is) in
     mounted_where c.write_marks.new.volume _ _ marked.now _ marked.is marked.marked.vol
     (grown_agrees c.args.volume.now m.on.image m.content m.on.vol m.agrees c.gain.new.map c.args.count c.args.segs.now c.in_ok-longer.longer c.in_ok-longer.ensures.ok _ _ m.on.is c.write_marks.new.written marked
@@ -115,7 +115,7 @@ pub returns-in-Err-clause-mounted : goal.returns-in-Err-clause-mounted
 returns-in-Err-clause-mounted g c =
     let m = c.requires.mounted in
     let sizes = sizes_are c.args.volume.now m.on.image m.content m.on.vol m.agrees in
-    let those = those_gained c.args.volume.now.ident.cluster c.args.count c.args.volume.now.map c.gain.new.map c.args.segs.now c.in_ok-longer.longer c.in_ok-longer.ensures.ok sizes.some c.sectors-first.result c.sectors-first.ensures.count in
+    let those = those_gained c.args.volume.now.ident.cluster c.args.count c.args.volume.now.map c.gain.new.map c.args.segs.now c.in_ok-longer.longer c.in_ok-longer.ensures.ok.gain sizes.some c.sectors-first.result c.sectors-first.ensures.count in
     let marked = c.in-Err.ensures.on m.content m.on.image (marked_fresh c.args.volume.now m.on.image m.content m.on.vol m.agrees c.gain.new.map c.args.count c.args.segs.now c.in_ok-longer.longer c.in_ok-longer.ensures.ok _ m.on.is) in
     let same = ap (λ (kv : KeptVolume). kv.map) c.in-Err.ensures.volume_kept in
     let sizes_same = ap (λ (kv : KeptVolume). kv.sizes) c.in-Err.ensures.volume_kept in
@@ -130,9 +130,9 @@ returns-in-Ok-clause-counts g c =
     let m = c.requires.mounted in
     let agrees = m.agrees in
     let sizes = sizes_are c.args.volume.now m.on.image m.content m.on.vol agrees in
-    let places = places_gained c.args.volume.now.ident.cluster c.args.count c.args.volume.now.map c.gain.new.map c.args.segs.now c.in_ok-longer.longer c.in_ok-longer.ensures.ok sizes.some sizes.sectors
+    let places = places_gained c.args.volume.now.ident.cluster c.args.count c.args.volume.now.map c.gain.new.map c.args.segs.now c.in_ok-longer.longer c.in_ok-longer.ensures.ok.gain sizes.some sizes.sectors
     (enough_free _ _ _ _ c.in_ok-longer.ensures.full) c.sectors-first.result c.sectors-first.ensures.count c.sectors-first.ensures.few in
-    let those = those_gained c.args.volume.now.ident.cluster c.args.count c.args.volume.now.map c.gain.new.map c.args.segs.now c.in_ok-longer.longer c.in_ok-longer.ensures.ok sizes.some c.sectors-first.result c.sectors-first.ensures.count in
+    let those = those_gained c.args.volume.now.ident.cluster c.args.count c.args.volume.now.map c.gain.new.map c.args.segs.now c.in_ok-longer.longer c.in_ok-longer.ensures.ok.gain sizes.some c.sectors-first.result c.sectors-first.ensures.count in
     at_most_count _ _ _ _ _ (wanted_calls _ c.args.count (λ p. true) (replicate 256 false) (map_sectors (shape m.content)) _ _
     (c.in-Ok.ensures.counts (λ p. true) (map_sectors (shape m.content)) (wanted_all c.args.volume.now m.on.image m.content m.on.vol agrees c.gain.new.map c.args.count c.args.segs.now c.in_ok-longer.longer c.in_ok-longer.ensures.ok c.sectors-first.result places those)))
 
@@ -140,9 +140,9 @@ pub returns-in-Ok-clause-marks : goal.returns-in-Ok-clause-marks
 returns-in-Ok-clause-marks g c v on =
     let agrees = agrees_on c.args.volume.now _ v c.requires.mounted on in
     let sizes = sizes_are c.args.volume.now on.image v on.vol agrees in
-    let places = places_gained c.args.volume.now.ident.cluster c.args.count c.args.volume.now.map c.gain.new.map c.args.segs.now c.in_ok-longer.longer c.in_ok-longer.ensures.ok sizes.some sizes.sectors
+    let places = places_gained c.args.volume.now.ident.cluster c.args.count c.args.volume.now.map c.gain.new.map c.args.segs.now c.in_ok-longer.longer c.in_ok-longer.ensures.ok.gain sizes.some sizes.sectors
     (enough_free _ _ _ _ c.in_ok-longer.ensures.full) c.sectors-first.result c.sectors-first.ensures.count c.sectors-first.ensures.few in
-    let those = those_gained c.args.volume.now.ident.cluster c.args.count c.args.volume.now.map c.gain.new.map c.args.segs.now c.in_ok-longer.longer c.in_ok-longer.ensures.ok sizes.some c.sectors-first.result c.sectors-first.ensures.count in
+    let those = those_gained c.args.volume.now.ident.cluster c.args.count c.args.volume.now.map c.gain.new.map c.args.segs.now c.in_ok-longer.longer c.in_ok-longer.ensures.ok.gain sizes.some c.sectors-first.result c.sectors-first.ensures.count in
     at_most_wanted _ c.args.count _ _ _ (wanted_calls _ c.args.count (has_mark_of (shape v) (is_gained (cluster_size v) c.args.segs.now c.in_ok-longer.longer)) (replicate 256 false) (map_sectors (shape v)) _ _
     (c.in-Ok.ensures.counts (has_mark_of (shape v) (is_gained (cluster_size v) c.args.segs.now c.in_ok-longer.longer)) (map_sectors (shape v)) (wanted_gained c.args.volume.now on.image v on.vol agrees c.gain.new.map c.args.count c.args.segs.now c.in_ok-longer.longer c.in_ok-longer.ensures.ok c.sectors-first.result places those (c.requires.apart v on))))
 
@@ -151,9 +151,9 @@ returns-in-Err-clause-counts g c =
     let m = c.requires.mounted in
     let agrees = m.agrees in
     let sizes = sizes_are c.args.volume.now m.on.image m.content m.on.vol agrees in
-    let places = places_gained c.args.volume.now.ident.cluster c.args.count c.args.volume.now.map c.gain.new.map c.args.segs.now c.in_ok-longer.longer c.in_ok-longer.ensures.ok sizes.some sizes.sectors
+    let places = places_gained c.args.volume.now.ident.cluster c.args.count c.args.volume.now.map c.gain.new.map c.args.segs.now c.in_ok-longer.longer c.in_ok-longer.ensures.ok.gain sizes.some sizes.sectors
     (enough_free _ _ _ _ c.in_ok-longer.ensures.full) c.sectors-first.result c.sectors-first.ensures.count c.sectors-first.ensures.few in
-    let those = those_gained c.args.volume.now.ident.cluster c.args.count c.args.volume.now.map c.gain.new.map c.args.segs.now c.in_ok-longer.longer c.in_ok-longer.ensures.ok sizes.some c.sectors-first.result c.sectors-first.ensures.count in
+    let those = those_gained c.args.volume.now.ident.cluster c.args.count c.args.volume.now.map c.gain.new.map c.args.segs.now c.in_ok-longer.longer c.in_ok-longer.ensures.ok.gain sizes.some c.sectors-first.result c.sectors-first.ensures.count in
     at_most_count _ _ _ _ _ (wanted_calls _ c.args.count (λ p. true) (replicate 256 false) (map_sectors (shape m.content)) _ _
     (c.in-Err.ensures.counts (λ p. true) (map_sectors (shape m.content)) (wanted_all c.args.volume.now m.on.image m.content m.on.vol agrees c.gain.new.map c.args.count c.args.segs.now c.in_ok-longer.longer c.in_ok-longer.ensures.ok c.sectors-first.result places those)))
 
@@ -161,9 +161,9 @@ pub returns-in-Err-clause-marks : goal.returns-in-Err-clause-marks
 returns-in-Err-clause-marks g c v on =
     let agrees = agrees_on c.args.volume.now _ v c.requires.mounted on in
     let sizes = sizes_are c.args.volume.now on.image v on.vol agrees in
-    let places = places_gained c.args.volume.now.ident.cluster c.args.count c.args.volume.now.map c.gain.new.map c.args.segs.now c.in_ok-longer.longer c.in_ok-longer.ensures.ok sizes.some sizes.sectors
+    let places = places_gained c.args.volume.now.ident.cluster c.args.count c.args.volume.now.map c.gain.new.map c.args.segs.now c.in_ok-longer.longer c.in_ok-longer.ensures.ok.gain sizes.some sizes.sectors
     (enough_free _ _ _ _ c.in_ok-longer.ensures.full) c.sectors-first.result c.sectors-first.ensures.count c.sectors-first.ensures.few in
-    let those = those_gained c.args.volume.now.ident.cluster c.args.count c.args.volume.now.map c.gain.new.map c.args.segs.now c.in_ok-longer.longer c.in_ok-longer.ensures.ok sizes.some c.sectors-first.result c.sectors-first.ensures.count in
+    let those = those_gained c.args.volume.now.ident.cluster c.args.count c.args.volume.now.map c.gain.new.map c.args.segs.now c.in_ok-longer.longer c.in_ok-longer.ensures.ok.gain sizes.some c.sectors-first.result c.sectors-first.ensures.count in
     at_most_all _ _ _ _ _ (wanted_calls _ c.args.count (λ p. true) (replicate 256 false) (map_sectors (shape v)) _ _
     (c.in-Err.ensures.counts (λ p. true) (map_sectors (shape v)) (wanted_all c.args.volume.now on.image v on.vol agrees c.gain.new.map c.args.count c.args.segs.now c.in_ok-longer.longer c.in_ok-longer.ensures.ok c.sectors-first.result places those)))
 

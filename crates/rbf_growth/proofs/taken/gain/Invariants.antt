@@ -3,4 +3,4 @@ use Rattle.rbf_growth.proofs.Gaining.{IsSoFar}
 use Rattle.rbf_growth.proofs.taken.gain.Given as goal
 
 abbrev pub invariant-loop-taken : goal.invariant-loop-taken
-invariant-loop-taken l = IsSoFar l.k l.taken l.fn.map l.map l.segs l.longer
+invariant-loop-taken l = IsSoFar l.k l.count l.taken l.fn.map l.map l.segs l.longer

@@ -1,13 +1,14 @@
 use Rattle.std.proofs.Common.{◌*◌, refl, ap, ◌∙◌}
 use Rattle.rbf_model.specs.Segments.{appended_segments}
 use Rattle.rbf_growth.proofs.Clear.{taken_back}
-use Rattle.rbf_growth.proofs.Gaining.{some_at, taken_may, not_full}
+use Rattle.rbf_growth.proofs.Gaining.{some_at, taken_may, taken_chosen, not_full}
 use Rattle.rbf_growth.proofs.taken.gain_one.Goals as goal
 
 pub returns-in-Ok-clause-ok : goal.returns-in-Ok-clause-ok
 returns-in-Ok-clause-ok c = record {
   cluster = c.unwrap-cluster.result;
   may = taken_may c.args.k c.args.map.now c.args.segs.now _ _ c.unwrap-cluster.result c.last_of.ensures c.unwrap-cluster.ensures c.take_after.ensures.taken;
+  chosen = taken_chosen c.args.k c.args.wanted c.args.map.now c.args.segs.now _ _ c.unwrap-cluster.result c.last_of.ensures c.unwrap-cluster.ensures c.take_after.ensures.chosen;
   marks = some_at _ _ c.unwrap-cluster.result c.unwrap-cluster.ensures c.take_after.ensures.marked;
   segments = c.in-Ok.ensures.segments ∙ ap (λ k. appended_segments c.args.segs.now (c.unwrap-cluster.result * k) c.args.k) c.from.ensures;
   fits = not_full _ _ c.in-Ok.ensures.full c.in-Ok.ensures.segments;
@@ -17,6 +18,7 @@ pub returns-in-Err-clause-full : goal.returns-in-Err-clause-full
 returns-in-Err-clause-full c = record {
   cluster = c.unwrap-cluster.result;
   may = taken_may c.args.k c.args.map.now c.args.segs.now _ _ c.unwrap-cluster.result c.last_of.ensures c.unwrap-cluster.ensures c.take_after.ensures.taken;
+  chosen = taken_chosen c.args.k c.args.wanted c.args.map.now c.args.segs.now _ _ c.unwrap-cluster.result c.last_of.ensures c.unwrap-cluster.ensures c.take_after.ensures.chosen;
   full = rw c.from.ensures at (c.in-Err.ensures.full.0 refl);
 }
 
