@@ -2,6 +2,7 @@ ghost use Rattle.std.specs.Prelude.{◌≡◌, ◌<◌, IfOk, OnOk, OnErr};
 ghost use Rattle.os9_outer.specs.Drive.{sector_count, sector_at, with_sector};
 ghost use Rattle.rbf_access.specs.Drive.{Counts, Made};
 ghost use Rattle.rbf_access.specs.Faults.{drive_fault};
+ghost use Rattle.rbf_access.specs.Mounted.{IsSound};
 
 use os9_outer::drive::{BlockDriver, DriveFault};
 
@@ -20,9 +21,10 @@ pub fn read_sector(d: &mut dyn BlockDriver, lsn: u32) -> Result<[u8; 256], Drive
     }
 }
 
-// Writes a sector.
+// Writes a sector. The image with it is well formed.
 pub fn write_sector(d: &mut dyn BlockDriver, lsn: u32, from: &[u8; 256]) -> Result<(), DriveFault>
-    requires { lsn < sector_count (media d.old) }
+    requires on { lsn < sector_count (media d.old) }
+    requires sound { IsSound (with_sector (media d.old) lsn from.now) }
     ensures written { OnOk result (media d.new ≡ with_sector (media d.old) lsn from.now) }
     ensures media_kept { OnErr result (media d.new ≡ media d.old) }
     ensures counts { Counts ⟦<dyn BlockDriver as BlockDriver>⟧ (drive_fault result) 1 d.old d.new }
