@@ -57,10 +57,10 @@ module _ (c b : List ℕ) (a : ℕ) (fits : a + length b ≤ length c) (p : ℕ)
       get_or-append_right (take a c ++ b) (drop (a + length b) c) (a + length b) p 0 both high
       ∙ get_or-drop (a + length b) c (p - (a + length b)) 0 ∙ ap (λ k. get_or c k 0) place
 
-abbrev zeros : ℕ → List ℕ
+abbrev pub zeros : ℕ → List ℕ
 zeros n = replicate n 0
 
-zeros_are : (n i : ℕ) → get_or (zeros n) i 0 ≡ 0
+pub zeros_are : (n i : ℕ) → get_or (zeros n) i 0 ≡ 0
 zeros_are zero i = refl
 zeros_are (suc n) zero = refl
 zeros_are (suc n) (suc i) = zeros_are n i

@@ -3,5 +3,6 @@ pub mod Segments
 pub mod Described
 pub mod Redated
 pub mod LaidBytes
+pub mod LaidSector
 pub mod FilledFile
 pub mod Filling

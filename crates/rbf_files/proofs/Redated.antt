@@ -1,30 +1,18 @@
 -- A descriptor of a file that is written over on the media.
-use Rattle.std.proofs.Common.{◌≡◌, ◌≢◌, ℕ, ◌+◌, ◌*◌, ◌/◌, ◌%◌, ◌<◌, ◌≤◌, Bool, true, false, ◌==◌, ◌||◌, Option, Some, List, [], ◌∷◌, length, take, refl, sym, ap, ◌∙◌, subst, inl, arith, slice_index, eq-eqb}
-use Rattle.std.specs.Int.{bit_at}
+use Rattle.std.proofs.Common.{◌≡◌, ◌≢◌, ℕ, ◌+◌, ◌*◌, ◌<◌, ◌≤◌, ◌==◌, Some, List, length, refl, ap, ◌∙◌, arith, eq-eqb}
 use Rattle.std.proofs.Math.Nat.{mul-le-mul_left}
-use Rattle.std.proofs.lemmas.Bool.{or_left, both_ways}
-use Rattle.os9_base.specs.declared.registers.TimePacket.{TimePacket}
-use Rattle.os9_outer.specs.Drive.{sector_count, sector_at, with_sector}
-use Rattle.rbf_model.specs.Fields.{attributes_field, owner_field, modified_field, links_field, size_field, created_field, segments_field}
+use Rattle.std.proofs.lemmas.Bool.{or_left}
 use Rattle.rbf_model.specs.Geometry.{image_geometry, sector, map_sectors}
 use Rattle.rbf_model.specs.Segments.{sectors_of, has}
-use Rattle.rbf_model.specs.File.{DiskFile, file_from, file_at, is_directory, has_room, segment_bytes}
+use Rattle.rbf_model.specs.File.{DiskFile}
 use Rattle.rbf_model.specs.Volume.{DiskVolume, Vol}
 use Rattle.rbf_model.specs.Writes.{put, put_sector}
 use Rattle.rbf_model.proofs.Bytes.{put_here, put_beside}
 use Rattle.rbf_model.proofs.Free.{number_below}
 use Rattle.rbf_model.proofs.Lifted.{sector_put}
 use Rattle.rbf_model.proofs.Owners.{own_after}
-use Rattle.rbf_model.proofs.SectorBytes.{length_of_file}
 use Rattle.rbf_change.specs.Agrees.{KeptVolume, Agrees}
-use Rattle.rbf_change.specs.Calls.{replaced, minute_of, changed_attributes, with_attributes, SetsAttributes}
-use Rattle.rbf_change.specs.Tidy.{KeepsListEnd}
-use Rattle.rbf_access.specs.declared.volume.Volume.{Volume}
-use Rattle.rbf_access.specs.Mounted.{kept, Represents, IsMounted, HasFile}
-use Rattle.rbf_sector.specs.declared.fd.Fd.{Fd}
-use Rattle.rbf_access.proofs.Reading.{number_on, IsReadFrom}
-use Rattle.rbf_model.proofs.Unique.{vol_is_unique}
-use Rattle.rbf_files.proofs.Described.{described, agrees_beside}
+use Rattle.rbf_files.proofs.Described.{agrees_beside}
 
 -- the descriptor of a file is behind the map
 module _ (image : List ℕ) (v : DiskVolume) (vol : Vol image v) (n : ℕ) (file : DiskFile) (is : v.files n ≡ Some file) (bytes : List ℕ) (whole : length bytes ≡ 256) where

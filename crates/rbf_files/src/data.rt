@@ -1,4 +1,4 @@
-ghost use Rattle.std.specs.Prelude.{◌≡◌, ℕ, List, Option, ◌+◌, ◌-◌, ◌*◌, ◌/◌, ◌^◌, ◌<◌, ◌≤◌, length, min, slice_index, OnOk, OnErr, IsSome};
+ghost use Rattle.std.specs.Prelude.{◌≡◌, ℕ, List, Option, ◌+◌, ◌-◌, ◌*◌, ◌/◌, ◌^◌, ◌<◌, ◌≤◌, length, min, OnOk, OnErr, IsSome};
 ghost use Rattle.os9_outer.specs.Drive.{sector_count, sector_at};
 ghost use Rattle.rbf_model.specs.File.{DiskFile, segment_bytes};
 ghost use Rattle.rbf_model.specs.Segments.{sectors_of};
@@ -8,8 +8,9 @@ ghost use Rattle.rbf_access.specs.Cached.{IsCacheOf};
 ghost use Rattle.rbf_access.specs.Drive.{Counts};
 ghost use Rattle.rbf_access.specs.Faults.{file_fault};
 ghost use Rattle.rbf_access.specs.Mounted.{IsMounted, IsSound, Represents, kept};
-ghost use Rattle.rbf_files.specs.Laid.{MayLay, IsDataOf, Fills, LaysSector, laid_byte};
+ghost use Rattle.rbf_files.specs.Laid.{MayLay, IsDataOf, Fills, LaysSector};
 
+use crate::sector::{lay, whole_sector};
 use os9_outer::drive::BlockDriver;
 use rbf_access::{FileFault, Volume};
 use rbf_segs::Segs;
@@ -49,7 +50,8 @@ pub fn fill(
     Ok(())
 }
 
-// Lays bytes over those of one sector, whose first byte is the one in place `start` of the file.
+// Lays bytes over those of one sector, whose first byte is the one in place `start` of the file. A
+// sector is not read if all of its bytes are laid.
 fn fill_sector(
     volume: &mut Volume,
     d: &mut dyn BlockDriver,
@@ -71,36 +73,11 @@ fn fill_sector(
     ensures cached { IsCacheOf (media d.new) volume.new.cache }
     ensures counts { Counts ⟦<dyn BlockDriver as BlockDriver>⟧ (file_fault result) 2 d.old d.new }
 {
+    if let Some(whole) = whole_sector(start, at, from) {
+        return volume.store(d, lsn, &whole);
+    }
     let mut bytes = volume.load(d, lsn)?;
     lay(&mut bytes, start, size, at, from);
     volume.store(d, lsn, &bytes)?;
     Ok(())
-}
-
-// Lays bytes over those of a sector.
-fn lay(bytes: &mut [u8; 256], start: u32, size: u32, at: u32, from: &[u8])
-    ensures { (q : ℕ) → q < 256 → slice_index bytes.new q
-        ≡ laid_byte size at from.now (start + q) (slice_index bytes.old q) }
-{
-    for (q, byte) in bytes.iter_mut().enumerate() {
-        *byte = one_byte(start as usize + q, size, at, from, *byte);
-    }
-}
-
-// The byte in a place.
-fn one_byte(place: usize, size: u32, at: u32, from: &[u8], old: u8) -> u8
-    ensures { result ≡ laid_byte size at from.now place old }
-{
-    let (size, at) = (size as usize, at as usize);
-    if at <= place {
-        if place - at < from.len() {
-            from[place - at]
-        } else {
-            old
-        }
-    } else if size <= place {
-        0
-    } else {
-        old
-    }
 }

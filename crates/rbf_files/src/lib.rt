@@ -7,3 +7,4 @@ pub use descriptor::{minute, with_descriptor};
 
 mod data;
 mod descriptor;
+mod sector;

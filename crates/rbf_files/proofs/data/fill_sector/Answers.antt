@@ -1,10 +1,21 @@
-use Rattle.std.proofs.Common.{◌+◌, slice_index, ap, ◌∙◌, arith}
+use Rattle.std.proofs.Common.{◌+◌, slice_index, refl, ap, ◌∙◌, arith}
 use Rattle.os9_outer.specs.Drive.{with_sector}
 use Rattle.rbf_files.specs.Laid.{laid_byte}
+use Rattle.rbf_files.proofs.LaidSector.{covered}
 use Rattle.rbf_files.proofs.data.fill_sector.Goals as goal
 
 pub store-requires-clause-sound : goal.store-requires-clause-sound
 store-requires-clause-sound g c =
+    c.requires.sound _
+    (record {
+      bytes = c.in-Some.whole;
+      whole = c.in-Some.ensures.whole;
+      each = λ q low. covered c.args.start c.args.at c.args.size c.args.from.now c.in-Some.whole c.in-Some.ensures q _ low;
+      media = refl;
+    })
+
+pub store-requires-2-clause-sound : goal.store-requires-2-clause-sound
+store-requires-2-clause-sound g c =
     c.requires.sound _
     (record {
       bytes = c.lay.new.bytes;
