@@ -99,17 +99,17 @@ module _ (m : Inner) (p : ℕ) where
         ap (name_next next) named ∙ ap (λ (b : Bool). refuses b E_BPADDR (bytes_next next (module_name name) bytes_there)) none
 
     module _ (there : is_unreadable name ≡ false) where
-      by_name : (next : Program → CallResult) → reads_program m p next ≡ bytes_next next (module_name name) bytes_there
-      by_name next =
+      past_name : (next : Program → CallResult) → reads_program m p next ≡ bytes_next next (module_name name) bytes_there
+      past_name next =
           ap (name_next next) named ∙ ap (λ (b : Bool). refuses b E_BPADDR (bytes_next next (module_name name) bytes_there)) there
 
       -- a byte of the parameters is not there
       pub read-no_bytes : bytes_there ≡ None → IsUnread m p E_BPADDR
-      read-no_bytes none next = by_name next ∙ ap (bytes_next next (module_name name)) none
+      read-no_bytes none next = past_name next ∙ ap (bytes_next next (module_name name)) none
 
       module _ (bytes : List ℕ) (passed : bytes_there ≡ Some bytes) where
         by_program : (next : Program → CallResult) → reads_program m p next ≡ finds_program m.memory.modules (regs_at m p).a (module_name name) (found_next next bytes)
-        by_program next = by_name next ∙ ap (bytes_next next (module_name name)) passed
+        by_program next = past_name next ∙ ap (bytes_next next (module_name name)) passed
 
         -- there is no program
         pub read-unfound : (number : ℕ) → IsUnfound m.memory.modules (regs_at m p).a (module_name name) number → IsUnread m p number

@@ -16,16 +16,16 @@ by-name m p regs name same is = λ i.
 
 pub returns-clause-named : goal.returns-clause-named
 returns-clause-named c m tied =
-    c.is_entered.ensures m.memory (c.read_name.ensures.same.represents m.memory tied.memory)
+    c.is_entered.ensures m.memory (c.read_name-name.ensures.same.represents m.memory tied.memory)
     ∙ ap (λ (name : Option (List ℕ)). is_some (option_and_then (λ (name : List ℕ). found_entry m.memory.modules name c.regs-regs.result.a) name)) c.module_name.ensures
-    ∙ ap is_some (by-name m c.args.p.0 c.regs-regs.result _ (c.regs-regs.ensures.tied m tied) (c.read_name.ensures.name m.memory tied.memory))
+    ∙ ap is_some (by-name m c.args.p.0 c.regs-regs.result _ (c.regs-regs.ensures.tied m tied) (c.read_name-name.ensures.name m.memory tied.memory))
 
 pub returns-clause-same : goal.returns-clause-same
 returns-clause-same c = record {
-  memory = c.read_name.ensures.same;
+  memory = c.read_name-name.ensures.same;
   table = refl;
   sched = refl;
   own = refl;
   tick = refl;
-  represents = read-stands c.args.s.now _ c.read_name.ensures.same refl refl refl refl;
+  represents = read-stands c.args.s.now _ c.read_name-name.ensures.same refl refl refl refl;
 }
