@@ -13,7 +13,7 @@ use Rattle.io_rules.specs.Io.{with_paths}
 use Rattle.io_rules.specs.PathList.{PathList}
 use Rattle.io_rules.specs.Step.{IoEffect, IoStep, answers, fails}
 use Rattle.io_rules.specs.declared.io_call.IoCall.{IoCall}
-use Rattle.file_rules.specs.Change.{TakesClusters}
+use Rattle.file_rules.specs.Change.{Change, writes, sizes, sets_attributes, creates, makes_directory, deletes}
 use Rattle.file_rules.specs.Files.{Files, Asker, OpenFile, directories_at, no_directories, open_file, volume_at, with_position}
 use Rattle.file_rules.specs.OnFile.{by_kind, on_file}
 use Rattle.file_rules.specs.Step.{Step, refused, comes, reaches, needs, refuses, refuses_so, FileEffect, FileStep, Deed, leaves_so, as_io, changes, deed_of, drive_of, VolumeChange, done}
@@ -55,6 +55,15 @@ pub record Leaves (call : PathCall) (asker : Asker) (files : Files) (effect : Fi
 
 pub not-refused : (regs : Regs) (number : ℕ) → answers regs ≡ fails number → ⊥
 not-refused regs number is = cc
+
+-- a change makes a file, which a path is opened on
+abbrev pub CreatesFile : Change → Type 0
+CreatesFile (writes n at bytes) = ⊥
+CreatesFile (sizes n size) = ⊥
+CreatesFile (sets_attributes n attributes) = ⊥
+CreatesFile (creates d name attributes) = Unit {0}
+CreatesFile (makes_directory d name attributes) = ⊥
+CreatesFile (deletes d n name) = ⊥
 
 module _ (call : PathCall) (asker : Asker) (files : Files) where
   -- it is done, and these are the files then
@@ -103,7 +112,7 @@ module _ (call : PathCall) (asker : Asker) (files : Files) (terms : ℕ) where
     pub may : may_change_volume call ≡ true
     pub left : (n : ℕ) → Leaves call asker files (it.effect n)
     pub answer : (n : ℕ) → (regs : Regs) × ((it.effect n).end ≡ answers regs)
-    pub fixed : TakesClusters it.change ⊎ ((m n : ℕ) → it.effect m ≡ it.effect n)
+    pub fixed : CreatesFile it.change ⊎ ((m n : ℕ) → it.effect m ≡ it.effect n)
 
   -- what is done where this drive was reached, or none
   abbrev pub Splits : Option ℕ → Deed → Type 0
