@@ -21,7 +21,9 @@ use Rattle.call_rules.specs.declared.proc_call.ProcCall.TheVariants as Call
 use Rattle.io_rules.specs.Attempts.{result_of as io_result}
 use Rattle.file_rules.specs.Attempts.{asker_of, files_after, io_effect}
 use Rattle.file_rules.specs.Codes.{path_call_of}
-use Rattle.file_rules.specs.Files.{Asker, DriveState, Files, NoneFailed}
+use Rattle.rbf_model.specs.Volume.{DiskVolume}
+use Rattle.file_rules.specs.Files.{Asker, DriveState, Files, NoneFailed, volume_at}
+use Rattle.file_rules.specs.declared.path_call.PathCall.{PathCall}
 use Rattle.file_rules.specs.declared.path_call.PathCall.TheVariants as Path
 use Rattle.file_rules.specs.Load.{GoesOnLoaded, LoadAttempts, Loaded, links_first, loaded_by}
 use Rattle.file_rules.specs.Program.{ChainAttempts, ForkAttempts, StartsFile, chains, forks, named_program, starts_first, tests_program}
@@ -33,7 +35,7 @@ use Rattle.machine_model.specs.Services.{Attempts, Serves, Service, files_after_
 use Rattle.machine_model.specs.State.{Rest, State, rest_of}
 use Rattle.run_laws.specs.Mounted.{CanGo}
 use Rattle.isolation_laws.proofs.Asked.{Asks, asks}
-use Rattle.run_laws.proofs.Ends.{Ends, IsMaking, step-ends}
+use Rattle.run_laws.proofs.Ends.{Ends, IsMaking, Making, step-ends}
 
 -- ---- files that are loaded
 
@@ -92,15 +94,31 @@ module _ (m : Inner) (asker : Asker) (files : Files) (terms p : ℕ) where
 
 -- ---- every call
 
--- it makes a file or a directory
-abbrev Makes : Service → Type 0
-Makes (on_paths call) = IsMaking call
-Makes service = ⊥
+-- it makes a file or a directory on a volume that is mounted
+abbrev Makes : Service → Files → Type 0
+Makes (on_paths call) files = Making call files
+Makes service files = ⊥
 
-pub making-code : (code : ℕ) (service : Service) → Asks code service → Makes service → (path_call_of code ≡ Some Path.Create) ⊎ (path_call_of code ≡ Some Path.MakDir)
-making-code code (on_paths Path.Create) asked making = inl asked
-making-code code (on_paths Path.MakDir) asked making = inr asked
-making-code code service asked making = absurd making
+-- a code asks for it
+pub record CodeMakes (code : ℕ) (files : Files) : Type 0 where
+  pub makes : (path_call_of code ≡ Some Path.Create) ⊎ (path_call_of code ≡ Some Path.MakDir)
+  pub drive : ℕ
+  pub volume : DiskVolume
+  pub mounted : volume_at files drive ≡ Some volume
+
+making-path : (code : ℕ) (call : PathCall) → Asks code (on_paths call) → IsMaking call → (path_call_of code ≡ Some Path.Create) ⊎ (path_call_of code ≡ Some Path.MakDir)
+making-path code Path.Create asked making = inl asked
+making-path code Path.MakDir asked making = inr asked
+making-path code call asked making = absurd making
+
+making-code : (code : ℕ) (service : Service) (files : Files) → Asks code service → Makes service files → CodeMakes code files
+making-code code (on_paths call) files asked making = record {
+  makes = making-path code call asked making.makes;
+  drive = making.drive;
+  volume = making.volume;
+  mounted = making.mounted;
+}
+making-code code service files asked making = absurd making
 
 -- what the drives counted stays in a process that begins or ends
 fork-drives : (files : Files) (p : ℕ) (result : CallResult) → (files_after_fork files p result).drives ≡ files.drives
@@ -124,7 +142,7 @@ module _ (s : State) (p : ℕ) (can : CanGo s) where
     pub rest : Rest
     pub serves : Serves service s now p result rest
     pub counts : fault_counts rest.terms ≡ fault_counts s.terms
-    pub stays : NoneFailed s.files.drives rest.files.drives ⊎ Makes service
+    pub stays : NoneFailed s.files.drives rest.files.drives ⊎ Makes service s.files
 
   some-service : (service : Service) (now : TimePacket) → SomeService service now
   some-service loads now =
@@ -191,9 +209,7 @@ module _ (s : State) (p : ℕ) (can : CanGo s) where
     pub rest : Rest
     pub attempt : Attempts code s p result rest
     pub counts : fault_counts rest.terms ≡ fault_counts s.terms
-    pub stays : NoneFailed s.files.drives rest.files.drives
-        ⊎ (path_call_of code ≡ Some Path.Create)
-        ⊎ (path_call_of code ≡ Some Path.MakDir)
+    pub stays : NoneFailed s.files.drives rest.files.drives ⊎ CodeMakes code s.files
 
   pub some-attempt : (code : ℕ) → SomeAttempt code
   some-attempt code =
@@ -209,6 +225,6 @@ module _ (s : State) (p : ℕ) (can : CanGo s) where
         stays =
             elim (it.stays) [
               | inl none ↦ inl none
-              | inr making ↦ inr (making-code code (service_of code) (asks code) making)
+              | inr making ↦ inr (making-code code (service_of code) s.files (asks code) making)
             ];
       }

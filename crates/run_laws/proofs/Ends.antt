@@ -74,6 +74,13 @@ IsMaking Call.Create = Unit {0}
 IsMaking Call.MakDir = Unit {0}
 IsMaking call = ⊥
 
+-- it makes one on a volume that is mounted
+pub record Making (call : PathCall) (files : Files) : Type 0 where
+  pub makes : IsMaking call
+  pub drive : ℕ
+  pub volume : DiskVolume
+  pub mounted : volume_at files drive ≡ Some volume
+
 module _ (call : PathCall) (asker : Asker) (files : Files) (terms : List TerminalState) where
   -- a deed that is done, without a failure of a terminal
   record SomeDeed (deed : Deed) : Type 0 where
@@ -87,7 +94,7 @@ module _ (call : PathCall) (asker : Asker) (files : Files) (terms : List Termina
     pub after : List TerminalState
     pub does : FileDoes step asker files effect terms after
     pub counts : fault_counts after ≡ fault_counts terms
-    pub stays : NoneFailed files.drives effect.files.drives ⊎ IsMaking call
+    pub stays : NoneFailed files.drives effect.files.drives ⊎ Making call files
 
   -- what is done on this drive, or a fault of it may leave its volume as it was
   abbrev On : ℕ → FileStep → Type 0
@@ -195,7 +202,7 @@ module _ (call : PathCall) (asker : Asker) (files : Files) (terms : List Termina
             refl,
           );
       counts = refl;
-      stays = inr making;
+      stays = inr (record { makes = making; drive = drive; volume = old; mounted = is });
     }
 
     -- a walk, and what is done with the file where it ends

@@ -5,26 +5,29 @@ use Rattle.civil_time.proofs.Days.{same-packet}
 use Rattle.os9_base.specs.declared.registers.TimePacket.{TimePacket}
 use Rattle.os9_outer.specs.TerminalState.{TerminalState}
 use Rattle.call_rules.specs.Attempts.{after_attempt}
+use Rattle.call_rules.specs.Inner.{Inner}
 use Rattle.call_rules.specs.CallResult.{CallResult, done, ends, refused, waits}
 use Rattle.call_rules.specs.Ready.{Act, attempts, delivers, executes, act_of}
 use Rattle.call_rules.specs.declared.proc_call.ProcCall.TheVariants as Call
 use Rattle.io_rules.specs.Arrivals.{Desk}
-use Rattle.io_rules.specs.Attempts.{result_of as io_result}
+use Rattle.io_rules.specs.Attempts.{result_by, result_of as io_result}
+use Rattle.io_rules.specs.Step.{IoEnd}
 use Rattle.file_rules.specs.Attempts.{asker_of, file_step, files_after, io_effect}
 use Rattle.file_rules.specs.Files.{DriveState, Files, with_io}
-use Rattle.file_rules.specs.Step.{FileEffect, FileStep, deed_of, drive_of}
+use Rattle.file_rules.specs.Step.{FileEffect, FileStep, deed_of, drive_of, with_drives_after}
 use Rattle.file_rules.specs.declared.path_call.PathCall.{PathCall}
 use Rattle.touch_laws.proofs.Attempts.{step-splits}
 use Rattle.event_rules.specs.Event.{call_event_end}
 use Rattle.event_rules.specs.declared.ends.EventEnd.{EventEnd}
+use Rattle.event_rules.specs.declared.ends.EventEnd.TheVariants.{Ran}
 use Rattle.time_rules.specs.Attempts.{clock_after, result_of as time_result}
 use Rattle.time_rules.specs.Clock.{IsNow, seconds_since}
 use Rattle.machine_model.specs.Event.{Acts, Event}
 use Rattle.machine_model.specs.Run.{Tick, desk_of}
 use Rattle.machine_model.specs.Services.{Service, Serves, files_after_call, files_after_fork, loads, no_call, on_paths, on_processes, on_time, service_of, with_files}
 use Rattle.machine_model.specs.State.{Rest, State, rest_of, with_rest}
-use Rattle.run_laws.specs.Faults.{DeedTakes, MayChoose, NoDriveFailed, NoneFailed, SameEvent, ServiceTakes}
-use Rattle.run_laws.proofs.Deeds.{OneDeed, attempt-one}
+use Rattle.run_laws.specs.Faults.{ChoosesClusters, MayChoose, NoDriveFailed, NoneFailed, SameButClusters, SameEvent}
+use Rattle.run_laws.proofs.Deeds.{BothTake, IsDone, MakesChange, OneDeed, attempt-one}
 use Rattle.run_laws.proofs.Loading.{OneLoad, chain-one, fork-one, load-one}
 use Rattle.run_laws.proofs.Terminals.{NoneOf, arrivals-one}
 
@@ -34,6 +37,20 @@ use Rattle.run_laws.proofs.Terminals.{NoneOf, arrivals-one}
 pub record OneEnd (result other : CallResult) (rest then_rest : Rest) : Type 0 where
   pub results : result ≡ other
   pub rests : rest ≡ then_rest
+
+-- two attempts made one change of a volume that takes clusters
+pub record BothServe (service : Service) (s : State) (p : ℕ) (now : TimePacket) (result other : CallResult) (rest then_rest : Rest) : Type 0 where
+  pub call : PathCall
+  pub asks : service ≡ on_paths call
+  pub effect : FileEffect
+  pub second : FileEffect
+  pub both : BothTake (asker_of s.inner p now) s.files (deed_of (file_step call (asker_of s.inner p now) s.files (length s.terms)) s.files) effect second s.terms rest.terms then_rest.terms
+  pub result_is : result ≡ io_result s.inner p (io_effect effect)
+  pub other_is : other ≡ io_result s.inner p (io_effect second)
+  pub files : rest.files ≡ files_after p effect
+  pub then_files : then_rest.files ≡ files_after p second
+  pub clock : rest.clock ≡ s.clock
+  pub then_clock : then_rest.clock ≡ s.clock
 
 fork-drives : (files : Files) (p : ℕ) (result : CallResult) → (files_after_fork files p result).drives ≡ files.drives
 fork-drives files p (done t) = refl
@@ -51,7 +68,7 @@ module _ (s : State) (p : ℕ) (now : TimePacket) (result other : CallResult) (r
   drives-of left files after still is same =
       subst (NoDriveFailed s.files.drives) same (subst (λ (left : Rest). NoDriveFailed s.files.drives left.files.drives) is still)
 
-  serves-one : (service : Service) → Serves service s now p result rest → Serves service s now p other then_rest → ServiceTakes service s p now ⊎ OneEnd result other rest then_rest
+  serves-one : (service : Service) → Serves service s now p result rest → Serves service s now p other then_rest → BothServe service s p now result other rest then_rest ⊎ OneEnd result other rest then_rest
   serves-one loads (files, it, is) (second, it_too, is_too) =
       let one : OneLoad result other files second = load-one s.inner (asker_of s.inner p now) s.files (length s.terms) p result other files second (drives-of rest files files still is refl) (drives-of then_rest second second still_too is_too refl) it it_too in
       inr (record { results = one.results; rests = is ∙ ap (with_files s) one.files ∙ sym is_too })
@@ -72,8 +89,21 @@ module _ (s : State) (p : ℕ) (now : TimePacket) (result other : CallResult) (r
       (subst (λ (new : Files). NoDriveFailed s.files.drives new.drives) it.state still)
       (subst (λ (new : Files). NoDriveFailed s.files.drives new.drives) it_too.state still_too))
     where
-      by_deed : DeedTakes s.files (deed_of (step_of call) s.files) ⊎ OneDeed it.effect it_too.effect rest.terms then_rest.terms → DeedTakes s.files (deed_of (step_of call) s.files) ⊎ OneEnd result other rest then_rest
-      by_deed (inl takes) = inl takes
+      by_deed : BothTake (asker_of s.inner p now) s.files (deed_of (step_of call) s.files) it.effect it_too.effect s.terms rest.terms then_rest.terms ⊎ OneDeed it.effect it_too.effect rest.terms then_rest.terms → BothServe (on_paths call) s p now result other rest then_rest ⊎ OneEnd result other rest then_rest
+      by_deed (inl both) =
+          inl (record {
+            call = call;
+            asks = refl;
+            effect = it.effect;
+            second = it_too.effect;
+            both = both;
+            result_is = it.result_is;
+            other_is = it_too.result_is;
+            files = it.state;
+            then_files = it_too.state;
+            clock = clock;
+            then_clock = clock_too;
+          })
       by_deed (inr one) =
           let files : rest.files ≡ then_rest.files = it.state ∙ ap (files_after p) one.effects ∙ sym it_too.state in
           let clocks : rest.clock ≡ then_rest.clock = clock ∙ sym clock_too in
@@ -86,7 +116,25 @@ module _ (s : State) (p : ℕ) (now : TimePacket) (result other : CallResult) (r
 
 -- ---- one event
 
-acts-one : (act : Act) (s : State) (p : ℕ) (end other : EventEnd) (t u : State) → s.chosen ≡ Some p → act_of s.inner p ≡ act → Acts act s p end t → Acts act s p other u → NoneFailed s t → NoneFailed s u → MayChoose s ⊎ SameEvent end t other u
+goes-on : (m : Inner) (p : ℕ) (effect : FileEffect) → IsDone effect.end → call_event_end (io_result m p (io_effect effect)) ≡ Ran
+goes-on m p effect (inl (regs, is)) = ap (λ (end : IoEnd). call_event_end (result_by end m p (io_effect effect))) is
+goes-on m p effect (inr (number, is)) = ap (λ (end : IoEnd). call_event_end (result_by end m p (io_effect effect))) is
+
+chooses : (s : State) (choice : MayChoose s) (end : EventEnd) (t : State) (result : CallResult) (rest : Rest) (effect : FileEffect) → MakesChange choice.deed.it (asker_of s.inner choice.p choice.now) s.files effect s.terms rest.terms → result ≡ io_result s.inner choice.p (io_effect effect) → rest.files ≡ files_after choice.p effect → rest.clock ≡ s.clock → end ≡ call_event_end result → t ≡ with_rest s (after_attempt s.inner choice.p result) rest → ChoosesClusters s choice end t
+chooses s choice end t result rest effect it result_is files clock ending is = record {
+  effect = it.made;
+  does = it.does;
+  ends = ending ∙ ap call_event_end comes ∙ goes-on s.inner choice.p it.made it.answers_so;
+  is = is ∙ (λ i. with_rest s (after_attempt s.inner choice.p (comes i)) (record { files = left i; clock = clock i; terms = it.terminals i }));
+}
+  where
+    comes : result ≡ io_result s.inner choice.p (io_effect it.made)
+    comes = result_is ∙ ap (λ (effect : FileEffect). io_result s.inner choice.p (io_effect effect)) it.effect_is
+
+    left : rest.files ≡ files_after choice.p (with_drives_after it.made s.files.drives)
+    left = files ∙ ap (files_after choice.p) it.effect_is
+
+acts-one : (act : Act) (s : State) (p : ℕ) (end other : EventEnd) (t u : State) → s.chosen ≡ Some p → act_of s.inner p ≡ act → Acts act s p end t → Acts act s p other u → NoneFailed s t → NoneFailed s u → SameButClusters s end t other u ⊎ SameEvent end t other u
 acts-one executes s p end other t u chosen next (ending, is) (ending_too, is_too) none none_too =
     inr (record { ends = ending ∙ sym ending_too; last = is ∙ sym is_too })
 acts-one (delivers signal) s p end other t u chosen next (ending, is) (ending_too, is_too) none none_too =
@@ -98,15 +146,31 @@ acts-one (attempts code) s p end other t u chosen next (result, rest, (now, is_n
     by_one (serves-one s p now result second rest then_rest here.terminals there.terminals here.drives there.drives (service_of code) serves
     (subst (λ (now : TimePacket). Serves (service_of code) s now p second then_rest) time serves_too))
   where
-    by_one : ServiceTakes (service_of code) s p now ⊎ OneEnd result second rest then_rest → MayChoose s ⊎ SameEvent end t other u
-    by_one (inl takes) =
-        inl (record { p = p; chosen = chosen; code = code; next = next; now = now; is_now = is_now; takes = takes })
+    by_one : BothServe (service_of code) s p now result second rest then_rest ⊎ OneEnd result second rest then_rest → SameButClusters s end t other u ⊎ SameEvent end t other u
+    by_one (inl it) = inl (record {
+      choice = choice;
+      one = chooses s choice end t result rest it.effect it.both.one it.result_is it.files it.clock ending is;
+      second = chooses s choice other u second then_rest it.second it.both.second it.other_is it.then_files it.then_clock ending_too is_too;
+    })
+      where
+        choice : MayChoose s
+        choice = record {
+          p = p;
+          chosen = chosen;
+          code = code;
+          next = next;
+          call = it.call;
+          asks = it.asks;
+          now = now;
+          is_now = is_now;
+          deed = it.both.takes;
+        }
     by_one (inr one) = inr (record {
       ends = ending ∙ ap call_event_end one.results ∙ sym ending_too;
       last = is ∙ (λ i. with_rest s (after_attempt s.inner p (one.results i)) (one.rests i)) ∙ sym is_too;
     })
 
-pub event-one : (s t u : State) (end other : EventEnd) → Event s end t → Event s other u → NoneFailed s t → NoneFailed s u → MayChoose s ⊎ SameEvent end t other u
+pub event-one : (s t u : State) (end other : EventEnd) → Event s end t → Event s other u → NoneFailed s t → NoneFailed s u → SameButClusters s end t other u ⊎ SameEvent end t other u
 event-one s t u end other (p, chosen, lives, acts) (q, chosen_too, lives_too, acts_too) none none_too =
     let same : q ≡ p = same_Some q p (sym chosen_too ∙ chosen) in
     acts-one (act_of s.inner p) s p end other t u chosen refl acts (subst (λ q. Acts (act_of s.inner q) s q other u) same acts_too) none none_too

@@ -23,7 +23,7 @@ use Rattle.machine_model.specs.Event.{Acts, Event, before_delivery, files_after_
 use Rattle.machine_model.specs.Run.{Choose, Tick}
 use Rattle.machine_model.specs.Services.{Service, Serves, files_after_call, files_after_fork, loads, no_call, on_paths, on_processes, on_time, service_of, with_files}
 use Rattle.machine_model.specs.State.{Rest, State}
-use Rattle.run_laws.specs.Faults.{DeedTakes, HasNoVolumes, MayChoose, ServiceTakes}
+use Rattle.run_laws.specs.Faults.{HasNoVolumes, MayChoose}
 
 -- no volume is mounted in these files
 abbrev Bare : Files → Type 0
@@ -31,18 +31,8 @@ Bare files = (drive : ℕ) → volume_at files drive ≡ None
 
 -- ---- no attempt takes clusters
 
-deed-not : (files : Files) (deed : Deed) → Bare files → DeedTakes files deed → ⊥
-deed-not files (leaves_so it) bare takes = takes
-deed-not files (as_io step) bare takes = takes
-deed-not files (changes it) bare takes = none-some takes.1.0 (sym (bare it.drive) ∙ takes.1.1)
-
-service-not : (service : Service) (s : State) (p : ℕ) (now : TimePacket) → HasNoVolumes s → ServiceTakes service s p now → ⊥
-service-not (on_paths call) s p now bare takes =
-    deed-not s.files (deed_of (file_step call (asker_of s.inner p now) s.files (length s.terms)) s.files) bare takes
-service-not service s p now bare takes = absurd takes
-
 pub never-chooses : (s : State) → HasNoVolumes s → MayChoose s → ⊥
-never-chooses s bare it = service-not (service_of it.code) s it.p it.now bare it.takes
+never-chooses s bare it = none-some it.deed.taken.old (sym (bare it.deed.it.drive) ∙ it.deed.taken.mounted)
 
 -- ---- no volume is mounted
 

@@ -19,7 +19,7 @@ use Rattle.machine_model.specs.State.{State, has_living}
 use Rattle.machine_model.proofs.Drives.{drives-same, drives-then}
 use Rattle.machine_model.proofs.Gains.{event-gains, run-gains, slice-gains, tick-gains}
 use Rattle.event_rules.proofs.TerminalLaws.{gain-same, gain-then}
-use Rattle.run_laws.specs.Faults.{HasNoVolumes, MayChoose, NoDriveFailed, NoneFailed, SameEvent, SameRun, SameSlice}
+use Rattle.run_laws.specs.Faults.{HasNoVolumes, MayChoose, NoDriveFailed, NoneFailed, SameButClusters, SameEvent, SameRun, SameSlice}
 use Rattle.run_laws.proofs.Events.{event-one, tick-one}
 use Rattle.run_laws.specs.Reached.{NeverChooses, Reaches, by_choice, by_emptying, by_event, by_tick, here}
 use Rattle.run_laws.proofs.Kept.{choice-bare, event-bare, never-chooses, tick-bare}
@@ -101,8 +101,8 @@ record SameSteps (states others : List State) (t u : State) : Type 0 where
 event-single : (s t u : State) (end other : EventEnd) → NeverChooses s → Event s end t → Event s other u → NoneFailed s t → NoneFailed s u → SameEvent end t other u
 event-single s t u end other bare one two none none_too = by_one (event-one s t u end other one two none none_too)
   where
-    by_one : MayChoose s ⊎ SameEvent end t other u → SameEvent end t other u
-    by_one (inl chooses) = absurd (bare s here chooses)
+    by_one : SameButClusters s end t other u ⊎ SameEvent end t other u → SameEvent end t other u
+    by_one (inl choose) = absurd (bare s here choose.choice)
     by_one (inr same) = same
 
 steps-one : (left : ℕ) (s : State) (states others : List State) (t u : State) → NeverChooses s → Steps left s states t → Steps left s others u → NoneFailed s t → NoneFailed s u → SameSteps states others t u

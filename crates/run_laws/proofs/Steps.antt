@@ -19,6 +19,7 @@ use Rattle.call_rules.specs.Ready.{Act, act_of, attempts, delivers, executes}
 use Rattle.call_rules.specs.declared.proc_call.ProcCall.TheVariants as Call
 use Rattle.io_rules.specs.Waiting.{io_may_go}
 use Rattle.file_rules.specs.Attempts.{asker_of, io_effect}
+use Rattle.std.proofs.lemmas.Option.{none-some}
 use Rattle.file_rules.specs.Files.{Files, NoneFailed}
 use Rattle.time_rules.specs.Attempts.{time_step}
 use Rattle.event_rules.specs.Console.{console_bytes, terminals_emptied}
@@ -29,7 +30,7 @@ use Rattle.io_laws.proofs.EndsKept.{by-end}
 use Rattle.call_laws.proofs.ForksKept.{attempt-left}
 use Rattle.call_laws.proofs.OthersKept.{living-within}
 use Rattle.machine_model.specs.Event.{Acts, Event, before_delivery, cost, files_after_delivery, files_after_instruction}
-use Rattle.machine_model.specs.Run.{Run, Slice, Steps, is_going}
+use Rattle.machine_model.specs.Run.{Run, Slice, Steps, Tick, is_going}
 use Rattle.machine_model.specs.Services.{Attempts, Serves, Service, loads, no_call, on_paths, on_processes, on_time, service_of}
 use Rattle.machine_model.specs.Start.{Boot, Starts}
 use Rattle.machine_model.specs.State.{Rest, State, has_living, with_rest}
@@ -38,7 +39,9 @@ use Rattle.isolation_laws.proofs.EventsKept.{time-left}
 use Rattle.kept_laws.proofs.Loads.{Child, chain-over, fork-over, load-over}
 use Rattle.kept_laws.proofs.Over.{over-by}
 use Rattle.run_laws.specs.Mounted.{CanGo}
+use Rattle.run_laws.specs.Faults.{HasNoVolumes}
 use Rattle.run_laws.specs.Runs.{HasEvent, HasRun, HasSlice, MakesFile, SameCounts}
+use Rattle.run_laws.proofs.Kept.{choice-bare, event-bare, tick-bare}
 use Rattle.run_laws.proofs.Calls.{SomeAttempt, same-drives, some-attempt}
 use Rattle.run_laws.proofs.Moves.{choice-can, emptied-can, event-can, start-can, tick-can}
 use Rattle.event_rules.specs.Event.{after_instruction, call_event_end, cost_of, delivery_end, instruction_end, next_instruction}
@@ -168,7 +171,17 @@ module _ (s : State) (p : ℕ) (chosen : s.chosen ≡ Some p) (lives : IsLiving 
           drives =
               elim (it.stays) [
                 | inl none ↦ inl none
-                | inr making ↦ inr (p, code, chosen, next, making)
+                | inr making ↦
+                    inr (record {
+                      p = p;
+                      chosen = chosen;
+                      code = code;
+                      next = next;
+                      makes = making.makes;
+                      drive = making.drive;
+                      volume = making.volume;
+                      mounted = making.mounted;
+                    })
               ];
         }
 
@@ -194,6 +207,16 @@ record SomeSteps (left : ℕ) (s : State) : Type 0 where
   pub steps : Steps left s states last
   pub can : CanGo last
   pub counts : SameCounts s last
+  pub drives : HasNoVolumes s → NoneFailed s.files.drives last.files.drives
+  pub bare : HasNoVolumes s → HasNoVolumes last
+
+-- without volumes no file is made
+next-still : (s : State) (p : ℕ) (next : Next s p) → HasNoVolumes s → NoneFailed s.files.drives next.last.files.drives
+next-still s p next bare = by_drives next.drives
+  where
+    by_drives : NoneFailed s.files.drives next.last.files.drives ⊎ MakesFile s → NoneFailed s.files.drives next.last.files.drives
+    by_drives (inl none) = none
+    by_drives (inr making) = absurd (none-some making.volume (sym (bare making.drive) ∙ making.mounted))
 
 cost-is : (s : State) (p : ℕ) → s.chosen ≡ Some p → cost s ≡ cost_of (act_of s.inner p)
 cost-is s p chosen = rw chosen refl
@@ -226,6 +249,8 @@ steps-by left s p next can some true is rest_of =
       );
       can = rest.can;
       counts = rest.counts ∙ next.counts;
+      drives = λ bare. rest.drives (event-bare s next.last next.end next.event bare) ∙ next-still s p next bare;
+      bare = λ bare. rest.bare (event-bare s next.last next.end next.event bare);
     }
 steps-by left s p next can some false is rest_of = record {
   states = next.last ∷ [];
@@ -238,12 +263,14 @@ steps-by left s p next can some false is rest_of = record {
   );
   can = can;
   counts = next.counts;
+  drives = next-still s p next;
+  bare = event-bare s next.last next.end next.event;
 }
 
 steps-end : (most left : ℕ) (s : State) (p : ℕ) → 3 * left + rank (act_of s.inner p) < most → s.chosen ≡ Some p → IsLiving s.inner.records p → CanGo s → SomeSteps left s
 steps-end zero left s p less chosen lives can = absurd (omega arith)
 steps-end (suc most) zero s p less chosen lives can =
-    record { states = []; last = s; steps = (refl, refl); can = can; counts = refl }
+    record { states = []; last = s; steps = (refl, refl); can = can; counts = refl; drives = λ bare. refl; bare = λ bare. bare }
 steps-end (suc most) (suc left) s p less chosen lives can =
     let next : Next s p = next-event s p chosen lives can in
     steps-by (suc left) s p next (event-can s next.last next.end next.event can) (omega arith) (is_going next.end) refl
@@ -273,6 +300,10 @@ Begun n chosen who states end t =
 record SomeSlice (n : ℕ) (s : State) : Type 0 where
   pub slice : HasSlice n s
   pub can : CanGo slice.last
+  pub bare : HasNoVolumes s → HasNoVolumes slice.last
+
+tick-still : (s t : State) → Tick s t → NoneFailed s.files.drives t.files.drives
+tick-still s t (desk, arrives, is) = ap (λ (t : State). t.files.drives) is
 
 some-slice : (n : ℕ) (s : State) → CanGo s → SomeSlice n s
 some-slice n s can = by_tick (some-tick s)
@@ -291,8 +322,10 @@ some-slice n s can = by_tick (some-tick s)
           subst (λ (who : Option ℕ). Begun n (begun it.last) who [] SliceEnd.Idle (begun it.last)) (sym (ap (option_map (λ (p : Pid). p.0)) is)) (refl, refl, refl),
         );
         counts = it.counts;
+        drives = λ bare. tick-still s it.last it.tick;
       };
       can = can;
+      bare = λ bare. choice-bare it.last (begun it.last) refl (tick-bare s it.last it.tick bare);
     }
     by_chosen it can (Some pid) is =
         let who : (begun it.last).chosen ≡ Some pid.0 = ap (option_map (λ (p : Pid). p.0)) is in
@@ -310,8 +343,12 @@ some-slice n s can = by_tick (some-tick s)
               subst (λ (who : Option ℕ). Begun n (begun it.last) who ending.states SliceEnd.Ran ending.last) (sym who) (refl, ending.steps),
             );
             counts = ending.counts ∙ it.counts;
+            drives = λ bare.
+                ending.drives (choice-bare it.last (begun it.last) refl (tick-bare s it.last it.tick bare))
+                ∙ tick-still s it.last it.tick;
           };
           can = ending.can;
+          bare = λ bare. ending.bare (choice-bare it.last (begun it.last) refl (tick-bare s it.last it.tick bare));
         }
 
     by_tick : SomeTick s → SomeSlice n s
@@ -336,22 +373,24 @@ Begins living n ns s states written t =
     MatchBool living ((end : SliceEnd) × (m : State) × (first later : List State) × (rest : List ℕ) × Slice n s first end m × (states ≡ first ++ later) × (written ≡ console_bytes m.terms ++ rest) × Run ns (record m { terms = terminals_emptied m.terms }) later rest t) ((states ≡ []) × (written ≡ []) × (t ≡ s))
 
 pub run-end : (slices : List ℕ) (s : State) → CanGo s → HasRun slices s
-run-end [] s can = record { states = []; written = []; last = s; run = (refl, refl, refl); counts = refl }
+run-end [] s can =
+    record { states = []; written = []; last = s; run = (refl, refl, refl); counts = refl; drives = λ bare. refl }
 run-end (n ∷ ns) s can =
     let some : SomeSlice n s = some-slice n s can in
-    by_living some.slice (run-end ns (emptied some.slice.last) (emptied-can some.slice.last some.can)) (has_living s) refl
+    by_living some.slice some.bare (run-end ns (emptied some.slice.last) (emptied-can some.slice.last some.can)) (has_living s) refl
   where
-    by_living : (slice : HasSlice n s) → HasRun ns (emptied slice.last) → (living : Bool) → has_living s ≡ living → HasRun (n ∷ ns) s
-    by_living slice rest true is = record {
+    by_living : (slice : HasSlice n s) → (HasNoVolumes s → HasNoVolumes slice.last) → HasRun ns (emptied slice.last) → (living : Bool) → has_living s ≡ living → HasRun (n ∷ ns) s
+    by_living slice still rest true is = record {
       states = slice.states ++ rest.states;
       written = console_bytes slice.last.terms ++ rest.written;
       last = rest.last;
       run =
           subst (λ (living : Bool). Begins living n ns s (slice.states ++ rest.states) (console_bytes slice.last.terms ++ rest.written) rest.last) (sym is) (slice.end, slice.last, slice.states, rest.states, rest.written, slice.slice, refl, refl, rest.run);
       counts = rest.counts ∙ counts-emptied slice.last.terms ∙ slice.counts;
+      drives = λ bare. rest.drives (still bare) ∙ slice.drives bare;
     }
-    by_living slice rest false is =
-        record { states = []; written = []; last = s; run = subst (λ (living : Bool). Begins living n ns s [] [] s) (sym is) (refl, refl, refl); counts = refl }
+    by_living slice still rest false is =
+        record { states = []; written = []; last = s; run = subst (λ (living : Bool). Begins living n ns s [] [] s) (sym is) (refl, refl, refl); counts = refl; drives = λ bare. refl }
 
 pub started-run : (boot : Boot) (slices : List ℕ) (s : State) → Starts boot s → 0 < length boot.terms → length boot.terms ≤ 4 → is_time_packet boot.time ≡ true → length boot.images ≤ length boot.drives → HasRun slices s
 started-run boot slices s starts some few time drives = run-end slices s (start-can boot s starts some few time drives)

@@ -1,20 +1,28 @@
 -- Attempts, runs in which no device fails, and runs that are the same.
-use Rattle.std.specs.Prelude.{◌<◌, ◌-◌, ◌^◌, ◌≡◌, ℕ, None, Some, List, length}
+use Rattle.std.specs.Prelude.{◌<◌, ◌-◌, ◌^◌, ◌≡◌, ◌⊎◌, ℕ, None, Some, List, length}
 use Rattle.std.specs.List.{AllByRecursion, AllZip}
 use Rattle.os9_base.specs.Count.{Rose}
 use Rattle.os9_base.specs.declared.registers.TimePacket.{TimePacket}
 use Rattle.os9_outer.specs.TerminalState.{TerminalState}
+use Rattle.call_rules.specs.Attempts.{after_attempt}
 use Rattle.call_rules.specs.Ready.{attempts, act_of}
-use Rattle.file_rules.specs.Attempts.{asker_of, file_step}
-use Rattle.file_rules.specs.Change.{TakesClusters}
+use Rattle.io_rules.specs.Attempts.{result_of}
+use Rattle.file_rules.specs.Attempts.{asker_of, file_step, files_after, io_effect}
+use Rattle.rbf_model.specs.File.{DiskFile}
 use Rattle.rbf_model.specs.Volume.{DiskVolume}
+use Rattle.rbf_change.specs.Calls.{cluster_size}
+use Rattle.rbf_change.specs.Contents.{written}
+use Rattle.rbf_change.specs.Growth.{clusters_needed}
+use Rattle.file_rules.specs.Change.{Change, writes, sizes, sets_attributes, creates, makes_directory, deletes}
 use Rattle.file_rules.specs.Files.{DriveState, Files, drive_at, volume_at}
-use Rattle.file_rules.specs.Step.{Deed, leaves_so, as_io, changes, deed_of}
+use Rattle.file_rules.specs.Step.{Deed, FileEffect, IsChanged, IsTooLong, VolumeChange, changes, deed_of, with_drives_after}
+use Rattle.file_rules.specs.declared.path_call.PathCall.{PathCall}
 use Rattle.event_rules.specs.declared.ends.EventEnd.{EventEnd}
+use Rattle.event_rules.specs.declared.ends.EventEnd.TheVariants.{Ran}
 use Rattle.event_rules.specs.declared.ends.SliceEnd.{SliceEnd}
 use Rattle.time_rules.specs.Clock.{IsNow}
-use Rattle.machine_model.specs.Services.{Service, on_paths, service_of}
-use Rattle.machine_model.specs.State.{State}
+use Rattle.machine_model.specs.Services.{on_paths, service_of}
+use Rattle.machine_model.specs.State.{State, rest_of, with_rest}
 
 -- ---- devices that do not fail
 
@@ -38,27 +46,65 @@ pub record CanRise (s : State) : Type 0 where
 
 -- ---- what the machine may choose
 
--- what is done takes clusters of a volume that is mounted
-abbrev pub DeedTakes : Files → Deed → Type 0
-DeedTakes files (leaves_so it) = ⊥
-DeedTakes files (as_io step) = ⊥
-DeedTakes files (changes it) = TakesClusters it.change × ((v : DiskVolume) × (volume_at files it.drive ≡ Some v))
+-- file n needs clusters beside those that it has, to be of this size; or its list of segments is longer than that of a
+-- file on a disk may be
+pub record NeedsClusters (v : DiskVolume) (n : ℕ) (size : DiskFile → ℕ) : Type 0 where
+  pub file : DiskFile
+  pub is : v.files n ≡ Some file
+  pub some : (0 < clusters_needed (cluster_size v) file.segments (size file)) ⊎ (48 < length file.segments)
 
--- what a code asks for takes clusters of a volume, for a process at a time
-abbrev pub ServiceTakes : Service → State → ℕ → TimePacket → Type 0
-ServiceTakes (on_paths call) s p now =
-    DeedTakes s.files (deed_of (file_step call (asker_of s.inner p now) s.files (length s.terms)) s.files)
-ServiceTakes service s p now = ⊥
+-- a change takes clusters of a volume: those that a file needs, or those of a new file or directory
+abbrev pub TakesClusters : Change → DiskVolume → Type 0
+TakesClusters (writes n at bytes) v = NeedsClusters v n (λ file. length (written file.contents at bytes))
+TakesClusters (sizes n size) v = NeedsClusters v n (λ file. size)
+TakesClusters (sets_attributes n attributes) v = ⊥
+TakesClusters (creates d name attributes) v = Unit {0}
+TakesClusters (makes_directory d name attributes) v = Unit {0}
+TakesClusters (deletes d n name) v = ⊥
 
--- the chosen process attempts a call that takes clusters of a volume
+-- the volume of a change is mounted, and it takes clusters of it
+pub record TakesFrom (files : Files) (it : VolumeChange) : Type 0 where
+  pub old : DiskVolume
+  pub mounted : volume_at files it.drive ≡ Some old
+  pub takes : TakesClusters it.change old
+
+-- what is done is such a change
+pub record DeedTakes (files : Files) (deed : Deed) : Type 0 where
+  pub it : VolumeChange
+  pub is : deed ≡ changes it
+  pub taken : TakesFrom files it
+
+-- the chosen process attempts a call on paths that takes clusters of a volume
 pub record MayChoose (s : State) : Type 0 where
   pub p : ℕ
   pub chosen : s.chosen ≡ Some p
   pub code : ℕ
   pub next : act_of s.inner p ≡ attempts code
+  pub call : PathCall
+  pub asks : service_of code ≡ on_paths call
   pub now : TimePacket
   pub is_now : IsNow s.clock s.inner.tick now
-  pub takes : ServiceTakes (service_of code) s p now
+  pub deed : DeedTakes s.files (deed_of (file_step call (asker_of s.inner p now) s.files (length s.terms)) s.files)
+
+-- the state after an attempt of a process that had this effect on the files, without a fault of a drive
+abbrev pub after_effect : State → ℕ → FileEffect → State
+after_effect s p effect =
+    with_rest s (after_attempt s.inner p (result_of s.inner p (io_effect effect)))
+    (record (rest_of s) { files = files_after p (with_drives_after effect s.files.drives) })
+
+-- an event makes the change of the volume that such an attempt asks for, with some clusters, or finds no place for one
+pub record ChoosesClusters (s : State) (choice : MayChoose s) (end : EventEnd) (t : State) : Type 0 where
+  pub effect : FileEffect
+  pub does : IsChanged choice.deed.it (asker_of s.inner choice.p choice.now) s.files effect
+      ⊎ IsTooLong choice.deed.it s.files effect
+  pub ends : end ≡ Ran
+  pub is : t ≡ after_effect s choice.p effect
+
+-- two events make one change of a volume, each with its clusters
+pub record SameButClusters (s : State) (end : EventEnd) (t : State) (other : EventEnd) (u : State) : Type 0 where
+  pub choice : MayChoose s
+  pub one : ChoosesClusters s choice end t
+  pub second : ChoosesClusters s choice other u
 
 -- no volume is mounted
 abbrev pub HasNoVolumes : State → Type 0

@@ -14,14 +14,14 @@ ghost use Rattle.run_laws.specs.Later.{Rests, SameTo, SameTickTo, SameChoiceTo, 
 pub fn later_keys_change_no_tick()
     ensures tick { (later : ℕ) (rests : List Rests) (s t other : State) → s.inner.tick + 1 ≤ later
         → SameTo later rests s other → Tick s t → SameTickTo later rests t other }
-    ensures choice { (later : ℕ) (rests : List Rests) (s t other : State) → SameTo later rests s other → Choose s t
-        → SameChoiceTo later rests t other }
+    ensures choice { (later : ℕ) (rests : List Rests) (s t other : State)
+        → SameTo later rests s other → Choose s t → SameChoiceTo later rests t other }
 {}
 
 /// And one has each event that the other has, of every kind.
 pub fn later_keys_change_no_event()
-    ensures event { (later : ℕ) (rests : List Rests) (s t other : State) (end : EventEnd) → SameTo later rests s other
-        → Event s end t → SameEventTo later rests end t other }
+    ensures event { (later : ℕ) (rests : List Rests) (s t other : State) (end : EventEnd)
+        → SameTo later rests s other → Event s end t → SameEventTo later rests end t other }
 {}
 
 /// So it has each slice up to that tick, with the same end.

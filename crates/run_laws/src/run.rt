@@ -26,10 +26,10 @@ pub fn volumes_stay_in_their_drives()
 {}
 
 /// A machine never stands still: the chosen process has an event while it lives, in which no
-/// terminal fails, and no drive but where it makes a file or a directory. Every slice comes to an
-/// end, and there is a run over every list of slices, from the start of a machine with a drive for
-/// each image on; no terminal has to fail in them. If counts of faults stay, and could rise, no
-/// device has failed.
+/// terminal fails, and no drive unless it makes a file or a directory and a volume is mounted. Every
+/// slice comes to an end, and there is a run over every list of slices, from the start of a machine
+/// with a drive for each image on; no terminal has to fail in them, and without volumes no drive. If
+/// counts of faults stay, and could rise, no device has failed.
 pub fn some_run()
     ensures event { (s : State) (p : ℕ) → CanGo s → s.chosen ≡ Some p
         → IsLiving s.inner.records p → HasEvent s }

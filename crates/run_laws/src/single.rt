@@ -8,7 +8,7 @@ ghost use Rattle.machine_model.specs.Run.{Choose, Run, Slice, Tick};
 ghost use Rattle.machine_model.specs.Start.{Boot, Starts};
 ghost use Rattle.machine_model.specs.State.{State};
 ghost use Rattle.run_laws.specs.Reached.{NeverChooses};
-ghost use Rattle.run_laws.specs.Faults.{HasNoVolumes, NoneFailed, MayChoose, SameEvent, SameRun, SameSlice};
+ghost use Rattle.run_laws.specs.Faults.{HasNoVolumes, NoneFailed, MayChoose, SameButClusters, SameEvent, SameRun, SameSlice};
 
 /// Without a volume no call takes clusters, and no event, tick or choice mounts one.
 pub fn no_volume_is_mounted()
@@ -20,10 +20,13 @@ pub fn no_volume_is_mounted()
 {}
 
 /// Two events of one state in which no device fails are one, unless the chosen process attempts a
-/// call that takes clusters of a volume; two ticks are one.
+/// call that takes clusters of a volume: a write or a size for which a file needs some, or a new file
+/// or directory. Then both make the same change of that volume and differ in the clusters alone, or
+/// end with E$SLF if one of them finds no place in the file's list. Two ticks are one.
 pub fn events_without_faults_are_one()
     ensures event { (s t u : State) (end other : EventEnd) → Event s end t → Event s other u
-        → NoneFailed s t → NoneFailed s u → MayChoose s ⊎ SameEvent end t other u }
+        → NoneFailed s t → NoneFailed s u
+        → SameButClusters s end t other u ⊎ SameEvent end t other u }
     ensures tick { (s t u : State) → Tick s t → Tick s u → NoneFailed s t → NoneFailed s u → t ≡ u }
 {}
 
