@@ -1,0 +1,17 @@
+-- Tools that are used one after the other.
+use Rattle.std.specs.Prelude.{List, [], ◌∷◌, ℕ}
+use Rattle.os9_base.specs.declared.registers.TimePacket.{TimePacket}
+use Rattle.rbf_model.specs.Volume.{DiskVolume}
+use Rattle.tool_rules.specs.Tool.{Tool, Gives}
+
+-- a tool that is used at a time
+pub record Use : Type 0 where
+  pub tool : Tool
+  pub now : TimePacket
+
+-- what a list of them gives, and what each answers
+pub data GivesInTurn : List Use → DiskVolume → DiskVolume → List (List ℕ) → Type 0 where
+  none : {v : DiskVolume} → GivesInTurn [] v v []
+  next : {use_ : Use} {uses : List Use} {u v w : DiskVolume} {answer : List ℕ} {answers : List (List ℕ)}
+      → Gives use_.tool use_.now v u answer → GivesInTurn uses u w answers
+      → GivesInTurn (use_ ∷ uses) v w (answer ∷ answers)
