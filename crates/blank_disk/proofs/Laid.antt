@@ -43,6 +43,15 @@ module _ (ident marks desc list zeros : List ℕ) (ms : ℕ) (ident-long : lengt
       ∙ get_or-append-add ident (marks ++ (desc ++ (list ++ zeros))) i 0
       ∙ get_or_append_left marks (desc ++ (list ++ zeros)) 0 i (omega arith)
 
+  -- what is behind the descriptor
+  pub byte-behind : (i : ℕ) → get_or laid (256 * (2 + ms) + i) 0 ≡ get_or (list ++ zeros) i 0
+  byte-behind i =
+      let place : 256 * (2 + ms) + i ≡ length ident + (length marks + (length desc + i)) = omega arith in
+      ap (λ n. get_or laid n 0) place
+      ∙ get_or-append-add ident (marks ++ (desc ++ (list ++ zeros))) (length marks + (length desc + i)) 0
+      ∙ get_or-append-add marks (desc ++ (list ++ zeros)) (length desc + i) 0
+      ∙ get_or-append-add desc (list ++ zeros) i 0
+
   pub laid-long : length laid ≡ 256 * (ms + 3) + length zeros
   laid-long =
       let a = length-append ident (marks ++ (desc ++ (list ++ zeros))) in

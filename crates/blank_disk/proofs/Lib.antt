@@ -4,3 +4,4 @@ pub mod Marks
 pub mod Laid
 pub mod Whole
 pub mod Descriptor
+pub mod Behind

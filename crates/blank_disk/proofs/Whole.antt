@@ -18,7 +18,9 @@ use Rattle.blank_disk.specs.Image.{IsClean, IsDiskSize, used_clusters, marks_map
 use Rattle.blank_disk.proofs.Sizes.{fits, in_map, cluster_low}
 use Rattle.blank_disk.proofs.Rules.{blank_geometry, HasBlank, sound}
 use Rattle.blank_disk.proofs.Marks.{length-marks, marked-are}
-use Rattle.blank_disk.proofs.Laid.{laid, sector-0, sector-desc, sector-list, map-byte, laid-long}
+use Rattle.blank_disk.proofs.Laid.{laid, sector-0, sector-desc, sector-list, map-byte, byte-behind, laid-long}
+use Rattle.blank_disk.proofs.Descriptor.{zeros_read}
+use Rattle.blank_disk.proofs.Behind.{entries_end}
 
 three_bytes : (m : ℕ) → m < 16777216 → m / 65536 * 256 ^ 2 + (m / 256 % 256 * 256 ^ 1 + (m % 256 * 256 ^ 0 + 0)) ≡ m
 three_bytes m low = omega arith
@@ -145,13 +147,21 @@ module _ (s k : ℕ) (now : TimePacket) (size : IsDiskSize s k) where
       marks = marks-are;
     }
 
-    pub clean : ((i : ℕ) → 21 ≤ i → get_or desc i 0 ≡ 0) → IsClean blank s k
-    clean rest = record {
+    behind : ((i : ℕ) → get_or zeros i 0 ≡ 0) → (i : ℕ) → 256 * (r + 1) + 64 ≤ i → get_or blank i 0 ≡ 0
+    behind none i past =
+        let place : i ≡ 256 * (2 + ms) + (i - 256 * (2 + ms)) = omega arith in
+        ap (λ n. get_or blank n 0) place
+        ∙ byte-behind (blank_ident s k now) marks desc listing zeros ms ident-long marks-long desc-long refl (i - 256 * (2 + ms))
+        ∙ entries_end (new_listing r r) zeros refl none (i - 256 * (2 + ms)) (omega arith)
+
+    pub clean : ((i : ℕ) → 21 ≤ i → get_or desc i 0 ≡ 0) → ((i : ℕ) → get_or zeros i 0 ≡ 0) → IsClean blank s k
+    clean rest none = record {
       map = λ c low.
           let here : c / 8 < 256 * ms = omega arith in
           marked-are blank (used_clusters s k) (256 * ms) c here
           (map-byte (blank_ident s k now) marks desc listing zeros ms ident-long marks-long desc-long refl (c / 8) here);
       descriptor = λ i past. ap (λ d. get_or d i 0) desc-is ∙ rest i past;
+      behind = behind none;
     }
 
     pub represents : Vol blank (blank_volume s k now)
@@ -190,4 +200,4 @@ put-together s k now size desc none one two three four five root used bytes coun
     let is_root : IsRootSector (blank_root s k) now desc = subst (λ n. IsRootSector n now desc) at is in
     let all : 256 * (rm + 3) + length zeros ≡ 256 * s = omega arith in
     subst (IsBlankImage s k now) (sym whole)
-    (record { represents_it = represents s k now size desc zeros long is_root all; is_clean = clean s k now size desc zeros long is_root all clear })
+    (record { represents_it = represents s k now size desc zeros long is_root all; is_clean = clean s k now size desc zeros long is_root all clear (zeros_read (count - so_far)) })

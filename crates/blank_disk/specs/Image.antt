@@ -33,8 +33,9 @@ abbrev pub MarksFirst : List ℕ → ℕ → ℕ → Type 0
 MarksFirst image marked bytes =
     (c : ℕ) → c < 8 * bytes → is_marked (sector image) c ≡ nat_lt c marked
 
--- what is not of the volume is clear: the bits of the map past its clusters, and the root's descriptor behind its only
--- segment
+-- what is not of the volume is clear: the bits of the map past its clusters, the root's descriptor behind its only
+-- segment, and each byte of the disk behind the root's two entries
 pub record IsClean (image : List ℕ) (sectors cluster : ℕ) : Type 0 where
   pub map : MarksFirst image (used_clusters sectors cluster) (256 * (blank_root sectors cluster - 1))
   pub descriptor : (i : ℕ) → 21 ≤ i → slice_index (sector image (blank_root sectors cluster)) i ≡ 0
+  pub behind : (i : ℕ) → 256 * (blank_root sectors cluster + 1) + 64 ≤ i → slice_index image i ≡ 0
