@@ -11,5 +11,3 @@ pub mod Printed
 pub mod EntryOf
 pub mod Sound
 pub mod ReadPlain
-pub mod Sums
-pub mod Constants

@@ -1,5 +1,5 @@
 -- The offsets and labels of a source's statements, and the first line that breaks a rule (this project's own).
-use Rattle.std.specs.Prelude.{ℕ, ◌+◌, ◌*◌, ◌&&◌, ◌||◌, not, nat_le, Bool, true, false, Option, Some, None, is_some, is_none, option_map, option_and_then, unwrap_or, List, [], ◌∷◌, ◌++◌, length, map, ℤ, pos, if◌then◌else◌}
+use Rattle.std.specs.Prelude.{ℕ, ◌+◌, ◌*◌, ◌&&◌, ◌||◌, not, nat_le, Bool, true, false, Option, Some, None, is_some, is_none, option_map, option_and_then, unwrap_or, List, [], ◌∷◌, ◌++◌, length, map, ℤ, pos, negsuc, if◌then◌else◌}
 use Rattle.std.specs.Option.{option_or, option_map_or}
 use Rattle.std.specs.List.{list_all, list_any}
 use Rattle.std.specs.Str.{bytes_eq}
@@ -64,11 +64,19 @@ abbrev pub is_known_term : List Meaning → Term → Bool
 is_known_term labels (label name) = is_known labels name
 is_known_term labels _ = true
 
+-- a value that a label or `*` can have: a value that 64 bits with a sign do not hold is not known
+abbrev pub held : ℤ → Option ℤ
+held z = if between (negsuc 9223372036854775807) (pos 9223372036854775807) z then Some z else None
+
+-- the value of `*` at this offset
+abbrev pub offset_value : Option ℕ → Option ℤ
+offset_value offset = option_and_then (λ n. held (pos n)) offset
+
 -- the value of a term at this offset
 abbrev pub term_value : List Meaning → Option ℕ → Term → Option ℤ
 term_value labels offset (constant n) = Some (pos n)
 term_value labels offset (label name) = option_and_then (λ m. m.value) (meaning_of labels name)
-term_value labels offset here = option_map pos offset
+term_value labels offset here = offset_value offset
 
 abbrev pub names_known : List Meaning → List ℕ → Bool
 names_known labels text = option_map_or (list_all (λ t. is_known_term labels t.term)) (terms text) true
@@ -79,8 +87,8 @@ value_at labels offset text = option_and_then (value_of (term_value labels offse
 
 -- the value of a statement's label: that of `equ` by the labels above, or the statement's own offset
 abbrev pub label_value : Reached → Action → Option ℤ
-label_value above (equals text) = value_at above.labels above.offset text
-label_value above _ = option_map pos above.offset
+label_value above (equals text) = option_and_then held (value_at above.labels above.offset text)
+label_value above _ = offset_value above.offset
 
 -- the labels with one more; a label that is there already keeps its value
 abbrev pub with_label : List Meaning → Option (List ℕ) → Option ℤ → List Meaning
