@@ -10,6 +10,7 @@ from pathlib import Path
 
 sys.path.insert(0, str(Path(__file__).parents[1] / "proc_vectors"))
 from assemble import assemble, crc  # noqa: E402
+from routines import ANSWER  # noqa: E402
 from terminal_rows import EXIT, SHOW  # noqa: E402
 
 SECTOR = 256
@@ -18,15 +19,6 @@ ALL_MAY = 0xBF
 OLD = "0000000000 000000"  # the dates of what stands on an image
 NEW = "5a01010000 5a0101"  # those of what a run makes, in its first minute: 1 January 1990, 00:00
 WRITTEN = "5a01010000 000000"  # those of what stood on an image, and has another size now
-
-# shows carry and B, as a line of four digits
-ANSWER = """
-answer  pshs    cc,a,b,x,y
-        tfr     cc,a
-        anda    #1
-        lbsr    show
-        puls    cc,a,b,x,y,pc
-"""
 
 
 def program(name, source, storage=200):

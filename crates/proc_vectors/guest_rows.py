@@ -395,15 +395,6 @@ delivery("a signal where the frame would go round", "$0005", "03E4")
 delivery("a signal where the frame ends at FFFF", "$0000", "0007 FFF4 0300")
 delivery("a signal where S is in an unnamed slot", "$6000", "03E4")
 
-# Shows carry and B, as a line of four digits.
-ANSWER = """
-answer  pshs    cc,a,b,x,y
-        tfr     cc,a
-        anda    #1
-        lbsr    show
-        puls    cc,a,b,x,y,pc
-"""
-
 # All slots are named, so it is the address alone that is bad.
 row("a read of 65,535 bytes from 8000", program("SysGo", f"""
 start   ldd     #$E000
@@ -421,7 +412,7 @@ start   ldd     #$E000
         bsr     show
         clrb
         os9     $06
-{ANSWER}"""), "1000*9", 0, "E000 01D2 8000 FFFF")
+{routines.ANSWER}"""), "1000*9", 0, "E000 01D2 8000 FFFF")
 
 # A pipe has 41, and then 42. The byte at FFFF is read; two bytes from there are refused, and byte and pipe stay.
 row("a read of the byte at FFFF, and of two bytes there", program("SysGo", f"""
@@ -467,7 +458,7 @@ last    ldx     #$FFFF
         bsr     show
         rts
 pipe    fcs     "/PIPE"
-{ANSWER}"""), "1000*9", 0, "0000 0001 0041 01D2 0002 0041 0000 0001 0042")
+{routines.ANSWER}"""), "1000*9", 0, "0000 0001 0041 01D2 0002 0041 0000 0001 0042")
 
 # RTI from twelve bytes at 0040, with E set in their CC: S is behind them, less the byte of CC that is then pushed.
 row("an RTI from a frame that the program wrote", program("SysGo", """

@@ -29,3 +29,12 @@ digit   adda    #$30
 store   sta     ,x+
         rts
 """
+
+# shows carry and B, as a line of four digits; changes no register
+ANSWER = """
+answer  pshs    cc,a,b,x,y
+        tfr     cc,a
+        anda    #1
+        lbsr    show
+        puls    cc,a,b,x,y,pc
+"""
