@@ -1,5 +1,5 @@
 -- What an event leaves of the others in which a process loads a file, by what it leaves from the loaded file on.
-use Rattle.std.proofs.Common.{◌≡◌, ◌≢◌, ◌⊎◌, ℕ, ◌<◌, ◌≤◌, Bool, Option, Some, None, List, [], length, get_or, slice_get, refl, sym, ap, ◌∙◌, subst, inl, inr, arith}
+use Rattle.std.proofs.Common.{◌≡◌, ◌≢◌, ◌⊎◌, ℕ, ◌+◌, ◌<◌, ◌≤◌, Bool, Option, Some, None, List, [], length, get_or, slice_get, refl, sym, ap, ◌∙◌, subst, inl, inr, arith}
 use Rattle.std.specs.Prelude.{option_map}
 use Rattle.std.proofs.lemmas.Bool.{cases_lt}
 use Rattle.std.proofs.lemmas.Option.{none-some, slice_get-get_or, slice_get_past}
@@ -27,8 +27,8 @@ use Rattle.isolation_laws.specs.Isolation.{LeavesOthers}
 use Rattle.isolation_laws.specs.Links.{ChangesLinks}
 use Rattle.isolation_laws.specs.Loading.{LoadsFile}
 use Rattle.isolation_laws.specs.Modules.{LeavesWithFile, ModuleComesOf}
-use Rattle.isolation_laws.specs.NewObjects.{IsOfFile}
-use Rattle.isolation_laws.proofs.Loaded.{EnteredFrom, IsLoaded, entries-are, group-new, group-some, loaded-is, map-same, more-objects, new-bytes, old-object}
+use Rattle.isolation_laws.specs.NewObjects.{HoldFile}
+use Rattle.isolation_laws.proofs.Loaded.{EnteredFrom, IsLoaded, entries-are, group-new, group-some, loaded-is, map-same, more-objects, file-block-at, old-object}
 
 -- where elements stay there are as many at least
 kept-length : (xs ys : List (List ℕ)) → ((k : ℕ) → k < length xs → slice_get ys k ≡ slice_get xs k) → length xs ≤ length ys
@@ -218,25 +218,23 @@ module _ (s : State) (p : ℕ) (file : ProgramFile) (loaded : Loaded) (loads : L
     grows : length loaded.memory.objects ≤ length t.inner.memory.objects
     grows = kept-length loaded.memory.objects t.inner.memory.objects left.objects
 
-    new-comes : (object : ℕ) (bytes : List ℕ) → length s.inner.memory.objects ≤ object → slice_get t.inner.memory.objects object ≡ Some bytes → (k byte : ℕ) → slice_get bytes k ≡ Some byte → (object < length loaded.memory.objects) ⊎ (length loaded.memory.objects ≤ object) → (byte ≡ 0) ⊎ IsParameter s.inner p byte ⊎ IsOfFile s p byte
-    new-comes object bytes late at k byte here (inl within) =
-        of_file (new-bytes s.inner.memory file.bytes loaded is-loaded object bytes late (sym (left.objects object within) ∙ at) k byte here)
-      where
-        of_file : (byte ≡ 0) ⊎ ((j : ℕ) × (slice_get file.bytes j ≡ Some byte)) → (byte ≡ 0) ⊎ IsParameter s.inner p byte ⊎ IsOfFile s p byte
-        of_file (inl none) = inl none
-        of_file (inr member) = inr (inr (record { file = file; loaded = loaded; loads = loads; member = member }))
-    new-comes object bytes late at k byte here (inr past) = given (left.new_objects object bytes past at k byte here)
-      where
-        given : (byte ≡ 0) ⊎ IsParameter s.inner p byte → (byte ≡ 0) ⊎ IsParameter s.inner p byte ⊎ IsOfFile s p byte
-        given (inl none) = inl none
-        given (inr parameter) = inr (inl parameter)
+    pub file-there : HoldFile s p t.inner.memory
+    file-there = record {
+      file = file;
+      loaded = loaded;
+      loads = loads;
+      blocks =
+          λ k within. left.objects (length s.inner.memory.objects + k) (omega (arith, within, more-objects s.inner.memory file.bytes loaded is-loaded))
+          ∙ file-block-at s.inner.memory file.bytes loaded is-loaded k within;
+      rest =
+          λ object bytes late at k byte here. left.new_objects object bytes (omega (arith, late, more-objects s.inner.memory file.bytes loaded is-loaded)) at k byte here;
+    }
 
     pub file-leaves : LeavesOthers s p Ran t
     file-leaves = record {
       sizes = λ object there. ap (option_map length) (object-kept object there);
       objects = λ object there unnamed. object-kept object there;
-      new_objects =
-          λ object bytes late at k byte here. new-comes object bytes late at k byte here (cases_lt object (length loaded.memory.objects));
+      new_objects = inr file-there;
       map = map-comes t.inner grows left.map;
       others =
           λ q differ. other-comes t.inner grows q (record_of s.inner.records q) (record_of t.inner.records q) (left.others q differ);

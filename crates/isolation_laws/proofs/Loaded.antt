@@ -1,6 +1,6 @@
 -- What a file that is loaded leaves of memory: it is a group of new objects, and its modules are entered beside those
 -- that were.
-use Rattle.std.proofs.Common.{◌≡◌, ◌⊎◌, ℕ, zero, suc, ◌+◌, ◌*◌, ◌/◌, ◌%◌, ◌<◌, ◌≤◌, nat_lt, Bool, true, false, Option, Some, None, is_none, Result, Ok, Err, List, [], ◌∷◌, ◌++◌, length, take, drop, replicate, get_or, slice_get, refl, sym, ap, ◌∙◌, subst, inl, inr, arith}
+use Rattle.std.proofs.Common.{◌≡◌, ◌⊎◌, ℕ, zero, suc, ◌+◌, ◌/◌, ◌%◌, ◌<◌, ◌≤◌, nat_lt, Bool, true, false, Option, Some, None, is_none, Result, Ok, Err, List, [], ◌∷◌, ◌++◌, length, get_or, slice_get, refl, sym, ap, ◌∙◌, subst, inl, inr, arith}
 use Rattle.std.specs.Prelude.{option_and_then, option_map, if◌then◌else◌}
 use Rattle.std.specs.List.{range_with_len}
 use Rattle.std.specs.Option.{option_map_or}
@@ -23,7 +23,7 @@ use Rattle.user_names.specs.UserNames.{user_cell}
 use Rattle.call_rules.specs.ModuleLinks.{Entered, entered_at}
 use Rattle.call_rules.specs.UserBytes.{byte_before, user_bytes}
 use Rattle.file_rules.specs.Load.{Loaded, Loads, first_entered, loaded_by, with_file_entered}
-use Rattle.call_laws.proofs.Lists.{get-within, range-below, range-from, replicate-is, right-some, slice_get-left}
+use Rattle.call_laws.proofs.Lists.{get-within, range-below, range-from, slice_get-left}
 use Rattle.call_laws.proofs.ModulesKept.{entry-other, entry-put}
 
 -- ---- the entries
@@ -159,36 +159,16 @@ loaded-is m file loaded it = by_entries it.entries (all-entered it.modules) (has
     by_entries (Ok entries) all has is =
         by_first entries all has (first_entered m entries) refl (wants_blocks m (file_blocks file)) is
 
--- ---- bytes of a block
+-- ---- behind a list
 
-within-take : (n : ℕ) (xs : List ℕ) (k x : ℕ) → slice_get (take n xs) k ≡ Some x → slice_get xs k ≡ Some x
-within-take zero xs k x at = absurd (none-some x at)
-within-take (suc n) [] k x at = absurd (none-some x at)
-within-take (suc n) (y ∷ ys) zero x at = at
-within-take (suc n) (y ∷ ys) (suc k) x at = within-take n ys k x at
+zero-plus : (n : ℕ) → 0 + n ≡ n
+zero-plus n = omega arith
 
-within-drop : (n : ℕ) (xs : List ℕ) (k x : ℕ) → slice_get (drop n xs) k ≡ Some x → (j : ℕ) × (slice_get xs j ≡ Some x)
-within-drop zero xs k x at = (k, at)
-within-drop (suc n) [] k x at = absurd (none-some x at)
-within-drop (suc n) (y ∷ ys) k x at = let (j, there) = within-drop n ys k x at in (suc j, there)
-
-either-part : (xs ys : List ℕ) (k x : ℕ) → slice_get (xs ++ ys) k ≡ Some x → ((j : ℕ) × (slice_get xs j ≡ Some x)) ⊎ ((j : ℕ) × (slice_get ys j ≡ Some x))
-either-part [] ys k x at = inr (k, at)
-either-part (y ∷ xs) ys zero x at = inl (0, at)
-either-part (y ∷ xs) ys (suc k) x at = later (either-part xs ys k x at)
-  where
-    later : ((j : ℕ) × (slice_get xs j ≡ Some x)) ⊎ ((j : ℕ) × (slice_get ys j ≡ Some x)) → ((j : ℕ) × (slice_get (y ∷ xs) j ≡ Some x)) ⊎ ((j : ℕ) × (slice_get ys j ≡ Some x))
-    later (inl (j, there)) = inl (suc j, there)
-    later (inr there) = inr there
-
--- a byte of a block of a file is one of the file, or 0
-block-byte : (size first : ℕ) (file : List ℕ) (k byte : ℕ) → slice_get (take size (drop first file ++ replicate size 0)) k ≡ Some byte → (byte ≡ 0) ⊎ ((j : ℕ) × (slice_get file j ≡ Some byte))
-block-byte size first file k byte at =
-    by_part (either-part (drop first file) (replicate size 0) k byte (within-take size (drop first file ++ replicate size 0) k byte at))
-  where
-    by_part : ((j : ℕ) × (slice_get (drop first file) j ≡ Some byte)) ⊎ ((j : ℕ) × (slice_get (replicate size 0) j ≡ Some byte)) → (byte ≡ 0) ⊎ ((j : ℕ) × (slice_get file j ≡ Some byte))
-    by_part (inl (j, there)) = inr (within-drop first file j byte there)
-    by_part (inr (j, there)) = inl (replicate-is size 0 j byte there)
+get-behind : (xs ys : List (List ℕ)) (k : ℕ) → slice_get (xs ++ ys) (length xs + k) ≡ slice_get ys k
+get-behind [] ys k = ap (slice_get ys) (zero-plus k)
+get-behind (x ∷ xs) ys k =
+    let next : length (x ∷ xs) + k ≡ suc (length xs + k) = omega arith in
+    ap (slice_get (x ∷ (xs ++ ys))) next ∙ get-behind xs ys k
 
 -- ---- what it leaves
 
@@ -230,16 +210,14 @@ module _ (m : MemoryState) (file : List ℕ) (loaded : Loaded) (is : IsLoaded m 
       slice_get-get_or (new_numbers m (file_blocks file)) 0 0 (omega (arith, is.some, length-range_with_len (length m.objects) (file_blocks file)))
       ∙ ap Some (get_or-range_with_len (length m.objects) (file_blocks file) 0 0 is.some ∙ plus-zero (length m.objects))
 
-  -- and they hold the bytes of the file
-  pub new-bytes : (object : ℕ) (bytes : List ℕ) → length m.objects ≤ object → slice_get loaded.memory.objects object ≡ Some bytes → (k byte : ℕ) → slice_get bytes k ≡ Some byte → (byte ≡ 0) ⊎ ((j : ℕ) × (slice_get file j ≡ Some byte))
-  new-bytes object bytes late at k byte here =
-      let (j, there) = right-some m.objects (file_objects file) object bytes late (ap (λ (objects : List (List ℕ)). slice_get objects object) (sym objects-are) ∙ at) in
-      of_block (slice_get (range_with_len 0 (file_blocks file)) j) (sym (slice_get-map (file_block file) (range_with_len 0 (file_blocks file)) j) ∙ there)
-    where
-      of_block : (place : Option ℕ) → option_map (file_block file) place ≡ Some bytes → (byte ≡ 0) ⊎ ((j : ℕ) × (slice_get file j ≡ Some byte))
-      of_block None at = absurd (none-some bytes at)
-      of_block (Some x) at =
-          block-byte 8192 (8192 * x) file k byte (subst (λ (bytes : List ℕ). slice_get bytes k ≡ Some byte) (sym (same_Some (file_block file x) bytes at)) here)
+  -- and they hold the file
+  pub file-block-at : (k : ℕ) → k < file_blocks file → slice_get loaded.memory.objects (length m.objects + k) ≡ Some (file_block file k)
+  file-block-at k within =
+      let there : k < length (range_with_len 0 (file_blocks file)) = omega (arith, within, length-range_with_len 0 (file_blocks file)) in
+      ap (λ (objects : List (List ℕ)). slice_get objects (length m.objects + k)) objects-are
+      ∙ get-behind m.objects (file_objects file) k
+      ∙ slice_get-map (file_block file) (range_with_len 0 (file_blocks file)) k
+      ∙ ap (option_map (file_block file)) (slice_get-get_or (range_with_len 0 (file_blocks file)) k 0 there ∙ ap Some (get_or-range_with_len 0 (file_blocks file) k 0 within ∙ zero-plus k))
 
   -- a byte that a process sees is still there
   pub cell-same : (p at byte : ℕ) → object_cells m.objects (map_at m p).places at ≡ Some byte → object_cells loaded.memory.objects (map_at loaded.memory p).places at ≡ Some byte

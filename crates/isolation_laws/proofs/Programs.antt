@@ -66,11 +66,7 @@ module _ (s : State) (p : ℕ) where
   as-before end t left links = record {
     sizes = left.sizes;
     objects = left.objects;
-    new_objects = λ object bytes late at k byte here.
-        elim (left.new_objects object bytes late at k byte here) [
-          | inl none ↦ inl none
-          | inr parameter ↦ inr (inl parameter)
-        ];
+    new_objects = inl left.new_objects;
     map = left.map;
     others = left.others;
     turns = left.turns;

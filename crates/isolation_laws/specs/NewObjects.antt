@@ -1,21 +1,29 @@
 -- What the objects hold that appear in an event of a process (System Programmer's Manual, F$Load, F$Fork and F$Chain).
-use Rattle.std.specs.Prelude.{◌≡◌, ◌⊎◌, ℕ, ◌≤◌, Some, List, length, slice_get}
+use Rattle.std.specs.Prelude.{◌≡◌, ◌⊎◌, ℕ, ◌+◌, ◌<◌, ◌≤◌, Some, List, length, slice_get}
 use Rattle.proc_model.specs.Memory.{MemoryState}
+use Rattle.proc_model.specs.Objects.{file_block, file_blocks}
+use Rattle.call_rules.specs.Inner.{Inner}
 use Rattle.file_rules.specs.Load.{Loaded}
 use Rattle.file_rules.specs.ProgramFile.{ProgramFile}
 use Rattle.call_laws.specs.NewObjects.{IsParameter}
 use Rattle.isolation_laws.specs.Loading.{LoadsFile}
 use Rattle.machine_model.specs.State.{State}
 
--- a byte is one of the file of modules that a process loads
-pub record IsOfFile (s : State) (p byte : ℕ) : Type 0 where
+-- the objects from this number on hold zeros, and parameters that the process gives a program, alone
+abbrev pub HoldParameters : Inner → ℕ → ℕ → MemoryState → Type 0
+HoldParameters m p first n =
+    (object : ℕ) (bytes : List ℕ) → first ≤ object → slice_get n.objects object ≡ Some bytes
+    → (k byte : ℕ) → slice_get bytes k ≡ Some byte → (byte ≡ 0) ⊎ IsParameter m p byte
+
+-- a process loads a file of modules: the first objects that appear hold it, block by block, with zeros behind its end
+pub record HoldFile (s : State) (p : ℕ) (n : MemoryState) : Type 0 where
   pub file : ProgramFile
   pub loaded : Loaded
   pub loads : LoadsFile s p file loaded
-  pub member : (k : ℕ) × (slice_get file.bytes k ≡ Some byte)
+  pub blocks : (k : ℕ) → k < file_blocks file.bytes
+      → slice_get n.objects (length s.inner.memory.objects + k) ≡ Some (file_block file.bytes k)
+  pub rest : HoldParameters s.inner p (length s.inner.memory.objects + file_blocks file.bytes) n
 
--- objects that appear hold nothing else: each of their bytes is 0, a parameter, or of a file that is loaded
+-- objects that appear hold nothing else
 abbrev pub HoldNothingElse : State → ℕ → MemoryState → Type 0
-HoldNothingElse s p n =
-    (object : ℕ) (bytes : List ℕ) → length s.inner.memory.objects ≤ object → slice_get n.objects object ≡ Some bytes
-    → (k byte : ℕ) → slice_get bytes k ≡ Some byte → (byte ≡ 0) ⊎ IsParameter s.inner p byte ⊎ IsOfFile s p byte
+HoldNothingElse s p n = HoldParameters s.inner p (length s.inner.memory.objects) n ⊎ HoldFile s p n

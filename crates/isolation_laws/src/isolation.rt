@@ -12,11 +12,12 @@ ghost use Rattle.machine_model.specs.State.{State};
 
 /// An event of a process, whether an instruction, an attempt of a call or the delivery of a signal,
 /// leaves the bytes of each object that the map of the process does not name. Its map comes to name
-/// new objects and those of entered modules alone; new ones hold zeros, parameters that the process
-/// gives a program, and the bytes of a file of modules that it loads and may execute. Every other
-/// process keeps its map, its registers and all else, but for what F$Send and F$SPrior change of
-/// the process that they name, the end of its parent, and a module that leaves; an ended child goes
-/// by F$Wait. Modules are entered by a file that is loaded, and leave with their last link alone; the
+/// new objects and those of entered modules alone. If the process loads a file of modules that it
+/// may execute, the first new objects hold that file, block by block, with zeros behind its end; all
+/// other new ones hold zeros and parameters that the process gives a program. Every other process
+/// keeps its map, its registers and all else, but for what F$Send and F$SPrior change of the process
+/// that they name, the end of its parent, and a module that leaves; an ended child goes by F$Wait.
+/// Modules are entered by a file that is loaded, and leave with their last link alone; the
 /// links that change are those of the module that the call names, of the first module of the file
 /// that is loaded, and of the primary module that F$Chain or the end of the process gives up. And
 /// what an instruction does depends on the registers and the bytes that its process sees alone.
