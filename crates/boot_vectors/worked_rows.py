@@ -1,6 +1,6 @@
 #!/usr/bin/env python3
 """Makes rows of boots whose ends are worked out by hand, for the stdin of this crate: a file that grows, full volumes,
-clusters of four sectors, a newer revision of a module, a floppy, drives that fail.
+a worn volume, clusters of four sectors, a newer revision of a module, a floppy, drives that fail.
 
 The images are laid out here, sector by sector (docs/disk.md), and what is expected is said here too, by docs/calls.md:
 neither shares text with the program. src/row.rt has the fields of a row."""
@@ -14,7 +14,7 @@ from routines import ANSWER  # noqa: E402
 from terminal_rows import EXIT, SHOW  # noqa: E402
 
 SECTOR = 256
-ROOT = 2  # the descriptor of each root, whose sectors are behind it
+ROOT = 2  # the descriptor of a root behind a map of one sector; its sectors are behind it
 ALL_MAY = 0xBF
 OLD = "0000000000 000000"  # the dates of what stands on an image
 NEW = "5a01010000 5a0101"  # those of what a run makes, in its first minute: 1 January 1990, 00:00
@@ -40,12 +40,14 @@ def needed(contents):
 
 
 class Volume:
-    """A volume whose map has one sector. A cluster is marked where something is put into one of its sectors."""
+    """A volume, with its root behind the map. A cluster is marked where something is put into one of its sectors."""
 
     def __init__(self, total, cluster=1):
         self.total, self.cluster, self.boot = total, cluster, (0, 0)
         self.data = bytearray(SECTOR * total)
-        self.marked = {0, 1 // cluster}
+        self.marked = set()
+        self.root = 1 + -(-total // (cluster * 8 * SECTOR))
+        self.mark(0, self.root)
 
     def mark(self, first, count):
         self.marked |= {lsn // self.cluster for lsn in range(first, first + count)}
@@ -80,7 +82,7 @@ class Volume:
         self.put(1, held)
         first, size = self.boot
         sizes = self.total.to_bytes(3, "big") + bytes(1) + len(held).to_bytes(2, "big")
-        root = self.cluster.to_bytes(2, "big") + ROOT.to_bytes(3, "big")
+        root = self.cluster.to_bytes(2, "big") + self.root.to_bytes(3, "big")
         self.put(0, sizes + root + bytes(10) + first.to_bytes(3, "big") + size.to_bytes(2, "big"))
         sectors = [(lsn, self.data[SECTOR * lsn : SECTOR * (lsn + 1)].rstrip(b"\0")) for lsn in range(self.total)]
         return ";".join([str(len(self.data))] + [f"{lsn}:{held.hex()}" for lsn, held in sectors if held])
@@ -530,8 +532,8 @@ name    fcs     "/D1/Data"
     disk.directory(ROOT, ROOT, [("", 0)])  # clusters 0 to 3
     # the map's mark and the descriptor; then the entry, in a sector that is held since the search
     created = MOUNT + SEARCH + 2 + 1
-    # the descriptor is held and the map written; then each of three sectors is read and written
-    last = created + 1 + 3 * 2
+    # the descriptor is held and the map written; then three sectors are written, all of them whole
+    last = created + 1 + 3
     row("768 bytes, whose last sector is not written, and then the same again", lines("0003 01F5 0000 0000 0300"),
         [(boot_disk(modules), tree([directory_line("/", ["OS9Boot"]), file_line("/OS9Boot", 3, modules)],
                                    64 - BOOT_SECTORS - needed(modules))),
@@ -616,11 +618,60 @@ name    fcs     "/D1"
              (disk, tree([directory_line("/", [])], 16 - 4))], failing=[f"D1 {call} 244"])
 
 
+def worn_volume():
+    """140 files of 100 bytes were made, each a descriptor and a sector, and every second was deleted: so 70 holes of two
+    clusters are before the free rest. A file is written in ten pieces of 8,000 bytes. Its descriptor goes to the first
+    hole, and its first 32 sectors to the first run that has as many, which is the rest; each further piece goes on
+    there. If it took the holes first, it would have 48 segments after 94 sectors."""
+    piece = bytes((n + 1) % 256 for n in range(8000))
+    modules = assemble(program("SysGo", f"""
+start   ldx     #$100
+        ldb     #1
+fill    stb     ,x+
+        incb
+        cmpx    #$2040
+        bne     fill
+        leax    name,pcr
+        lda     #3
+        ldb     #3
+        os9     $83
+        sta     <$30
+        lda     #10
+        sta     <$31
+again   lda     <$30
+        ldx     #$100
+        ldy     #8000
+        clrb
+        os9     $8A
+        lbsr    answer
+        lda     <$31
+        deca
+        sta     <$31
+        bne     again
+{EXIT}
+name    fcs     "/D1/Data"
+""", 8400))
+    old = bytes(range(100))
+    worn = Volume(2520)
+    kept = [(f"F{n:03}", 32 + 2 * n) for n in range(0, 140, 2)]
+    worn.directory(worn.root, worn.root, [entry for file in kept for entry in (file, ("", 0))])
+    for _, number in kept:
+        worn.file(number, 3, old, [(number + 1, 1)])
+    used = worn.root + 1 + needed(bytes(32 * 142)) + 2 * len(kept) + 1 + needed(bytes(80000))
+    names = [kept[0][0], "Data"] + [name for name, _ in kept[1:]]
+    row("a worn volume: ten pieces of 8,000 bytes", lines("0000 " * 10),
+        [(boot_disk(modules), tree([directory_line("/", ["OS9Boot"]), file_line("/OS9Boot", 3, modules)],
+                                   64 - BOOT_SECTORS - needed(modules))),
+         (worn, tree([directory_line("/", names), file_line("/Data", 3, piece * 10, NEW)]
+                     + [file_line(f"/{name}", 3, old) for name, _ in kept], 2520 - used))], slices="10000*9")
+
+
 def main():
     assert crc(b"123456789").hex() == "200fa5"
     assert crc(b"").hex() == "000000"
     file_growth()
     full_volumes()
+    worn_volume()
     clusters()
     newer_revision()
     floppy()
