@@ -147,7 +147,7 @@ module _ (n : ℕ) (names : List (List ℕ)) (name : List ℕ) (named : slice_ge
 
 -- the modules are the only file
 pub only-one : (names : List (List ℕ)) (name : List ℕ) → length names ≡ 1 → slice_get names 0 ≡ Some name → names ≡ name ∷ []
-only-one [] name one named = absurd (cc named)
+only-one [] name one named = absurd (cc one)
 only-one (first ∷ []) name one named = let same : first ≡ name = cc named in rw same refl
 only-one (first ∷ (second ∷ names)) name one named = absurd (omega (arith, one))
 

@@ -15,5 +15,5 @@ pub returns-in-Some-clause-stopped : goal.returns-in-Some-clause-stopped
 returns-in-Some-clause-stopped g c =
     script-stopped c.read_input.result c.args.run.now _ (cc) _ _ c.read_input.ensures.stopped
 
-pub returns-clause-noted : goal.returns-clause-noted
-returns-clause-noted g c = script-none c.args.run.now _ (cc)
+pub returns-in-None-clause-noted : goal.returns-in-None-clause-noted
+returns-in-None-clause-noted g c = script-none c.args.run.now _ (cc)
