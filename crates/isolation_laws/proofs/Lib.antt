@@ -1,5 +1,6 @@
 pub mod Asked
 pub mod Children
+pub mod DataAreas
 pub mod EventsKept
 pub mod FileKept
 pub mod FileRead

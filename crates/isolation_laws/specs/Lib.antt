@@ -1,3 +1,4 @@
+pub mod DataAreas
 pub mod Drives
 pub mod InputOutput
 pub mod Isolation
