@@ -12,7 +12,7 @@ use Rattle.proc_model.specs.Slots.{Slots, filled_places, no_slots, with_low}
 use Rattle.call_rules.specs.Program.{Program, area_size, blocks_of_pages, parameters_at, with_parameters}
 use Rattle.call_laws.proofs.Lists.{before-put, get-within, replicate-is, right-some, slice_get-set_other, slice_get-set_same}
 use Rattle.call_laws.proofs.MemoryKept.{Started, started-is}
-use Rattle.isolation_laws.specs.DataAreas.{HoldInOrder, area_bytes}
+use Rattle.isolation_laws.specs.DataAreas.{HoldInOrder, HoldsFrom, area_bytes}
 
 -- ---- lists
 
@@ -41,8 +41,16 @@ module _ (first : ℕ) where
     abbrev number : ℕ
     number = first + length held / 8192
 
+    -- what is held then
+    abbrev more : List ℕ
+    more = held ++ byte ∷ []
+
+    -- the object with the byte put in its place
+    abbrev put_in : List ℕ → List ℕ
+    put_in found = slice_set found (length held % 8192) byte
+
     -- an object in which the byte is not
-    apart : (object : ℕ) (bytes : List ℕ) → first ≤ object → slice_get objects object ≡ Some bytes → object ≢ number → (length bytes ≤ 8192) × ((k other : ℕ) → slice_get bytes k ≡ Some other → other ≡ get_or (held ++ byte ∷ []) (8192 * (object - first) + k) 0)
+    apart : (object : ℕ) (bytes : List ℕ) → first ≤ object → slice_get objects object ≡ Some bytes → object ≢ number → HoldsFrom more (8192 * (object - first)) bytes
     apart object bytes late there differ =
         let it = all object bytes late there in (
           it.0,
@@ -52,7 +60,7 @@ module _ (first : ℕ) where
         )
 
     -- the one in which it is
-    here : (found bytes : List ℕ) → slice_get objects number ≡ Some found → slice_set found (length held % 8192) byte ≡ bytes → (length bytes ≤ 8192) × ((k other : ℕ) → slice_get bytes k ≡ Some other → other ≡ get_or (held ++ byte ∷ []) (8192 * (number - first) + k) 0)
+    here : (found bytes : List ℕ) → slice_get objects number ≡ Some found → put_in found ≡ bytes → HoldsFrom more (8192 * (number - first)) bytes
     here found bytes there same =
         let it = all number found (omega arith) there in
         let long : length bytes ≡ length found = sym (ap (length {A = ℕ}) same) ∙ length-set found (length held % 8192) byte in (
@@ -60,38 +68,38 @@ module _ (first : ℕ) where
           λ k other at. by_place it k other (sym (ap (λ (bytes : List ℕ). slice_get bytes k) (sym same)) ∙ at) (cases_eq k (length held % 8192)),
         )
       where
-        by_place : (length found ≤ 8192) × ((k other : ℕ) → slice_get found k ≡ Some other → other ≡ get_or held (8192 * (number - first) + k) 0) → (k other : ℕ) → slice_get (slice_set found (length held % 8192) byte) k ≡ Some other → (k ≡ length held % 8192) ⊎ (k ≢ length held % 8192) → other ≡ get_or (held ++ byte ∷ []) (8192 * (number - first) + k) 0
+        by_place : HoldsFrom held (8192 * (number - first)) found → (k other : ℕ) → slice_get (put_in found) k ≡ Some other → (k ≡ length held % 8192) ⊎ (k ≢ length held % 8192) → other ≡ get_or more (8192 * (number - first) + k) 0
         by_place it k other at (inl is) = by_within (cases_lt k (length found))
           where
-            by_within : (k < length found) ⊎ (length found ≤ k) → other ≡ get_or (held ++ byte ∷ []) (8192 * (number - first) + k) 0
+            by_within : (k < length found) ⊎ (length found ≤ k) → other ≡ get_or more (8192 * (number - first) + k) 0
             by_within (inl within) =
                 let put : slice_get (slice_set found k byte) k ≡ Some byte = slice_get-set_same found k byte within in
                 let value : byte ≡ other = same_Some byte other (sym put ∙ ap (λ (place : ℕ). slice_get (slice_set found place byte) k) is ∙ at) in
                 let place : length held ≡ 8192 * (number - first) + k = omega (arith, is) in
-                sym value ∙ sym (at-end held byte) ∙ ap (λ (place : ℕ). get_or (held ++ byte ∷ []) place 0) place
+                sym value ∙ sym (at-end held byte) ∙ ap (λ (place : ℕ). get_or more place 0) place
             by_within (inr past) =
-                let none : slice_get (slice_set found (length held % 8192) byte) k ≡ None = slice_get_past (slice_set found (length held % 8192) byte) k (rw length-set past) in
+                let none : slice_get (put_in found) k ≡ None = slice_get_past (put_in found) k (rw length-set past) in
                 absurd (none-some other (sym none ∙ at))
         by_place it k other at (inr differ) =
             it.1 k other (sym (slice_get-set_other found (length held % 8192) k byte differ) ∙ at)
             ∙ sym (at-other held byte (8192 * (number - first) + k) (λ same. differ (omega (arith, same, get-within found k other (sym (slice_get-set_other found (length held % 8192) k byte differ) ∙ at), it.0))))
 
-    put-held : (places : List (Option ℕ)) → slot_of places (length held / 8192) ≡ Some number → HoldInOrder (held ++ byte ∷ []) first (with_cell objects places (length held) byte)
+    put-held : (places : List (Option ℕ)) → slot_of places (length held / 8192) ≡ Some number → HoldInOrder more first (with_cell objects places (length held) byte)
     put-held places slot =
-        subst (λ (slot : Option ℕ). HoldInOrder (held ++ byte ∷ []) first (with_object_byte objects (length held % 8192) byte slot)) (sym slot) (by_object (slice_get objects number) refl)
+        subst (λ (slot : Option ℕ). HoldInOrder more first (with_object_byte objects (length held % 8192) byte slot)) (sym slot) (by_object (slice_get objects number) refl)
       where
-        by_place : (found : List ℕ) → slice_get objects number ≡ Some found → HoldInOrder (held ++ byte ∷ []) first (slice_set objects number (slice_set found (length held % 8192) byte))
+        by_place : (found : List ℕ) → slice_get objects number ≡ Some found → HoldInOrder more first (slice_set objects number (put_in found))
         by_place found is object bytes late there =
             elim (cases_eq object number) [
               | inl same ↦ (
-                  let put : slice_get (slice_set objects number (slice_set found (length held % 8192) byte)) number ≡ Some (slice_set found (length held % 8192) byte) = slice_get-set_same objects number (slice_set found (length held % 8192) byte) (get-within objects number found is) in
-                  let it : slice_set found (length held % 8192) byte ≡ bytes = same_Some _ bytes (sym put ∙ ap (slice_get (slice_set objects number (slice_set found (length held % 8192) byte))) (sym same) ∙ there) in
-                  subst (λ (object : ℕ). (length bytes ≤ 8192) × ((k other : ℕ) → slice_get bytes k ≡ Some other → other ≡ get_or (held ++ byte ∷ []) (8192 * (object - first) + k) 0)) (sym same) (here found bytes is it))
+                  let put : slice_get (slice_set objects number (put_in found)) number ≡ Some (put_in found) = slice_get-set_same objects number (put_in found) (get-within objects number found is) in
+                  let it : put_in found ≡ bytes = same_Some _ bytes (sym put ∙ ap (slice_get (slice_set objects number (put_in found))) (sym same) ∙ there) in
+                  subst (λ (object : ℕ). HoldsFrom more (8192 * (object - first)) bytes) (sym same) (here found bytes is it))
               | inr differ ↦
-                  apart object bytes late (sym (slice_get-set_other objects number object (slice_set found (length held % 8192) byte) differ) ∙ there) differ
+                  apart object bytes late (sym (slice_get-set_other objects number object (put_in found) differ) ∙ there) differ
             ]
 
-        by_object : (found : Option (List ℕ)) → slice_get objects number ≡ found → HoldInOrder (held ++ byte ∷ []) first (with_object_byte objects (length held % 8192) byte (Some number))
+        by_object : (found : Option (List ℕ)) → slice_get objects number ≡ found → HoldInOrder more first (with_object_byte objects (length held % 8192) byte (Some number))
         by_object None is =
             rw is (λ object bytes late there. apart object bytes late there (λ same. none-some bytes (sym is ∙ ap (slice_get objects) (sym same) ∙ there)))
         by_object (Some found) is = rw is (by_place found is)

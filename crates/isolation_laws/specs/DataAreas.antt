@@ -6,9 +6,14 @@ use Rattle.call_rules.specs.Program.{Program, parameters_at}
 abbrev pub area_bytes : Program → List ℕ
 area_bytes program = replicate (parameters_at program) 0 ++ program.parameters
 
--- the objects from a number on hold these bytes, 8,192 each, and zeros behind them
+-- an object of 8,192 bytes holds these bytes from a place on, and zeros behind their end
+abbrev pub HoldsFrom : List ℕ → ℕ → List ℕ → Type 0
+HoldsFrom held place bytes =
+    (length bytes ≤ 8192)
+    × ((k byte : ℕ) → slice_get bytes k ≡ Some byte → byte ≡ get_or held (place + k) 0)
+
+-- the objects from a number on hold them in order
 abbrev pub HoldInOrder : List ℕ → ℕ → List (List ℕ) → Type 0
 HoldInOrder held first objects =
     (object : ℕ) (bytes : List ℕ) → first ≤ object → slice_get objects object ≡ Some bytes
-    → (length bytes ≤ 8192)
-    × ((k byte : ℕ) → slice_get bytes k ≡ Some byte → byte ≡ get_or held (8192 * (object - first) + k) 0)
+    → HoldsFrom held (8192 * (object - first)) bytes
