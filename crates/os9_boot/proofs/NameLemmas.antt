@@ -19,7 +19,7 @@ use Rattle.os9_boot.specs.declared.status.End.{End}
 use Rattle.os9_boot.specs.declared.status.End.TheVariants.{Ended, Living, CannotRead, CannotWrite, CannotWriteImage, NoMemory, BadImage, BadText, BadBounds, BadModule, NoFirst, TooLarge, DriveFailed}
 use Rattle.os9_boot.specs.declared.status.Input.{Input}
 use Rattle.os9_boot.specs.declared.status.Input.TheVariants.{Script, Slices}
-use Rattle.os9_boot.specs.Check.{PrintsAs}
+use Rattle.os9_boot.specs.Check.{PrintsAs, PrintsLine}
 use Rattle.os9_boot.specs.End.{run_file_name, stress_end}
 use Rattle.os9_boot.specs.FileNames.{BootWrites, IsFront, IsUpTo, script_names}
 use Rattle.os9_boot.specs.FilesNoted.{NotesBack, NotesFiles, NotesStop, Reads, StopsReads}
@@ -278,11 +278,14 @@ images-unwritten names images BadBounds refused = refl
 images-unwritten names images end refused = absurd refused
 
 -- the counts were printed
-pub behind-print : (line : List ℕ) (before after : World) (end : End) → PrintsAs line before after end → IsBehindReads end
-behind-print line before after Ended printed = tt
-behind-print line before after CannotWrite printed = tt
-behind-print line before after NoMemory printed = tt
-behind-print line before after end printed = absurd printed
+pub behind-print : (line : List ℕ) (before after : World) (end : End) → PrintsLine line before after end → IsBehindReads end
+behind-print line before after end call = by end call.printed
+  where
+    by : (end : End) → PrintsAs line before after end → IsBehindReads end
+    by Ended printed = tt
+    by CannotWrite printed = tt
+    by NoMemory printed = tt
+    by end printed = absurd printed
 
 -- the machine has run
 pub behind-run : (end : RunEnd) → IsBehindReads (ends_run end)

@@ -4,7 +4,10 @@ use Rattle.os9_outer.specs.TerminalState.{terminal_states}
 use Rattle.os9_kernel.specs.Outside.{outside}
 use Rattle.os9_boot.proofs.BootLemmas.{boot-ended, boot-refused, boot-texts-refused}
 use Rattle.os9_boot.proofs.MachineLemmas.{runs-after}
+use Rattle.os9_words.specs.Notes.{HasRead, notes_of}
 use Rattle.os9_words.specs.declared.command.Command.TheVariants.{Boot as BootCommand}
+use Rattle.boot_run.specs.World.{world_of}
+use Rattle.os9_boot.specs.FileNames.{run_inputs}
 use Rattle.os9_boot.proofs.NameLemmas.{behind-end, behind-images, behind-texts, images-unwritten, names-read, names-written, texts-unwritten}
 use Rattle.os9_boot.proofs.boot.boot_images.Goals as goal
 
@@ -39,18 +42,21 @@ returns-clause-drives g c = c.run_images-end.ensures.run.drives
 pub returns-in-Err-read_texts-clause-noted : goal.returns-in-Err-read_texts-clause-noted
 returns-in-Err-read_texts-clause-noted g c =
     let boot = c.args.boot.now in
+    let end = c.in-Err-read_texts.end in
     let refused = c.in-Err-read_texts.ensures.refused in
-    names-read (BootCommand boot) c.in-Err-read_texts.end _ _ (behind-texts _ _ _ c.in-Err-read_texts.end refused) c.in-Ok.ensures.noted _ (texts-unwritten boot.files _ _ _ c.in-Err-read_texts.end refused) refl
+    names-read (BootCommand boot) end _ _ (behind-texts c.len-terminals.result c.as_slice.result.now c.as_slice-2.result.now end refused) c.in-Ok.ensures.noted _ (texts-unwritten boot.files c.len-terminals.result c.as_slice.result.now c.as_slice-2.result.now end refused) refl
 
 pub returns-in-Err-accept_images-clause-noted : goal.returns-in-Err-accept_images-clause-noted
 returns-in-Err-accept_images-clause-noted g c =
     let boot = c.args.boot.now in
+    let end = c.in-Err-accept_images.end in
     let refused = c.in-Err-accept_images.ensures.refused in
-    names-read (BootCommand boot) c.in-Err-accept_images.end _ _ (behind-images _ c.in-Err-accept_images.end refused) c.in-Ok.ensures.noted _ (images-unwritten boot.files _ c.in-Err-accept_images.end refused) refl
+    names-read (BootCommand boot) end _ _ (behind-images c.in-Ok.files.images end refused) c.in-Ok.ensures.noted _ (images-unwritten boot.files c.in-Ok.files.images end refused) refl
 
 pub returns-clause-noted : goal.returns-clause-noted
 returns-clause-noted g c =
     let left = outside (λ table. (g.dyn-1.0.entry table).1) c.run_images-end.new.devices.drives.items (λ table. (g.dyn-2.0.entry table).1) c.run_images-end.new.devices.terms.items in
     let back = c.write_back.ensures.noted in
-    let read = c.in-Ok.ensures.noted in
-    names-written (BootCommand c.args.boot.now) c.write_back.result _ _ (behind-end c.args.boot.now.files _ _ _ _ _ (c.write_back.ensures.ended left)) (record { is = c.run_images-end.ensures.notes_kept ∙ read.is }) back.written _ back.writes back.noted
+    let behind = behind-end c.args.boot.now.files c.run_images-end.new.images c.run_images-end.result c.write_back.result (world_of g.H.Host c.run_images-end.new.host left) (world_of g.H.Host c.write_back.new.host left) (c.write_back.ensures.ended left) in
+    let read : HasRead (run_inputs c.args.boot.now) (notes_of g.H.Host c.args.host.now) (notes_of g.H.Host c.run_images-end.new.host) = record { is = c.run_images-end.ensures.notes_kept ∙ c.in-Ok.ensures.noted.is } in
+    names-written (BootCommand c.args.boot.now) c.write_back.result _ _ behind read back.written _ back.writes back.noted

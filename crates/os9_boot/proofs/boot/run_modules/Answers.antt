@@ -33,7 +33,7 @@ returns-clause-drives g c = c.run_images.ensures.run.drives
 pub returns-in-Err-read_texts-clause-noted : goal.returns-in-Err-read_texts-clause-noted
 returns-in-Err-read_texts-clause-noted g c =
     let refused = c.in-Err-read_texts.ensures.refused in
-    names-read (RunCommand c.args.run.now) c.in-Err-read_texts.end _ _ (behind-texts _ _ _ c.in-Err-read_texts.end refused) c.in-Ok.ensures.noted _ refl refl
+    names-read (RunCommand c.args.run.now) c.in-Err-read_texts.end _ _ (behind-texts c.len-terminals.result c.as_slice.result.now c.as_slice-2.result.now c.in-Err-read_texts.end refused) c.in-Ok.ensures.noted _ refl refl
 
 pub returns-clause-noted : goal.returns-clause-noted
 returns-clause-noted g c =

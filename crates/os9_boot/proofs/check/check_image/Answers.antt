@@ -38,4 +38,4 @@ returns-in-Err-Fault-clause-noted g c =
 
 pub returns-in-Ok-check-clause-noted : goal.returns-in-Ok-check-clause-noted
 returns-in-Ok-check-clause-noted g c =
-    names-read (CheckCommand c.args.image.now) c.print_counts.result _ _ (behind-print _ _ _ _ (c.print_counts.ensures.call (record { drives = []; terms = [] })).printed) c.in-Ok.ensures.noted _ refl c.print_counts.ensures.notes_kept
+    names-read (CheckCommand c.args.image.now) c.print_counts.result _ _ (behind-print _ _ _ _ (c.print_counts.ensures.call (record { drives = []; terms = [] }))) c.in-Ok.ensures.noted _ refl c.print_counts.ensures.notes_kept

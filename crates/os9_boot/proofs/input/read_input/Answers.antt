@@ -1,4 +1,7 @@
 -- The name is noted where the file was read or could not be, and may be where memory is out.
+use Rattle.std.proofs.Common.{◌≡◌, refl}
+use Rattle.boot_run.specs.World.{world_of}
+use Rattle.os9_boot.proofs.CallLemmas.{could-not-read, out-of-memory}
 use Rattle.os9_boot.proofs.NameLemmas.{noted-read, stop-failed, stop-memory}
 use Rattle.os9_boot.proofs.input.read_input.Goals as goal
 
@@ -16,3 +19,28 @@ pub returns-in-Err-OutOfMemory-clause-stopped : goal.returns-in-Err-OutOfMemory-
 returns-in-Err-OutOfMemory-clause-stopped g c name_of named =
     let read = c.in-Err-OutOfMemory.ensures in
     stop-memory name_of _ _ c.args.name.now (rw (c.in-Err-OutOfMemory.field-0-is, c.text.ensures) at read.read_noted) read.written_kept read.err_kept read.err_count_kept
+
+-- ---- what the command comes to
+
+pub returns-in-Err-Failed-clause-ended : goal.returns-in-Err-Failed-clause-ended
+returns-in-Err-Failed-clause-ended g c devices command named =
+    let read = c.in-Err-Failed.ensures in
+    let is = c.in-Err-Failed.field-0-is in
+    could-not-read command c.args.input c.args.name.now (world_of g.H.Host c.args.host.now devices) (world_of g.H.Host c.read_file.new.self devices) named (rw is at read.fault_counted, rw (is, c.text.ensures) at read.fault_named, rw is at read.fault_in_read) read.files_kept read.out_kept refl
+
+pub returns-in-Err-OutOfMemory-clause-ended : goal.returns-in-Err-OutOfMemory-clause-ended
+returns-in-Err-OutOfMemory-clause-ended g c devices command named =
+    let read = c.in-Err-OutOfMemory.ensures in
+    let is = c.in-Err-OutOfMemory.field-0-is in
+    let faults = rw is at read.count_kept in
+    let name = rw is at read.name_kept in
+    let in_read = rw is at read.read_kept in
+    let same : world_of g.H.Host c.read_file.new.self devices ≡ world_of g.H.Host c.args.host.now devices = λ i. record {
+      files = read.files_kept i;
+      out = read.out_kept i;
+      faults = faults i;
+      failed_name = name i;
+      failed_in_read = in_read i;
+      devices = devices;
+    } in
+    out-of-memory command (world_of g.H.Host c.args.host.now devices) (world_of g.H.Host c.read_file.new.self devices) same
