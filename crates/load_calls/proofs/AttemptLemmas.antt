@@ -12,7 +12,7 @@ use Rattle.call_rules.specs.Inner.{Inner}
 use Rattle.call_rules.specs.ModuleLinks.{Entered}
 use Rattle.call_rules.specs.Program.{Program}
 use Rattle.file_loading.proofs.LoadedLemmas.{some-memory}
-use Rattle.file_drives.specs.Drives.{DriveView}
+use Rattle.file_drives.specs.Drives.{DriveView, media_of}
 use Rattle.file_rules.specs.Files.{Asker, Files, NoneFailed}
 use Rattle.file_rules.specs.Load.{GoesOnLoaded, Loaded}
 use Rattle.file_rules.specs.Attempts.{asker_of}
@@ -157,6 +157,7 @@ module _ (start : Inner → ℕ → Program → CallResult) (full : Inner → �
     comes = comes;
     stands = stands;
     calls = called-more 0 (start_calls m p now was terms) before.views after.views (omega arith) (subst (CalledAtMost 0 before.views) (sym same) (called-none before.views));
+    media_kept = ap media_of same;
   }
 
   abbrev tested : Step ProgramFile
@@ -177,4 +178,5 @@ module _ (start : Inner → ℕ → Program → CallResult) (full : Inner → �
         comes = by.comes;
         stands = read.stands;
         calls = subst (λ (most : ℕ). CalledAtMost most before.views after.views) (sym (ap (λ (place : Option Entered). option_map_or (λ named. 0) place (file_calls asker was terms (tests_program m p))) (place-none (named_program m p) unnamed))) read.calls;
+        media_kept = read.media_kept;
       }

@@ -1,12 +1,13 @@
 -- What attempts of F$Load, F$Fork and F$Chain come to that may read a file of modules, of the kernel's processes and
 -- its files (System Programmer's Manual, F$Load, F$Fork and F$Chain).
-use Rattle.std.specs.Prelude.{ℕ}
+use Rattle.std.specs.Prelude.{◌≡◌, ℕ}
 use Rattle.std.specs.Option.{option_map_or}
 use Rattle.os9_base.specs.declared.call.CallEnd.{CallEnd}
 use Rattle.os9_base.specs.declared.registers.TimePacket.{TimePacket}
 use Rattle.call_rules.specs.CallResult.{CallResult}
 use Rattle.call_rules.specs.Inner.{Inner}
 use Rattle.proc_state.specs.Tie.{Comes}
+use Rattle.file_drives.specs.Drives.{media_of}
 use Rattle.file_rules.specs.Attempts.{asker_of}
 use Rattle.file_rules.specs.Files.{Asker, Files}
 use Rattle.file_rules.specs.Load.{LoadAttempts}
@@ -19,7 +20,7 @@ use Rattle.file_state.specs.Counted.{CalledAtMost, calls_of}
 use Rattle.file_state.specs.Tie.{StandsFor}
 use Rattle.program_files.specs.Calls.{list_calls}
 
--- an attempt of a process came to this, and the drives were called at most so often
+-- an attempt of a process came to this, the drives were called at most so often, and all media are as they were
 pub record AttemptsBy (attempt : CallResult → Files → Type 0) (m : Inner) (p : ℕ) (end : CallEnd) (most : ℕ)
     (before after : Standing) : Type 0 where
   pub result : CallResult
@@ -28,6 +29,7 @@ pub record AttemptsBy (attempt : CallResult → Files → Type 0) (m : Inner) (p
   pub comes : Comes m p result end after.processes
   pub stands : StandsFor after.files after.views left
   pub calls : CalledAtMost most before.views after.views
+  pub media_kept : media_of after.views ≡ media_of before.views
 
 -- how often a drive is called at most for the file of the path list at X, of a call with this test
 abbrev pub file_calls : Asker → Files → ℕ → (Step ProgramFile → Step ProgramFile) → ℕ

@@ -20,6 +20,7 @@ returns-in-Err-clause-call g c now m was tied stands kinds =
       comes = by.comes;
       stands = read.stands;
       calls = read.calls;
+      media_kept = read.media_kept;
     }
 
 pub returns-in-Ok-clause-call : goal.returns-in-Ok-clause-call
@@ -40,6 +41,7 @@ returns-in-Ok-clause-call g c now m was tied stands kinds =
       comes = by.comes;
       stands = read.stands;
       calls = read.calls;
+      media_kept = read.media_kept;
     }
 
 pub returns-in-Err-clause-io : goal.returns-in-Err-clause-io
