@@ -1,12 +1,14 @@
 mod Acting
 mod Asking
 mod Calling
+pub mod Changing
 mod Choosing
 mod Columns
 mod Counting
 mod Delivering
 mod Ending
 mod Executing
+pub mod Holding
 mod Loading
 mod PathCalls
 mod Pending

@@ -56,3 +56,8 @@ represents-emptied kernel devices s tied = record {
   is = λ i. record (tied.is i) { terms = terminals_emptied (tied.is i).terms };
   running = emptied-running s tied.running;
 }
+
+-- the instructions that were counted are nothing of the state
+pub represents-counted : (kernel : Kernel) (executed : ℕ) (devices : Outside) (s : State) → RepresentsState kernel devices s → RepresentsState (record kernel { executed = executed }) devices s
+represents-counted kernel executed devices s tied =
+    record { inner = tied.inner; files = tied.files; is = tied.is; running = tied.running }

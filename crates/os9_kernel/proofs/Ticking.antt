@@ -47,6 +47,7 @@ module _ (old : Kernel) (before : Outside) (s : State) (tied : Represents old be
     files = with_keys old.files io;
     clock = old.clock;
     chosen = old.chosen;
+    executed = old.executed;
   }
 
   pub tick-then : (processes : ProcState) (io : Io) (after : Outside) (next : Inner) → after.drives ≡ before.drives → Arrivals (ticks old + 1) (desk raised old.files.io before.terms) (desk next io after.terms) → RepresentsProcesses processes next → (t : State) × Tick s t × Represents (then processes io) after t

@@ -1,5 +1,5 @@
 -- Turns, one after another, make a slice.
-use Rattle.std.proofs.Common.{◌≡◌, ℕ, ◌+◌, ◌-◌, ◌<◌, false, Option, Some, None, List, [], ◌∷◌, refl, sym, ◌∙◌, subst, arith}
+use Rattle.std.proofs.Common.{◌≡◌, ℕ, ◌+◌, ◌-◌, ◌<◌, false, Option, Some, None, List, [], ◌∷◌, ◌++◌, refl, sym, ◌∙◌, subst, arith, append_assoc, append-nil}
 use Rattle.std.specs.Prelude.{MatchOption}
 use Rattle.os9_base.specs.declared.registers.Pid.{Pid}
 use Rattle.event_rules.specs.declared.ends.EventEnd.{EventEnd}
@@ -13,7 +13,7 @@ use Rattle.os9_kernel.specs.declared.kernel.Kernel.{Kernel}
 use Rattle.os9_kernel.specs.Calls.{HasEvent}
 use Rattle.os9_kernel.specs.Next.{DoesNext, HasTurn, act_in_machine}
 use Rattle.os9_kernel.specs.Outside.{Outside}
-use Rattle.os9_kernel.specs.Slice.{Events, last, more, ContinuesFrom, BeginsFrom}
+use Rattle.os9_kernel.specs.Slice.{Events, last, more}
 use Rattle.os9_kernel.specs.Tie.{pending}
 use Rattle.os9_kernel.proofs.Acting.{cost-is}
 
@@ -29,45 +29,80 @@ turn-of left old new p act next free before after end some event progress = reco
   few = omega arith;
   progress = λ ran. omega (arith, progress ran);
   count = event.count;
+  images = event.images;
 }
 
--- one event more
-one-continues : (n left : ℕ) (s m t : State) → 0 < left → Event m EventEnd.Ran t → ContinuesFrom n s left m → ContinuesFrom n s (left - cost m) t
-one-continues n left s m t some event so_far states u steps = so_far (t ∷ states) u (some, EventEnd.Ran, event, steps)
+-- ---- where a slice has come to
 
-one-begins : (n left : ℕ) (s m t : State) → 0 < left → Event m EventEnd.Ran t → BeginsFrom n s left m → BeginsFrom n s (left - cost m) t
-one-begins n left s m t some event so_far states u steps = so_far (t ∷ states) u (some, event, steps)
+-- whatever goes on from m, with so many instructions left, goes on from s with n left, behind these states
+abbrev pub ContinuesFrom : ℕ → State → List State → ℕ → State → Type 0
+ContinuesFrom n s all left m =
+    (states : List State) (t : State) → Steps left m states t → Steps n s (all ++ states) t
 
--- a turn more, behind which the process goes on
-pub turn-continues : {left : ℕ} {m t : State} {end : EventEnd} {count : ℕ} → Events left m count end t → end ≡ EventEnd.Ran → (n : ℕ) (s : State) → ContinuesFrom n s left m → ContinuesFrom n s (left - count) t
-turn-continues (last {left = left} {s = m} {t = t} some event) is n s so_far =
-    one-continues n left s m t some (subst (λ (e : EventEnd). Event m e t) is event) so_far
-turn-continues (more {left = left} {count = count} {s = m} {m = next} {t = t} some event rest) is n s so_far =
-    let further = turn-continues rest is n s (one-continues n left s m next some event so_far) in
+-- and the first steps from m, with so many instructions left, are first steps from s with n left
+abbrev pub BeginsFrom : ℕ → State → List State → ℕ → State → Type 0
+BeginsFrom n s all left m =
+    (states : List State) (t : State) → FirstSteps left m states t → FirstSteps n s (all ++ states) t
+
+-- the states behind a turn, with so many instructions left before it and behind it: steps from the last are steps from
+-- here
+pub record Turned (left : ℕ) (m : State) (rest : ℕ) (t : State) : Type 0 where
+  pub first : State
+  pub later : List State
+  pub steps : (states : List State) (u : State) → Steps rest t states u → Steps left m (first ∷ (later ++ states)) u
+  pub begun : (states : List State) (u : State) → FirstSteps rest t states u → FirstSteps left m (first ∷ (later ++ states)) u
+
+one-turned : (left : ℕ) (m t : State) → 0 < left → Event m EventEnd.Ran t → Turned left m (left - cost m) t
+one-turned left m t some event = record {
+  first = t;
+  later = [];
+  steps = λ states u rest. (some, EventEnd.Ran, event, rest);
+  begun = λ states u rest. (some, event, rest);
+}
+
+-- one event before a turn
+before-turned : (left rest : ℕ) (m u t : State) → 0 < left → Event m EventEnd.Ran u → Turned (left - cost m) u rest t → Turned left m rest t
+before-turned left rest m u t some event it = record {
+  first = u;
+  later = it.first ∷ it.later;
+  steps = λ states v more. (some, EventEnd.Ran, event, it.steps states v more);
+  begun = λ states v more. (some, event, it.begun states v more);
+}
+
+-- a turn behind which the process goes on
+pub turned : {left : ℕ} {m t : State} {end : EventEnd} {count : ℕ} → Events left m count end t → end ≡ EventEnd.Ran → Turned left m (left - count) t
+turned (last {left = left} {s = m} {t = t} some event) is =
+    one-turned left m t some (subst (λ (e : EventEnd). Event m e t) is event)
+turned (more {left = left} {count = count} {s = m} {m = next} {t = t} some event rest) is =
     let left_is : left - cost m - count ≡ left - (cost m + count) = omega arith in
-    subst (λ k. ContinuesFrom n s k t) left_is further
+    subst (λ k. Turned left m k t) left_is (before-turned left (left - cost m - count) m next t some event (turned rest is))
 
-pub turn-begins : {left : ℕ} {m t : State} {end : EventEnd} {count : ℕ} → Events left m count end t → end ≡ EventEnd.Ran → (n : ℕ) (s : State) → BeginsFrom n s left m → BeginsFrom n s (left - count) t
-turn-begins (last {left = left} {s = m} {t = t} some event) is n s so_far =
-    one-begins n left s m t some (subst (λ (e : EventEnd). Event m e t) is event) so_far
-turn-begins (more {left = left} {count = count} {s = m} {m = next} {t = t} some event rest) is n s so_far =
-    let further = turn-begins rest is n s (one-begins n left s m next some event so_far) in
-    let left_is : left - cost m - count ≡ left - (cost m + count) = omega arith in
-    subst (λ k. BeginsFrom n s k t) left_is further
+-- from where the slice began
+pub turn-continues : (n left rest : ℕ) (s m t : State) (all : List State) (it : Turned left m rest t) → ContinuesFrom n s all left m → ContinuesFrom n s (all ++ (it.first ∷ it.later)) rest t
+turn-continues n left rest s m t all it so_far states u steps =
+    subst (λ states. Steps n s states u) (sym (append_assoc all (it.first ∷ it.later) states)) (so_far (it.first ∷ (it.later ++ states)) u (it.steps states u steps))
+
+pub turn-begins : (n left rest : ℕ) (s m t : State) (all : List State) (it : Turned left m rest t) → BeginsFrom n s all left m → BeginsFrom n s (all ++ (it.first ∷ it.later)) rest t
+turn-begins n left rest s m t all it so_far states u steps =
+    subst (λ states. FirstSteps n s states u) (sym (append_assoc all (it.first ∷ it.later) states)) (so_far (it.first ∷ (it.later ++ states)) u (it.begun states u steps))
 
 -- a turn behind which it does not
-pub turn-ends : {left : ℕ} {m t : State} {end : EventEnd} {count : ℕ} → Events left m count end t → is_going end ≡ false → (n : ℕ) (s : State) → ContinuesFrom n s left m → (all : List State) × Steps n s all t
-turn-ends (last {s = m} {t = t} {end = end} some event) over n s so_far =
-    so_far (t ∷ []) t (some, end, event, rw over (refl, refl))
-turn-ends (more {left = left} {s = m} {m = next} some event rest) over n s so_far =
-    turn-ends rest over n s (one-continues n left s m next some event so_far)
+pub turn-ends : {left : ℕ} {m t : State} {end : EventEnd} {count : ℕ} → Events left m count end t → is_going end ≡ false → (first : State) × (later : List State) × Steps left m (first ∷ later) t
+turn-ends (last {t = t} {end = end} some event) over = (t, [], (some, end, event, rw over (refl, refl)))
+turn-ends (more {m = next} some event rest) over =
+    let (first, later, steps) = turn-ends rest over in
+    (next, first ∷ later, (some, EventEnd.Ran, event, steps))
 
 -- the slice is over where its instructions are executed
-pub used-up : (n left : ℕ) (s m : State) → left ≡ 0 → ContinuesFrom n s left m → (all : List State) × Steps n s all m
-used-up n left s m none so_far = so_far [] m (none, refl)
+pub used-up : (n left : ℕ) (s m : State) (all : List State) → left ≡ 0 → ContinuesFrom n s all left m → Steps n s all m
+used-up n left s m all none so_far =
+    subst (λ states. Steps n s states m) (append-nil all) (so_far [] m (none, refl))
 
-pub begun-here : (n left : ℕ) (s m : State) → 0 < left → BeginsFrom n s left m → (all : List State) × FirstSteps n s all m
-begun-here n left s m some so_far = so_far [] m (some, refl)
+pub begun-here : (n left : ℕ) (s m : State) (all : List State) → 0 < left → BeginsFrom n s all left m → FirstSteps n s all m
+begun-here n left s m all some so_far =
+    subst (λ states. FirstSteps n s states m) (append-nil all) (so_far [] m (some, refl))
+
+-- ---- the slice
 
 -- nobody was chosen
 pub slice-idle : (n : ℕ) (s ticked chosen : State) → Tick s ticked → Choose ticked chosen → chosen.chosen ≡ None → Slice n s [] Idle chosen
@@ -98,3 +133,7 @@ events-some (more some event rest) = some
 pub single : {left : ℕ} {m t : State} {end : EventEnd} {count : ℕ} → Events left m count end t → left ≡ 1 → cost m ≡ 1 → Event m end t
 single (last some event) is one = event
 single (more some event rest) is one = absurd (omega (arith, events-some rest))
+
+pub single-count : {left : ℕ} {m t : State} {end : EventEnd} {count : ℕ} → Events left m count end t → left ≡ 1 → cost m ≡ 1 → count ≡ cost m
+single-count (last some event) is one = refl
+single-count (more some event rest) is one = absurd (omega (arith, events-some rest))

@@ -3,17 +3,17 @@ use Rattle.std.specs.Prelude.{◌≡◌, ℕ, Some}
 use Rattle.os9_base.specs.declared.registers.TimePacket.{TimePacket}
 use Rattle.proc_rules.specs.Records.{IsLiving}
 use Rattle.call_rules.specs.Ready.{attempts, act_of}
-use Rattle.file_drives.specs.Drives.{drive_states}
 use Rattle.file_dispatch.specs.Attempts.{LacksMemory}
 use Rattle.file_rules.specs.Codes.{path_call_of}
 use Rattle.file_rules.specs.declared.path_call.PathCall.{PathCall}
 use Rattle.time_rules.specs.Clock.{IsNow}
 use Rattle.machine_model.specs.State.{State}
 use Rattle.os9_kernel.specs.Outside.{Outside}
+use Rattle.os9_kernel.specs.Volumes.{HoldsVolumes}
 
 -- An event that is broken off for want of memory: the chosen process, which lives, attempts a call on a path, and a
--- byte that it puts on a terminal found no memory. These are the terminals then, and no drive
--- has changed.
+-- byte that it puts on a terminal found no memory. These are the terminals then, and the drives hold the volumes of the
+-- state.
 pub record BreaksEvent (s : State) (after : Outside) : Type 0 where
   pub p : ℕ
   pub chosen : s.chosen ≡ Some p
@@ -25,4 +25,4 @@ pub record BreaksEvent (s : State) (after : Outside) : Type 0 where
   pub now : TimePacket
   pub is_now : IsNow s.clock s.inner.tick now
   pub lacks : LacksMemory call s.inner s.files now p s.terms after.terms
-  pub drives : s.files.drives ≡ drive_states after.drives
+  pub drives : HoldsVolumes s after.drives

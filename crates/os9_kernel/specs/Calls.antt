@@ -3,16 +3,17 @@ use Rattle.std.specs.Prelude.{◌≡◌, ◌≢◌, ◌⊎◌, ℕ, ◌+◌, Res
 use Rattle.os9_base.specs.declared.call.OutOfMemory.{OutOfMemory}
 use Rattle.event_rules.specs.declared.ends.EventEnd.{EventEnd}
 use Rattle.event_rules.specs.declared.ends.SliceEnd.{SliceEnd}
-use Rattle.file_drives.specs.Drives.{drive_states}
 use Rattle.machine_model.specs.Event.{Event}
 use Rattle.machine_model.specs.Run.{BeginsSlice, BreaksTick, Slice, Tick}
 use Rattle.machine_model.specs.State.{State}
 use Rattle.os9_kernel.specs.declared.kernel.Kernel.{Kernel}
 use Rattle.os9_kernel.specs.Breaks.{BreaksEvent}
 use Rattle.os9_kernel.specs.Causes.{WaitsInCall}
+use Rattle.os9_kernel.specs.Changes.{KeepsImages, KeepsUnasked}
 use Rattle.os9_kernel.specs.DriverCalls.{CallsWithin}
 use Rattle.os9_kernel.specs.Outside.{Outside}
 use Rattle.os9_kernel.specs.Tie.{Represents, IsGoing, ticks}
+use Rattle.os9_kernel.specs.Volumes.{HoldsVolumes}
 
 -- an event that was not done, since memory is out: it is broken off
 abbrev pub WantsMemory : Kernel → Outside → Outside → Type 0
@@ -24,8 +25,9 @@ pub record HasTick (old new : Kernel) (before after : Outside) (result : Result 
     -- it is one of the machine
     pub step : IsOk result → (s : State) → Represents old before s
         → (t : State) × Tick s t × Represents new after t
-    -- memory is out: it is broken off
-    pub broken : IsErr result → (s : State) → Represents old before s → BreaksTick s after.terms
+    -- memory is out: it is broken off, and the drives hold the volumes of the state
+    pub broken : IsErr result → (s : State) → Represents old before s
+        → BreaksTick s after.terms × HoldsVolumes s after.drives
     pub drives : after.drives ≡ before.drives
     pub count : ticks new ≡ ticks old + 1
 
@@ -40,14 +42,15 @@ pub record HasEvent (old new : Kernel) (before after : Outside) (end : EventEnd)
     pub going : end ≡ EventEnd.Ran → IsGoing new
     pub waits : end ≡ EventEnd.Waits → WaitsInCall old new
     pub count : end ≢ EventEnd.NoMemory → ticks new ≡ ticks old
-    -- it calls the drives so often, also where memory is out
+    -- it calls the drives so often, and keeps the images that it does not ask to change, also where memory is out
     pub calls : CallsWithin old before after
+    pub images : KeepsUnasked old before after
 
 -- Memory is out in a slice of so many instructions: its tick is broken off, or the event behind its first ones. The
--- drives are as that state has them.
+-- drives hold the volumes of that state.
 abbrev pub StopsSlice : ℕ → State → Outside → Type 0
 StopsSlice n s after =
-    (BreaksTick s after.terms × (s.files.drives ≡ drive_states after.drives))
+    (BreaksTick s after.terms × HoldsVolumes s after.drives)
     ⊎ ((states : List State) × (t : State) × BeginsSlice n s states t × BreaksEvent t after)
 
 -- a slice of so many instructions
@@ -56,5 +59,6 @@ pub record HasSlice (n : ℕ) (old new : Kernel) (before after : Outside) (end :
     -- it is one of the machine
     pub step : end ≢ SliceEnd.NoMemory → (s : State) → Represents old before s
         → (states : List State) × (t : State) × Slice n s states end t × Represents new after t
+        × KeepsImages (BeginsSlice n s) states before.drives after.drives
     pub part : end ≡ SliceEnd.NoMemory → (s : State) → Represents old before s → StopsSlice n s after
     pub count : end ≢ SliceEnd.NoMemory → ticks new ≡ ticks old + 1

@@ -1,6 +1,7 @@
 pub mod Breaks
 pub mod Calls
 pub mod Causes
+pub mod Changes
 pub mod DriverCalls
 pub mod Ends
 pub mod Loads
@@ -11,3 +12,5 @@ pub mod Services
 pub mod Slice
 pub mod Starting
 pub mod Tie
+pub mod View
+pub mod Volumes

@@ -12,6 +12,7 @@ use Rattle.os9_kernel.specs.declared.act.Act.TheVariants.{Attempt, Delivery, Ins
 use Rattle.os9_kernel.specs.declared.kernel.Kernel.{Kernel}
 use Rattle.os9_kernel.specs.declared.turn.Turn.{Turn}
 use Rattle.os9_kernel.specs.Calls.{WantsMemory}
+use Rattle.os9_kernel.specs.Changes.{KeepsUnasked}
 use Rattle.os9_kernel.specs.Outside.{Outside}
 use Rattle.os9_kernel.specs.Slice.{Events}
 use Rattle.os9_kernel.specs.Tie.{Represents, IsGoing, ticks, pending}
@@ -46,3 +47,4 @@ pub record HasTurn (left : ℕ) (old new : Kernel) (before after : Outside) (tur
   pub few : turn.count ≤ left
   pub progress : turn.end ≡ EventEnd.Ran → 4 * (left - turn.count) + pending new < 4 * left + pending old
   pub count : turn.end ≢ EventEnd.NoMemory → ticks new ≡ ticks old
+  pub images : KeepsUnasked old before after

@@ -7,6 +7,7 @@ use Rattle.machine_model.specs.Run.{Steps, FirstSteps}
 use Rattle.machine_model.specs.State.{State}
 use Rattle.os9_kernel.specs.declared.kernel.Kernel.{Kernel}
 use Rattle.os9_kernel.specs.Breaks.{BreaksEvent}
+use Rattle.os9_kernel.specs.Changes.{KeepsImages}
 use Rattle.os9_kernel.specs.Outside.{Outside}
 use Rattle.os9_kernel.specs.Tie.{Represents, ticks}
 
@@ -17,22 +18,13 @@ pub data Events : ℕ → State → ℕ → EventEnd → State → Type 0 where
   more : {left count : ℕ} {s m t : State} {end : EventEnd} → 0 < left → Event s EventEnd.Ran m
       → Events (left - cost s) m count end t → Events left s (cost s + count) end t
 
--- whatever goes on from m, with so many instructions left, goes on from s with n left
-abbrev pub ContinuesFrom : ℕ → State → ℕ → State → Type 0
-ContinuesFrom n s left m =
-    (states : List State) (t : State) → Steps left m states t → (all : List State) × Steps n s all t
-
--- the first steps from m, with so many instructions left, are first steps from s with n left
-abbrev pub BeginsFrom : ℕ → State → ℕ → State → Type 0
-BeginsFrom n s left m =
-    (states : List State) (t : State) → FirstSteps left m states t → (all : List State) × FirstSteps n s all t
-
 -- the events of a slice, of which so many instructions are left
 pub record HasEvents (left : ℕ) (old new : Kernel) (before after : Outside) (end : SliceEnd) : Type 0
   where
     -- they are those of the machine
     pub step : end ≢ SliceEnd.NoMemory → (s : State) → Represents old before s
         → (states : List State) × (t : State) × Steps left s states t × Represents new after t
+        × KeepsImages (FirstSteps left s) states before.drives after.drives
     pub ran : end ≢ SliceEnd.NoMemory → end ≡ SliceEnd.Ran
     -- memory is out: the event behind the first of them is broken off
     pub part : end ≡ SliceEnd.NoMemory → (s : State) → Represents old before s

@@ -38,6 +38,10 @@ HasState kernel = (devices : Outside) × Stands kernel devices
 abbrev pub IsGoing : Kernel → Type 0
 IsGoing kernel = (p : Pid) × (kernel.chosen ≡ Some p) × IsLiving kernel.processes.table p.0
 
+-- the instructions that the chosen process has executed since it was chosen
+abbrev pub executed : Kernel → ℕ
+executed kernel = kernel.executed
+
 -- the slices that were begun
 abbrev pub ticks : Kernel → ℕ
 ticks kernel = kernel.processes.tick

@@ -12,7 +12,7 @@ ghost use Rattle.os9_kernel.specs.Next.{DoesNext};
 ghost use Rattle.os9_kernel.specs.Outside.{Outside};
 ghost use Rattle.os9_kernel.specs.Paths.{files_then};
 ghost use Rattle.os9_kernel.specs.Services.{IsPlain};
-ghost use Rattle.os9_kernel.specs.Tie.{HasState, pending};
+ghost use Rattle.os9_kernel.specs.Tie.{HasState, executed, pending};
 
 use crate::act::Act;
 use crate::kernel::Kernel;
@@ -31,6 +31,7 @@ impl Kernel {
         requires stands { HasState self.old }
         ensures event { (devices : Outside) → HasEvent self.old self.new devices devices result }
         ensures progress { result ≡ EventEnd.Ran → pending self.new < pending self.old }
+        ensures executed { executed self.new ≡ executed self.old }
     {
         let end = call_dispatch::attempt(&mut self.processes, p, call);
         self.follow(p, end);
@@ -47,6 +48,7 @@ impl Kernel {
         ensures processes { self.new.processes ≡ self.old.processes }
         ensures clock { self.new.clock ≡ self.old.clock }
         ensures chosen { self.new.chosen ≡ self.old.chosen }
+        ensures executed { executed self.new ≡ executed self.old }
     {
         match end {
             CallEnd::Ended => self.files.end(p),
@@ -60,6 +62,7 @@ impl Kernel {
         requires serves { service_of code ≡ no_call }
         ensures event { (devices : Outside) → HasEvent self.old self.new devices devices result }
         ensures progress { pending self.new < pending self.old }
+        ensures executed { executed self.new ≡ executed self.old }
     {
         self.processes.refuse(p, E_UNKSVC);
         EventEnd::Ran

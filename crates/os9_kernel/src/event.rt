@@ -1,10 +1,10 @@
 //! The events of a process: attempts of its call, deliveries of signals, and instructions.
 
-ghost use Rattle.std.specs.Prelude.{◌≡◌, ◌≢◌, ◌<◌, vec_len};
+ghost use Rattle.std.specs.Prelude.{◌≡◌, ◌≢◌, ◌<◌, ◌+◌, ◌^◌, vec_len};
 ghost use Rattle.os9_kernel.specs.Calls.{HasEvent};
 ghost use Rattle.os9_kernel.specs.Next.{DoesNext, HasTurn};
 ghost use Rattle.os9_kernel.specs.Outside.{OnDevices, Outside, outside};
-ghost use Rattle.os9_kernel.specs.Tie.{Stands, pending};
+ghost use Rattle.os9_kernel.specs.Tie.{Stands, executed, pending};
 
 use crate::act::Act;
 use crate::kernel::Kernel;
@@ -29,6 +29,7 @@ impl Kernel {
             ⟦<dyn BlockDriver as BlockDriver>⟧ devices.old.drives.items devices.new.drives.items
             ⟦<dyn CharDriver as CharDriver>⟧ devices.old.terms.items devices.new.terms.items }
         ensures progress { result ≡ EventEnd.Ran → pending self.new < pending self.old }
+        ensures executed { executed self.new ≡ executed self.old }
         ensures terminals { vec_len devices.new.terms ≡ vec_len devices.old.terms }
         ensures drives { vec_len devices.new.drives ≡ vec_len devices.old.drives }
     {
@@ -49,6 +50,7 @@ impl Kernel {
         ensures event { (devices : Outside)
             → HasEvent self.old self.new devices devices result }
         ensures progress { result ≡ EventEnd.Ran → pending self.new < pending self.old }
+        ensures executed { executed self.new ≡ executed self.old }
     {
         self.break_off(p);
         match self.processes.deliver(p) {
@@ -61,12 +63,29 @@ impl Kernel {
     }
 
     /// Executes instructions of the chosen process, at most so many: until one is a system call or
-    /// ends the process.
+    /// ends the process. They are counted.
     pub(crate) fn instructions(&mut self, p: Pid, most: u32) -> Turn
         requires next { DoesNext self.old p Act.Instruction }
         requires some { 0 < most }
         ensures turn { (devices : Outside)
             → HasTurn most self.old self.new devices devices result }
+        ensures executed { executed self.old + result.count < 2 ^ 32
+            → executed self.new ≡ executed self.old + result.count }
+        ensures kept { result.end ≢ EventEnd.NoMemory }
+        ensures goes_on { result.end ≢ EventEnd.Waits }
+    {
+        let turn = self.execute(p, most);
+        self.executed = self.executed.saturating_add(turn.count);
+        turn
+    }
+
+    /// The same, without the count.
+    fn execute(&mut self, p: Pid, most: u32) -> Turn
+        requires next { DoesNext self.old p Act.Instruction }
+        requires some { 0 < most }
+        ensures turn { (devices : Outside)
+            → HasTurn most self.old self.new devices devices result }
+        ensures executed { executed self.new ≡ executed self.old }
         ensures kept { result.end ≢ EventEnd.NoMemory }
         ensures goes_on { result.end ≢ EventEnd.Waits }
     {

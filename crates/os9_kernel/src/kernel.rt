@@ -1,10 +1,11 @@
-ghost use Rattle.std.specs.Prelude.{◌≡◌, ◌<◌, IfSome, option_map, vec_len};
+ghost use Rattle.std.specs.Prelude.{◌≡◌, ◌<◌, ◌+◌, ◌^◌, IfSome, option_map, vec_len};
 ghost use Rattle.event_rules.specs.State.{living_count};
+ghost use Rattle.machine_model.specs.Event.{cost};
 ghost use Rattle.machine_model.specs.State.{State};
 ghost use Rattle.machine_model.specs.Run.{Choose};
 ghost use Rattle.os9_kernel.specs.Calls.{HasEvent, HasSlice, HasTick};
 ghost use Rattle.os9_kernel.specs.Outside.{OnDevices, Outside, outside};
-ghost use Rattle.os9_kernel.specs.Tie.{Represents, Stands, IsGoing, ticks};
+ghost use Rattle.os9_kernel.specs.Tie.{Represents, Stands, IsGoing, executed, ticks};
 
 use crate::act::Act;
 use device_table::devices::Devices;
@@ -28,6 +29,8 @@ pub struct Kernel {
     pub(crate) clock: Clock,
     /// The process that was chosen last, if one was Ready.
     pub(crate) chosen: Option<Pid>,
+    /// The instructions that it has executed since then.
+    pub(crate) executed: u32,
 }
 
 impl Kernel {
@@ -53,7 +56,8 @@ impl Kernel {
     ///
     /// # Errors
     ///
-    /// `OutOfMemory` if a bell found no memory. The kernel is used no more then.
+    /// `OutOfMemory` if a bell found no memory. The kernel is used no more then, and the drives hold
+    /// the volumes of the state before.
     pub fn tick(&mut self, devices: &mut Devices) -> Result<(), OutOfMemory>
         requires count { ticks self.old < LAST_TICK }
         requires stands { Stands self.old
@@ -76,16 +80,19 @@ impl Kernel {
             × (option_map (λ p. p.0) result ≡ t.chosen) }
         ensures going { IfSome result (λ p. IsGoing self.new) }
         ensures count { ticks self.new ≡ ticks self.old }
+        ensures executed { executed self.new ≡ 0 }
     {
         let ready = self.files.io.ready_set();
         self.chosen = self.processes.choose(&ready);
+        self.executed = 0;
         self.chosen
     }
 
     /// One event of the process that was chosen, which has to live: the first attempt of its call,
     /// the delivery of a pending signal, a further attempt, or an instruction. The process goes on
     /// where the answer is `Ran`. Each drive is called at most as often as that attempt may call it,
-    /// and never in another event. At `NoMemory` the kernel is used no more.
+    /// and never in another event; an image changes only where the attempt asks for that. At
+    /// `NoMemory` the kernel is used no more, and the drives hold the volumes of the state before.
     pub fn event(&mut self, devices: &mut Devices) -> EventEnd
         requires going { IsGoing self.old }
         requires stands { Stands self.old
@@ -94,6 +101,9 @@ impl Kernel {
         ensures event { OnDevices (λ before after. HasEvent self.old self.new before after result)
             ⟦<dyn BlockDriver as BlockDriver>⟧ devices.old.drives.items devices.new.drives.items
             ⟦<dyn CharDriver as CharDriver>⟧ devices.old.terms.items devices.new.terms.items }
+        ensures executed { (before : Outside) (s : State) → Represents self.old before s
+            → executed self.old + cost s < 2 ^ 32
+            → executed self.new ≡ executed self.old + cost s }
         ensures terminals { vec_len devices.new.terms ≡ vec_len devices.old.terms }
         ensures drives { vec_len devices.new.drives ≡ vec_len devices.old.drives }
     {
@@ -107,7 +117,8 @@ impl Kernel {
 
     /// A slice: the tick rises and the keys that are due arrive, a process that is Ready is chosen,
     /// and it has its events until it has executed `n` instructions, waits or has ended. `Idle`
-    /// comes exactly where no process is Ready. At `NoMemory` the kernel is used no more.
+    /// comes exactly where no process is Ready. At `NoMemory` the kernel is used no more, and the
+    /// drives hold the volumes of the state before the event that found no memory.
     pub fn slice(&mut self, n: u32, devices: &mut Devices) -> SliceEnd
         requires tick { ticks self.old < LAST_TICK }
         requires stands { Stands self.old

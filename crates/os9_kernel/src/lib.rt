@@ -16,3 +16,4 @@ mod process;
 mod service;
 mod time_call;
 mod turn;
+mod view;

@@ -14,7 +14,7 @@ ghost use Rattle.os9_kernel.specs.Next.{DoesNext};
 ghost use Rattle.os9_kernel.specs.Outside.{OnDevices, outside};
 ghost use Rattle.os9_kernel.specs.Paths.{MayBegin, files_begun, number_in_a};
 ghost use Rattle.os9_kernel.specs.Services.{load_in_machine};
-ghost use Rattle.os9_kernel.specs.Tie.{Stands, pending};
+ghost use Rattle.os9_kernel.specs.Tie.{Stands, executed, pending};
 
 use crate::act::Act;
 use crate::calls::event_end;
@@ -48,6 +48,7 @@ impl Kernel {
             ⟦<dyn BlockDriver as BlockDriver>⟧ devices.old.drives.items devices.new.drives.items
             ⟦<dyn CharDriver as CharDriver>⟧ devices.old.terms.items devices.new.terms.items }
         ensures progress { result ≡ EventEnd.Ran → pending self.new < pending self.old }
+        ensures executed { executed self.new ≡ executed self.old }
         ensures terminals { vec_len devices.new.terms ≡ vec_len devices.old.terms }
         ensures drives { vec_len devices.new.drives ≡ vec_len devices.old.drives }
     {
@@ -70,6 +71,7 @@ impl Kernel {
         ensures lives { LivesOn result self.new.processes.table p.0 }
         ensures clock { self.new.clock ≡ self.old.clock }
         ensures chosen { self.new.chosen ≡ self.old.chosen }
+        ensures executed { executed self.new ≡ executed self.old }
         ensures terms_kept { devices.new.terms ≡ devices.old.terms }
     {
         match call {
@@ -92,6 +94,7 @@ impl Kernel {
         ensures processes { self.new.processes ≡ self.old.processes }
         ensures clock { self.new.clock ≡ self.old.clock }
         ensures chosen { self.new.chosen ≡ self.old.chosen }
+        ensures executed { executed self.new ≡ executed self.old }
     {
         match (call, end) {
             (LoadCall::Fork, CallEnd::Done) => {

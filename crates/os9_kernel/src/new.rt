@@ -85,6 +85,7 @@ impl Kernel {
                         files,
                         clock,
                         chosen: None,
+                        executed: 0,
                     })
                 }
             },

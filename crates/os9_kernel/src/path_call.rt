@@ -11,7 +11,7 @@ ghost use Rattle.machine_model.specs.Services.{on_paths, service_of};
 ghost use Rattle.os9_kernel.specs.Calls.{HasEvent};
 ghost use Rattle.os9_kernel.specs.Next.{DoesNext};
 ghost use Rattle.os9_kernel.specs.Outside.{OnDevices, outside};
-ghost use Rattle.os9_kernel.specs.Tie.{Stands, pending};
+ghost use Rattle.os9_kernel.specs.Tie.{Stands, executed, pending};
 
 use crate::act::Act;
 use crate::calls::event_end;
@@ -46,6 +46,7 @@ impl Kernel {
             ⟦<dyn BlockDriver as BlockDriver>⟧ devices.old.drives.items devices.new.drives.items
             ⟦<dyn CharDriver as CharDriver>⟧ devices.old.terms.items devices.new.terms.items }
         ensures progress { result ≡ EventEnd.Ran → pending self.new < pending self.old }
+        ensures executed { executed self.new ≡ executed self.old }
         ensures terminals { vec_len devices.new.terms ≡ vec_len devices.old.terms }
         ensures drives { vec_len devices.new.drives ≡ vec_len devices.old.drives }
     {
@@ -69,6 +70,7 @@ impl Kernel {
         ensures files { self.new.files ≡ self.old.files }
         ensures clock { self.new.clock ≡ self.old.clock }
         ensures chosen { self.new.chosen ≡ self.old.chosen }
+        ensures executed { executed self.new ≡ executed self.old }
     {
         let cause = self.files.io.waits_for(p).unwrap_or(Cause::Child);
         let until = None;

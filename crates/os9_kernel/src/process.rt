@@ -11,6 +11,7 @@ ghost use Rattle.file_rules.specs.Files.{Files, with_io};
 ghost use Rattle.file_rules.specs.Processes.{files_ended};
 ghost use Rattle.file_state.specs.Tie.{StandsFor};
 ghost use Rattle.event_rules.specs.Event.{broken_off};
+ghost use Rattle.os9_kernel.specs.Tie.{executed};
 
 use crate::kernel::Kernel;
 use os9_base::registers::{Pid, Regs};
@@ -26,6 +27,7 @@ impl Kernel {
         ensures chosen { self.new.chosen ≡ self.old.chosen }
         ensures records { self.new.processes.table ≡ self.old.processes.table }
         ensures count { self.new.processes.tick ≡ self.old.processes.tick }
+        ensures executed { executed self.new ≡ executed self.old }
         ensures files { self.new.files ≡ self.old.files }
         ensures clock { self.new.clock ≡ self.old.clock }
     {
@@ -52,6 +54,7 @@ impl Kernel {
         ensures clock { self.new.clock ≡ self.old.clock }
         ensures chosen { self.new.chosen ≡ self.old.chosen }
         ensures lives { IsLiving self.new.processes.table p.0 }
+        ensures executed { executed self.new ≡ executed self.old }
         ensures signal { (record_at self.new.processes.table p.0).signal
             ≡ (record_at self.old.processes.table p.0).signal }
     {
@@ -72,6 +75,7 @@ impl Kernel {
             → StandsFor self.new.files views (files_ended files p.0) }
         ensures clock { self.new.clock ≡ self.old.clock }
         ensures chosen { self.new.chosen ≡ self.old.chosen }
+        ensures executed { executed self.new ≡ executed self.old }
     {
         self.processes.end(p, status);
         self.files.end(p);

@@ -5,7 +5,7 @@ ghost use Rattle.machine_model.specs.Services.{on_time, service_of};
 ghost use Rattle.os9_kernel.specs.Calls.{HasEvent};
 ghost use Rattle.os9_kernel.specs.Next.{DoesNext};
 ghost use Rattle.os9_kernel.specs.Outside.{Outside};
-ghost use Rattle.os9_kernel.specs.Tie.{HasState, pending};
+ghost use Rattle.os9_kernel.specs.Tie.{HasState, executed, pending};
 
 use crate::act::Act;
 use crate::calls::event_end;
@@ -23,6 +23,7 @@ impl Kernel {
         requires stands { HasState self.old }
         ensures event { (devices : Outside) → HasEvent self.old self.new devices devices result }
         ensures progress { result ≡ EventEnd.Ran → pending self.new < pending self.old }
+        ensures executed { executed self.new ≡ executed self.old }
     {
         let end = attempt(&mut self.processes, &mut self.clock, p, call);
         self.tell_end(p, end);

@@ -21,6 +21,7 @@ use Rattle.os9_kernel.specs.Outside.{Outside}
 use Rattle.os9_kernel.specs.Tie.{Represents}
 use Rattle.os9_kernel.proofs.Acting.{event-here}
 use Rattle.os9_kernel.proofs.Columns.{living-within}
+use Rattle.os9_kernel.proofs.Changing.{keeps-drives}
 use Rattle.os9_kernel.proofs.Counting.{leaves-drives}
 use Rattle.os9_kernel.proofs.Delivering.{broken-own, broken-record, broken-tick, call-is, delivered-quiet, delivery-tick, done-so, ends-so, files-ended-so, files-goes-so, goes-so, signal-is}
 use Rattle.os9_kernel.proofs.Pending.{delivery-pending, nothing-pending, pending-is}
@@ -85,6 +86,7 @@ returns-in-Ended-clause-event c devices =
       going = λ is. cc;
       count = λ _. ticks here;
       calls = leaves-drives old devices devices refl;
+      images = keeps-drives old devices devices refl;
     }
 
 pub returns-in_default : goal.returns-in_default
@@ -114,6 +116,7 @@ returns-in_default c =
         going = λ _. (p, c.break_off.ensures.chosen ∙ next.chosen, c.deliver.ensures.lives is_done);
         count = λ _. ticks here;
         calls = leaves-drives old devices devices refl;
+        images = keeps-drives old devices devices refl;
       };
       progress = λ _.
           let count = interrupted_count old.files.io p.0 in
@@ -129,4 +132,5 @@ returns-in_default c =
           let now : RepresentsProcesses c.deliver.new.self t = subst (λ (d : Result Inner ℕ). RepresentsProcesses c.deliver.new.self (after_delivery (found here m) p.0 d)) ok (c.deliver.ensures.tied (found here m) c.args.signal (tied_found here m there) (signal_found here m there)) in
           let nothing = nothing-pending c.deliver.new.self p.0 (sym (ap (λ (s : Inner). (own_at s p.0).call) now.is) ∙ quiet.call) (sym (ap (λ (s : Inner). (record_at s.records p.0).signal) now.is) ∙ quiet.signal) in
           omega (arith, nothing, delivery-pending old p c.args.signal next, pending-is old p new (c.break_off.ensures.chosen ∙ next.chosen));
+      executed = c.break_off.ensures.executed;
     }

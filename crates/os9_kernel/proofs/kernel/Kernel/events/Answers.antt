@@ -1,8 +1,9 @@
-use Rattle.std.proofs.Common.{◌≡◌, false, refl, sym, ap, ◌∙◌, inl, inr, ◌⊎◌, arith}
+use Rattle.std.proofs.Common.{◌≡◌, ◌∷◌, ◌++◌, false, refl, sym, ap, ◌∙◌, inl, inr, ◌⊎◌, arith}
 use Rattle.event_rules.specs.declared.ends.EventEnd.{EventEnd}
 use Rattle.event_rules.specs.declared.ends.EventEnd.TheVariants.{Ran, Waits, Ended, NoMemory}
-use Rattle.machine_model.specs.Run.{is_going}
-use Rattle.os9_kernel.proofs.Turns.{turn-continues, turn-begins, turn-ends, used-up, begun-here}
+use Rattle.machine_model.specs.Run.{FirstSteps, is_going}
+use Rattle.os9_kernel.proofs.Changing.{keeps-more}
+use Rattle.os9_kernel.proofs.Turns.{turned, turn-continues, turn-begins, turn-ends, used-up, begun-here}
 use Rattle.os9_kernel.proofs.kernel.Kernel.events.Goals as goal
 
 stops : (end : EventEnd) → (end ≡ Waits) ⊎ (end ≡ Ended) → is_going end ≡ false
@@ -25,19 +26,31 @@ loop-left-preserved g c =
           let (t, events, now) = turn.step (λ out. let no : Ran ≡ NoMemory = sym c.in-Ran.is ∙ out in cc) m there in
           (t, now);
       tied = λ s tied.
-          let (m, there, continues, begins) = c.loop-left.invariant.tied s tied in
+          let (m, all, there, continues, begins, kept) = c.loop-left.invariant.tied s tied in
           let (t, events, now) = turn.step (λ out. let no : Ran ≡ NoMemory = sym c.in-Ran.is ∙ out in cc) m there in
-          (t, now, turn-continues events c.in-Ran.is c.args.n s continues, turn-begins events c.in-Ran.is c.args.n s begins);
+          let it = turned events c.in-Ran.is in (
+            t,
+            all ++ (it.first ∷ it.later),
+            now,
+            turn-continues c.args.n c.loop-left.left _ s m t all it continues,
+            turn-begins c.args.n c.loop-left.left _ s m t all it begins,
+            keeps-more (FirstSteps c.args.n s) all m it.first it.later _ _ _ (begun-here c.args.n c.loop-left.left s m all (omega arith) begins) kept (λ drive unasked. turn.images m drive there unasked),
+          );
     }
 
 pub returns-in-Waits-clause-events : goal.returns-in-Waits-clause-events
 returns-in-Waits-clause-events g c =
     let turn = c.turn-turn.ensures.turn in record {
       step = λ _ s tied.
-          let (m, there, continues, begins) = c.loop-left.invariant.tied s tied in
+          let (m, all, there, continues, begins, kept) = c.loop-left.invariant.tied s tied in
           let (t, events, now) = turn.step (other c.turn-turn.result.end c.in-Waits.is) m there in
-          let (all, steps) = turn-ends events (stops c.turn-turn.result.end c.in-Waits.is) c.args.n s continues in
-          (all, t, steps, now);
+          let (first, later, steps) = turn-ends events (stops c.turn-turn.result.end c.in-Waits.is) in (
+            all ++ (first ∷ later),
+            t,
+            continues (first ∷ later) t steps,
+            now,
+            keeps-more (FirstSteps c.args.n s) all m first later _ _ _ (begun-here c.args.n c.loop-left.left s m all (omega arith) begins) kept (λ drive unasked. turn.images m drive there unasked),
+          );
       ran = λ _. refl;
       part = λ is. cc;
       count = λ _. turn.count (other c.turn-turn.result.end c.in-Waits.is) ∙ c.loop-left.invariant.count;
@@ -49,18 +62,16 @@ returns-in-NoMemory-clause-events g c =
       step = λ e. absurd (e refl);
       ran = λ e. absurd (e refl);
       part = λ _ s tied.
-          let (m, there, continues, begins) = c.loop-left.invariant.tied s tied in
-          let (all, first) = begun-here c.args.n c.loop-left.left s m (omega arith) begins in
-          (all, m, first, turn.memory c.in-NoMemory.is m there);
+          let (m, all, there, continues, begins, kept) = c.loop-left.invariant.tied s tied in
+          (all, m, begun-here c.args.n c.loop-left.left s m all (omega arith) begins, turn.memory c.in-NoMemory.is m there);
       count = λ e. absurd (e refl);
     }
 
 pub returns-clause-events : goal.returns-clause-events
 returns-clause-events g c = record {
   step = λ _ s tied.
-      let (m, there, continues, begins) = c.loop-left.invariant.tied s tied in
-      let (all, steps) = used-up c.args.n c.loop-left.left s m (omega arith) continues in
-      (all, m, steps, there);
+      let (m, all, there, continues, begins, kept) = c.loop-left.invariant.tied s tied in
+      (all, m, used-up c.args.n c.loop-left.left s m all (omega arith) continues, there, kept);
   ran = λ _. refl;
   part = λ is. cc;
   count = λ _. c.loop-left.invariant.count;

@@ -27,6 +27,7 @@ use Rattle.os9_kernel.specs.Outside.{Outside, outside}
 use Rattle.os9_kernel.specs.Services.{load_in_machine}
 use Rattle.os9_kernel.proofs.Acting.{clock-is, event-then, lives-there, terms-are}
 use Rattle.os9_kernel.proofs.Calling.{end-tied, goes-on, lives-so, never-wants}
+use Rattle.os9_kernel.proofs.Changing.{keeps-media}
 use Rattle.os9_kernel.proofs.Counting.{attempt-within}
 use Rattle.os9_kernel.proofs.Loading.{begun-tied, begun_on, child-begins, load-tick, loads-rest, rests-there, serves-load}
 use Rattle.os9_kernel.proofs.PathCalls.{is-sound, some-time}
@@ -119,6 +120,7 @@ returns-clause-event g c =
           let service = load_in_machine c.args.call in
           attempt-within old p c.args.code next before s tied service c.requires.serves now after
           (subst (λ (n : ℕ). CalledAtMost (service_calls service s.inner p.0 now s.files n) before.drives after.drives) long (c.try_load-end.ensures.call now s.inner s.files tied.inner tied.files tied.running.kinds).calls);
+      images = keeps-media old before after first.media_kept;
     }
 
 pub returns-clause-progress : goal.returns-clause-progress

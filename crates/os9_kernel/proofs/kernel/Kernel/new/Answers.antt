@@ -51,7 +51,7 @@ returns-clause-starts g c =
     let terms = c.start_files.new.devices.terms in
     let long : length after.terms ≡ vec_len terms = simp length-map (sym terms.ok.0) in
     let kept : vec_len terms ≡ vec_len c.args.devices.now.terms = ap (λ terms. vec_len terms) c.start_files.ensures.terms_kept in
-    let kernel : Kernel = record { processes = c.in-Ok.processes; files = c.in-Ok-start_files.files; clock = record { from = c.args.config.time; since = 0 }; chosen = None } in
+    let kernel : Kernel = record { processes = c.in-Ok.processes; files = c.in-Ok-start_files.files; clock = record { from = c.args.config.time; since = 0 }; chosen = None; executed = 0 } in
     record {
       stands = λ images have.
           kernel-starts c.args.config c.args.boot.now images after kernel c.in-Ok.ensures.start (c.in-Ok-start_files.ensures.started images have) refl refl c.requires.time (omega (arith, long, kept, c.requires.terminals.0)) (omega (arith, long, kept, c.requires.terminals.1));

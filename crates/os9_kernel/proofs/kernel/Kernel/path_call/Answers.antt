@@ -11,7 +11,7 @@ use Rattle.call_rules.specs.CallResult.{CallResult}
 use Rattle.call_rules.specs.Inner.{Inner, no_own}
 use Rattle.call_rules.specs.declared.proc_call.ProcCall.{ProcCall}
 use Rattle.file_dispatch.specs.Attempts.{LacksMemory, MayAttempt}
-use Rattle.file_drives.specs.Drives.{boxed_drive_view, drive_states, drive_views}
+use Rattle.file_drives.specs.Drives.{boxed_drive_view, drive_views}
 use Rattle.file_rules.specs.Attempts.{FileAttempts, io_effect}
 use Rattle.file_state.specs.Tie.{StandsFor}
 use Rattle.file_state.specs.declared.state.FileState.{FileState}
@@ -30,7 +30,9 @@ use Rattle.os9_kernel.specs.Outside.{Outside, outside}
 use Rattle.os9_kernel.proofs.Acting.{acts-so, chosen-is, clock-is, event-then, lives-there, terms-are}
 use Rattle.os9_kernel.proofs.Asking.{may-attempt-here}
 use Rattle.os9_kernel.proofs.Calling.{end-tied, goes-on, lives-so}
+use Rattle.os9_kernel.proofs.Changing.{keeps-attempt, keeps-drives}
 use Rattle.os9_kernel.proofs.Counting.{attempt-within-at, leaves-drives}
+use Rattle.os9_kernel.proofs.Holding.{holds-still}
 use Rattle.os9_kernel.proofs.PathCalls.{attempt-tick, cases-memory, is-clock, is-sound, lives-on, now-here, wants-so}
 use Rattle.os9_kernel.proofs.Pending.{attempt-lowers}
 use Rattle.os9_kernel.proofs.Represented.{no-call}
@@ -73,6 +75,7 @@ returns-clause-event g c =
     let before : Outside = outside (λ table. (g.dyn-1.0.entry table).1) c.args.devices.now.drives.items (λ table. (g.dyn-2.0.entry table).1) c.args.devices.now.terms.items in
     let after : Outside = outside (λ table. (g.dyn-1.0.entry table).1) c.attempt-end.new.devices.drives.items (λ table. (g.dyn-2.0.entry table).1) c.attempt-end.new.devices.terms.items in
     let other : c.event_end.result ≢ EventEnd.NoMemory → c.attempt-end.result ≢ NoMemory = (λ other out. other (c.event_end.ensures ∙ ap event_end_of out)) in
+    let same_drives : c.attempt-end.result ≡ NoMemory → after.drives ≡ before.drives = (λ out. ap (λ drives. drive_views (λ table. (g.dyn-1.0.entry table).1) drives.items) (c.attempt-end.ensures.drives_kept out)) in
     let (s0, tied0) = c.requires.stands in record {
       step = λ ran s tied.
           let it = ((c.attempt-end.ensures.call s.inner s.files tied.inner tied.files tied.running.kinds).attempted (other ran)).attempts in
@@ -100,8 +103,7 @@ returns-clause-event g c =
             is_now = now-here old before s tied time c.now-time.ensures;
             lacks =
                 subst (λ (terms : List TerminalState). LacksMemory c.args.call s.inner s.files time p.0 terms after.terms) (sym (terms-are old p act next before s tied)) ((c.attempt-end.ensures.call s.inner s.files tied.inner tied.files tied.running.kinds).memory is);
-            drives =
-                tied.files.drives ∙ ap (λ drives. drive_states (drive_views (λ table. (g.dyn-1.0.entry table).1) drives.items)) (sym (c.attempt-end.ensures.drives_kept is));
+            drives = holds-still old before s tied after (same_drives is);
           };
       waits = λ is.
           let waiting = waits-so c.attempt-end.result (sym c.event_end.ensures ∙ is) in
@@ -129,9 +131,15 @@ returns-clause-event g c =
       calls = λ s now tied is.
           elim (cases-memory c.attempt-end.result) [
             | inl out ↦
-                leaves-drives old before after (ap (λ drives. drive_views (λ table. (g.dyn-1.0.entry table).1) drives.items) (c.attempt-end.ensures.drives_kept out)) s now tied is
+                leaves-drives old before after (same_drives out) s now tied is
             | inr there ↦
                 attempt-within-at old p c.args.code next before s tied (on_paths c.args.call) c.requires.serves time now after (now-here old before s tied time c.now-time.ensures) is ((c.attempt-end.ensures.call s.inner s.files tied.inner tied.files tied.running.kinds).attempted there).calls
+          ];
+      images = λ s drive tied unasked.
+          elim (cases-memory c.attempt-end.result) [
+            | inl out ↦ keeps-drives old before after (same_drives out) s drive tied unasked
+            | inr there ↦
+                keeps-attempt old p c.args.code next before s tied c.args.call c.requires.serves time (now-here old before s tied time c.now-time.ensures) c.attempt-end.result after drive ((c.attempt-end.ensures.call s.inner s.files tied.inner tied.files tied.running.kinds).attempted there).drives unasked
           ];
     }
 

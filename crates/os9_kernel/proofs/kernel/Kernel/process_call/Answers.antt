@@ -20,6 +20,7 @@ use Rattle.os9_kernel.specs.Ends.{event_end_of}
 use Rattle.os9_kernel.specs.Paths.{files_then}
 use Rattle.os9_kernel.proofs.Acting.{event-here}
 use Rattle.os9_kernel.proofs.Calling.{end-tied, files-tied, goes-on, lives-so, never-wants}
+use Rattle.os9_kernel.proofs.Changing.{keeps-drives}
 use Rattle.os9_kernel.proofs.Counting.{leaves-drives}
 use Rattle.os9_kernel.proofs.PathCalls.{some-time}
 use Rattle.os9_kernel.proofs.Pending.{attempt-lowers}
@@ -62,6 +63,7 @@ returns-clause-event c devices =
           };
       count = λ _. ap (λ (processes : ProcState). processes.tick) c.follow.ensures.processes ∙ tick-kept old.processes c.attempt-end.new.s (λ (m : Inner). after_attempt m p.0 (attempted c.args.call m p.0)) (λ m there. (c.attempt-end.ensures.call m there).0) (λ m. attempt-tick m p.0 c.args.call);
       calls = leaves-drives old devices devices refl;
+      images = keeps-drives old devices devices refl;
     }
 
 pub returns-clause-progress : goal.returns-clause-progress

@@ -7,6 +7,7 @@ use Rattle.machine_model.specs.Services.{Serves, Service}
 use Rattle.machine_model.specs.State.{rest_of}
 use Rattle.os9_kernel.specs.declared.act.Act.TheVariants.{Attempt}
 use Rattle.os9_kernel.proofs.Acting.{event-here}
+use Rattle.os9_kernel.proofs.Changing.{keeps-drives}
 use Rattle.os9_kernel.proofs.Counting.{leaves-drives}
 use Rattle.os9_kernel.proofs.PathCalls.{some-time}
 use Rattle.os9_kernel.proofs.Pending.{attempt-lowers}
@@ -29,6 +30,7 @@ returns-clause-event c devices =
       going = λ _. (p, next.chosen, c.refuse.ensures.lives);
       count = λ _. tick-kept old.processes c.refuse.new.self (λ (m : Inner). goes_on m p.0 (refused_regs (regs_at m p.0) E_UNKSVC)) c.refuse.ensures.tied (λ m. refl);
       calls = leaves-drives old devices devices refl;
+      images = keeps-drives old devices devices refl;
     }
 
 pub returns-clause-progress : goal.returns-clause-progress

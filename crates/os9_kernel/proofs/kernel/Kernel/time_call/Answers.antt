@@ -13,6 +13,7 @@ use Rattle.os9_kernel.specs.declared.act.Act.TheVariants.{Attempt}
 use Rattle.os9_kernel.specs.Ends.{event_end_of}
 use Rattle.os9_kernel.proofs.Acting.{clock-is, event-then, terms-are}
 use Rattle.os9_kernel.proofs.Calling.{end-tied, goes-on, lives-so, never-wants}
+use Rattle.os9_kernel.proofs.Changing.{keeps-drives}
 use Rattle.os9_kernel.proofs.Counting.{leaves-drives}
 use Rattle.os9_kernel.proofs.PathCalls.{is-clock, lives-on}
 use Rattle.os9_kernel.proofs.Pending.{attempt-lowers}
@@ -57,6 +58,7 @@ returns-clause-event c devices =
       going = λ ran. (p, c.tell_end.ensures.chosen ∙ next.chosen, lives-so c.attempt-end.result new.processes.table p.0 (sym c.event_end.ensures ∙ ran) c.tell_end.ensures.lives);
       count = λ _. sym (ap (λ (m : Inner). m.tick) there0.is) ∙ time-tick s0.inner p.0 c.args.call old.clock first.now first.attempts.result clock first.attempts.attempt ∙ ap (λ (m : Inner). m.tick) tied0.inner.is;
       calls = leaves-drives old devices devices refl;
+      images = keeps-drives old devices devices refl;
     }
 
 pub returns-clause-progress : goal.returns-clause-progress

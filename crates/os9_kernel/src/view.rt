@@ -1,0 +1,52 @@
+//! What may be seen of a kernel: the process that was chosen, how far it has come, and the registers
+//! and bytes of each process.
+
+ghost use Rattle.std.specs.Prelude.{◌≡◌, ◌<◌, option_map};
+ghost use Rattle.call_rules.specs.Inner.{cells_at};
+ghost use Rattle.machine_model.specs.State.{State};
+ghost use Rattle.os9_kernel.specs.Outside.{Outside};
+ghost use Rattle.os9_kernel.specs.Tie.{Represents, executed};
+ghost use Rattle.os9_kernel.specs.View.{living_regs};
+ghost use Rattle.user_names.specs.UserNames.{user_cell};
+
+use crate::kernel::Kernel;
+use os9_base::registers::{Pid, Regs};
+use proc_rules::record::Life;
+
+impl Kernel {
+    /// The process that was chosen last, if one was Ready. None before the first choice.
+    pub fn chosen(&self) -> Option<Pid>
+        ensures { (devices : Outside) (s : State) → Represents self.now devices s
+            → option_map (λ p. p.0) result ≡ s.chosen }
+    {
+        self.chosen
+    }
+
+    /// How many instructions the chosen process has executed since it was chosen, at most
+    /// 4,294,967,295.
+    pub fn executed(&self) -> u32
+        ensures { result ≡ executed self.now }
+    {
+        self.executed
+    }
+
+    /// The registers of a process, if it lives.
+    pub fn regs(&self, p: Pid) -> Option<Regs>
+        ensures { (devices : Outside) (s : State) → Represents self.now devices s
+            → result ≡ living_regs s.inner p.0 }
+    {
+        match self.processes.table.life(p) {
+            None | Some(Life::Ended(_)) => None,
+            Some(_) => Some(self.processes.regs(p)),
+        }
+    }
+
+    /// The byte that a process sees at an address, if a block is there.
+    pub fn byte(&self, p: Pid, at: u16) -> Option<u8>
+        requires { p.0 < 33 }
+        ensures { (devices : Outside) (s : State) → Represents self.now devices s
+            → result ≡ user_cell (cells_at s.inner p.0) at }
+    {
+        self.processes.memory.byte(p, at, 0)
+    }
+}
