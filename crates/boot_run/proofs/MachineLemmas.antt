@@ -33,6 +33,7 @@ use Rattle.os9_kernel.specs.declared.new.StartError.TheVariants.{Boot, Drive}
 use Rattle.os9_kernel.specs.Outside.{Outside}
 use Rattle.os9_kernel.specs.Starting.{StartIsRefused, WhereRefused, drive_fault}
 use Rattle.os9_kernel.specs.Tie.{Represents, Stands}
+use Rattle.os9_kernel.proofs.Holding.{holds-volumes}
 use Rattle.boot_run.specs.declared.machine.RunEnd.{RunEnd}
 use Rattle.boot_run.specs.declared.machine.RunEnd.TheVariants.{Ended, Living, OutputFailed, NoMemory}
 use Rattle.boot_run.specs.declared.run.RunFault.TheVariants as RunFault
@@ -42,7 +43,7 @@ use Rattle.boot_run.specs.Machine.{MachineCall, RunsTo, RunsWhole, Setup, Starts
 use Rattle.boot_run.specs.RunEnd.{start_end}
 use Rattle.boot_run.specs.Slices.{RunsPartly, RunsSlices}
 use Rattle.boot_run.specs.World.{World}
-use Rattle.boot_run.proofs.RunLemmas.{holds-volumes, none-living, some-living, terms-standing}
+use Rattle.boot_run.proofs.RunLemmas.{none-living, some-living, terms-standing}
 
 -- ---- what is in the drives
 
@@ -78,7 +79,7 @@ drives-counted members drives result before after have started =
     sym (length-map after (boxed_drive_view members)) ∙ drives-started drives result (drive_views members before) (drive_views members after) have started ∙ length-map before (boxed_drive_view members)
 
 -- the images are as they were, if those of each number are, in as many drives
-media-kept : (before after : List DriveView) → length after ≡ length before → ((n : ℕ) → media_at after n ≡ media_at before n) → media_of after ≡ media_of before
+pub media-kept : (before after : List DriveView) → length after ≡ length before → ((n : ℕ) → media_at after n ≡ media_at before n) → media_of after ≡ media_of before
 media-kept [] [] count same = refl
 media-kept [] (now ∷ after) count same = absurd (omega (arith, count))
 media-kept (was ∷ before) [] count same = absurd (omega (arith, count))
@@ -133,7 +134,7 @@ partly-from slices s before after devices ran = record {
 
 -- ---- a kernel stands, and the terminals were loaded
 
-module _ (setup : Setup) (kernel : Kernel) (before : World) (started later : Outside) (unloaded : AreUnloaded before.devices.terms) (civil : is_time_packet setup.time ≡ true) (none_failed : NoneFailed (drive_states before.devices.drives) (drive_states started.drives)) (drives : later.drives ≡ started.drives) (terms : later.terms ≡ loaded setup.keys before.devices.terms) (begins : Begins setup kernel started) where
+module _ (setup : Setup) (kernel : Kernel) (before : World) (started later : Outside) (unloaded : AreUnloaded before.devices.terms) (civil : is_time_packet setup.time ≡ true) (none_failed : NoneFailed (drive_states before.devices.drives) (drive_states started.drives)) (drives : later.drives ≡ started.drives) (media : (n : ℕ) → media_at started.drives n ≡ media_at before.devices.drives n) (terms : later.terms ≡ loaded setup.keys before.devices.terms) (begins : Begins setup kernel started) where
   count : length later.terms ≡ length before.devices.terms
   count = ap length terms ∙ count-loaded 0 setup.keys before.devices.terms
 
@@ -180,11 +181,15 @@ module _ (setup : Setup) (kernel : Kernel) (before : World) (started later : Out
   observed : All IsObserved before.devices.terms → All IsObserved later.terms
   observed told = subst (λ terms. All IsObserved terms) (sym terms) (observed-from 0 setup.keys before.devices.terms told)
 
+  -- the media are those of before the start
+  held : (n : ℕ) → media_at later.drives n ≡ media_at before.devices.drives n
+  held n = ap (λ views. media_at views n) drives ∙ media n
+
   -- the slices were run
   runs-to : {Value : Type 0} (value : Value) (new : Kernel) (after : World) → RunsSlices setup.slices kernel new (Ok value) (with_devices before later) after → All IsObserved before.devices.terms → (t : State) × RunsTo setup begun t before after × Represents new after.devices t
   runs-to value new after ran told =
-      let (states, written, t, run, there, gained) = ran.run begun (observed told) tied in
-      (t, record { states = states; written = written; run = run; output = gained; terminals = terms-standing new after.devices t there; drives = holds-volumes new after t there }, there)
+      let (states, written, t, run, there, gained, kept) = ran.run begun (observed told) tied in
+      (t, record { states = states; written = written; run = run; output = gained; terminals = terms-standing new after.devices t there; drives = holds-volumes new after.devices t there; images = λ drive none. kept drive none ∙ held drive }, there)
 
   -- it did, and so many slices were begun
   runs-whole : {Value : Type 0} (value : Value) (new : Kernel) (after : World) (lives : Bool) (begun_slices : ℕ) → RunsSlices setup.slices kernel new (Ok value) (with_devices before later) after → ((t : State) → Represents new after.devices t → has_living t ≡ lives) → ((t : State) → Represents new after.devices t → begun_slices ≡ t.inner.tick) → All IsObserved before.devices.terms → RunsWhole setup lives begun_slices before after
@@ -243,9 +248,10 @@ module _ (setup : Setup) (kernel : Kernel) (before : World) (started later : Out
 -- ---- nothing was run
 
 -- memory was out before the first slice
-pub called-nothing : (setup : Setup) (world : World) (devices : Outside) → NoneFailed (drive_states world.devices.drives) (drive_states devices.drives) → devices.terms ≡ world.devices.terms → MachineCall setup world (with_devices world devices) NoMemory
-called-nothing setup world devices none_failed terms = record {
-  comes = λ told. inl (record { out = refl; terminals = terms; none_failed = none_failed });
+pub called-nothing : (setup : Setup) (world : World) (devices : Outside) → NoneFailed (drive_states world.devices.drives) (drive_states devices.drives)
+    → media_of devices.drives ≡ media_of world.devices.drives → devices.terms ≡ world.devices.terms → MachineCall setup world (with_devices world devices) NoMemory
+called-nothing setup world devices none_failed media terms = record {
+  comes = λ told. inl (record { out = refl; terminals = terms; none_failed = none_failed; media_kept = media });
   unrun = tt;
   output_fault = λ e. cc e;
   no_fault = λ no. (refl, refl, refl);
@@ -259,7 +265,7 @@ where-refused (Drive drive number) then it = tt
 -- the machine did not start
 pub called-refused : (setup : Setup) (config : Config) (world : World) (devices : Outside) (error : StartError) → config.blocks ≡ setup.blocks → StartIsRefused config setup.file error → WhereRefused error (devices ≡ world.devices) → StartsDrives {A = Kernel} config.images (drive_fault (Err error)) world.devices.drives devices.drives → length devices.drives ≡ length world.devices.drives → devices.terms ≡ world.devices.terms → MachineCall setup world (with_devices world devices) (start_end error)
 called-refused setup config world devices (Boot OutOfMemory) blocks refused same moved count terms =
-    called-nothing setup world devices moved.moves terms
+    called-nothing setup world devices moved.moves (media-kept world.devices.drives devices.drives count moved.media) terms
 called-refused setup config world devices (Boot (BadModule at error)) blocks refused same moved count terms = record {
   comes = λ told. subst (λ (blocks : ℕ). Refuses setup.file blocks (BadModule at error)) blocks (refused (λ e. cc e));
   unrun = ap (λ (devices : Outside). with_devices world devices) (same (λ e. cc e));

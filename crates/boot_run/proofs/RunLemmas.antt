@@ -1,34 +1,31 @@
 -- Slices, one after another, make a run.
-use Rattle.std.proofs.Common.{◌≡◌, ◌≢◌, not, ℕ, Bool, true, false, Option, Some, None, List, [], ◌∷◌, ◌++◌, get_or, slice_get, refl, sym, subst, ap, ◌∙◌, ◌<◌, take, length, append_assoc, append-nil, All, inl, inr, arith}
+use Rattle.std.proofs.Common.{◌≡◌, ◌≢◌, not, ℕ, Bool, true, false, Option, Some, List, [], ◌∷◌, ◌++◌, get_or, slice_get, refl, sym, subst, ap, ◌∙◌, ◌<◌, take, length, append_assoc, append-nil, All, inl, inr}
 use Rattle.std.specs.Prelude.{MatchBool}
 use Rattle.std.proofs.lemmas.Bool.{ne_eqb}
 use Rattle.std.proofs.lemmas.List.Elements.{All-cons, All-head, All-tail}
-use Rattle.std.proofs.lemmas.Option.{same_Some, slice_get-get_or}
+use Rattle.std.proofs.lemmas.Option.{slice_get-get_or}
 use Rattle.os9_outer.specs.Stream.{stream_with, GainsPrefix}
 use Rattle.os9_outer.specs.TerminalState.{TerminalState}
 use Rattle.device_table.proofs.StreamLemmas.{appended-twice, appended-nothing}
-use Rattle.rbf_model.specs.Volume.{DiskVolume}
-use Rattle.rbf_access.specs.Mounted.{Represents as MediaRepresents}
-use Rattle.rbf_access.specs.declared.volume.Volume.{Volume}
-use Rattle.file_drives.specs.Drives.{DriveView, drive_states, unused_drive}
-use Rattle.file_drives.specs.Mounted.{AgreesOnDrive, AreMounted, DriveHolds, kept_at, mounted_at}
-use Rattle.file_drives.proofs.MountedLemmas.{mounted-below}
+use Rattle.file_drives.specs.Drives.{DriveView}
 use Rattle.event_rules.specs.declared.ends.SliceEnd.{SliceEnd}
 use Rattle.event_rules.specs.Console.{terminals_emptied, console_bytes}
 use Rattle.event_rules.specs.State.{living_count}
 use Rattle.event_rules.specs.Terminals.{TerminalsOnlyGain}
 use Rattle.event_rules.proofs.TerminalLaws.{gain-emptied}
-use Rattle.machine_model.specs.Run.{Slice, Run}
+use Rattle.machine_model.specs.Run.{BeginsSlice, Run, Slice}
 use Rattle.machine_model.specs.State.{State, has_living}
 use Rattle.machine_model.proofs.Gains.{slice-gains}
 use Rattle.os9_kernel.specs.declared.kernel.Kernel.{Kernel}
 use Rattle.os9_kernel.specs.Calls.{HasSlice, StopsSlice}
+use Rattle.os9_kernel.specs.Changes.{BeginsAt, KeepsImages}
 use Rattle.os9_kernel.specs.Outside.{Outside}
 use Rattle.os9_kernel.specs.Tie.{Represents, Stands}
+use Rattle.os9_kernel.proofs.Changing.{none-before}
+use Rattle.os9_kernel.proofs.Holding.{holds-still}
 use Rattle.os9_kernel.proofs.Represented.{represents-emptied}
 use Rattle.boot_run.specs.Console.{IsObserved, emptied_front}
-use Rattle.boot_run.specs.Machine.{HoldsVolumes}
-use Rattle.boot_run.specs.Slices.{RunsPartly}
+use Rattle.boot_run.specs.Slices.{ComesInto, RunsPartly}
 use Rattle.boot_run.specs.World.{World, HasNoFault}
 
 -- ---- what is observed stays observed
@@ -62,34 +59,8 @@ represents-taken kernel mid now t drives terms tied =
 -- a slice that was run leaves a kernel that stands, also when the bytes are taken from the terminals
 pub stands-emptied : (n : ℕ) (old new : Kernel) (before mid now : Outside) (end : SliceEnd) → Stands old before → end ≢ SliceEnd.NoMemory → HasSlice n old new before mid end → now.drives ≡ mid.drives → now.terms ≡ terminals_emptied mid.terms → Stands new now
 stands-emptied n old new before mid now end (s, tied) more slice drives terms =
-    let (states, t, steps, there) = slice.step more s tied in
+    let (states, t, steps, there, kept) = slice.step more s tied in
     (record t { terms = terminals_emptied t.terms }, represents-taken new mid now t drives terms there)
-
--- what is mounted on a drive is on its media
-on-drive : (kept : Option Volume) (view : DriveView) (mounted : Option DiskVolume) (v : DiskVolume) → mounted ≡ Some v → AgreesOnDrive kept view mounted → MediaRepresents view.media v
-on-drive None view None v is agrees = cc is
-on-drive None view (Some w) v is agrees = absurd agrees
-on-drive (Some volume) view None v is agrees = absurd agrees
-on-drive (Some volume) view (Some w) v is agrees =
-    subst (λ w. MediaRepresents view.media w) (same_Some w v is) agrees.on
-
-drive-holds : (disks : List (Option Volume)) (views : List DriveView) (volumes : List (Option DiskVolume)) → AreMounted disks views volumes → (n : ℕ) (v : DiskVolume) → mounted_at volumes n ≡ Some v → DriveHolds views n v
-drive-holds disks views volumes mounted n v is =
-    let within : n < length views = omega (arith, mounted-below volumes n v is, mounted.as_many) in
-    let view = get_or views n unused_drive in
-    let there : slice_get views n ≡ Some view = slice_get-get_or views n unused_drive within in
-    record {
-      view = view;
-      is = there;
-      on = on-drive (kept_at disks n) view (mounted_at volumes n) v is (mounted.each n view there);
-    }
-
--- the drives hold the volumes of a state that they stand for
-pub holds-volumes : (kernel : Kernel) (after : World) (t : State) → Represents kernel after.devices t → HoldsVolumes t after
-holds-volumes kernel after t tied = record {
-  counts = tied.files.drives;
-  volumes = λ drive v is. drive-holds kernel.files.disks after.devices.drives t.files.volumes tied.files.mounted drive v is;
-}
 
 -- ---- whether one lives
 
@@ -143,13 +114,16 @@ run-append (n ∷ first) rest s m t states others written more run next =
           over.2,
         )
 
--- a kernel and its devices have come so far from s: a run over these slices wrote what the output gained
-abbrev pub Reaches : Option (List ℕ) → List ℕ → State → Kernel → Outside → Option (List ℕ) → Type 0
-Reaches first ran s kernel devices out =
-    (m : State) × (states : List State) × (written : List ℕ) × All IsObserved devices.terms × Represents kernel devices m × (out ≡ stream_with first written) × Run ran s states written m
+-- a kernel and its devices have come so far from s, with these drives, over the first of these slices: a run over them
+-- wrote what the output gained, and kept the images that none of its events asked to change
+abbrev pub Reaches : List DriveView → List ℕ → Option (List ℕ) → List ℕ → State → Kernel → Outside → Option (List ℕ) → Type 0
+Reaches start slices first ran s kernel devices out =
+    (m : State) × (states : List State) × (written : List ℕ) × All IsObserved devices.terms × Represents kernel devices m × (out ≡ stream_with first written) × Run ran s states written m × KeepsImages (ComesInto slices s) states start devices.drives
 
-pub reaches-none : (first : Option (List ℕ)) (s : State) (kernel : Kernel) (devices : Outside) → All IsObserved devices.terms → Represents kernel devices s → Reaches first [] s kernel devices first
-reaches-none first s kernel devices told tied = (s, [], [], told, tied, sym (appended-nothing first), (refl, refl, refl))
+pub reaches-none : (slices : List ℕ) (first : Option (List ℕ)) (s : State) (kernel : Kernel) (devices : Outside) → All IsObserved devices.terms → Represents kernel devices s
+    → Reaches devices.drives slices first [] s kernel devices first
+reaches-none slices first s kernel devices told tied =
+    (s, [], [], told, tied, sym (appended-nothing first), (refl, refl, refl), λ drive none. refl)
 
 -- where some process lives
 abbrev pub SomeLives : Kernel → Outside → Type 0
@@ -158,11 +132,46 @@ SomeLives kernel devices = (m : State) → Represents kernel devices m → livin
 -- and a slice was run
 abbrev pub RunsSlice : ℕ → Kernel → Outside → SliceEnd → Kernel → Outside → Type 0
 RunsSlice n kernel devices end after mid =
-    (m : State) → Represents kernel devices m → (states : List State) × (t : State) × Slice n m states end t × Represents after mid t
+    (m : State) → Represents kernel devices m → (states : List State) × (t : State) × Slice n m states end t × Represents after mid t × KeepsImages (BeginsSlice n m) states devices.drives mid.drives
 
-pub reaches-more : (ran : List ℕ) (s : State) (n : ℕ) (kernel after : Kernel) (devices mid now : Outside) (first out next : Option (List ℕ)) (end : SliceEnd) → Reaches first ran s kernel devices out → SomeLives kernel devices → RunsSlice n kernel devices end after mid → now.drives ≡ mid.drives → now.terms ≡ terminals_emptied mid.terms → (All IsObserved mid.terms → next ≡ stream_with out (console_bytes mid.terms)) → Reaches first (ran ++ n ∷ []) s after now next
-reaches-more ran s n kernel after devices mid now first out next end (m, states, written, told, tied, is, so_far) some steps drives emptied gained =
-    let (begun, t, slice, left) = steps m tied in
+-- an event of the next slice is one of the run
+begins-later : (slices : List ℕ) (count n : ℕ) (s m : State) (states begun : List State) (written : List ℕ) → slice_get slices count ≡ Some n → has_living m ≡ true
+    → Run (take count slices) s states written m → (at : State) → BeginsAt (BeginsSlice n m) begun at → BeginsAt (ComesInto slices s) (states ++ begun) at
+begins-later slices count n s m states begun written here lives run at it = record {
+  first = states ++ it.first;
+  there = record {
+    count = count;
+    passed = states;
+    written = written;
+    reached = m;
+    run = run;
+    n = n;
+    next = here;
+    lives = lives;
+    first = it.first;
+    begins = it.there;
+    all = refl;
+  };
+  next = it.next;
+  later = it.later;
+  all = ap (λ begun. states ++ begun) it.all ∙ sym (append_assoc states it.first (it.next ∷ it.later));
+}
+
+-- the images that none of its events asks to change are as they were, and so are those of the run
+images-later : (slices : List ℕ) (count n : ℕ) (s m : State) (states begun : List State) (written : List ℕ) (start before mid : List DriveView) → slice_get slices count ≡ Some n
+    → has_living m ≡ true → Run (take count slices) s states written m → KeepsImages (ComesInto slices s) states start before → KeepsImages (BeginsSlice n m) begun before mid
+    → KeepsImages (ComesInto slices s) (states ++ begun) start mid
+images-later slices count n s m states begun written start before mid here lives run so_far kept drive none =
+    kept drive (λ at it. none at (begins-later slices count n s m states begun written here lives run at it))
+    ∙ so_far drive (none-before (ComesInto slices s) states begun drive none)
+
+pub reaches-more : (start : List DriveView) (slices : List ℕ) (count : ℕ) (s : State) (n : ℕ) (kernel after : Kernel) (devices mid now : Outside) (first out next : Option (List ℕ)) (end : SliceEnd)
+    → slice_get slices count ≡ Some n → Reaches start slices first (take count slices) s kernel devices out → SomeLives kernel devices → RunsSlice n kernel devices end after mid
+    → now.drives ≡ mid.drives → now.terms ≡ terminals_emptied mid.terms → (All IsObserved mid.terms → next ≡ stream_with out (console_bytes mid.terms))
+    → Reaches start slices first (take count slices ++ n ∷ []) s after now next
+reaches-more start slices count s n kernel after devices mid now first out next end at (m, states, written, told, tied, is, so_far, images) some steps drives emptied gained =
+    let (begun, t, slice, left, kept) = steps m tied in
+    let lives = some-living m (some m tied) in
     let here : m.terms ≡ devices.terms = ap (λ (s : State). s.terms) tied.is in
     let there : t.terms ≡ mid.terms = ap (λ (s : State). s.terms) left.is in
     let told_m : All IsObserved m.terms = subst (λ terms. All IsObserved terms) (sym here) told in
@@ -173,25 +182,32 @@ reaches-more ran s n kernel after devices mid now first out next end (m, states,
       subst (λ terms. All IsObserved terms) (sym emptied) (observed-emptied mid.terms told_mid),
       represents-taken after mid now t drives emptied left,
       gained told_mid ∙ ap (λ stream. stream_with stream (console_bytes mid.terms)) is ∙ appended-twice first written (console_bytes mid.terms) ∙ ap (λ terms. stream_with first (written ++ console_bytes terms)) (sym there),
-      run-append ran (n ∷ []) s m (record t { terms = terminals_emptied t.terms }) states begun written (console_bytes t.terms) so_far (run-slice n m t begun end (some-living m (some m tied)) slice),
+      run-append (take count slices) (n ∷ []) s m (record t { terms = terminals_emptied t.terms }) states begun written (console_bytes t.terms) so_far (run-slice n m t begun end lives slice),
+      subst (λ (views : List DriveView). KeepsImages (ComesInto slices s) (states ++ begun) start views) (sym drives) (images-later slices count n s m states begun written start devices.drives mid.drives at lives so_far images kept),
     )
 
--- a run over these slices comes to a state that the kernel represents, and the output gained what it writes
-abbrev pub HasRun : Option (List ℕ) → List ℕ → State → Kernel → Outside → Option (List ℕ) → Type 0
-HasRun first slices s kernel devices out =
-    (states : List State) × (written : List ℕ) × (t : State) × Run slices s states written t × Represents kernel devices t × (out ≡ stream_with first written)
+-- a run over these slices comes to a state that the kernel represents, the output gained what it writes, and the images
+-- that none of its events asked to change are as they were
+abbrev pub HasRun : List DriveView → Option (List ℕ) → List ℕ → State → Kernel → Outside → Option (List ℕ) → Type 0
+HasRun start first slices s kernel devices out =
+    (states : List State) × (written : List ℕ) × (t : State) × Run slices s states written t × Represents kernel devices t × (out ≡ stream_with first written) × KeepsImages (ComesInto slices s) states start devices.drives
 
-pub reaches-idle : (first out : Option (List ℕ)) (slices ran rest : List ℕ) (s : State) (kernel : Kernel) (devices : Outside) → ran ++ rest ≡ slices → Reaches first ran s kernel devices out → ((m : State) → Represents kernel devices m → living_count m.inner ≡ 0) → HasRun first slices s kernel devices out
-reaches-idle first out slices ran rest s kernel devices all (m, states, written, told, tied, is, so_far) none =
+pub reaches-idle : (start : List DriveView) (first out : Option (List ℕ)) (slices ran rest : List ℕ) (s : State) (kernel : Kernel) (devices : Outside) → ran ++ rest ≡ slices
+    → Reaches start slices first ran s kernel devices out → ((m : State) → Represents kernel devices m → living_count m.inner ≡ 0) → HasRun start first slices s kernel devices out
+reaches-idle start first out slices ran rest s kernel devices all (m, states, written, told, tied, is, so_far, images) none =
     let ended : Run (ran ++ rest) s (states ++ []) (written ++ []) m = run-append ran rest s m m states [] written [] so_far (run-idle rest m (none-living m (none m tied))) in
-    (states, written, m, rw (all, append-nil states, append-nil written) at ended, tied, is)
+    (states, written, m, rw (all, append-nil states, append-nil written) at ended, tied, is, images)
 
-pub reaches-all : (first out : Option (List ℕ)) (slices : List ℕ) (s : State) (kernel : Kernel) (devices : Outside) → Reaches first slices s kernel devices out → HasRun first slices s kernel devices out
-reaches-all first out slices s kernel devices (m, states, written, told, tied, is, so_far) = (states, written, m, so_far, tied, is)
+pub reaches-all : (start : List DriveView) (first out : Option (List ℕ)) (slices : List ℕ) (s : State) (kernel : Kernel) (devices : Outside)
+    → Reaches start slices first slices s kernel devices out → HasRun start first slices s kernel devices out
+reaches-all start first out slices s kernel devices (m, states, written, told, tied, is, so_far, images) =
+    (states, written, m, so_far, tied, is, images)
 
 -- if memory was out in a slice, the output holds all that the slices before it wrote
-pub partly-before : (slices : List ℕ) (count n : ℕ) (s : State) (kernel : Kernel) (devices : Outside) (before after : World) → slice_get slices count ≡ Some n → Reaches before.out (take count slices) s kernel devices after.out → SomeLives kernel devices → ((m : State) → Represents kernel devices m → StopsSlice n m after.devices) → HasNoFault before after → RunsPartly slices s before after
-partly-before slices count n s kernel devices before after here (m, states, written, told, tied, is, so_far) some begins kept =
+pub partly-before : (start : List DriveView) (slices : List ℕ) (count n : ℕ) (s : State) (kernel : Kernel) (devices : Outside) (before after : World)
+    → slice_get slices count ≡ Some n → Reaches start slices before.out (take count slices) s kernel devices after.out → SomeLives kernel devices
+    → ((m : State) → Represents kernel devices m → StopsSlice n m after.devices) → HasNoFault before after → RunsPartly slices s before after
+partly-before start slices count n s kernel devices before after here (m, states, written, told, tied, is, so_far, images) some begins kept =
     record {
       count = count;
       states = states;
@@ -205,9 +221,12 @@ partly-before slices count n s kernel devices before after here (m, states, writ
     }
 
 -- if a slice was run and its bytes were not all passed on, the output holds those of the slices before it, and a prefix
-pub partly-after : (slices : List ℕ) (count : ℕ) (s : State) (kernel later : Kernel) (devices mid : Outside) (before after : World) (out : Option (List ℕ)) (end : SliceEnd) → count < length slices → Reaches before.out (take count slices) s kernel devices out → SomeLives kernel devices → RunsSlice (get_or slices count 0) kernel devices end later mid → (All IsObserved mid.terms → GainsPrefix out (console_bytes mid.terms) after.out) → (taken : ℕ) × (after.devices.terms ≡ emptied_front taken mid.terms) → after.devices.drives ≡ mid.drives → RunsPartly slices s before after
-partly-after slices count s kernel later devices mid before after out end within (m, states, written, told, tied, is, so_far) some steps gained (taken, left) drives =
-    let (begun, t, slice, stands) = steps m tied in
+pub partly-after : (start : List DriveView) (slices : List ℕ) (count : ℕ) (s : State) (kernel later : Kernel) (devices mid : Outside) (before after : World) (out : Option (List ℕ)) (end : SliceEnd)
+    → count < length slices → Reaches start slices before.out (take count slices) s kernel devices out → SomeLives kernel devices
+    → RunsSlice (get_or slices count 0) kernel devices end later mid → (All IsObserved mid.terms → GainsPrefix out (console_bytes mid.terms) after.out)
+    → (taken : ℕ) × (after.devices.terms ≡ emptied_front taken mid.terms) → after.devices.drives ≡ mid.drives → RunsPartly slices s before after
+partly-after start slices count s kernel later devices mid before after out end within (m, states, written, told, tied, is, so_far, images) some steps gained (taken, left) drives =
+    let (begun, t, slice, stands, kept) = steps m tied in
     let n = get_or slices count 0 in
     let here : m.terms ≡ devices.terms = ap (λ (s : State). s.terms) tied.is in
     let there : t.terms ≡ mid.terms = ap (λ (s : State). s.terms) stands.is in
@@ -231,6 +250,6 @@ partly-after slices count s kernel later devices mid before after out end within
         output = subst (λ terms. GainsPrefix (stream_with before.out written) (console_bytes terms) after.out) (sym there) part;
         taken = taken;
         terminals = left ∙ ap (λ (terms : List TerminalState). emptied_front taken terms) (sym there);
-        drives = stands.files.drives ∙ ap drive_states (sym drives);
+        drives = holds-still later mid t stands after.devices drives;
       });
     }

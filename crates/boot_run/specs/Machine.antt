@@ -1,25 +1,25 @@
 -- A run of a machine from its start on.
-use Rattle.std.specs.Prelude.{◌≡◌, ◌≢◌, ◌⊎◌, ◌<◌, ◌≤◌, ⊤, ℕ, Bool, true, false, Some, List, length, All}
+use Rattle.std.specs.Prelude.{◌≡◌, ◌≢◌, ◌⊎◌, ◌<◌, ◌≤◌, ⊤, ℕ, Bool, true, false, List, length, All}
 use Rattle.os9_base.specs.declared.limits.TheConstants.{LAST_TICK}
 use Rattle.os9_base.specs.declared.registers.TimePacket.{TimePacket}
 use Rattle.os9_outer.specs.Stream.{stream_with}
 use Rattle.civil_time.specs.CivilTime.{is_time_packet}
 use Rattle.file_drives.specs.Drives.{drive_states, media_of}
-use Rattle.file_drives.specs.Mounted.{DriveHolds}
-use Rattle.file_rules.specs.Files.{NoneFailed, OneFailed, volume_at}
+use Rattle.file_rules.specs.Files.{NoneFailed, OneFailed}
 use Rattle.file_start.specs.Start.{HaveImages, HaveVolumes}
 use Rattle.key_loading.specs.Loaded.{AreUnloaded, loaded}
 use Rattle.event_rules.specs.Start.{Refuses}
 use Rattle.event_rules.specs.declared.ends.BootFault.{BootFault}
-use Rattle.rbf_model.specs.Volume.{DiskVolume}
 use Rattle.script_text.specs.declared.script.ScriptKey.{ScriptKey}
 use Rattle.machine_model.specs.Run.{Run}
 use Rattle.machine_model.specs.Start.{Boot, Starts}
 use Rattle.machine_model.specs.State.{State, has_living}
+use Rattle.os9_kernel.specs.Changes.{KeepsImages}
 use Rattle.os9_kernel.specs.Outside.{Outside}
+use Rattle.os9_kernel.specs.Volumes.{HoldsVolumes}
 use Rattle.os9_kernel.specs.declared.new.Config.{Config}
 use Rattle.boot_run.specs.Console.{IsObserved}
-use Rattle.boot_run.specs.Slices.{RunsPartly}
+use Rattle.boot_run.specs.Slices.{ComesInto, RunsPartly}
 use Rattle.boot_run.specs.World.{World, HasNoFault, FailsToWrite}
 use Rattle.boot_run.specs.declared.machine.RunEnd.{RunEnd}
 use Rattle.boot_run.specs.declared.machine.RunEnd.TheVariants.{Ended, Living, Refused, DriveFailed, OutputFailed, NoMemory}
@@ -71,21 +71,16 @@ boot_of setup before = record {
 abbrev pub StartsLoaded : Setup → World → State → Type 0
 StartsLoaded setup before s = Starts (boot_of setup before) s
 
--- the volumes of a state are in the drives
-pub record HoldsVolumes (s : State) (after : World) : Type 0 where
-  pub counts : s.files.drives ≡ drive_states after.devices.drives
-  pub volumes : (drive : ℕ) (v : DiskVolume) → volume_at s.files drive ≡ Some v
-      → DriveHolds after.devices.drives drive v
-
 -- the machine was run over its slices to this state: the output gained what it wrote, the terminals are those at its
--- end, and the drives hold its volumes
+-- end, the drives hold its volumes, and the images that no event asked to change are as they were
 pub record RunsTo (setup : Setup) (s t : State) (before after : World) : Type 0 where
   pub states : List State
   pub written : List ℕ
   pub run : Run setup.slices s states written t
   pub output : after.out ≡ stream_with before.out written
   pub terminals : after.devices.terms ≡ t.terms
-  pub drives : HoldsVolumes t after
+  pub drives : HoldsVolumes t after.devices.drives
+  pub images : KeepsImages (ComesInto setup.slices s) states before.devices.drives after.devices.drives
 
 -- the machine was started and run to its end: a process lives then or none does, and so many slices were begun, each of
 -- which is a tick
@@ -103,11 +98,12 @@ pub record RunsFirst (setup : Setup) (before after : World) : Type 0 where
   pub starts : StartsLoaded setup before s
   pub partly : RunsPartly setup.slices s before after
 
--- nothing was run: the output and the terminals are as they were, and no drive has failed
+-- nothing was run: the output, the terminals and the media are as they were, and no drive has failed
 pub record IsUnrun (before after : World) : Type 0 where
   pub out : after.out ≡ before.out
   pub terminals : after.devices.terms ≡ before.devices.terms
   pub none_failed : NoneFailed (drive_states before.devices.drives) (drive_states after.devices.drives)
+  pub media_kept : media_of after.devices.drives ≡ media_of before.devices.drives
 
 -- what comes of a machine, by how its run ended, if the bytes of all terminals are observed
 abbrev pub ComesTo : Setup → World → World → RunEnd → Type 0

@@ -1,22 +1,37 @@
 -- What is left when slices were run.
-use Rattle.std.specs.Prelude.{◌≡◌, ◌⊎◌, ℕ, true, Option, Some, Result, List, take, slice_get, OnOk, OnErr, All}
+use Rattle.std.specs.Prelude.{◌≡◌, ◌⊎◌, ◌++◌, ℕ, true, Option, Some, Result, List, take, slice_get, OnOk, OnErr, All}
 use Rattle.os9_outer.specs.Stream.{stream_with, GainsPrefix}
-use Rattle.file_drives.specs.Drives.{drive_states}
 use Rattle.event_rules.specs.Console.{console_bytes}
 use Rattle.event_rules.specs.declared.ends.SliceEnd.{SliceEnd}
-use Rattle.machine_model.specs.Run.{Run, Slice}
+use Rattle.machine_model.specs.Run.{BeginsSlice, Run, Slice}
 use Rattle.machine_model.specs.State.{State, has_living}
 use Rattle.os9_kernel.specs.Calls.{StopsSlice}
+use Rattle.os9_kernel.specs.Changes.{KeepsImages}
 use Rattle.os9_kernel.specs.Tie.{Represents}
+use Rattle.os9_kernel.specs.Volumes.{HoldsVolumes}
 use Rattle.os9_kernel.specs.declared.kernel.Kernel.{Kernel}
 use Rattle.boot_run.specs.Console.{IsObserved, emptied_front}
 use Rattle.boot_run.specs.RunFault.{OnOutputFault, UnlessOutputFault}
 use Rattle.boot_run.specs.World.{World, HasNoFault, FailsToWrite}
 use Rattle.boot_run.specs.declared.run.RunFault.{RunFault}
 
+-- over these slices the machine comes from one state, through these states, to one in the middle of a slice
+pub record ComesInto (slices : List ℕ) (s : State) (states : List State) (t : State) : Type 0 where
+  pub count : ℕ  -- so many slices are over
+  pub passed : List State  -- the states after their events
+  pub written : List ℕ
+  pub reached : State
+  pub run : Run (take count slices) s passed written reached
+  pub n : ℕ  -- the instructions of the slice
+  pub next : slice_get slices count ≡ Some n
+  pub lives : has_living reached ≡ true
+  pub first : List State
+  pub begins : BeginsSlice n reached first t
+  pub all : states ≡ passed ++ first
+
 -- A slice was run from this state, and the output did not take all that it wrote: what was out before is followed by
--- the beginning of that. The bytes of so many terminals were taken, and all else of the devices is as the slice left
--- it.
+-- the beginning of that. The bytes of so many terminals were taken, all else of the devices is as the slice left it, and
+-- the drives hold the volumes of the state then.
 pub record BreaksOutput (n : ℕ) (s : State) (out : Option (List ℕ)) (after : World) : Type 0 where
   pub states : List State
   pub end : SliceEnd
@@ -25,7 +40,7 @@ pub record BreaksOutput (n : ℕ) (s : State) (out : Option (List ℕ)) (after :
   pub output : GainsPrefix out (console_bytes t.terms) after.out
   pub taken : ℕ
   pub terminals : after.devices.terms ≡ emptied_front taken t.terms
-  pub drives : t.files.drives ≡ drive_states after.devices.drives
+  pub drives : HoldsVolumes t after.devices.drives
 
 -- The machine went on from this state over the first of these slices, and stopped.
 pub record RunsPartly (slices : List ℕ) (s : State) (before after : World) : Type 0 where
@@ -45,10 +60,11 @@ pub record RunsPartly (slices : List ℕ) (s : State) (before after : World) : T
 pub record RunsSlices {Value : Type 0} (slices : List ℕ) (old new : Kernel) (answer : Result Value RunFault)
     (before after : World) : Type 0 where
   -- Ok: from each state that was represented there is a run over the slices to one that is represented
-  -- now, and the output gained what it writes
+  -- now, the output gained what it writes, and the images that no event asks to change are as they were
   pub run : OnOk answer ((s : State) → All IsObserved before.devices.terms → Represents old before.devices s
       → (states : List State) × (written : List ℕ) × (t : State) × Run slices s states written t
-      × Represents new after.devices t × (after.out ≡ stream_with before.out written))
+      × Represents new after.devices t × (after.out ≡ stream_with before.out written)
+      × KeepsImages (ComesInto slices s) states before.devices.drives after.devices.drives)
   -- else there is a run over the first of them
   pub partial : OnErr answer ((s : State) → All IsObserved before.devices.terms
       → Represents old before.devices s → RunsPartly slices s before after)

@@ -4,11 +4,11 @@ use Rattle.std.proofs.lemmas.List.{length-map}
 use Rattle.os9_outer.specs.TerminalState.{TerminalState, terminal_states}
 use Rattle.key_loading.specs.Loaded.{HasNoKeys, loaded}
 use Rattle.file_rules.specs.Files.{NoneFailed}
-use Rattle.file_drives.specs.Drives.{drive_states, drive_views}
+use Rattle.file_drives.specs.Drives.{drive_states, drive_views, media_of}
 use Rattle.os9_kernel.specs.Outside.{outside}
 use Rattle.boot_run.specs.Machine.{MachineCall, setup_with}
 use Rattle.boot_run.specs.World.{world_of}
-use Rattle.boot_run.proofs.MachineLemmas.{called-nothing, called-output, called-refused, called-whole, called-without_memory, drives-counted, drives-started, images-there, stands-loaded, where-refused}
+use Rattle.boot_run.proofs.MachineLemmas.{called-nothing, called-output, called-refused, called-whole, called-without_memory, drives-counted, drives-started, images-there, media-kept, stands-loaded, where-refused}
 use Rattle.boot_run.proofs.machine.run_machine.Goals as goal
 
 pub new-requires-clause-drives : goal.new-requires-clause-drives
@@ -29,7 +29,7 @@ run_slices-requires-clause-stands g c =
     let before = world_of g.H.Host c.args.host.now (outside (λ table. (g.dyn-1.0.entry table).1) c.args.devices.now.drives.items (λ table. (g.dyn-2.0.entry table).1) c.args.devices.now.terms.items) in
     let drives = ap (λ drives. drive_views (λ table. (g.dyn-1.0.entry table).1) drives.items) c.in-Ok-load_keys.ensures.drives_kept in
     let terms = c.in-Ok-load_keys.ensures.loaded ∙ ap (λ terms. loaded c.args.keys.now terms) (ap (λ terms. terminal_states (λ table. (g.dyn-2.0.entry table).1) terms.items) c.in-Ok.ensures.terms_kept) in
-    stands-loaded setup c.in-Ok.kernel before (outside (λ table. (g.dyn-1.0.entry table).1) c.new.new.devices.drives.items (λ table. (g.dyn-2.0.entry table).1) c.new.new.devices.terms.items) (outside (λ table. (g.dyn-1.0.entry table).1) c.load_keys.new.devices.drives.items (λ table. (g.dyn-2.0.entry table).1) c.load_keys.new.devices.terms.items) c.requires.terminals c.requires.time c.in-Ok.ensures.starts.drives.moves drives terms (c.in-Ok.ensures.starts.stands images have)
+    stands-loaded setup c.in-Ok.kernel before (outside (λ table. (g.dyn-1.0.entry table).1) c.new.new.devices.drives.items (λ table. (g.dyn-2.0.entry table).1) c.new.new.devices.terms.items) (outside (λ table. (g.dyn-1.0.entry table).1) c.load_keys.new.devices.drives.items (λ table. (g.dyn-2.0.entry table).1) c.load_keys.new.devices.terms.items) c.requires.terminals c.requires.time c.in-Ok.ensures.starts.drives.moves drives c.in-Ok.ensures.starts.drives.media terms (c.in-Ok.ensures.starts.stands images have)
 
 pub returns-in-Err-clause-call : goal.returns-in-Err-clause-call
 returns-in-Err-clause-call g c = λ images have.
@@ -45,7 +45,10 @@ returns-in-Err-load_keys-clause-call g c = λ images have.
     let before = world_of g.H.Host c.args.host.now (outside (λ table. (g.dyn-1.0.entry table).1) c.args.devices.now.drives.items (λ table. (g.dyn-2.0.entry table).1) c.args.devices.now.terms.items) in
     let terms = ap (λ devices. terminal_states (λ table. (g.dyn-2.0.entry table).1) devices.terms.items) c.in-Err-load_keys.ensures.kept ∙ ap (λ terms. terminal_states (λ table. (g.dyn-2.0.entry table).1) terms.items) c.in-Ok.ensures.terms_kept in
     let drives = ap (λ devices. drive_states (drive_views (λ table. (g.dyn-1.0.entry table).1) devices.drives.items)) c.in-Err-load_keys.ensures.kept in
-    called-nothing setup before (outside (λ table. (g.dyn-1.0.entry table).1) c.load_keys.new.devices.drives.items (λ table. (g.dyn-2.0.entry table).1) c.load_keys.new.devices.terms.items) (subst (NoneFailed (drive_states before.devices.drives)) (sym drives) c.in-Ok.ensures.starts.drives.moves) terms
+    let started = drive_views (λ table. (g.dyn-1.0.entry table).1) c.new.new.devices.drives.items in
+    let media = ap (λ devices. media_of (drive_views (λ table. (g.dyn-1.0.entry table).1) devices.drives.items)) c.in-Err-load_keys.ensures.kept
+    ∙ media-kept before.devices.drives started (drives-started c.args.config.images _ before.devices.drives started c.requires.volumes c.in-Ok.ensures.starts.drives) c.in-Ok.ensures.starts.drives.media in
+    called-nothing setup before (outside (λ table. (g.dyn-1.0.entry table).1) c.load_keys.new.devices.drives.items (λ table. (g.dyn-2.0.entry table).1) c.load_keys.new.devices.terms.items) (subst (NoneFailed (drive_states before.devices.drives)) (sym drives) c.in-Ok.ensures.starts.drives.moves) media terms
 
 pub returns-in-Ok-run_slices-clause-call : goal.returns-in-Ok-run_slices-clause-call
 returns-in-Ok-run_slices-clause-call g c = λ images have.
@@ -53,7 +56,7 @@ returns-in-Ok-run_slices-clause-call g c = λ images have.
     let before = world_of g.H.Host c.args.host.now (outside (λ table. (g.dyn-1.0.entry table).1) c.args.devices.now.drives.items (λ table. (g.dyn-2.0.entry table).1) c.args.devices.now.terms.items) in
     let drives = ap (λ drives. drive_views (λ table. (g.dyn-1.0.entry table).1) drives.items) c.in-Ok-load_keys.ensures.drives_kept in
     let terms = c.in-Ok-load_keys.ensures.loaded ∙ ap (λ terms. loaded c.args.keys.now terms) (ap (λ terms. terminal_states (λ table. (g.dyn-2.0.entry table).1) terms.items) c.in-Ok.ensures.terms_kept) in
-    called-whole setup c.in-Ok.kernel before (outside (λ table. (g.dyn-1.0.entry table).1) c.new.new.devices.drives.items (λ table. (g.dyn-2.0.entry table).1) c.new.new.devices.terms.items) (outside (λ table. (g.dyn-1.0.entry table).1) c.load_keys.new.devices.drives.items (λ table. (g.dyn-2.0.entry table).1) c.load_keys.new.devices.terms.items) c.requires.terminals c.requires.time c.in-Ok.ensures.starts.drives.moves drives terms (c.in-Ok.ensures.starts.stands images have) _ _ _ c.living.result c.ticks.result c.run_end.result c.in-Ok-run_slices.ensures.ran (λ t tied. c.living.ensures _ t tied) (λ t tied. c.ticks.ensures.machine _ t tied) c.run_end.ensures.idle c.run_end.ensures.lives
+    called-whole setup c.in-Ok.kernel before (outside (λ table. (g.dyn-1.0.entry table).1) c.new.new.devices.drives.items (λ table. (g.dyn-2.0.entry table).1) c.new.new.devices.terms.items) (outside (λ table. (g.dyn-1.0.entry table).1) c.load_keys.new.devices.drives.items (λ table. (g.dyn-2.0.entry table).1) c.load_keys.new.devices.terms.items) c.requires.terminals c.requires.time c.in-Ok.ensures.starts.drives.moves drives c.in-Ok.ensures.starts.drives.media terms (c.in-Ok.ensures.starts.stands images have) _ _ _ c.living.result c.ticks.result c.run_end.result c.in-Ok-run_slices.ensures.ran (λ t tied. c.living.ensures _ t tied) (λ t tied. c.ticks.ensures.machine _ t tied) c.run_end.ensures.idle c.run_end.ensures.lives
 
 pub returns-in-Err-Output-clause-call : goal.returns-in-Err-Output-clause-call
 returns-in-Err-Output-clause-call g c = λ images have.
@@ -61,7 +64,7 @@ returns-in-Err-Output-clause-call g c = λ images have.
     let before = world_of g.H.Host c.args.host.now (outside (λ table. (g.dyn-1.0.entry table).1) c.args.devices.now.drives.items (λ table. (g.dyn-2.0.entry table).1) c.args.devices.now.terms.items) in
     let drives = ap (λ drives. drive_views (λ table. (g.dyn-1.0.entry table).1) drives.items) c.in-Ok-load_keys.ensures.drives_kept in
     let terms = c.in-Ok-load_keys.ensures.loaded ∙ ap (λ terms. loaded c.args.keys.now terms) (ap (λ terms. terminal_states (λ table. (g.dyn-2.0.entry table).1) terms.items) c.in-Ok.ensures.terms_kept) in
-    called-output setup c.in-Ok.kernel before (outside (λ table. (g.dyn-1.0.entry table).1) c.new.new.devices.drives.items (λ table. (g.dyn-2.0.entry table).1) c.new.new.devices.terms.items) (outside (λ table. (g.dyn-1.0.entry table).1) c.load_keys.new.devices.drives.items (λ table. (g.dyn-2.0.entry table).1) c.load_keys.new.devices.terms.items) c.requires.terminals c.requires.time c.in-Ok.ensures.starts.drives.moves drives terms (c.in-Ok.ensures.starts.stands images have) _ _ (rw c.in-Err-Output.field-0-is at c.in-Err-Output.ensures.ran)
+    called-output setup c.in-Ok.kernel before (outside (λ table. (g.dyn-1.0.entry table).1) c.new.new.devices.drives.items (λ table. (g.dyn-2.0.entry table).1) c.new.new.devices.terms.items) (outside (λ table. (g.dyn-1.0.entry table).1) c.load_keys.new.devices.drives.items (λ table. (g.dyn-2.0.entry table).1) c.load_keys.new.devices.terms.items) c.requires.terminals c.requires.time c.in-Ok.ensures.starts.drives.moves drives c.in-Ok.ensures.starts.drives.media terms (c.in-Ok.ensures.starts.stands images have) _ _ (rw c.in-Err-Output.field-0-is at c.in-Err-Output.ensures.ran)
 
 pub returns-clause-call : goal.returns-clause-call
 returns-clause-call g c = λ images have.
@@ -69,7 +72,7 @@ returns-clause-call g c = λ images have.
     let before = world_of g.H.Host c.args.host.now (outside (λ table. (g.dyn-1.0.entry table).1) c.args.devices.now.drives.items (λ table. (g.dyn-2.0.entry table).1) c.args.devices.now.terms.items) in
     let drives = ap (λ drives. drive_views (λ table. (g.dyn-1.0.entry table).1) drives.items) c.in-Ok-load_keys.ensures.drives_kept in
     let terms = c.in-Ok-load_keys.ensures.loaded ∙ ap (λ terms. loaded c.args.keys.now terms) (ap (λ terms. terminal_states (λ table. (g.dyn-2.0.entry table).1) terms.items) c.in-Ok.ensures.terms_kept) in
-    called-without_memory setup c.in-Ok.kernel before (outside (λ table. (g.dyn-1.0.entry table).1) c.new.new.devices.drives.items (λ table. (g.dyn-2.0.entry table).1) c.new.new.devices.terms.items) (outside (λ table. (g.dyn-1.0.entry table).1) c.load_keys.new.devices.drives.items (λ table. (g.dyn-2.0.entry table).1) c.load_keys.new.devices.terms.items) c.requires.terminals c.requires.time c.in-Ok.ensures.starts.drives.moves drives terms (c.in-Ok.ensures.starts.stands images have) _ _ (rw c.in-Err-NoMemory.field-0-is at c.in-Err-NoMemory.ensures.ran)
+    called-without_memory setup c.in-Ok.kernel before (outside (λ table. (g.dyn-1.0.entry table).1) c.new.new.devices.drives.items (λ table. (g.dyn-2.0.entry table).1) c.new.new.devices.terms.items) (outside (λ table. (g.dyn-1.0.entry table).1) c.load_keys.new.devices.drives.items (λ table. (g.dyn-2.0.entry table).1) c.load_keys.new.devices.terms.items) c.requires.terminals c.requires.time c.in-Ok.ensures.starts.drives.moves drives c.in-Ok.ensures.starts.drives.media terms (c.in-Ok.ensures.starts.stands images have) _ _ (rw c.in-Err-NoMemory.field-0-is at c.in-Err-NoMemory.ensures.ran)
 
 -- ---- as many drives
 

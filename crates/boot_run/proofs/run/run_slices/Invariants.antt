@@ -17,7 +17,8 @@ invariant-loop-n g l =
     record {
       few : ticks l.kernel + (length l.slices - l.n-index) < 4294000000;
       stands : Stands l.kernel now;
-      reaches : (s : State) → All IsObserved before.terms → Represents l.initial.kernel before s → Reaches (g.H.Host.bytes_out l.initial.host) (take l.n-index l.slices) s l.kernel now (g.H.Host.bytes_out l.host);
+      reaches : (s : State) → All IsObserved before.terms → Represents l.initial.kernel before s
+          → Reaches before.drives l.slices (g.H.Host.bytes_out l.initial.host) (take l.n-index l.slices) s l.kernel now (g.H.Host.bytes_out l.host);
       count : HasNoFault (world_of g.H.Host l.initial.host nowhere) (world_of g.H.Host l.host nowhere);
       files : g.H.Host.file_map l.host ≡ g.H.Host.file_map l.initial.host;
       notes : notes_of g.H.Host l.host ≡ notes_of g.H.Host l.initial.host;
