@@ -1,10 +1,10 @@
 -- What a run with images in the drives says where they are out again.
-use Rattle.std.proofs.Common.{◌≡◌, ◌⊎◌, ◌≤◌, ℕ, zero, suc, Bool, true, false, Option, Some, List, [], ◌∷◌, length, map, slice_get, refl, sym, ap, subst, ◌∙◌, All, inl, inr}
+use Rattle.std.proofs.Common.{◌≡◌, ◌⊎◌, ◌≤◌, ℕ, zero, suc, Bool, true, false, Option, Some, None, List, [], ◌∷◌, length, map, take, slice_get, refl, sym, ap, subst, ◌∙◌, All, inl, inr, arith}
 use Rattle.std.proofs.lemmas.List.{length-map}
 use Rattle.std.proofs.lemmas.List.Elements.{All-head, All-tail}
 use Rattle.std.proofs.lemmas.Option.{none-some, same_Some}
 use Rattle.rbf_model.specs.Volume.{DiskVolume, Vol}
-use Rattle.file_rules.specs.Files.{DriveState, NoneFailed, OneFailed}
+use Rattle.file_rules.specs.Files.{DriveState, NoneFailed, OneFailed, volume_at}
 use Rattle.file_drives.specs.Drives.{DriveView, drive_states, media_of}
 use Rattle.file_drives.specs.Mounted.{DriveHolds}
 use Rattle.file_drives.proofs.DriveLemmas.{media-there}
@@ -12,11 +12,12 @@ use Rattle.file_start.specs.Start.{HaveImages, HaveVolumes}
 use Rattle.machine_model.specs.Start.{Starts}
 use Rattle.machine_model.specs.State.{State}
 use Rattle.disk_ends.proofs.Images.{images-keep-ends}
-use Rattle.disk_ends.proofs.Runs.{run-keeps-ends}
-use Rattle.disk_ends.proofs.Starts.{start-has-images}
+use Rattle.disk_ends.proofs.Runs.{first-events-keep-ends, run-keeps-ends, slice-keeps-ends}
+use Rattle.disk_ends.proofs.Starts.{start-has-images, start-has-no-more}
 use Rattle.os9_kernel.specs.Breaks.{BreaksEvent}
 use Rattle.os9_kernel.specs.Calls.{StopsSlice}
 use Rattle.os9_kernel.specs.Outside.{Outside}
+use Rattle.os9_kernel.specs.Volumes.{HoldsVolumes}
 use Rattle.os9_outer.specs.Stream.{stream_with}
 use Rattle.os9_outer.specs.TerminalState.{TerminalState}
 use Rattle.boot_run.specs.Machine.{ComesTo, FailsToMount, IsUnrun, LeavesUnrun, MachineCall, RunsFirst, RunsTo, RunsWhole, Setup, StartsLoaded, boot_of}
@@ -26,7 +27,7 @@ use Rattle.boot_run.specs.declared.machine.RunEnd.{RunEnd}
 use Rattle.boot_run.specs.declared.machine.RunEnd.TheVariants.{Ended, Living, Refused, DriveFailed, OutputFailed, NoMemory}
 use Rattle.boot_images.specs.BootFile.{IsVolume}
 use Rattle.boot_images.specs.Drives.{HaveRoom, IsEmpty, TakesImages, holding, without_media}
-use Rattle.boot_images.specs.Outcome.{EndsWithImages, HasOutcome, IsImageOf, RunGives, RunsImages}
+use Rattle.boot_images.specs.Outcome.{EndsWithImages, HasOutcome, IsImageOf, KeepsUnchanged, RunGives, RunsImages, with_images_in}
 use Rattle.boot_images.specs.Ready.{AreEmptyAgain}
 use Rattle.boot_images.proofs.DriveLemmas.{counts-holding, counts-without, empty-without, given-back, holding-at, holding-view, media-without}
 
@@ -76,9 +77,20 @@ empty-again new before ran left many taken = record {
 abbrev pub with_drives : World → List DriveView → World
 with_drives world drives = record world { devices = record { drives = drives; terms = world.devices.terms } }
 
--- as the world is with these images in its drives
-abbrev pub with_images_in : List (List ℕ) → World → World
-with_images_in images world = with_drives world (holding images world.devices.drives)
+-- ---- images of as many drives
+
+-- there is one of each at a place, or none
+both-there : (one other : List (List ℕ)) → length one ≡ length other → (n : ℕ)
+    → ((slice_get one n ≡ None) × (slice_get other n ≡ None)) ⊎ ((x : List ℕ) × (y : List ℕ) × (slice_get one n ≡ Some x) × (slice_get other n ≡ Some y))
+both-there [] [] same n = inl (refl, refl)
+both-there [] (y ∷ ys) same n = absurd (omega (arith, same))
+both-there (x ∷ xs) [] same n = absurd (omega (arith, same))
+both-there (x ∷ xs) (y ∷ ys) same zero = inr (x, y, refl, refl)
+both-there (x ∷ xs) (y ∷ ys) same (suc n) = both-there xs ys (omega (arith, same)) n
+
+-- no drive has got a volume
+abbrev GetsNone : State → State → Type 0
+GetsNone s t = (drive : ℕ) → volume_at s.files drive ≡ None → volume_at t.files drive ≡ None
 
 module _ (setup : Setup) (before ran : World) (new : List (List ℕ)) (drives : List DriveView) (room : HaveRoom (length setup.images) before.devices.drives) (as_many : length new ≡ length setup.images) (many : length ran.devices.drives ≡ length before.devices.drives) (taken : TakesImages new ran.devices.drives drives) where
   -- the world with the images in the drives, and the one where they are out again
@@ -100,62 +112,99 @@ module _ (setup : Setup) (before ran : World) (new : List (List ℕ)) (drives : 
   starts-before : (s : State) → StartsLoaded setup held s → StartsLoaded setup before s
   starts-before s it = subst (λ (states : List DriveState). Starts (record (boot_of setup before) { drives = states }) s) before-counted it
 
-  breaks-after : (s : State) → BreaksEvent s ran.devices → BreaksEvent s after.devices
-  breaks-after s it = record {
-    p = it.p;
-    chosen = it.chosen;
-    lives = it.lives;
-    code = it.code;
-    act = it.act;
-    call = it.call;
-    is_call = it.is_call;
-    now = it.now;
-    is_now = it.is_now;
-    lacks = it.lacks;
-    drives = it.drives ∙ sym after-counted;
-  }
+  -- the world with the images that were taken out in the drives again
+  abbrev again : World
+  again = with_images_in new after
 
-  stops-after : (n : ℕ) (s : State) → StopsSlice n s ran.devices → StopsSlice n s after.devices
-  stops-after n s (inl (breaks, counted)) = inl (breaks, counted ∙ sym after-counted)
-  stops-after n s (inr (states, t, begins, breaks)) = inr (states, t, begins, breaks-after t breaks)
+  enough : length new ≤ length drives
+  enough = omega (arith, as_many, room.enough, many, ap length taken.left, length-map ran.devices.drives without_media)
 
-  output-after : (n : ℕ) (s : State) (out : Option (List ℕ)) → BreaksOutput n s out ran → BreaksOutput n s out after
-  output-after n s out it = record {
-    states = it.states;
-    end = it.end;
-    t = it.t;
-    slice = it.slice;
-    output = it.output;
-    taken = it.taken;
-    terminals = it.terminals;
-    drives = it.drives ∙ sym after-counted;
-  }
+  -- ---- states that hold their volumes still
 
-  partly-after : (s : State) → RunsPartly setup.slices s held ran → RunsPartly setup.slices s before after
-  partly-after s it = record {
-    count = it.count;
-    states = it.states;
-    written = it.written;
-    reached = it.reached;
-    run = it.run;
-    n = it.n;
-    next = it.next;
-    lives = it.lives;
-    stopped = by it.stopped;
-  }
-    where
-      by : (StopsSlice it.n it.reached ran.devices × (ran.out ≡ stream_with before.out it.written) × HasNoFault held ran) ⊎ BreaksOutput it.n it.reached (stream_with before.out it.written) ran → (StopsSlice it.n it.reached after.devices × (after.out ≡ stream_with before.out it.written) × HasNoFault before after) ⊎ BreaksOutput it.n it.reached (stream_with before.out it.written) after
-      by (inl (stops, gained, kept)) = inl (stops-after it.n it.reached stops, gained, kept)
-      by (inr breaks) = inr (output-after it.n it.reached (stream_with before.out it.written) breaks)
+  module _ (s : State) (starts : StartsLoaded setup held s) where
+    -- a drive with a volume has an image
+    has-image : (t : State) → GetsNone s t → (drive : ℕ) (v : DiskVolume) → volume_at t.files drive ≡ Some v → (image : List ℕ) × (slice_get new drive ≡ Some image)
+    has-image t none drive v is = elim (both-there new setup.images as_many drive) [
+      | inl neither ↦ absurd (none-some v (sym (none drive (start-has-no-more _ s starts drive neither.1)) ∙ is))
+      | inr there ↦ (there.0, there.2)
+    ]
 
-  runs-first : RunsFirst setup held ran → RunsFirst setup before after
-  runs-first it = record { s = it.s; starts = starts-before it.s it.starts; partly = partly-after it.s it.partly }
+    holds-again : (t : State) → GetsNone s t → HoldsVolumes t ran.devices.drives → HoldsVolumes t again.devices.drives
+    holds-again t none it = record {
+      counts = it.counts ∙ sym (counts-holding new drives ∙ after-counted);
+      volumes = λ drive v is.
+          let holds = it.volumes drive v is in
+          let (image, there) = has-image t none drive v is in
+          let same : image ≡ holds.on.image = taken.each drive image holds.on.image there (media-there ran.devices.drives drive holds.view holds.is ∙ holds.on.is) in
+          let (view, at, in_drive) = holding-view new drives enough drive image there in
+          record { view = view; is = at; on = record { image = image; is = in_drive; vol = subst (λ (image : List ℕ). Vol image v) (sym same) holds.on.vol } };
+    }
+
+    breaks-again : (t : State) → GetsNone s t → BreaksEvent t ran.devices → BreaksEvent t again.devices
+    breaks-again t none it = record {
+      p = it.p;
+      chosen = it.chosen;
+      lives = it.lives;
+      code = it.code;
+      act = it.act;
+      call = it.call;
+      is_call = it.is_call;
+      now = it.now;
+      is_now = it.is_now;
+      lacks = it.lacks;
+      drives = holds-again t none it.drives;
+    }
+
+    stops-again : (n : ℕ) (t : State) → GetsNone s t → StopsSlice n t ran.devices → StopsSlice n t again.devices
+    stops-again n t none (inl (breaks, holds)) = inl (breaks, holds-again t none holds)
+    stops-again n t none (inr (states, u, begins, breaks)) =
+        inr (states, u, begins, breaks-again u (λ drive is. (first-events-keep-ends n t u states begins).none drive (none drive is)) breaks)
+
+    output-again : (n : ℕ) (t : State) (out : Option (List ℕ)) → GetsNone s t → BreaksOutput n t out ran → BreaksOutput n t out again
+    output-again n t out none it = record {
+      states = it.states;
+      end = it.end;
+      t = it.t;
+      slice = it.slice;
+      output = it.output;
+      taken = it.taken;
+      terminals = it.terminals;
+      drives = holds-again it.t (λ drive is. (slice-keeps-ends n t it.t it.states it.end it.slice).none drive (none drive is)) it.drives;
+    }
+
+    partly-again : RunsPartly setup.slices s held ran → RunsPartly setup.slices s before again
+    partly-again it = record {
+      count = it.count;
+      states = it.states;
+      written = it.written;
+      reached = it.reached;
+      run = it.run;
+      n = it.n;
+      next = it.next;
+      lives = it.lives;
+      stopped = by it.stopped;
+    }
+      where
+        none : GetsNone s it.reached
+        none = (run-keeps-ends (take it.count setup.slices) it.written s it.reached it.states it.run).none
+
+        by : (StopsSlice it.n it.reached ran.devices × (ran.out ≡ stream_with before.out it.written) × HasNoFault held ran) ⊎ BreaksOutput it.n it.reached (stream_with before.out it.written) ran
+            → (StopsSlice it.n it.reached again.devices × (again.out ≡ stream_with before.out it.written) × HasNoFault before again) ⊎ BreaksOutput it.n it.reached (stream_with before.out it.written) again
+        by (inl (stops, gained, kept)) = inl (stops-again it.n it.reached none stops, gained, kept)
+        by (inr breaks) = inr (output-again it.n it.reached (stream_with before.out it.written) none breaks)
+
+  runs-first : RunsFirst setup held ran → RunsFirst setup before again
+  runs-first it = record { s = it.s; starts = starts-before it.s it.starts; partly = partly-again it.s it.starts it.partly }
+
+  media-again : media_of drives ≡ media_of before.devices.drives
+  media-again = ap media_of taken.left ∙ media-without before.devices.drives ran.devices.drives room.empty many
 
   unrun-after : IsUnrun held ran → IsUnrun before after
   unrun-after it = record {
     out = it.out;
     terminals = it.terminals;
     none_failed = subst (λ (states : List DriveState). NoneFailed states (drive_states drives)) before-counted (subst (NoneFailed (drive_states held.devices.drives)) (sym after-counted) it.none_failed);
+    media_kept = media-again;
   }
 
   -- ---- a whole run
@@ -173,6 +222,15 @@ module _ (setup : Setup) (before ran : World) (new : List (List ℕ)) (drives : 
           back = images-keep-ends _ setup.slices runs.written s t runs.states starts runs.run drive was now w at last (subst (λ (image : List ℕ). Vol image w) (sym is) holds.on.vol);
         }
 
+    unchanged : KeepsUnchanged setup s runs.states new
+    unchanged drive none = elim (both-there new setup.images as_many drive) [
+      | inl neither ↦ neither.0 ∙ sym neither.1
+      | inr there ↦
+          there.2
+          ∙ ap Some (taken.each drive there.0 there.1 there.2 (runs.images drive none ∙ holding-at setup.images before.devices.drives room.enough drive there.1 there.3))
+          ∙ sym there.3
+    ]
+
     has-outcome : HasOutcome setup t runs.written new before after
     has-outcome = record {
       s = s;
@@ -182,6 +240,7 @@ module _ (setup : Setup) (before ran : World) (new : List (List ℕ)) (drives : 
       terminals = runs.terminals;
       drives = after-counted ∙ sym runs.drives.counts;
       volumes = record { as_many = as_many; each = image-of };
+      unchanged = unchanged;
     }
 
   ends-with : (lives : Bool) (begun : ℕ) → RunsWhole setup lives begun held ran → EndsWithImages setup lives begun new before after
@@ -213,7 +272,7 @@ module _ (setup : Setup) (before ran : World) (new : List (List ℕ)) (drives : 
   mount-failed : (drive number : ℕ) → FailsToMount drive number held ran → FailsToMount drive number before after
   mount-failed drive number it = record {
     failed = subst (λ (states : List DriveState). OneFailed drive number states (drive_states drives)) before-counted (subst (OneFailed drive number (drive_states held.devices.drives)) (sym after-counted) it.failed);
-    media_kept = ap media_of taken.left ∙ media-without before.devices.drives ran.devices.drives room.empty many;
+    media_kept = media-again;
     terms_kept = it.terms_kept;
     out_kept = it.out_kept;
   }

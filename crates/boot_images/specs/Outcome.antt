@@ -11,10 +11,13 @@ use Rattle.machine_model.specs.Run.{Run}
 use Rattle.machine_model.specs.State.{State, has_living}
 use Rattle.disk_ends.specs.Images.{IsWrittenBack}
 use Rattle.boot_run.specs.Console.{IsObserved}
+use Rattle.os9_kernel.specs.Changes.{NoneAsks}
 use Rattle.boot_run.specs.Machine.{IsUnrun, LeavesUnrun, RunsFirst, Setup, StartsLoaded}
+use Rattle.boot_run.specs.Slices.{ComesInto}
 use Rattle.boot_run.specs.World.{World, FailsToWrite, HasNoFault}
 use Rattle.boot_run.specs.declared.machine.RunEnd.{RunEnd}
 use Rattle.boot_run.specs.declared.machine.RunEnd.TheVariants.{Ended, Living, Refused, DriveFailed, OutputFailed, NoMemory}
+use Rattle.boot_images.specs.Drives.{holding}
 use Rattle.boot_images.specs.Ready.{AreEmptyAgain}
 use Rattle.boot_images.specs.declared.machine.Start.{Start}
 
@@ -31,6 +34,12 @@ pub record AreImagesOf (t : State) (old new : List (List ℕ)) : Type 0 where
   pub each : (drive : ℕ) (before after : List ℕ) → slice_get old drive ≡ Some before
       → slice_get new drive ≡ Some after → IsImageOf t drive before after
 
+-- an image is as it was, byte for byte, if no event of a run asks for a change of the volume in its drive
+abbrev pub KeepsUnchanged : Setup → State → List State → List (List ℕ) → Type 0
+KeepsUnchanged setup s states images =
+    (drive : ℕ) → NoneAsks (ComesInto setup.slices s) states drive
+    → slice_get images drive ≡ slice_get setup.images drive
+
 -- The machine that is set up so ran over all its slices: from the state in which it starts, with the devices of the
 -- call, through the states of a run to this one. Its terminals and the states of its drives are those that are there
 -- now.
@@ -43,6 +52,7 @@ pub record HasOutcome (setup : Setup) (t : State) (written : List ℕ) (images :
   pub terminals : after.devices.terms ≡ t.terms
   pub drives : drive_states after.devices.drives ≡ t.files.drives
   pub volumes : AreImagesOf t setup.images images
+  pub unchanged : KeepsUnchanged setup s states images
 
 -- it ran to its end: a process lives then or none does, so many slices were begun, each of which is a tick, and the
 -- output has gained what it wrote
@@ -55,15 +65,28 @@ pub record EndsWithImages (setup : Setup) (lives : Bool) (begun : ℕ) (images :
   pub ticks : begun ≡ t.inner.tick
   pub output : after.out ≡ stream_with before.out written
 
--- what comes of it, by how its run ended
+-- as the world was with these images in its first drives, before they were taken out
+abbrev pub with_images_in : List (List ℕ) → World → World
+with_images_in images world = record world {
+  devices = record { drives = holding images world.devices.drives; terms = world.devices.terms };
+}
+
+-- it was run over the first of its slices, and these images were in its drives then, which hold the volumes of the state
+-- in which it stopped
+pub record StopsWithImages (setup : Setup) (before after : World) : Type 0 where
+  pub images : List (List ℕ)
+  pub first : RunsFirst setup before (with_images_in images after)
+
+-- what comes of it, by how its run ended; where it stopped before its end, the images hold the volumes of the state then
 abbrev pub RunGives : Setup → List (List ℕ) → World → World → RunEnd → Type 0
 RunGives setup images before after (Ended begun) = EndsWithImages setup false begun images before after
 RunGives setup images before after (Living begun) = EndsWithImages setup true begun images before after
 RunGives setup images before after (Refused fault) = Refuses setup.file setup.blocks fault
 RunGives setup images before after (DriveFailed drive number) =
     (fault : BootFault) → ¬ Refuses setup.file setup.blocks fault
-RunGives setup images before after OutputFailed = RunsFirst setup before after
-RunGives setup images before after NoMemory = IsUnrun before after ⊎ RunsFirst setup before after
+RunGives setup images before after OutputFailed = RunsFirst setup before (with_images_in images after)
+RunGives setup images before after NoMemory =
+    IsUnrun before after ⊎ RunsFirst setup before (with_images_in images after)
 
 -- A machine was started with the images in its drives, run over its slices, and these images were taken out again.
 pub record RunsImages (setup : Setup) (images : List (List ℕ)) (before after : World) (end : RunEnd) : Type 0 where
