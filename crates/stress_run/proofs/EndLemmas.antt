@@ -2,7 +2,7 @@
 use Rattle.std.proofs.Common.{◌≡◌, ◌≢◌, ◌⊎◌, ℕ, ◌<◌, Bool, true, false, Option, Some, None, Ok, Err, List, ◌++◌, All, slice_get, inl, inr, refl, sym, ap, ◌∙◌, subst, arith, append_assoc}
 use Rattle.std.specs.Prelude.{Result}
 use Rattle.std.proofs.lemmas.List.{append-nil}
-use Rattle.boot_images.specs.Outcome.{EndsWithImages, IsImageOf, RunsImages}
+use Rattle.boot_images.specs.Outcome.{EndsWithImages, IsImageOf, RunsImages, with_images_in}
 use Rattle.boot_run.specs.Console.{IsObserved}
 use Rattle.boot_run.specs.Machine.{IsUnrun, RunsFirst}
 use Rattle.boot_run.specs.World.{FailsToWrite, HasNoFault, World, world_of}
@@ -112,6 +112,7 @@ module _ {Host : Type 0} (members : Ghosts Host) (seed : ℕ) (below : seed < 21
         terminals = gives.outcome.terminals;
         drives = gives.outcome.drives;
         volumes = gives.outcome.volumes;
+        unchanged = gives.outcome.unchanged;
       };
       is = image-is.is;
     }
@@ -223,7 +224,7 @@ module _ {Host : Type 0} (members : Ghosts Host) (seed : ℕ) (below : seed < 21
       }) tells
   called Run.OutputFailed end told run tells =
       without-counts OutputFailed end told (record {
-        comes = λ observed. inl (run.gives observed);
+        comes = λ observed. inl (record { images = images; first = run.gives observed });
         devices = tt;
         output_fault = λ same. run.output_fault refl;
         no_fault = λ other. absurd (other refl);
@@ -238,15 +239,15 @@ module _ {Host : Type 0} (members : Ghosts Host) (seed : ℕ) (below : seed < 21
         files_kept = run.files_kept;
       }) tells
     where
-      stopped : IsUnrun World-before World-ran ⊎ RunsFirst (stress_setup seed) World-before World-ran → IsUnrun World-before World-ran ⊎ StressStops seed World-before World-ran
+      stopped : IsUnrun World-before World-ran ⊎ RunsFirst (stress_setup seed) World-before (with_images_in images World-ran) → IsUnrun World-before World-ran ⊎ StressStops seed World-before World-ran
       stopped (inl unrun) = inl unrun
-      stopped (inr part) = inr (inl part)
+      stopped (inr part) = inr (inl (record { images = images; first = part }))
 
 -- ---- nothing was run
 
 pub called-nothing : (seed : ℕ) (world : World) → StressCall seed world world NoMemory
 called-nothing seed world = record {
-  comes = λ observed. inl (record { out = refl; terminals = refl; none_failed = refl });
+  comes = λ observed. inl (record { out = refl; terminals = refl; none_failed = refl; media_kept = refl });
   devices = tt;
   output_fault = λ same. cc;
   no_fault = λ other. (refl, refl, refl);

@@ -10,9 +10,9 @@ use Rattle.guest_mods.specs.Random.{slice_lengths}
 use Rattle.guest_mods.specs.Stress.{stress_file}
 use Rattle.file_rules.specs.Files.{volume_at}
 use Rattle.machine_model.specs.State.{State, has_living}
-use Rattle.boot_images.specs.Outcome.{HasOutcome}
+use Rattle.boot_images.specs.Outcome.{HasOutcome, StopsWithImages}
 use Rattle.boot_run.specs.Console.{IsObserved}
-use Rattle.boot_run.specs.Machine.{FailsToMount, IsUnrun, RunsFirst, Setup}
+use Rattle.boot_run.specs.Machine.{FailsToMount, IsUnrun, Setup}
 use Rattle.boot_run.specs.World.{World, FailsToWrite, HasNoFault}
 use Rattle.stress_run.specs.declared.stress.StressEnd.{StressEnd}
 use Rattle.stress_run.specs.declared.stress.StressEnd.TheVariants.{Ended, Living, DriveFailed, OutputFailed, NoMemory}
@@ -64,7 +64,7 @@ pub record StressUnprinted (seed : ℕ) (before after : World) : Type 0 where
 
 -- it stopped in its run, or behind it
 abbrev pub StressStops : ℕ → World → World → Type 0
-StressStops seed before after = RunsFirst (stress_setup seed) before after ⊎ StressUnprinted seed before after
+StressStops seed before after = StopsWithImages (stress_setup seed) before after ⊎ StressUnprinted seed before after
 
 -- what comes of a stress, by how it ends
 abbrev pub StressComesTo : ℕ → World → World → StressEnd → Type 0
