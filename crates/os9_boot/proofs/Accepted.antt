@@ -71,6 +71,7 @@ module _ (files : Files) (boot : RunWords) (before after : World) (accepted : Is
     output = ran.output;
     images = ran.images;
     volumes = ran.outcome.volumes;
+    unchanged = ran.outcome.unchanged;
     disks = ran.files;
     terminals = ran.outcome.terminals;
     drives = ran.outcome.drives;

@@ -10,7 +10,7 @@ use Rattle.os9_words.specs.Command.{command_of}
 use Rattle.os9_words.specs.Lines.{no_memory_line, words_line}
 use Rattle.os9_words.specs.Notes.{Notes, notes_of}
 use Rattle.os9_words.specs.Streams.{ChangesErrOnly, WritesErr}
-use Rattle.file_drives.specs.Drives.{drive_states}
+use Rattle.file_drives.specs.Drives.{drive_states, media_of}
 use Rattle.os9_kernel.specs.Outside.{Outside}
 use Rattle.boot_run.specs.Console.{IsObserved}
 use Rattle.boot_run.specs.Machine.{IsUnrun}
@@ -55,6 +55,7 @@ still-unrun before after same = record {
   out = ap (λ (w : World). w.out) same;
   terminals = ap (λ (w : World). w.devices.terms) same;
   none_failed = ap (λ (w : World). drive_states w.devices.drives) same;
+  media_kept = ap (λ (w : World). media_of w.devices.drives) same;
 }
 
 pub still-undone : (before after : World) → after ≡ before → IsUndone before after

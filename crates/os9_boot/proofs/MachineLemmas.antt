@@ -8,7 +8,7 @@ use Rattle.os9_kernel.specs.Outside.{Outside}
 use Rattle.machine_model.specs.State.{State}
 use Rattle.boot_images.specs.ImageWrites.{FailsAt}
 use Rattle.boot_images.specs.Images.{WritesAll, WritesUpTo}
-use Rattle.boot_images.specs.Outcome.{EndsWithImages, HasOutcome, RunsImages}
+use Rattle.boot_images.specs.Outcome.{EndsWithImages, HasOutcome, RunsImages, with_images_in}
 use Rattle.boot_run.specs.Console.{IsObserved}
 use Rattle.boot_run.specs.Machine.{IsUnrun, RunsFirst, Setup}
 use Rattle.boot_run.specs.World.{World, FailsToWrite, HasNoFault}
@@ -66,6 +66,7 @@ outcome-after setup t written images before mid after same outcome = record {
   terminals = ap (λ (devices : Outside). devices.terms) same ∙ outcome.terminals;
   drives = ap (λ (devices : Outside). drive_states devices.drives) same ∙ outcome.drives;
   volumes = outcome.volumes;
+  unchanged = outcome.unchanged;
 }
 
 -- ---- a run that came to its end
@@ -194,7 +195,7 @@ failed-to-mount setup names images before mid drive number run = record {
 unwritten-output : (setup : Setup) (names images : List (List ℕ)) (before mid : World) → RunsImages setup images before mid Run.OutputFailed → MachineEnds setup names before mid CannotWrite
 unwritten-output setup names images before mid run = record {
   kind = tt;
-  comes = λ observed. record { first = run.gives observed; files = run.files_kept };
+  comes = λ observed. record { first = record { images = images; first = run.gives observed }; files = run.files_kept };
   devices = tt;
   host = run.output_fault refl;
   files = run.files_kept;
@@ -209,9 +210,9 @@ out-of-memory-then setup names images before mid run = record {
   files = same-changes names before.files mid.files run.files_kept;
 }
   where
-    by : IsUnrun before mid ⊎ RunsFirst setup before mid → MachineComesTo setup names before mid NoMemory
+    by : IsUnrun before mid ⊎ RunsFirst setup before (with_images_in images mid) → MachineComesTo setup names before mid NoMemory
     by (inl unrun) = inl (record { unrun = unrun; files = run.files_kept })
-    by (inr first) = inr (inl (record { first = first; files = run.files_kept }))
+    by (inr first) = inr (inl (record { first = record { images = images; first = first }; files = run.files_kept }))
 
 -- a machine has run, and its images were written where it came to its end
 pub machine-ends : (setup : Setup) (names images : List (List ℕ)) (before mid after : World) (end : RunEnd) (answer : End) → RunsImages setup images before mid end → EndsBoot names images end answer mid after → MachineEnds setup names before after answer

@@ -11,8 +11,8 @@ use Rattle.machine_model.specs.State.{State, has_living}
 use Rattle.os9_words.specs.declared.command.RunWords.{RunWords}
 use Rattle.boot_images.specs.BootFile.{IsFirstFault}
 use Rattle.boot_images.specs.Images.{WritesAll, WritesUpTo, images_of}
-use Rattle.boot_images.specs.Outcome.{HasOutcome}
-use Rattle.boot_run.specs.Machine.{IsUnrun, RunsFirst, Setup}
+use Rattle.boot_images.specs.Outcome.{HasOutcome, StopsWithImages}
+use Rattle.boot_run.specs.Machine.{IsUnrun, Setup}
 use Rattle.boot_run.specs.World.{World}
 use Rattle.os9_boot.specs.declared.status.End.{End}
 use Rattle.os9_boot.specs.declared.status.End.TheVariants.{Ended, Living, CannotRead, CannotWrite, CannotWriteImage, NoMemory, BadImage, BadText, BadBounds, DriveFailed}
@@ -49,9 +49,10 @@ pub record IsUndone (before after : World) : Type 0 where
   pub unrun : IsUnrun before after
   pub files : after.files ≡ before.files
 
--- it ran over the first of its slices, and no image was written
+-- it ran over the first of its slices, its images hold the volumes of the state in which it stopped, and none was
+-- written
 pub record RunsUnended (setup : Setup) (before after : World) : Type 0 where
-  pub first : RunsFirst setup before after
+  pub first : StopsWithImages setup before after
   pub files : after.files ≡ before.files
 
 -- what comes of it, by how the command ends that writes its images under these names

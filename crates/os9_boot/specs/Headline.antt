@@ -12,7 +12,7 @@ use Rattle.file_drives.specs.Drives.{drive_states}
 use Rattle.boot_run.specs.Machine.{Setup, StartsLoaded}
 use Rattle.boot_run.specs.World.{World}
 use Rattle.boot_images.specs.Images.{WritesAll}
-use Rattle.boot_images.specs.Outcome.{AreImagesOf}
+use Rattle.boot_images.specs.Outcome.{AreImagesOf, KeepsUnchanged}
 use Rattle.os9_boot.specs.Setup.{SetsUpBoot}
 
 -- the texts and the images are accepted, the first image has a boot file, and that is not refused
@@ -22,7 +22,8 @@ pub record IsAccepted (files : Files) (boot : RunWords) (terminals : ℕ) : Type
   pub starts : (fault : BootFault) → ¬ Refuses setup.file setup.blocks fault
 
 -- A boot is one run of the machine: it has put out what that writes, its images hold the volumes of the last state, and
--- the status says whether a process lives then. The terminals and the states of the drives are those of that state.
+-- the status says whether a process lives then. An image is as it was, byte for byte, if no event of the run asks for a
+-- change of the volume in its drive. The terminals and the states of the drives are those of the last state.
 pub record IsOneRun (files : Files) (boot : RunWords) (before after : World) (status : ℕ) : Type 0 where
   pub setup : Setup
   pub sets : SetsUpBoot files boot (length before.devices.terms) setup
@@ -35,6 +36,7 @@ pub record IsOneRun (files : Files) (boot : RunWords) (before after : World) (st
   pub output : after.out ≡ stream_with before.out written
   pub images : List (List ℕ)
   pub volumes : AreImagesOf t setup.images images
+  pub unchanged : KeepsUnchanged setup s states images
   pub disks : IfObserved (WritesAll boot.files images) before.files after.files
   pub terminals : after.devices.terms ≡ t.terms
   pub drives : drive_states after.devices.drives ≡ t.files.drives
