@@ -1,0 +1,12 @@
+pub mod Counts
+pub mod Ways
+pub mod Placed
+pub mod Made
+pub mod Filled
+pub mod Founded
+pub mod Removed
+pub mod Opened
+pub mod Lines
+pub mod Names
+pub mod Turns
+pub mod Tails

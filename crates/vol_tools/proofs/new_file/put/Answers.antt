@@ -1,0 +1,38 @@
+-- The path is read, and the file is put at its place.
+use Rattle.std.proofs.Common.{refl, sym, ap, ◌∙◌, option_map}
+use Rattle.std.proofs.lemmas.Result.{err_from_is_err_and}
+use Rattle.tool_paths.specs.Names.{place}
+use Rattle.vol_tools.proofs.Counts.{no_faults}
+use Rattle.vol_tools.proofs.Filled.{no_place}
+use Rattle.vol_tools.proofs.Placed.{no_new_place, new_place_is}
+use Rattle.vol_tools.proofs.Tails.{tail_kept}
+use Rattle.vol_tools.proofs.new_file.put.Goals as goal
+
+pub returns-in_err-place-clause-answer : goal.returns-in_err-place-clause-answer
+returns-in_err-place-clause-answer g c v on =
+    let p = err_from_is_err_and c.from_residual.result c.from_residual.ensures.1 in
+    rw (p.1, p.2) refl
+
+pub returns-in_err-place-clause-tail : goal.returns-in_err-place-clause-tail
+returns-in_err-place-clause-tail g c = tail_kept _ _ refl
+
+pub returns-in_err-place-clause-fault : goal.returns-in_err-place-clause-fault
+returns-in_err-place-clause-fault g c =
+    let p = err_from_is_err_and c.from_residual.result c.from_residual.ensures.1 in
+    rw (p.1, p.2) (no_faults _)
+
+pub returns-in_default-clause-answer : goal.returns-in_default-clause-answer
+returns-in_default-clause-answer g c v on =
+    let path = c.args.file.now.path.now in
+    no_place path c.args.file.now.bytes.now c.args.now v _ on (no_new_place v 0 path (sym c.in_ok-place.ensures ∙ ap (option_map place) c.in_default.is))
+
+pub returns-in_default-clause-tail : goal.returns-in_default-clause-tail
+returns-in_default-clause-tail g c = tail_kept _ _ refl
+
+pub returns-in_default-clause-fault : goal.returns-in_default-clause-fault
+returns-in_default-clause-fault g c = no_faults _
+
+pub returns-clause-answer : goal.returns-clause-answer
+returns-clause-answer g c =
+    let path = c.args.file.now.path.now in
+    c.put_at.ensures.answer path (new_place_is path c.in-Some.place (sym c.in_ok-place.ensures ∙ ap (option_map place) c.in-Some.is))

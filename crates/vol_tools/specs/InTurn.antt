@@ -1,0 +1,13 @@
+-- Tools that are used one after the other on the volume of a drive.
+use Rattle.std.specs.Prelude.{◌≡◌, ℕ, Option, List}
+use Rattle.rbf_model.specs.Volume.{DiskVolume}
+use Rattle.rbf_access.specs.Mounted.{Represents}
+use Rattle.tool_rules.specs.Uses.{Use, GivesInTurn}
+
+-- the media represents a volume, and then one that a list of tools gives
+pub record LeavesInTurn (uses : List Use) (old new : Option (List ℕ)) (answers : List (List ℕ)) : Type 0 where
+  pub before : DiskVolume
+  pub was : Represents old before
+  pub after : DiskVolume
+  pub is : Represents new after
+  pub gives : GivesInTurn uses before after answers

@@ -1,0 +1,44 @@
+ghost use Rattle.std.specs.Prelude.{[]};
+ghost use Rattle.rbf_access.specs.Mounted.{IsMounted};
+ghost use Rattle.tool_rules.specs.Tool.{mkdir as mkdir_tool};
+ghost use Rattle.vol_tools.specs.Answers.{OnVolumeBefore};
+ghost use Rattle.vol_tools.specs.Faults.{Faults, tool_fault};
+ghost use Rattle.vol_tools.specs.Tail.{TailStays};
+
+use crate::fault::ToolFault;
+use crate::making::make_folder;
+use os9_base::errors::E_BPNAM;
+use os9_base::registers::TimePacket;
+use os9_outer::drive::BlockDriver;
+use rbf_access::Volume;
+use std::alloc::Global;
+use tool_paths::new_place_of;
+
+/// Makes a directory by its path, for user 0 (this project's own). All may do all with it.
+///
+/// # Errors
+///
+/// In this order: `Number` 215 for a path that is none or whose last name is `.` or `..`; 214 and 216
+/// of the way, and 214 of a parent that may not be changed; 218 if the name is there; 248 and 217.
+/// Then nothing has changed. `Device` if an access of the drive fails: then the tree is as it was, and
+/// clusters may be lost. `OutOfMemory`: then nothing has changed.
+pub fn mkdir(
+    alloc: Global,
+    v: &mut Volume,
+    d: &mut dyn BlockDriver,
+    path: &[u8],
+    now: TimePacket,
+) -> Result<(), ToolFault>
+    requires { IsMounted v.old (media d.old) }
+    ensures answer { OnVolumeBefore (record { tool = mkdir_tool path.now; now = now }) (λ _. [])
+        (media d.old) (media d.new) result }
+    ensures tail { TailStays (media d.old) (media d.new) }
+    ensures mounted { IsMounted v.new (media d.new) }
+    ensures fault { Faults ⟦<dyn BlockDriver as BlockDriver>⟧ (tool_fault result) d.old d.new }
+{
+    let Some(place) = new_place_of(alloc, path)? else {
+        return Err(ToolFault::Number(E_BPNAM));
+    };
+    let _ = make_folder(v, d, &place, now)?;
+    Ok(())
+}

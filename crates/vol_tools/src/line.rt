@@ -1,0 +1,60 @@
+ghost use Rattle.std.specs.Prelude.{◌≡◌, ◌++◌, ◌∷◌, ◌/◌, ◌%◌, ◌<◌, [], Some, OnOk, codes, decimal, unwrap_or};
+ghost use Rattle.rbf_model.specs.Fields.{entry_name_field};
+ghost use Rattle.rbf_model.specs.File.{DiskFile};
+ghost use Rattle.rbf_access.specs.Reading.{IsFdOf};
+ghost use Rattle.tool_rules.specs.Listing.{file_line, hex_digit as hex_digit_lem};
+
+use itoa::Buffer;
+use os9_base::name::{Name, header_name};
+use rbf_sector::Fd;
+use std::alloc::AllocError;
+
+/// Puts the line of a file behind the others: its attributes, its size, and the name that the entry has.
+pub fn push_line(lines: &mut Vec<u8>, file: &Fd, entry: &[u8; 32]) -> Result<(), AllocError>
+    ensures { OnOk result ((on : DiskFile) → IsFdOf on file.now → lines.new.items
+        ≡ lines.old.items ++ file_line (unwrap_or (entry_name_field entry.now) []) (Some on)) }
+{
+    push_head(lines, file)?;
+    if let Ok(name) = header_name(&entry[..29]) {
+        push_name(lines, &name)?;
+    }
+    lines.push(b'\n')?;
+    Ok(())
+}
+
+// Puts the attributes and the size, each with a space behind it.
+fn push_head(lines: &mut Vec<u8>, file: &Fd) -> Result<(), AllocError>
+    ensures { OnOk result (lines.new.items ≡ lines.old.items
+        ++ (hex_digit_lem (file.now.attr / 16) ∷ hex_digit_lem (file.now.attr % 16) ∷ codes " "
+        ++ decimal file.now.size ++ codes " ")) }
+{
+    let mut size = Buffer::new();
+    lines.push(hex_digit(file.attr / 16))?;
+    lines.push(hex_digit(file.attr % 16))?;
+    lines.push(b' ')?;
+    lines.extend_from_slice(size.format(file.size).as_bytes())?;
+    lines.push(b' ')?;
+    Ok(())
+}
+
+// A hexadecimal digit, upper-case.
+fn hex_digit(value: u8) -> u8
+    requires { value < 16 }
+    ensures { result ≡ hex_digit_lem value }
+{
+    if value < 10 {
+        b'0' + value
+    } else {
+        b'A' - 10 + value
+    }
+}
+
+// Puts the characters of a name.
+fn push_name(lines: &mut Vec<u8>, name: &Name) -> Result<(), AllocError>
+    ensures { OnOk result (lines.new.items ≡ lines.old.items ++ name.now) }
+{
+    for i in 0..name.len() {
+        lines.push(name.byte(i))?;
+    }
+    Ok(())
+}

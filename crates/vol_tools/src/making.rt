@@ -1,0 +1,58 @@
+ghost use Rattle.std.specs.Prelude.{IfOk};
+ghost use Rattle.rbf_access.specs.Mounted.{IsMounted};
+ghost use Rattle.rbf_write.specs.Files.{HasDataFile};
+ghost use Rattle.vol_tools.specs.Faults.{Faults, tool_fault};
+ghost use Rattle.vol_tools.specs.Making.{MakesOn, new_directory, new_file};
+ghost use Rattle.vol_tools.specs.Tail.{TailStays};
+
+use crate::fault::ToolFault;
+use crate::way::way_to;
+use os9_base::registers::TimePacket;
+use os9_outer::drive::BlockDriver;
+use rbf_access::Volume;
+use rbf_creation::create;
+use rbf_folder::make_dir;
+use tool_paths::Place;
+
+/// The attributes of a file that is put: its owner may read and write it, others may read it.
+const FILE_ATTRIBUTES: u8 = 0x0b;
+
+/// The attributes of a directory: all may do all.
+const DIRECTORY_ATTRIBUTES: u8 = 0xbf;
+
+/// Makes a file without bytes at a place, for user 0, and answers the number of its descriptor.
+pub fn make_file(
+    v: &mut Volume,
+    d: &mut dyn BlockDriver,
+    place: &Place,
+    now: TimePacket,
+) -> Result<u32, ToolFault>
+    requires { IsMounted v.old (media d.old) }
+    ensures answer { MakesOn (new_file now) place.now (media d.old) (media d.new) result }
+    ensures data { IfOk result (HasDataFile (media d.new)) }
+    ensures tail { TailStays (media d.old) (media d.new) }
+    ensures mounted { IsMounted v.new (media d.new) }
+    ensures fault { Faults ⟦<dyn BlockDriver as BlockDriver>⟧ (tool_fault result) d.old d.new }
+{
+    let dir = way_to(v, d, &place.way)?;
+    let n = create(v, d, dir, &place.name, FILE_ATTRIBUTES, 0, false, now)?;
+    Ok(n)
+}
+
+/// Makes a directory at a place, for user 0, and answers the number of its descriptor.
+pub fn make_folder(
+    v: &mut Volume,
+    d: &mut dyn BlockDriver,
+    place: &Place,
+    now: TimePacket,
+) -> Result<u32, ToolFault>
+    requires { IsMounted v.old (media d.old) }
+    ensures answer { MakesOn (new_directory now) place.now (media d.old) (media d.new) result }
+    ensures tail { TailStays (media d.old) (media d.new) }
+    ensures mounted { IsMounted v.new (media d.new) }
+    ensures fault { Faults ⟦<dyn BlockDriver as BlockDriver>⟧ (tool_fault result) d.old d.new }
+{
+    let dir = way_to(v, d, &place.way)?;
+    let n = make_dir(v, d, dir, &place.name, DIRECTORY_ATTRIBUTES, 0, now)?;
+    Ok(n)
+}

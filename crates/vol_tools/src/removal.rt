@@ -1,0 +1,62 @@
+ghost use Rattle.std.specs.Prelude.{◌≡◌, [], ℕ, List, Some};
+ghost use Rattle.os9_base.specs.declared.registers.TimePacket.{TimePacket};
+ghost use Rattle.rbf_access.specs.Mounted.{IsMounted};
+ghost use Rattle.tool_paths.specs.Names.{place as place_lem};
+ghost use Rattle.tool_rules.specs.Path.{place_of as place_of_lem};
+ghost use Rattle.tool_rules.specs.Tool.{remove as remove_tool};
+ghost use Rattle.vol_tools.specs.Answers.{OnVolumeBefore};
+ghost use Rattle.vol_tools.specs.Faults.{Faults, tool_fault};
+ghost use Rattle.vol_tools.specs.Tail.{TailStays};
+
+use crate::fault::ToolFault;
+use crate::way::way_to;
+use os9_base::errors::E_BPNAM;
+use os9_outer::drive::BlockDriver;
+use rbf_access::Volume;
+use rbf_dirs::delete;
+use std::alloc::Global;
+use tool_paths::{Place, place_of};
+
+/// Deletes a file by its path, for user 0 (this project's own).
+///
+/// # Errors
+///
+/// In this order: `Number` 215 for a path that is none; 214 and 216 of the way, and 214 of a directory
+/// that may not be changed; 216 if the name is not there; 214 for a directory and for a file that may
+/// not be written. Then nothing has changed. `Device` if an access of the drive fails: then nothing has
+/// changed, or the file has gone and some of its clusters may be lost. `OutOfMemory`: then nothing has
+/// changed.
+pub fn remove(
+    alloc: Global,
+    v: &mut Volume,
+    d: &mut dyn BlockDriver,
+    path: &[u8],
+) -> Result<(), ToolFault>
+    requires { IsMounted v.old (media d.old) }
+    ensures answer { (now : TimePacket) → OnVolumeBefore
+        (record { tool = remove_tool path.now; now = now }) (λ _. [])
+        (media d.old) (media d.new) result }
+    ensures tail { TailStays (media d.old) (media d.new) }
+    ensures mounted { IsMounted v.new (media d.new) }
+    ensures fault { Faults ⟦<dyn BlockDriver as BlockDriver>⟧ (tool_fault result) d.old d.new }
+{
+    let Some(place) = place_of(alloc, path)? else {
+        return Err(ToolFault::Number(E_BPNAM));
+    };
+    remove_at(v, d, &place)
+}
+
+// Deletes the file at a place.
+fn remove_at(v: &mut Volume, d: &mut dyn BlockDriver, place: &Place) -> Result<(), ToolFault>
+    requires { IsMounted v.old (media d.old) }
+    ensures answer { (path : List ℕ) (now : TimePacket) → place_of_lem path ≡ Some (place_lem place.now)
+        → OnVolumeBefore (record { tool = remove_tool path; now = now }) (λ _. [])
+        (media d.old) (media d.new) result }
+    ensures tail { TailStays (media d.old) (media d.new) }
+    ensures mounted { IsMounted v.new (media d.new) }
+    ensures fault { Faults ⟦<dyn BlockDriver as BlockDriver>⟧ (tool_fault result) d.old d.new }
+{
+    let dir = way_to(v, d, &place.way)?;
+    delete(v, d, dir, &place.name, 0, false)?;
+    Ok(())
+}

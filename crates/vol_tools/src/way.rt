@@ -1,0 +1,26 @@
+ghost use Rattle.std.specs.Prelude.{◌≡◌, IfOk};
+ghost use Rattle.rbf_access.specs.Mounted.{HasFile, IsMounted};
+ghost use Rattle.rbf_walk.specs.Walk.{OnVolume};
+ghost use Rattle.tool_rules.specs.Numbers.{way_end};
+ghost use Rattle.vol_tools.specs.Answers.{AnswersWay};
+ghost use Rattle.vol_tools.specs.Faults.{Faults, tool_fault};
+
+use crate::fault::ToolFault;
+use os9_base::name::Name;
+use os9_outer::drive::BlockDriver;
+use rbf_access::Volume;
+use rbf_walk::walk;
+
+/// Goes from the root along names, for user 0, and answers the descriptor that is reached.
+pub fn way_to(v: &mut Volume, d: &mut dyn BlockDriver, names: &[Name]) -> Result<u32, ToolFault>
+    requires { IsMounted v.old (media d.old) }
+    ensures answer { OnVolume (media d.old) (λ on. AnswersWay (way_end on names.now) result) }
+    ensures file { IfOk result (HasFile (media d.old)) }
+    ensures mounted { IsMounted v.new (media d.new) }
+    ensures media_kept { media d.new ≡ media d.old }
+    ensures fault { Faults ⟦<dyn BlockDriver as BlockDriver>⟧ (tool_fault result) d.old d.new }
+{
+    let root = v.root();
+    let n = walk(v, d, root, names, 0, false)?;
+    Ok(n)
+}
