@@ -658,7 +658,7 @@ name    fcs     "/D1/Data"
     for _, number in kept:
         worn.file(number, 3, old, [(number + 1, 1)])
     used = worn.root + 1 + needed(bytes(32 * 142)) + 2 * len(kept) + 1 + needed(bytes(80000))
-    names = [kept[0][0], "Data"] + [name for name, _ in kept[1:]]
+    names = [kept[0][0], "Data"] + [shown for name, _ in kept[1:] for shown in (name, "-")]
     row("a worn volume: ten pieces of 8,000 bytes", lines("0000 " * 10),
         [(boot_disk(modules), tree([directory_line("/", ["OS9Boot"]), file_line("/OS9Boot", 3, modules)],
                                    64 - BOOT_SECTORS - needed(modules))),
