@@ -1,0 +1,16 @@
+ghost use Rattle.std.specs.Prelude.{◌≡◌};
+ghost use Rattle.asm_model.specs.Characters.{is_sign as is_sign_lem, same_word};
+
+/// Is it `+` or `-`?
+pub(crate) fn is_sign(c: u8) -> bool
+    ensures { result ≡ is_sign_lem c }
+{
+    c == b'+' || c == b'-'
+}
+
+/// Are they one word, in any case of letters?
+pub fn is_same_word(word: &[u8], text: &[u8]) -> bool
+    ensures { result ≡ same_word word.now text.now }
+{
+    word.eq_ignore_ascii_case(text)
+}
