@@ -14,7 +14,7 @@ use Rattle.io_rules.specs.declared.io_call.IoCall.{IoCall}
 use Rattle.io_state.specs.Attempt.{Attempts as AttemptsOnDevice}
 use Rattle.proc_state.specs.Tie.{Comes}
 use Rattle.proc_state.specs.declared.state.ProcState.{ProcState}
-use Rattle.stream_calls.specs.Trying.{WantsMemory}
+use Rattle.io_rules.specs.Memory.{WantsMemory}
 use Rattle.file_rules.specs.Attempts.{asker_of, file_step, files_after}
 use Rattle.file_rules.specs.Files.{Asker, Files}
 use Rattle.file_rules.specs.Step.{Deed, FileEffect, as_io, deed_of, on_files}
@@ -30,7 +30,8 @@ use Rattle.file_state.specs.Tie.{IsSound, StandsFor}
 use Rattle.file_state.specs.declared.state.FileState.{FileState}
 use Rattle.file_tree.proofs.SameLemmas.{some-machine}
 use Rattle.path_calls.specs.Quiet.{Ends, IsQuiet, effect_of}
-use Rattle.file_dispatch.specs.Attempts.{IsOnDevice, LacksMemory, Tries}
+use Rattle.file_rules.specs.Memory.{LacksMemory}
+use Rattle.file_dispatch.specs.Attempts.{IsOnDevice, Tries}
 use Rattle.file_dispatch.specs.Bounds.{attempt_calls}
 
 -- an attempt comes to something else than want of memory

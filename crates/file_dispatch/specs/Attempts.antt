@@ -6,16 +6,15 @@ use Rattle.os9_base.specs.declared.call.CallEnd.TheVariants.{NoMemory}
 use Rattle.os9_base.specs.declared.registers.TimePacket.{TimePacket}
 use Rattle.os9_outer.specs.TerminalState.{TerminalState}
 use Rattle.call_rules.specs.Inner.{Inner}
-use Rattle.io_rules.specs.Attempts.{caller_of, step_of}
+use Rattle.io_rules.specs.Attempts.{step_of}
 use Rattle.io_rules.specs.Io.{Io, kept_at}
-use Rattle.io_rules.specs.Step.{IoStep}
 use Rattle.io_rules.specs.declared.io_call.IoCall.{IoCall}
 use Rattle.io_dispatch.specs.Staying.{MayAttempt as MayAttemptOnDevice}
 use Rattle.proc_state.specs.Tie.{Represents}
 use Rattle.proc_state.specs.declared.state.ProcState.{ProcState}
-use Rattle.stream_calls.specs.Trying.{WantsMemory}
 use Rattle.file_rules.specs.Attempts.{asker_of, file_step}
 use Rattle.file_rules.specs.Files.{Files}
+use Rattle.file_rules.specs.Memory.{LacksMemory}
 use Rattle.file_rules.specs.Step.{as_io, deed_of}
 use Rattle.file_rules.specs.declared.path_call.PathCall.{PathCall}
 use Rattle.file_state.specs.Attempt.{OnEach, Standing}
@@ -42,13 +41,6 @@ MayAttemptAs (Some device) processes io p terms = MayAttemptOnDevice device proc
 
 abbrev pub MayAttempt : PathCall → ProcState → FileState → ℕ → ℕ → Type 0
 MayAttempt call processes state p terms = MayAttemptAs (device_call call) processes state.io p terms
-
--- an attempt is on a terminal, and memory was wanting for a byte that was to be put there
-pub record LacksMemory (call : PathCall) (m : Inner) (files : Files) (now : TimePacket) (p : ℕ)
-    (before after : List TerminalState) : Type 0 where
-  pub step : IoStep
-  pub on_device : deed_of (file_step call (asker_of m p now) files (length before)) files ≡ as_io step
-  pub wants : WantsMemory step (caller_of m p) files.io before after
 
 -- a process tries a call, at a time: the attempt of it ends so, and these are the terminals and the kernel's state
 -- then, or memory was wanting

@@ -24,15 +24,6 @@ pub data Change : Type 0 where
   -- file n is deleted from directory d, where it has a name
   deletes : ℕ → ℕ → List ℕ → Change
 
--- a change for which clusters may be taken
-abbrev pub TakesClusters : Change → Type 0
-TakesClusters (writes n at bytes) = Unit {0}
-TakesClusters (sizes n size) = Unit {0}
-TakesClusters (sets_attributes n attributes) = ⊥
-TakesClusters (creates d name attributes) = Unit {0}
-TakesClusters (makes_directory d name attributes) = Unit {0}
-TakesClusters (deletes d n name) = ⊥
-
 -- what the change makes of a volume, for a user and at a time; `new` is the number of the file that it makes, if it
 -- makes one
 abbrev pub Makes : Change → ℕ → TimePacket → DiskVolume → DiskVolume → ℕ → Type 0

@@ -8,6 +8,7 @@ pub mod Files
 pub mod Load
 pub mod LoadRows
 pub mod MakDir
+pub mod Memory
 pub mod OnFile
 pub mod Open
 pub mod Processes

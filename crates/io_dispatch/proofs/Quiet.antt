@@ -17,7 +17,7 @@ use Rattle.io_state.specs.Sound.{IsIo}
 use Rattle.proc_state.specs.Tie.{Comes}
 use Rattle.proc_state.specs.declared.state.ProcState.{ProcState}
 use Rattle.io_rules.specs.Attempts.{caller_of, step_of}
-use Rattle.stream_calls.specs.Trying.{WantsMemory}
+use Rattle.io_rules.specs.Memory.{WantsMemory}
 
 -- a call that waits moves bytes, so a call that moves none is at its first attempt
 pub is-first : (call : IoCall) (regs : Regs) (io : Io) (p : ℕ) → direction_of_call call ≡ None → IsIo io → IsAgain call regs io p → kept_at io p ≡ None

@@ -1,7 +1,6 @@
 -- Attempts of the calls on paths: each call by its code, and what an attempt leaves (System Programmer's Manual, "I/O
 -- service requests").
 use Rattle.std.specs.Prelude.{◌≡◌, ℕ, Option, Some, None, List, length}
-use Rattle.os9_base.specs.Cells.{Cells, store_cells}
 use Rattle.os9_base.specs.declared.call.CallEnd.{CallEnd}
 use Rattle.os9_base.specs.declared.call.CallEnd.TheVariants.{Done, Error, Wait}
 use Rattle.os9_base.specs.declared.registers.Regs.{Regs}
@@ -66,17 +65,6 @@ abbrev pub regs_after : IoEnd → Regs → Regs
 regs_after (answers regs) before = regs
 regs_after (fails number) before = before
 regs_after (keeps kept) before = before
-
--- an attempt of a call on a machine with so many drives: how it ends, and the caller's registers, the bytes that it
--- sees, the state and the terminals then
-pub record CallerAttempts (call : IoCall) (caller : Caller) (io : Io) (drives : ℕ) (end : CallEnd) (regs : Regs)
-    (cells : Cells) (new : Io) (before after : List TerminalState) : Type 0 where
-  pub effect : IoEffect
-  pub does : Does (io_step call caller io drives (length before)) caller io effect before after
-  pub end_is : end ≡ end_of effect.end
-  pub regs_are : regs ≡ regs_after effect.end caller.regs
-  pub cells_are : cells ≡ store_cells caller.cells effect.at effect.bytes
-  pub state : new ≡ io_after caller.process.0 effect
 
 -- ---- by the state of the processes
 

@@ -7,6 +7,7 @@ pub mod Codes
 pub mod Dup
 pub mod Io
 pub mod Lead
+pub mod Memory
 pub mod Modes
 pub mod Open
 pub mod PathList

@@ -3,7 +3,7 @@ use Rattle.std.specs.Prelude.{◌≡◌, ℕ, Some}
 use Rattle.os9_base.specs.declared.registers.TimePacket.{TimePacket}
 use Rattle.proc_rules.specs.Records.{IsLiving}
 use Rattle.call_rules.specs.Ready.{attempts, act_of}
-use Rattle.file_dispatch.specs.Attempts.{LacksMemory}
+use Rattle.file_rules.specs.Memory.{LacksMemory}
 use Rattle.file_rules.specs.Codes.{path_call_of}
 use Rattle.file_rules.specs.declared.path_call.PathCall.{PathCall}
 use Rattle.time_rules.specs.Clock.{IsNow}

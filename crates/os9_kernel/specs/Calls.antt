@@ -16,8 +16,8 @@ use Rattle.os9_kernel.specs.Tie.{Represents, IsGoing, ticks}
 use Rattle.os9_kernel.specs.Volumes.{HoldsVolumes}
 
 -- an event that was not done, since memory is out: it is broken off
-abbrev pub WantsMemory : Kernel → Outside → Outside → Type 0
-WantsMemory old before after = (s : State) → Represents old before s → BreaksEvent s after
+abbrev pub BreaksOff : Kernel → Outside → Outside → Type 0
+BreaksOff old before after = (s : State) → Represents old before s → BreaksEvent s after
 
 -- a tick
 pub record HasTick (old new : Kernel) (before after : Outside) (result : Result (Unit {0}) OutOfMemory) : Type 0
@@ -37,7 +37,7 @@ pub record HasEvent (old new : Kernel) (before after : Outside) (end : EventEnd)
     -- it is one of the machine
     pub step : end ≢ EventEnd.NoMemory → (s : State) → Represents old before s
         → (t : State) × Event s end t × Represents new after t
-    pub memory : end ≡ EventEnd.NoMemory → WantsMemory old before after
+    pub memory : end ≡ EventEnd.NoMemory → BreaksOff old before after
     -- the chosen process lives still, where it goes on
     pub going : end ≡ EventEnd.Ran → IsGoing new
     pub waits : end ≡ EventEnd.Waits → WaitsInCall old new

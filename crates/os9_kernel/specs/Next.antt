@@ -11,7 +11,7 @@ use Rattle.os9_kernel.specs.declared.act.Act.{Act}
 use Rattle.os9_kernel.specs.declared.act.Act.TheVariants.{Attempt, Delivery, Instruction}
 use Rattle.os9_kernel.specs.declared.kernel.Kernel.{Kernel}
 use Rattle.os9_kernel.specs.declared.turn.Turn.{Turn}
-use Rattle.os9_kernel.specs.Calls.{WantsMemory}
+use Rattle.os9_kernel.specs.Calls.{BreaksOff}
 use Rattle.os9_kernel.specs.Changes.{KeepsUnasked}
 use Rattle.os9_kernel.specs.Outside.{Outside}
 use Rattle.os9_kernel.specs.Slice.{Events}
@@ -41,7 +41,7 @@ pub record HasTurn (left : ℕ) (old new : Kernel) (before after : Outside) (tur
   -- its events are some of the machine
   pub step : turn.end ≢ EventEnd.NoMemory → (s : State) → Represents old before s
       → (t : State) × Events left s turn.count turn.end t × Represents new after t
-  pub memory : turn.end ≡ EventEnd.NoMemory → WantsMemory old before after
+  pub memory : turn.end ≡ EventEnd.NoMemory → BreaksOff old before after
   -- the chosen process lives still, where it goes on; then instructions were executed, or less is pending
   pub going : turn.end ≡ EventEnd.Ran → IsGoing new
   pub few : turn.count ≤ left

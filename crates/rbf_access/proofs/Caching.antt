@@ -1,9 +1,7 @@
 -- What a cache holds of the media of a drive.
-use Rattle.std.proofs.Common.{◌≡◌, ◌≢◌, ℕ, ◌+◌, ◌*◌, ◌/◌, ◌<◌, ◌≤◌, min, Option, Some, None, IsSome, List, [], ◌∷◌, length, take, false, nat_eq, eq-eqb, refl, ap, sym, subst, ◌∙◌, arith, ⊎_elim, suc, take-take}
-use Rattle.std.proofs.Math.Nat.{mul-le-mul_left}
+use Rattle.std.proofs.Common.{◌≡◌, ◌≢◌, ℕ, ◌+◌, ◌*◌, ◌/◌, ◌<◌, ◌≤◌, min, Option, Some, None, IsSome, List, [], length, take, false, eq-eqb, refl, ap, sym, subst, ◌∙◌, arith, ⊎_elim, suc, take-take}
 use Rattle.os9_outer.specs.Drive.{sector_count, sector_at, with_sector}
 use Rattle.rbf_model.specs.Geometry.{sector}
-use Rattle.rbf_model.specs.Writes.{put_sector, put}
 use Rattle.rbf_model.proofs.Bytes.{put_here, put_beside}
 use Rattle.std.proofs.lemmas.Bool.{false≢true}
 use Rattle.rbf_model.proofs.Lifted.{sector_put}

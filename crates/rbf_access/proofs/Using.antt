@@ -1,10 +1,9 @@
 -- The sectors that a read uses, in its cache.
-use Rattle.std.proofs.Common.{◌≡◌, ℕ, ◌+◌, ◌-◌, ◌<◌, ◌≤◌, Option, Some, IsSome, List, take, slice_get, slice_index, refl, sym, ap, subst, ◌∙◌, arith, ⊎_elim}
+use Rattle.std.proofs.Common.{◌≡◌, ℕ, ◌+◌, ◌-◌, ◌≤◌, Some, List, take, slice_get, slice_index, sym, subst, ◌∙◌, arith, ⊎_elim}
 use Rattle.std.proofs.lemmas.Bool.{cases_lt}
 use Rattle.std.proofs.lemmas.Option.{get_or_from_slice_get}
 use Rattle.rbf_model.specs.Segments.{sectors_of}
 use Rattle.sector_cache.specs.declared.sector.Sector.{Sector}
-use Rattle.sector_cache.specs.Held.{held_bytes}
 use Rattle.sector_cache.proofs.Callers.{held_of_first, held_of_more}
 use Rattle.rbf_access.specs.Cached.{AreHeld, IsHeld, IsUsed, StayFirst}
 

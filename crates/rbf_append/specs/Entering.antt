@@ -1,19 +1,17 @@
 -- A new file that a user enters into a directory by a name: what such a call answers, and what it leaves.
 use Rattle.std.specs.Prelude.{◌≡◌, ◌≢◌, ◌⊎◌, ℕ, ◌+◌, ◌*◌, ◌%◌, ◌||◌, nat_lt, Bool, true, false, Option, Some, None, List, ◌∷◌, length, take, Result, Ok, Err, if◌then◌else◌}
-use Rattle.rbf_model.specs.Disk.{image_disk}
 use Rattle.rbf_model.specs.File.{DiskFile, file_at}
 use Rattle.rbf_model.specs.Geometry.{image_geometry, sector}
-use Rattle.rbf_model.specs.Laws.{IsMapSector, IsReady}
+use Rattle.rbf_model.specs.Laws.{IsMapSector}
 use Rattle.rbf_model.specs.Segments.{has, sectors_of}
 use Rattle.rbf_model.specs.Space.{has_cluster}
 use Rattle.rbf_model.specs.Volume.{DiskVolume, Vol}
 use Rattle.rbf_model.specs.Writes.{put_at}
-use Rattle.rbf_change.specs.Calls.{shape, cluster_size, free_total, is_free_in}
+use Rattle.rbf_change.specs.Calls.{shape, cluster_size, free_total}
 use Rattle.rbf_change.specs.Contents.{sector_count}
 use Rattle.rbf_change.specs.Faults.{EntryEnds}
 use Rattle.rbf_change.specs.Names.{new_entry, entry_place, is_dots}
 use Rattle.rbf_change.specs.NewFiles.{Plan, Enters, Refusal, bad_path, not_allowed, exists, no_cluster, too_many_runs, entry_refusal, entry_clusters}
-use Rattle.rbf_change.specs.Parts.{FileIsMade}
 use Rattle.rbf_change.specs.Tidy.{IsNewList, KeepsListEnd, KeepsMapEnd}
 use Rattle.rbf_access.specs.declared.faults.FileFault.{FileFault}
 use Rattle.rbf_access.specs.declared.faults.FileFault.TheVariants.{Device, NoCluster, TooManyRuns}
@@ -24,22 +22,6 @@ use Rattle.rbf_append.specs.NewEntry.{sector_of_place, IsAfterMarks, StandsBehin
 -- the sectors of a new file n that are written: its descriptor's, and those of its contents
 abbrev pub written_sectors : ℕ → DiskFile → List ℕ
 written_sectors n file = n ∷ take (sector_count (length file.contents)) (sectors_of file.segments)
-
--- a new file n, made as planned for directory d: its clusters, which were free, are lost until an entry names it, and
--- only its own sectors and the map have changed
-pub record IsMadeFor (v : DiskVolume) (d n : ℕ) (plan : Plan) (old new : Option (List ℕ)) : Type 0 where
-  pub image : List ℕ
-  pub now : List ℕ
-  pub was : old ≡ Some image
-  pub is : new ≡ Some now
-  pub left : DiskVolume
-  pub vol : Vol now left
-  pub made : FileIsMade v left (sector now) n plan
-  pub fresh : (c : ℕ) → has_cluster (shape v) n made.file c ≡ true → is_free_in v c ≡ true
-  pub ready : IsReady (image_disk now) left d n
-  pub others : (s : ℕ) → ¬ IsMapSector (image_geometry image) s → has (written_sectors n made.file) s ≡ false
-      → sector now s ≡ sector image s
-  pub end : KeepsMapEnd image now (λ _. false)
 
 -- what a user asks for: a file of this plan, which may depend on the file's number, by a name in a directory
 pub record Entering : Type 0 where

@@ -1,6 +1,6 @@
 -- The steps of which a creation and a deletion are made: a new file whose clusters are lost, its entry, and the
 -- clusters of a file that has gone.
-use Rattle.std.specs.Prelude.{◌≡◌, ℕ, ◌*◌, ◌&&◌, ◌||◌, not, List, Some, None}
+use Rattle.std.specs.Prelude.{◌≡◌, ℕ, ◌*◌, ◌||◌, List, Some, None}
 use Rattle.os9_base.specs.declared.registers.TimePacket.{TimePacket}
 use Rattle.rbf_model.specs.Fields.{directory_entry, descriptor_field}
 use Rattle.rbf_model.specs.File.{DiskFile, file_at}
@@ -41,7 +41,3 @@ pub record EntryIsFreed (v w : DiskVolume) (d i : ℕ) : Type 0 where
       ≡ with_file (shape v)
       (replaced v d (Some (with_directory_entry old i (freed_entry (directory_entry old.contents i)))))
       (descriptor_field (directory_entry old.contents i)) None
-
--- the clusters of file n, which has gone, are lost no more
-abbrev pub ClustersAreFreed : DiskVolume → DiskVolume → ℕ → DiskFile → Type 0
-ClustersAreFreed v w n file = w ≡ with_lost v (λ c. v.lost c && not (has_cluster (shape v) n file c))

@@ -1,8 +1,7 @@
 -- What a call leaves on the media beside what its volume shows.
-use Rattle.std.specs.Prelude.{◌≡◌, ◌⊎◌, ℕ, ◌+◌, ◌*◌, ◌/◌, ◌<◌, ◌≤◌, ◌&&◌, Bool, true, not, List, length, slice_index}
+use Rattle.std.specs.Prelude.{◌≡◌, ◌⊎◌, ℕ, ◌+◌, ◌*◌, ◌/◌, ◌<◌, ◌≤◌, ◌&&◌, Bool, not, List, length, slice_index}
 use Rattle.rbf_model.specs.Fields.{segments_field, segment_field}
 use Rattle.rbf_model.specs.Geometry.{image_geometry, sector, map_sectors}
-use Rattle.rbf_model.specs.Segments.{has}
 use Rattle.rbf_model.specs.Space.{is_marked}
 
 -- a bit of the map that no whole cluster has: that of a last cluster that is not whole, or one behind all clusters, up
@@ -44,7 +43,3 @@ pub record KeepsListEnd (old new : List ℕ) : Type 0 where
 -- a new descriptor has zeros behind its list of segments
 abbrev pub IsNewList : List ℕ → Type 0
 IsNewList descriptor = (i : ℕ) → list_end descriptor ≤ i → i < 256 → slice_index descriptor i ≡ 0
-
--- only these sectors may have changed
-abbrev pub KeepsOthers : List ℕ → List ℕ → List ℕ → Type 0
-KeepsOthers old new sectors = (s : ℕ) → (has sectors s ≡ true → ⊥) → sector new s ≡ sector old s

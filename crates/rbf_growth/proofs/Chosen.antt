@@ -15,7 +15,7 @@ use Rattle.rbf_model.proofs.Growth.{cluster_of_range}
 use Rattle.rbf_segs.proofs.Runs.{sectors_of-appended}
 use Rattle.rbf_map.specs.Map.{ClusterMap, IsFreeInMap, MayTake}
 use Rattle.rbf_map.specs.Runs.{is_clear, IsChosen}
-use Rattle.rbf_change.specs.Growth.{uses, IsAfter, MayGain, free_beside, with_clusters, Gains}
+use Rattle.rbf_change.specs.Growth.{uses, MayGain, free_beside, with_clusters, Gains}
 use Rattle.rbf_growth.specs.Gained.{IsChosenFor, AreChosen, last_cluster, cluster_at, clusters_from}
 use Rattle.rbf_growth.proofs.Clear.{clear_is, free_is, unclear_is}
 

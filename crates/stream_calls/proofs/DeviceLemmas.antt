@@ -15,7 +15,8 @@ use Rattle.io_rules.specs.Terminals.{read_ends, read_leaves, request_of}
 use Rattle.io_state.specs.Terminals.{kept_after}
 use Rattle.proc_state.specs.Tie.{Comes}
 use Rattle.proc_state.specs.declared.state.ProcState.{ProcState}
-use Rattle.stream_calls.specs.Trying.{EndsBy, Tries, WantsMemory}
+use Rattle.io_rules.specs.Memory.{WantsMemory}
+use Rattle.stream_calls.specs.Trying.{EndsBy, Tries}
 use Rattle.stream_calls.proofs.TryingLemmas.{never-wants, tries-takes}
 
 module _ (m : Inner) (io : Io) (p : ℕ) (processes : ProcState) (new : Io) (before after : List TerminalState) (read : TerminalRead) (regs : Regs) (taken : List ℕ) (end : CallEnd) where

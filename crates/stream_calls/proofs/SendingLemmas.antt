@@ -43,7 +43,8 @@ use Rattle.stream_calls.proofs.LineLemmas.{IsSentLine}
 use Rattle.stream_calls.proofs.MovingLemmas.{opened-parts}
 use Rattle.stream_calls.proofs.TryingLemmas.{tries-needs-some, tries-same}
 use Rattle.stream_calls.specs.Sending.{IsPutAnswer, MaySend, MayWrite, PutEnds, Sends, Tells, put_of, regs_done, sender, sent, write_call, write_code, write_named, write_on, write_open}
-use Rattle.stream_calls.specs.Trying.{Tries, WantsMemory}
+use Rattle.io_rules.specs.Memory.{WantsMemory}
+use Rattle.stream_calls.specs.Trying.{Tries}
 use Rattle.stream_calls.specs.declared.sending.WriteKind.{WriteKind}
 use Rattle.stream_calls.specs.declared.sending.WriteKind.TheVariants.{Bytes, Line, ErrorLine}
 

@@ -15,7 +15,8 @@ use Rattle.io_state.specs.Attempt.{Attempts}
 use Rattle.pipe_calls.specs.Leaving.{Leaves}
 use Rattle.proc_state.specs.Tie.{Comes, Represents}
 use Rattle.proc_state.specs.declared.state.ProcState.{ProcState}
-use Rattle.stream_calls.specs.Trying.{Takes, Tries, WantsMemory}
+use Rattle.io_rules.specs.Memory.{WantsMemory}
+use Rattle.stream_calls.specs.Trying.{Takes, Tries}
 
 -- no call comes to want of memory
 pub never-wants : (m : Inner) (p : ℕ) (processes : ProcState) (result : CallResult) → Comes m p result NoMemory processes → ⊥

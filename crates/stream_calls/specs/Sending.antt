@@ -26,7 +26,7 @@ use Rattle.io_rules.specs.declared.io_call.IoCall.TheVariants as Call
 use Rattle.io_state.specs.Sound.{MayWait, target_at}
 use Rattle.pipe_calls.specs.Leaving.{IsTold}
 use Rattle.stream_calls.specs.Streams.{Streams}
-use Rattle.stream_calls.specs.Trying.{WantsMemory}
+use Rattle.io_rules.specs.Memory.{WantsMemory}
 use Rattle.stream_calls.specs.declared.sending.WriteKind.{WriteKind}
 use Rattle.stream_calls.specs.declared.sending.WriteKind.TheVariants.{Bytes, Line, ErrorLine}
 

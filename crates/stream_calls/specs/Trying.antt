@@ -3,14 +3,13 @@ use Rattle.std.specs.Prelude.{◌≡◌, ◌≢◌, ℕ, Option, Some, None, Lis
 use Rattle.os9_base.specs.declared.call.CallEnd.{CallEnd}
 use Rattle.os9_base.specs.declared.call.CallEnd.TheVariants.{Done, Error, Wait, Ended, NoMemory}
 use Rattle.os9_base.specs.declared.registers.Regs.{Regs}
-use Rattle.os9_outer.specs.TerminalState.{TerminalState, ChangesOneTerminal}
+use Rattle.os9_outer.specs.TerminalState.{TerminalState}
 use Rattle.call_rules.specs.Inner.{Inner, regs_at}
-use Rattle.io_model.specs.Terminal.{Terminal, Reads, Writes}
 use Rattle.io_model.specs.declared.terminal.Progress.TheVariants as Answer
 use Rattle.io_rules.specs.Attempts.{Does, caller_of, io_after, result_by, result_of, step_of}
-use Rattle.io_rules.specs.Io.{Io, terminal_at}
-use Rattle.io_rules.specs.Step.{Caller, IoEffect, IoEnd, IoStep, stores, refused, comes, reads, writes}
-use Rattle.io_rules.specs.Terminals.{request_of}
+use Rattle.io_rules.specs.Io.{Io}
+use Rattle.io_rules.specs.Memory.{WantsMemory}
+use Rattle.io_rules.specs.Step.{Caller, IoEffect, IoEnd, IoStep, stores, comes}
 use Rattle.io_rules.specs.declared.io_call.IoCall.{IoCall}
 use Rattle.io_state.specs.Attempt.{Attempts}
 use Rattle.proc_state.specs.Tie.{Comes, Represents}
@@ -24,19 +23,6 @@ pub record Takes (step : IoStep) (m : Inner) (io : Io) (p : ℕ) (end : CallEnd)
   pub does : Does step (caller_of m p) io effect before after
   pub comes : Comes m p (result_of m p effect) end processes
   pub state : new ≡ io_after p effect
-
--- A byte that an attempt put on a terminal found no memory: its terminal is as the read or the write left it, and no
--- other one has changed.
-abbrev pub WantsMemory : IoStep → Caller → Io → List TerminalState → List TerminalState → Type 0
-WantsMemory (refused number) caller io before after = ⊥
-WantsMemory (comes effect) caller io before after = ⊥
-WantsMemory (reads read) caller io before after =
-    (new : Terminal) × ChangesOneTerminal
-    (Reads (request_of caller read) Answer.NoMemory (terminal_at io read.terminal) new) read.terminal before after
-WantsMemory (writes write) caller io before after =
-    (new : Terminal) × ChangesOneTerminal
-    (Writes caller.process write.put write.count Answer.NoMemory (terminal_at io write.terminal) new) write.terminal
-    before after
 
 -- an attempt of a process ends so, with these processes, this state and these terminals then
 abbrev pub Tries : IoStep → Inner → Io → ℕ → CallEnd → ProcState → Io → List TerminalState → List TerminalState → Type 0

@@ -1,5 +1,3 @@
-use Rattle.std.proofs.Common.{refl}
-use Rattle.machine_model.specs.State.{State}
 use Rattle.os9_kernel.proofs.Represented.{represents-counted}
 use Rattle.os9_kernel.proofs.kernel.Kernel.instructions.Goals as goal
 

@@ -10,7 +10,8 @@ use Rattle.call_rules.specs.Attempts.{after_attempt}
 use Rattle.call_rules.specs.CallResult.{CallResult}
 use Rattle.call_rules.specs.Inner.{Inner, no_own}
 use Rattle.call_rules.specs.declared.proc_call.ProcCall.{ProcCall}
-use Rattle.file_dispatch.specs.Attempts.{LacksMemory, MayAttempt}
+use Rattle.file_rules.specs.Memory.{LacksMemory}
+use Rattle.file_dispatch.specs.Attempts.{MayAttempt}
 use Rattle.file_drives.specs.Drives.{boxed_drive_view, drive_views}
 use Rattle.file_rules.specs.Attempts.{FileAttempts, io_effect}
 use Rattle.file_state.specs.Tie.{StandsFor}

@@ -1,0 +1,19 @@
+-- What an attempt of a call on a path leaves if there is no memory (this project's own).
+use Rattle.std.specs.Prelude.{◌≡◌, ℕ, List, length}
+use Rattle.os9_base.specs.declared.registers.TimePacket.{TimePacket}
+use Rattle.os9_outer.specs.TerminalState.{TerminalState}
+use Rattle.call_rules.specs.Inner.{Inner}
+use Rattle.io_rules.specs.Attempts.{caller_of}
+use Rattle.io_rules.specs.Memory.{WantsMemory}
+use Rattle.io_rules.specs.Step.{IoStep}
+use Rattle.file_rules.specs.Attempts.{asker_of, file_step}
+use Rattle.file_rules.specs.Files.{Files}
+use Rattle.file_rules.specs.Step.{as_io, deed_of}
+use Rattle.file_rules.specs.declared.path_call.PathCall.{PathCall}
+
+-- an attempt is on a terminal, and memory was wanting for a byte that was to be put there
+pub record LacksMemory (call : PathCall) (m : Inner) (files : Files) (now : TimePacket) (p : ℕ)
+    (before after : List TerminalState) : Type 0 where
+  pub step : IoStep
+  pub on_device : deed_of (file_step call (asker_of m p now) files (length before)) files ≡ as_io step
+  pub wants : WantsMemory step (caller_of m p) files.io before after
