@@ -1,0 +1,4 @@
+pub mod Views
+pub mod Tails
+pub mod Cuts
+pub mod Offsets

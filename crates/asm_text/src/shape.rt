@@ -1,0 +1,89 @@
+ghost use Rattle.std.specs.Prelude.{◌≡◌, ◌≤◌, length, option_map};
+ghost use Rattle.cpu_table.specs.Spelling.{prefix};
+ghost use Rattle.asm_model.specs.Instructions.{shape_of as shape_of_lem, shape_length as shape_length_lem, field_length as field_length_lem, wanted_length as wanted_length_lem, post_length as post_length_lem};
+ghost use Rattle.asm_text.specs.Views.{shape_as};
+
+use crate::entry::{entry_of, mark_of};
+use crate::operand::{Operand, row_operand};
+use asm_model::operand::{Field, Wanted};
+use cpu_model::instruction::Page;
+
+/// An instruction without the value of its expression.
+#[derive(Clone, Copy, Debug)]
+pub struct Shape<'a> {
+    /// The page of its opcode.
+    pub page: Page,
+    /// Its opcode.
+    pub opcode: u8,
+    /// Its operand.
+    pub operand: Operand<'a>,
+}
+
+/// The instruction of a word and an operand's text, if they are one: the row of the opcode map
+/// that has the word, in any case of letters, and a mode with such an operand (programming manual,
+/// appendix A).
+pub fn shape_of<'a>(word: &[u8], text: &'a [u8]) -> Option<Shape<'a>>
+    ensures { option_map shape_as result ≡ shape_of_lem word.now text.now }
+{
+    let found = entry_of(word, mark_of(text))?;
+    let operand = row_operand(found.row, text)?;
+    Some(Shape {
+        page: found.page,
+        opcode: found.opcode,
+        operand,
+    })
+}
+
+// The bytes of a field's value.
+fn field_length(field: Field) -> u8
+    ensures length { result ≡ field_length_lem field }
+    ensures most { result ≤ 2 }
+{
+    match field {
+        Field::Byte | Field::Direct | Field::Offset8 | Field::Target8 => 1,
+        Field::Word | Field::Offset16 | Field::Target16 => 2,
+    }
+}
+
+// The bytes that follow the opcode and the postbyte.
+fn wanted_length(wanted: Wanted) -> u8
+    ensures length { result ≡ wanted_length_lem wanted }
+    ensures most { result ≤ 2 }
+{
+    match wanted {
+        Wanted::Nothing => 0,
+        Wanted::Fixed(_) => 1,
+        Wanted::Value(field) => field_length(field),
+    }
+}
+
+// The bytes of a page's prefix.
+fn prefix_length(page: Page) -> u8
+    ensures length { result ≡ length (prefix page) }
+    ensures most { result ≤ 1 }
+{
+    match page {
+        Page::Base => 0,
+        Page::Ten | Page::Eleven => 1,
+    }
+}
+
+// The bytes of a postbyte.
+fn post_length(post: Option<u8>) -> u8
+    ensures length { result ≡ post_length_lem post }
+    ensures most { result ≤ 1 }
+{
+    match post {
+        None => 0,
+        Some(_) => 1,
+    }
+}
+
+/// The bytes of an instruction, which are known without the value of its expression: at most 5.
+pub fn shape_length(shape: &Shape<'_>) -> u8
+    ensures length { result ≡ shape_length_lem (shape_as shape.now) }
+    ensures most { result ≤ 5 }
+{
+    let operand = shape.operand;
+    prefix_length(shape.page) + 1 + (post_length(operand.post) + wanted_length(operand.wanted))
+}
