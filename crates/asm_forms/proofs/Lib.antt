@@ -1,0 +1,14 @@
+pub mod Values
+pub mod Bytes
+pub mod Lines
+pub mod Names
+pub mod Joined
+pub mod Valued
+pub mod Masks
+pub mod Bare
+pub mod Found
+pub mod Indexed
+pub mod Complete
+pub mod Lists
+pub mod Offsets
+pub mod Sound

@@ -1,0 +1,38 @@
+-- Lines that are an instruction, as the texts that they are (this project's own, in the manner of the usual assemblers
+-- of the 6809).
+use Rattle.std.specs.Prelude.{◌≡◌, ℕ, ◌+◌, true, false, Some, List, [], ◌∷◌, ◌++◌, length}
+use Rattle.std.specs.List.{list_all, list_any}
+use Rattle.cpu_model.specs.declared.instruction.Instr.{Instr}
+use Rattle.cpu_model.specs.declared.rows.Row.{Row}
+use Rattle.cpu_model.specs.Table as table
+use Rattle.cpu_table.specs.Spelling.{spelling}
+use Rattle.text_cuts.specs.Cuts.{is_space}
+use Rattle.asm_model.specs.Characters.{is_line_byte, same_word}
+use Rattle.asm_model.specs.Mnemonics.{row_word}
+use Rattle.asm_forms.specs.Operands.{IsOperand}
+
+-- a text that a space follows, or nothing
+pub data EndsThere : List ℕ → Type 0 where
+  nothing : EndsThere []
+  space : {rest : List ℕ} → EndsThere (32 ∷ rest)
+
+-- the line is an instruction at this offset: its word, spaces, an operand and a comment
+pub record IsInstruction (line : List ℕ) (at : ℕ) (i : Instr) : Type 0 where
+  pub word : List ℕ
+  pub spaces : List ℕ
+  pub operand : List ℕ
+  pub comment : List ℕ
+  pub line_is : line ≡ word ++ (spaces ++ (operand ++ comment))
+  pub shown : list_all is_line_byte line ≡ true
+  pub one_word : list_any is_space word ≡ false
+  pub all_spaces : list_all is_space spaces ≡ true
+  pub apart : EndsThere (spaces ++ (operand ++ comment))
+  pub one_operand : list_any is_space operand ≡ false
+  pub comment_apart : EndsThere comment
+  pub comment_last : operand ≡ [] → comment ≡ []
+  -- a row of the opcode map has the word, in any case of letters
+  pub row : Row
+  pub in_map : table.row i.page i.opcode ≡ Some row
+  pub named : same_word (row_word row) word ≡ true
+  -- the operand is one of the row's mode
+  pub operand_is : IsOperand (at + length (spelling i)) row.0 row.1 operand i.post i.tail
