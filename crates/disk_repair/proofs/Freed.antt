@@ -1,5 +1,5 @@
 -- Lost clusters become free, one after the other.
-use Rattle.std.proofs.Common.{◌≡◌, ◌≢◌, ℕ, suc, ◌+◌, ◌-◌, ◌*◌, ◌/◌, ◌%◌, ◌<◌, ◌≤◌, ◌==◌, ◌&&◌, ◌||◌, not, Bool, true, false, List, [], ◌∷◌, ◌++◌, length, take, drop, get_or, set, refl, sym, ap, ◌∙◌, subst, ⊎_elim, arith, eqb-true, eq-eqb, add-one, length-drop}
+use Rattle.std.proofs.Common.{◌≡◌, ℕ, suc, ◌+◌, ◌-◌, ◌*◌, ◌/◌, ◌%◌, ◌<◌, ◌≤◌, ◌==◌, ◌&&◌, ◌||◌, not, Bool, true, false, List, [], ◌∷◌, length, take, drop, get_or, set, refl, sym, ap, ◌∙◌, subst, ⊎_elim, arith, eq-eqb, add-one, length-drop}
 use mathlib.Core.Path.{fun_ext}
 use Rattle.std.specs.Int.{bit_at}
 use Rattle.std.specs.Prelude.{filter}
@@ -11,7 +11,7 @@ use Rattle.std.proofs.lemmas.List.{take_more, take_all, drop_all, length-take-le
 use Rattle.std.proofs.lemmas.List.Filters.{length-filter_both}
 use Rattle.std.proofs.lemmas.List.Folds.{list_any-append}
 use Rattle.std.proofs.lemmas.List.FromFn.{length-range_with_len}
-use Rattle.rbf_model.specs.Geometry.{Geometry, image_geometry, sector}
+use Rattle.rbf_model.specs.Geometry.{image_geometry, sector}
 use Rattle.rbf_model.specs.Segments.{AreDistinct, has}
 use Rattle.rbf_model.specs.Space.{cluster_count}
 use Rattle.rbf_model.specs.Volume.{DiskVolume, Vol, lost_clusters}

@@ -1,16 +1,18 @@
 -- An image that is repaired.
 use Rattle.std.specs.Prelude.{◌≡◌, ℕ, List, length}
+use Rattle.os9_base.specs.declared.registers.TimePacket.{TimePacket}
 use Rattle.rbf_model.specs.Geometry.{image_geometry}
 use Rattle.rbf_model.specs.Volume.{DiskVolume, Vol, lost_clusters}
-use Rattle.tool_rules.specs.Tool.{repaired}
+use Rattle.tool_rules.specs.Tool.{repair, repaired, freed_line, Gives}
 use Rattle.disk_repair.specs.Clearing.{ClearsBits}
 use Rattle.disk_repair.specs.declared.image.Repaired.{Repaired}
 
--- the image represents the volume without lost clusters, as many as were lost are free now, and no bit but theirs has
--- changed
+-- the image represents the volume without lost clusters, as many as were lost are free now and reported so, and no bit
+-- but theirs has changed
 pub record IsRepaired (old : List ℕ) (outcome : Repaired) : Type 0 where
   pub volume : DiskVolume
   pub was : Vol old volume
   pub is : Vol outcome.image.items (repaired volume)
   pub freed : outcome.freed ≡ length (lost_clusters (image_geometry old) volume)
+  pub gives : (now : TimePacket) → Gives repair now volume (repaired volume) (freed_line outcome.freed)
   pub bits : ClearsBits old outcome.image.items (lost_clusters (image_geometry old) volume)
