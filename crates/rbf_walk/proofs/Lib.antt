@@ -1,3 +1,4 @@
+pub mod Endings
 pub mod Naming
 pub mod Places
 pub mod Searching

@@ -1,4 +1,5 @@
-ghost use Rattle.std.specs.Prelude.{◌≡◌, ◌-◌, ◌*◌, ◌^◌, ◌<◌, ◌≤◌, ◌+◌, min, not, IfSome, MatchOption, Some, None};
+ghost use Rattle.std.specs.Prelude.{◌≡◌, ◌-◌, ◌*◌, ◌^◌, ◌<◌, ◌≤◌, ◌+◌, true, min, not, slice_index, IfSome, MatchOption, Some, None};
+ghost use Rattle.os9_base.specs.Name.{lower as lower_lem};
 ghost use Rattle.rbf_model.specs.Fields.{directory_entry, descriptor_field, is_used};
 ghost use Rattle.rbf_model.specs.Walk.{entry_has_name};
 ghost use Rattle.rbf_walk.specs.Search.{NonePasses, IsFirst};
@@ -22,7 +23,7 @@ pub fn named_in(sector: &[u8; 256], count: u32, name: &Name) -> Option<u32>
         (IsFirst (entry_has_name name.now) sector.now count) }
 {
     for i in 0..count {
-        if has_name(&entry_at(sector, i), name) {
+        if has_name_at(sector, i, name) {
             return Some(i);
         }
     }
@@ -37,7 +38,7 @@ pub fn free_in(sector: &[u8; 256], count: u32) -> Option<u32>
         (IsFirst (λ entry. not (is_used entry)) sector.now count) }
 {
     for i in 0..count {
-        if entry_at(sector, i)[0] == 0 {
+        if byte_at(sector, i, 0) == 0 {
             return Some(i);
         }
     }
@@ -50,6 +51,51 @@ pub fn descriptor_in(sector: &[u8; 256], i: u32) -> u32
     ensures { result ≡ descriptor_field (directory_entry sector.now i) }
 {
     read_entry(&entry_at(sector, i)).lsn
+}
+
+// Is the entry in a place of a sector used, and has it this name, with the case of letters ignored?
+fn has_name_at(sector: &[u8; 256], i: u32, name: &Name) -> bool
+    requires { i < 8 }
+    ensures { result ≡ entry_has_name name.now (directory_entry sector.now i) }
+{
+    if !ends_alike(sector, i, name) {
+        return false;
+    }
+    has_name(&entry_at(sector, i), name)
+}
+
+// Does an entry end where the name does, and with that character? No other one has the name, so most
+// entries need no further look.
+fn ends_alike(sector: &[u8; 256], i: u32, name: &Name) -> bool
+    requires { i < 8 }
+    ensures { entry_has_name name.now (directory_entry sector.now i) ≡ true → result ≡ true }
+{
+    let last = name.len() - 1;
+    let byte = byte_at(sector, i, last);
+    if byte < 128 {
+        return false;
+    }
+    lower(byte % 128) == lower(name.byte(last))
+}
+
+// A letter in lower case, any other character as it is.
+fn lower(character: u8) -> u8
+    ensures { result ≡ lower_lem character }
+{
+    if character >= b'A' && character <= b'Z' {
+        character + 32
+    } else {
+        character
+    }
+}
+
+// A byte of the entry in a place of a sector.
+fn byte_at(sector: &[u8; 256], i: u32, at: u8) -> u8
+    requires entry { i < 8 }
+    requires within { at < 32 }
+    ensures { result ≡ slice_index (directory_entry sector.now i) at }
+{
+    sector[32 * i as usize + usize::from(at)]
 }
 
 // The entry in a place of a sector.
