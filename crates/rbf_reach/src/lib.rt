@@ -7,7 +7,7 @@ pub use header::{identify, is_marked, sector};
 pub use image::IdentifiedImage;
 pub use lesser::least_of;
 pub use links::{Link, link_entry, list_links};
-pub use positions::{list_positions, position_bytes};
+pub use positions::{is_used, list_positions, position_bytes};
 pub use walk::find_files;
 
 mod directory;

@@ -24,9 +24,9 @@ impl Unread {
         ensures ordered { IfOk result IsOrdered }
         ensures unread { IfOk result (λ unread. (e : ℕ) → ¬ IsRead unread e) }
     {
-        let mut next = Vec::new(alloc);
+        let mut next = Vec::with_capacity(alloc, positions as usize + 1)?;
         for e in 0..positions + 1 {
-            next.push(e)?;
+            next.push_reserved(e);
         }
         Ok(Unread { next })
     }

@@ -9,8 +9,8 @@ ghost use Rattle.rbf_sector_rules.specs.Nexts.{AreNexts};
 
 use crate::nexts::next_in_range;
 use rbf_reach::{
-    Directory, FoundFile, IdentifiedImage, directory_of, least_of, lie_within, list_positions,
-    position_bytes,
+    Directory, FoundFile, IdentifiedImage, directory_of, is_used, least_of, lie_within,
+    list_positions, position_bytes,
 };
 use rbf_sector::read_entry;
 use std::alloc::{AllocError, Global};
@@ -20,10 +20,10 @@ fn is_bad_position(image: &IdentifiedImage<'_>, e: u32) -> bool
     requires { e < 8 * image.now.ident.total }
     ensures { Decides result (IsBadPosition (disk_on image.now) e) }
 {
-    let entry = read_entry(&position_bytes(image.bytes, e));
-    if entry.name[0] == 0 {
+    if !is_used(image.bytes, e) {
         return false;
     }
+    let entry = read_entry(&position_bytes(image.bytes, e));
     entry.lsn == 0 || entry.lsn >= image.ident.total
 }
 
