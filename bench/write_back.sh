@@ -6,6 +6,7 @@
 top=$(cd "$(dirname "$(readlink -f "${BASH_SOURCE[0]}")")/.." && pwd) || exit 1
 folder=$(mktemp -d) || exit 1
 trap 'rm -rf "$folder"' EXIT
+"$top/os9" build || exit 1
 image=$folder/image
 python3 "$top/bench/make_image.py" "$folder/old" 262144 "$top/examples/log.mod" || exit 1
 
