@@ -1,0 +1,11 @@
+//! The commands of a debugger, as a text has them.
+#![tactic(auto)]
+
+pub mod command;
+mod cut;
+mod reader;
+mod words;
+pub mod worked;
+
+pub use command::{Command, Span};
+pub use reader::read_commands;
