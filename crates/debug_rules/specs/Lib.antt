@@ -1,0 +1,5 @@
+pub mod Course
+pub mod Disassembly
+pub mod Prints
+pub mod Rows
+pub mod Show
