@@ -1,0 +1,30 @@
+ghost use Rattle.std.specs.Prelude.{◌≡◌};
+ghost use Rattle.asm_model.specs.Statements.{directive_of as directive_of_lem};
+
+use asm_model::directive::Directive;
+use asm_terms::is_same_word;
+
+// The directive of this word in any case of letters.
+pub(crate) fn directive_of(word: &[u8]) -> Option<Directive>
+    ensures { result ≡ directive_of_lem word.now }
+{
+    if is_same_word(b"MOD", word) {
+        Some(Directive::Mod)
+    } else if is_same_word(b"EMOD", word) {
+        Some(Directive::Emod)
+    } else if is_same_word(b"EQU", word) {
+        Some(Directive::Equ)
+    } else if is_same_word(b"FCB", word) {
+        Some(Directive::Fcb)
+    } else if is_same_word(b"FDB", word) {
+        Some(Directive::Fdb)
+    } else if is_same_word(b"FCC", word) {
+        Some(Directive::Fcc)
+    } else if is_same_word(b"FCS", word) {
+        Some(Directive::Fcs)
+    } else if is_same_word(b"OS9", word) {
+        Some(Directive::Os9)
+    } else {
+        None
+    }
+}
