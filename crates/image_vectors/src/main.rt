@@ -1,13 +1,25 @@
 //! Checks disk images of which it is known from elsewhere what a check answers, and prints how
-//! many there were and how many came out otherwise.
+//! many there were and how many came out otherwise. They are files, which a list names, and one of
+//! these files with changes, which the input has.
 #![tactic(auto)]
 
 ghost use Rattle.std.specs.Prelude.{◌≡◌, not, bytes_eq};
 
+mod change;
+
 use anyhow::Result;
+use change::{Change, LineError};
 use rbf_check::check;
 use std::alloc::{AllocError, Global};
 use std::fs;
+use std::io::{BufRead, BufReader};
+
+/// How many images were checked, and how many answers differ.
+#[derive(Clone, Copy, Debug)]
+struct Count {
+    images: u64,
+    differ: u64,
+}
 
 /// What the check of an image answers, as a line.
 fn answer(alloc: Global, image: &[u8]) -> Result<String, AllocError> {
@@ -30,20 +42,65 @@ fn differs(found: &str, expected: &str) -> bool
     found != expected
 }
 
-fn main(rt: HostRuntime) -> Result<()> {
-    let list = fs::read_to_string(&rt, "expected.txt")?;
-    let mut images: u64 = 0;
-    let mut differ: u64 = 0;
+/// Checks the image of a line, and prints the line with the answer if that differs.
+fn compare(
+    rt: &HostRuntime,
+    line: &str,
+    image: &[u8],
+    expected: &str,
+    count: &mut Count,
+) -> Result<()> {
+    let found = answer(rt.alloc(), image)?;
+    count.images = count.images.saturating_add(1);
+    if differs(&found, expected) {
+        count.differ = count.differ.saturating_add(1);
+        println!(rt; "differs: {line}: {found}")?;
+    }
+    Ok(())
+}
+
+/// Checks each file of the list `expected.txt`, whose lines are a name and an answer.
+fn compare_files(rt: &HostRuntime, count: &mut Count) -> Result<()> {
+    let list = fs::read_to_string(rt, "expected.txt")?;
     for line in list.as_str().lines() {
         let (name, expected) = line.split_once(' ').unwrap_or((line, ""));
-        let image = fs::read(&rt, name)?;
-        let found = answer(rt.alloc(), &image)?;
-        images = images.saturating_add(1);
-        if differs(&found, expected) {
-            differ = differ.saturating_add(1);
-            println!(rt; "differs: {line}: {found}")?;
-        }
+        let image = fs::read(rt, name)?;
+        compare(rt, line, &image, expected, count)?;
     }
-    println!(rt; "{images} images, {differ} differ")?;
+    Ok(())
+}
+
+/// The image of words such as `E 26:255`, which is E, the file `e.img`, with that change.
+fn changed(rt: &HostRuntime, words: &str) -> Result<Vec<u8>> {
+    let mut image = fs::read(rt, "e.img")?;
+    if words != "E" {
+        let change = words.strip_prefix("E ").ok_or(LineError::BadChange)?;
+        Change::parse(change)
+            .ok_or(LineError::BadChange)?
+            .make(&mut image)?;
+    }
+    Ok(image)
+}
+
+/// Checks the image of each line of the input, which is its words (`changed`) and an answer, with a
+/// tab between them.
+fn compare_changes(rt: &HostRuntime, count: &mut Count) -> Result<()> {
+    for line in BufReader::new(rt.alloc(), rt.reader())?.lines(rt.alloc()) {
+        let line = line?;
+        let (words, expected) = line.as_str().split_once('\t').ok_or(LineError::BadChange)?;
+        let image = changed(rt, words)?;
+        compare(rt, line.as_str(), &image, expected, count)?;
+    }
+    Ok(())
+}
+
+fn main(rt: HostRuntime) -> Result<()> {
+    let mut count = Count {
+        images: 0,
+        differ: 0,
+    };
+    compare_files(&rt, &mut count)?;
+    compare_changes(&rt, &mut count)?;
+    println!(rt; "{} images, {} differ", count.images, count.differ)?;
     Ok(())
 }
