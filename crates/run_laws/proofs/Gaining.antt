@@ -18,10 +18,10 @@ use Rattle.file_laws.proofs.Volumes.{unused}
 
 -- ---- how many are free
 
-abbrev count_of : (ℕ → Bool) → ℕ → ℕ → ℕ
+abbrev pub count_of : (ℕ → Bool) → ℕ → ℕ → ℕ
 count_of free from n = length (filter free (range_with_len from n))
 
-some-free : (free : ℕ → Bool) (from n : ℕ) → 0 < count_of free from n → (x : ℕ) × (free x ≡ true)
+pub some-free : (free : ℕ → Bool) (from n : ℕ) → 0 < count_of free from n → (x : ℕ) × (free x ≡ true)
 some-free free from zero some = absurd (omega arith)
 some-free free from (suc n) some = by_first (some-free free (from + 1) n) (free from) refl some
   where
@@ -57,7 +57,7 @@ module _ (f g : ℕ → Bool) (x : ℕ) (same : (c : ℕ) → c ≢ x → g c �
       ∙ ap (λ (b : Bool). more b (count_of g (from + 1) n)) (sym here)
       ∙ sym (length-if (g from) from (filter g (range_with_len (from + 1) n)))
 
-  drop-one : (from n : ℕ) → count_of f from n ≤ suc (count_of g from n)
+  pub drop-one : (from n : ℕ) → count_of f from n ≤ suc (count_of g from n)
   drop-one from zero = omega arith
   drop-one from (suc n) =
       subst (λ (k : ℕ). k ≤ suc (count_of g from (suc n))) (sym (length-if (f from) from (filter f (range_with_len (from + 1) n))))
@@ -174,7 +174,7 @@ abbrev pub ChoiceOrNot : ℕ → (ℕ → Bool) → List (ℕ × ℕ) → ℕ �
 ChoiceOrNot k free segments size =
     ((clusters : List ℕ) × IsChoice k free segments size clusters) ⊎ ((clusters : List ℕ) × IsOneTooMany k free segments size clusters)
 
-some-choice : (k : ℕ) (free : ℕ → Bool) (segments : List (ℕ × ℕ)) (size bound : ℕ) → 1 ≤ k → clusters_needed k segments size ≤ count_of (free_beside k free segments) 0 bound → ChoiceOrNot k free segments size
+pub some-choice : (k : ℕ) (free : ℕ → Bool) (segments : List (ℕ × ℕ)) (size bound : ℕ) → 1 ≤ k → clusters_needed k segments size ≤ count_of (free_beside k free segments) 0 bound → ChoiceOrNot k free segments size
 some-choice k free segments size bound some enough = by_gains (some-gains (clusters_needed k segments size) k free segments bound some enough)
   where
     by_gains : SomeGains (clusters_needed k segments size) k free segments → ChoiceOrNot k free segments size
