@@ -1,0 +1,10 @@
+pub mod Counts
+pub mod Entering
+pub mod Images
+pub mod Keeping
+pub mod Making
+pub mod Names
+pub mod Ordered
+pub mod Plain
+pub mod Runs
+pub mod Sizes
