@@ -1,0 +1,4 @@
+//! What the objects hold that appear in an event, byte by byte.
+#![tactic(auto)]
+
+pub mod objects;

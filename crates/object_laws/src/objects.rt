@@ -1,0 +1,16 @@
+//! New objects of memory.
+
+ghost use Rattle.std.specs.Prelude.{◌≡◌, ℕ, Some};
+ghost use Rattle.event_rules.specs.declared.ends.EventEnd.{EventEnd};
+ghost use Rattle.machine_model.specs.Event.{Event};
+ghost use Rattle.machine_model.specs.State.{State};
+ghost use Rattle.object_laws.specs.NewObjects.{HoldNewObjects};
+
+/// The objects that appear in an event of a process hold zeros, but for two things. If the process
+/// loads a file of modules that it may execute, they begin with the blocks of that file, in order. If
+/// it starts a program, the others are its data area, in order, and may hold its parameters where
+/// that ends: the Y bytes at U.
+pub fn new_objects_hold_a_file_zeros_and_parameters()
+    ensures event { (s t : State) (end : EventEnd) (p : ℕ) → s.chosen ≡ Some p → Event s end t
+        → HoldNewObjects s p t.inner.memory.objects }
+{}
