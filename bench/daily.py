@@ -281,7 +281,8 @@ def main():
         print(f"one byte appended: {each(program, APPEND, 1000, 5000, sectors=4096):.0f}", flush=True)
         print(f"a call of a copy by 256 bytes: {copied(program):.0f}", flush=True)
         print(f"a seek and a read of a sector: {each(program, READ, 1, 10000, sectors=8192, big=4096):.0f}", flush=True)
-        print(f"each of 1,000 files: {created(program, 1000):.0f}", flush=True)
+        for files in (400, 1000):
+            print(f"each of {files} files: {created(program, files):.0f}", flush=True)
         print(f"a boot of 128 MiB: {boot(program, NOTHING, sectors=524280) / 1e6:.1f} million", flush=True)
         for calls in (["size /F 12288"], ["size /F 12544"], ["size /F 12544"] * 2, ["size /F 12544", "size /F 12288"]):
             answer, cost = grown(vectors, calls)
