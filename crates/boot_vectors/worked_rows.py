@@ -126,6 +126,22 @@ def row(name, out, disks, slices="1000*9", status=0, line="-", failing=()):
           out.hex() or "-", line, *fields[:4], *([",".join(failing)] if failing else []), sep="\t")
 
 
+def filled(count):
+    """How a program begins: it fills so many bytes from 100 on with 1 to 255, 0 and so on, and makes the file of its
+    name."""
+    return f"""start   ldx     #$100
+        ldb     #1
+fill    stb     ,x+
+        incb
+        cmpx    #${0x100 + count:X}
+        bne     fill
+        leax    name,pcr
+        lda     #3
+        ldb     #3
+        os9     $83
+"""
+
+
 def file_growth():
     """A file of 255 bytes, then a byte at 255, 256, 257 and 1,000 in turn, each time with a run that ends there."""
     first = bytes(range(1, 256))
@@ -138,16 +154,7 @@ def file_growth():
         lbsr    append
 """ for at, byte in added[:count])
         modules = assemble(program("SysGo", f"""
-start   ldx     #$100
-        ldb     #1
-fill    stb     ,x+
-        incb
-        bne     fill
-        leax    name,pcr
-        lda     #3
-        ldb     #3
-        os9     $83
-        sta     <$30
+{filled(255)}        sta     <$30
         ldx     #$100
         ldy     #255
         os9     $8A
@@ -232,20 +239,6 @@ name    fcs     "/D0/Runs"
                           file_line("/Runs", 3, left, dates), file_line("/Next", 3, b"")], free, 128 - used - free))])
 
 
-# 768 bytes from 100 on, 1 to 255, 0 and so on, and then the file by the name is made
-FILLED = """start   ldx     #$100
-        ldb     #1
-fill    stb     ,x+
-        incb
-        cmpx    #$400
-        bne     fill
-        leax    name,pcr
-        lda     #3
-        ldb     #3
-        os9     $83
-"""
-
-
 def clusters():
     """A volume of eight clusters of four sectors: a descriptor's cluster has three sectors of the contents."""
     first = bytes((n + 1) % 256 for n in range(768))
@@ -267,7 +260,7 @@ def clusters():
         ("the size 0 again", b"", 6),
     ]):
         modules = assemble(program("SysGo", f"""
-{FILLED}        ldx     #$100
+{filled(768)}        ldx     #$100
         ldy     #768
         clrb
         os9     $8A
@@ -277,11 +270,12 @@ name    fcs     "/D1/Data"
 """, 1200))
         disk = Volume(32, 4)
         disk.directory(ROOT, ROOT, [])  # all of it is in cluster 0: the map is 80
-        shown = ["0000", "0000", "0002"][: count + 1]
-        row(f"clusters of four sectors: {name}", lines(" ".join(shown)),
-            [(boot_disk(modules), tree([directory_line("/", ["OS9Boot"]), file_line("/OS9Boot", 3, modules)],
-                                       64 - BOOT_SECTORS - needed(modules))),
-             (disk, tree([directory_line("/", ["Data"], WRITTEN), file_line("/Data", 3, contents, NEW)], free))])
+        shown = lines(" ".join(["0000", "0000", "0002"][: count + 1]))
+        disks = [(boot_disk(modules), tree([directory_line("/", ["OS9Boot"]), file_line("/OS9Boot", 3, modules)],
+                                           64 - BOOT_SECTORS - needed(modules))),
+                 (disk, tree([directory_line("/", ["Data"], WRITTEN), file_line("/Data", 3, contents, NEW)], free))]
+        row(f"clusters of four sectors: {name}", shown, disks)
+    row("the same, and a stop of the drive at each of its calls", shown, disks, failing=["stops D1"])
 
 
 LINK = """
@@ -523,7 +517,7 @@ def write_fault():
         lbsr    show
 """
     modules = assemble(program("SysGo", f"""
-{FILLED}        sta     <$30
+{filled(768)}        sta     <$30
         lbsr    answer
 {write}{write}{EXIT}
 name    fcs     "/D1/Data"
@@ -559,17 +553,19 @@ name    fcs     "/D1/Gone"
     contents = bytes(n % 7 for n in range(300))
     # the name is searched and the file's descriptor read; then the entry's sector, which is held, is written
     entry = MOUNT + SEARCH + 1 + 1
-    for name, call, number, shown, names, files, free, lost in [
-        ("the entry", entry, 242, "01F2 0000", ["Gone"], [file_line("/Gone", 3, contents)], 32 - 4 - 3, 0),
-        ("the map", entry + 1, 247, "01F7 01D8", ["-"], [], 32 - 4 - 3, 3),
+    for name, failing, shown, names, files, free, lost in [
+        ("the write fails of the entry", f"D1 {entry} 242", "01F2 0000", ["Gone"], [file_line("/Gone", 3, contents)],
+         32 - 4 - 3, 0),
+        ("the write fails of the map", f"D1 {entry + 1} 247", "01F7 01D8", ["-"], [], 32 - 4 - 3, 3),
+        ("the drive stops at each of its calls", "stops D1", "0000 01D8", ["-"], [], 32 - 4, 0),
     ]:
         disk = Volume(32)
         disk.directory(ROOT, ROOT, [("Gone", 4)])  # clusters 0 to 3
         disk.file(4, 3, contents, [(5, 2)])
-        row(f"a file is deleted, and the write fails of {name}", lines(shown),
+        row(f"a file is deleted, and {name}", lines(shown),
             [(boot_disk(modules), tree([directory_line("/", ["OS9Boot"]), file_line("/OS9Boot", 3, modules)],
                                        64 - BOOT_SECTORS - needed(modules))),
-             (disk, tree([directory_line("/", names), *files], free, lost))], failing=[f"D1 {call} {number}"])
+             (disk, tree([directory_line("/", names), *files], free, lost))], failing=[failing])
 
 
 def driver_calls():
@@ -619,23 +615,13 @@ name    fcs     "/D1"
 
 
 def worn_volume():
-    """140 files of 100 bytes were made, each a descriptor and a sector, and every second was deleted: so 70 holes of two
-    clusters are before the free rest. A file is written in ten pieces of 8,000 bytes. Its descriptor goes to the first
-    hole, and its first 32 sectors to the first run that has as many, which is the rest; each further piece goes on
-    there. If it took the holes first, it would have 48 segments after 94 sectors."""
+    """140 files of 100 bytes were made, each a descriptor and a sector, and every second was deleted: so 70 holes of
+    two clusters are before the free rest. A file is written in ten pieces of 8,000 bytes. Its descriptor goes to the
+    first hole, and its first 32 sectors to the first run that has as many, which is the rest; each further piece goes
+    on there. If it took the holes first, it would have 48 segments after 94 sectors."""
     piece = bytes((n + 1) % 256 for n in range(8000))
     modules = assemble(program("SysGo", f"""
-start   ldx     #$100
-        ldb     #1
-fill    stb     ,x+
-        incb
-        cmpx    #$2040
-        bne     fill
-        leax    name,pcr
-        lda     #3
-        ldb     #3
-        os9     $83
-        sta     <$30
+{filled(8000)}        sta     <$30
         lda     #10
         sta     <$31
 again   lda     <$30
@@ -666,6 +652,135 @@ name    fcs     "/D1/Data"
                      + [file_line(f"/{name}", 3, old) for name, _ in kept], 2520 - used))], slices="10000*9")
 
 
+def two_workers():
+    """The first process makes a directory for each of two others, in a root whose sector is full, forks them and waits
+    for them; I$MakDir leaves B, the attributes. Each of the others makes a file in its directory, writes 300 bytes,
+    writes over the first ten of them, makes the file longer and shorter, and makes a second file, which it deletes. It
+    goes on after an error, and exits with it. D0 stops at each of its calls in turn: files that are not named here
+    stay as they were."""
+    calls = {name: f"os9 ${code:02X}\n        lbsr note" for name, code in [
+        ("create", 0x83), ("chgdir", 0x86), ("delete", 0x87), ("seek", 0x88), ("write", 0x8A), ("setstt", 0x8E),
+        ("close", 0x8F)]}
+    size = f"""
+        lda     <$31
+        ldb     #2
+        ldx     #0
+        {calls["setstt"]}
+"""
+    modules = assemble(program("SysGo", f"""
+start   leax    one,pcr
+        lbsr    make
+        leax    two,pcr
+        lbsr    make
+        ldb     #65
+        lbsr    fork
+        ldb     #66
+        lbsr    fork
+        os9     $04
+        lbsr    answer
+        os9     $04
+        lbsr    answer
+{EXIT}
+make    ldb     #{ALL_MAY}
+        os9     $85
+        lbsr    answer
+        rts
+fork    stb     <$30
+        leax    worker,pcr
+        ldy     #1
+        ldu     #$30
+        lda     #$11
+        clrb
+        os9     $03
+        rts
+one     fcs     "/D0/A"
+two     fcs     "/D0/B"
+worker  fcs     "Worker"
+""") + program("Worker", f"""
+start   lda     0,x
+        sta     <$44
+        ldx     #$2F44
+        stx     <$40
+        ldx     #$302F
+        stx     <$42
+        ldb     #$0D
+        stb     <$45
+        ldx     #$100
+fill    sta     ,x+
+        cmpx    #$300
+        bne     fill
+        clrb
+        stb     <$30
+        ldx     #$40
+        lda     #1
+        {calls["chgdir"]}
+        leax    data,pcr
+        lda     #3
+        ldb     #3
+        {calls["create"]}
+        sta     <$31
+        ldx     #$100
+        ldy     #300
+        {calls["write"]}
+        lda     <$31
+        ldx     #0
+        ldu     #0
+        {calls["seek"]}
+        lda     <$31
+        leax    over,pcr
+        ldy     #10
+        {calls["write"]}
+        ldu     #700
+{size}
+        ldu     #40
+{size}
+        leax    gone,pcr
+        lda     #3
+        ldb     #3
+        {calls["create"]}
+        ldx     #$100
+        ldy     #10
+        {calls["write"]}
+        {calls["close"]}
+        leax    gone,pcr
+        {calls["delete"]}
+        ldb     <$30
+        os9     $06
+note    bcc     noted
+        stb     <$30
+noted   rts
+data    fcs     "Data"
+gone    fcs     "Gone"
+over    fcc     "0123456789"
+""", 1000))
+    disk, kept = Volume(128), bytes(n % 251 for n in range(600))
+    more = [(f"More{n}", MORE + n, 3, b"", []) for n in range(2)]
+    files = [("Kept", 20, 0x0B, kept, [(21, 2), (30, 1)]), *more]
+    described = [file_line("/OS9Boot", 3, modules)]
+    for name, number, attributes, contents, segments in files:
+        disk.file(number, attributes, contents, segments)
+        described.append(file_line(f"/{name}", attributes, contents))
+    disk.directory(40, ROOT, [("Deep", 42)])
+    disk.file(42, 3, kept[:300], [(43, 2)])
+    described += [directory_line("/Old", ["Deep"]), file_line("/Old/Deep", 3, kept[:300])]
+    disk.file(BOOT_FILE, 3, modules, [(BOOT_SECTORS, needed(modules))])
+    assert BOOT_SECTORS + needed(modules) <= MORE
+    named = [("OS9Boot", BOOT_FILE), ("Old", 40)] + [(name, number) for name, number, *_ in files]
+    disk.directory(ROOT, ROOT, [*named, ("Last", 50)])  # eight entries, a sector of them
+    disk.file(50, 3, b"", [])
+    described.append(file_line("/Last", 3, b""))
+    disk.boot = (BOOT_SECTORS, len(modules))
+    free = 128 - len(disk.marked | {0, 1})
+    names = [name for name, _ in named] + ["Last", "A", "B"]
+    described.append(directory_line("/", names, WRITTEN))
+    for name in "AB":
+        described.append(directory_line(f"/{name}", ["Data", "-"], NEW))
+        described.append(file_line(f"/{name}/Data", 3, b"0123456789" + name.encode() * 30, NEW))
+    # the root has one sector more; each worker a directory of two sectors, and a file of two
+    row("two workers, and a stop of the drive at each of its calls", lines("00BF 00BF 0000 0000"),
+        [(disk, tree(described, free - 1 - 2 * 4))], "20*2000", failing=["stops D0"])
+
+
 def main():
     assert crc(b"123456789").hex() == "200fa5"
     assert crc(b"").hex() == "000000"
@@ -680,6 +795,7 @@ def main():
     delete_faults()
     driver_calls()
     slash_behind_a_name()
+    two_workers()
 
 
 if __name__ == "__main__":

@@ -1,9 +1,9 @@
-ghost use Rattle.std.specs.Prelude.{◌≡◌, ◌*◌, ◌≤◌, true, bytes_eq, drop, length, string_bytes};
+ghost use Rattle.std.specs.Prelude.{◌≡◌, ◌*◌, true, bytes_eq, drop, string_bytes};
 ghost use Rattle.std.specs.Bool.{OnTrue};
-ghost use Rattle.rbf_model.specs.Fields.{total_field};
-ghost use Rattle.rbf_model.specs.Geometry.{sector};
+ghost use Rattle.boot_vectors.specs.Stops.{KeepsEnds};
 
 use crate::tree::tree_text;
+use rbf_reach::sector;
 use rbf_sector::read_ident;
 use std::alloc::{AllocError, Global};
 
@@ -32,12 +32,7 @@ impl Disk {
     pub(crate) fn is_left_of(&self, row: &Disk) -> bool
         ensures tree { OnTrue result
             (bytes_eq (string_bytes self.now.tree) (string_bytes row.now.tree) ≡ true) }
-        ensures length { OnTrue result (length self.now.image.items ≡ length row.now.image.items) }
-        ensures first { OnTrue result
-            (sector self.now.image.items 0 ≡ sector row.now.image.items 0) }
-        ensures past { OnTrue result (bytes_eq
-            (drop (256 * total_field (sector row.now.image.items 0)) self.now.image.items)
-            (drop (256 * total_field (sector row.now.image.items 0)) row.now.image.items) ≡ true) }
+        ensures ends { OnTrue result (KeepsEnds row.now.image.items self.now.image.items) }
     {
         self.tree.as_str() == row.tree.as_str() && keep_ends(&row.image, &self.image)
     }
@@ -52,30 +47,16 @@ impl Disk {
 
 /// Has an image after a run the length, the first sector and the bytes past the sectors of its
 /// volume that it had before?
-fn keep_ends(before: &[u8], after: &[u8]) -> bool
-    ensures length { OnTrue result (length after.now ≡ length before.now) }
-    ensures first { OnTrue result (sector after.now 0 ≡ sector before.now 0) }
-    ensures past { OnTrue result (bytes_eq
-        (drop (256 * total_field (sector before.now 0)) after.now)
-        (drop (256 * total_field (sector before.now 0)) before.now) ≡ true) }
+pub(crate) fn keep_ends(before: &[u8], after: &[u8]) -> bool
+    ensures { OnTrue result (KeepsEnds before.now after.now) }
 {
     if before.len() < SECTOR || before.len() != after.len() {
         return false;
     }
-    let first = first_sector(before);
+    let first = sector(before, 0);
     let total = read_ident(&first).total;
     let same_past = past(after, total) == past(before, total);
-    first_sector(after) == first && same_past
-}
-
-/// The bytes of sector 0.
-fn first_sector(image: &[u8]) -> [u8; 256]
-    requires { 256 ≤ length image.now }
-    ensures { result ≡ sector image.now 0 }
-{
-    let mut bytes = [0; 256];
-    bytes.copy_from_slice(&image[..SECTOR]);
-    bytes
+    sector(after, 0) == first && same_past
 }
 
 /// The bytes of an image past so many sectors.

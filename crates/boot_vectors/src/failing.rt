@@ -1,6 +1,8 @@
+ghost use Rattle.std.specs.Prelude.{◌≡◌, None, IfOk};
+
 use crate::fields::RowError;
-use os9_outer::drive::DriveFault;
-use os9_outer::ram_drive::PlannedFault;
+use os9_outer::drive::{BlockDriver, DriveFault};
+use os9_outer::ram_drive::{PlannedFault, RamDrive};
 use std::alloc::{AllocError, Global};
 
 /// The faults that a drive has.
@@ -20,9 +22,53 @@ pub(crate) struct FailingCall {
     planned: PlannedFault,
 }
 
-/// The calls of a field such as `D1 1 244,D0 7 245`: the drive, the number of the call among the
-/// reads and writes of that drive, from 1, and the number of its fault.
-pub(crate) fn failing_calls(alloc: Global, field: &str) -> Result<Vec<FailingCall>, RowError> {
+/// What fails in the runs of a row.
+#[derive(Debug, Drop)]
+pub(crate) enum Failing {
+    /// These calls of drives, in one run.
+    Calls(Vec<FailingCall>),
+    /// The calls of a drive from one of them on, each of them in turn, in a run of its own.
+    Stops { drive: u8 },
+}
+
+impl Failing {
+    /// What a field tells, such as `D1 1 244,D0 7 245`: the drive, the number of the call among the
+    /// reads and writes of that drive, from 1, and the number of its fault; or such as `stops D0`.
+    pub(crate) fn parse(alloc: Global, field: &str) -> Result<Failing, RowError> {
+        if let Some(name) = field.strip_prefix("stops ") {
+            let drive = drive(name).ok_or(RowError::BadCall)?;
+            return Ok(Failing::Stops { drive });
+        }
+        Ok(Failing::Calls(failing_calls(alloc, field)?))
+    }
+}
+
+/// What fails in one run.
+#[derive(Clone, Copy)]
+pub(crate) enum Plan<'a> {
+    /// These calls of drives.
+    Calls(&'a [FailingCall]),
+    /// This call of a drive, and each later one.
+    Stop { drive: u8, first: PlannedFault },
+}
+
+impl Plan<'_> {
+    /// The drive of this number, without an image.
+    pub(crate) fn drive(&self, alloc: Global, number: u8) -> Result<RamDrive, AllocError>
+        ensures { IfOk result (λ drive. ⟦<RamDrive as BlockDriver>⟧.media drive ≡ None) }
+    {
+        match self {
+            Plan::Stop { drive, first } if *drive == number => {
+                Ok(RamDrive::stopping(first.call, first.fault))
+            }
+            Plan::Stop { .. } => Ok(RamDrive::new(Vec::new(alloc))),
+            Plan::Calls(calls) => Ok(RamDrive::new(plan_of(alloc, calls, number)?)),
+        }
+    }
+}
+
+/// The calls of a field, which commas separate.
+fn failing_calls(alloc: Global, field: &str) -> Result<Vec<FailingCall>, RowError> {
     let mut calls = Vec::new(alloc);
     if field.is_empty() {
         return Ok(calls);
@@ -34,7 +80,7 @@ pub(crate) fn failing_calls(alloc: Global, field: &str) -> Result<Vec<FailingCal
 }
 
 /// What is planned for the drive of this number.
-pub(crate) fn plan_of(
+fn plan_of(
     alloc: Global,
     calls: &[FailingCall],
     drive: u8,

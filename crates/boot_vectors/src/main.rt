@@ -3,16 +3,19 @@
 //! those behind it.
 #![tactic(auto)]
 
+mod answering;
+mod difference;
 mod disk;
 mod failing;
 mod fields;
 mod row;
 mod shown;
+mod stop;
 mod tree;
 
 use anyhow::Result;
+use difference::first_difference;
 use row::Row;
-use shown::run;
 use std::io::{BufRead, BufReader};
 
 fn main(rt: HostRuntime) -> Result<()> {
@@ -25,9 +28,9 @@ fn main(rt: HostRuntime) -> Result<()> {
         }
         let row = Row::parse(rt.alloc(), line.as_str())?;
         rows = rows.saturating_add(1);
-        if !run(rt.alloc(), &row)?.is_as(&row) {
+        if let Some(difference) = first_difference(rt.alloc(), &row)? {
             differ = differ.saturating_add(1);
-            println!(rt; "differs: line {rows}")?;
+            println!(rt; "differs: line {rows}{difference}")?;
         }
     }
     println!(rt; "{rows} programs, {differ} differ")?;

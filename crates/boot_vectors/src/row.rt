@@ -1,5 +1,5 @@
 use crate::disk::Disk;
-use crate::failing::{FailingCall, failing_calls};
+use crate::failing::Failing;
 use crate::fields::{Fields, RowError};
 use std::alloc::Global;
 
@@ -21,15 +21,16 @@ pub(crate) struct Row {
     pub(crate) err: String,
     /// The images that there are, as they are before the run, with the trees behind it.
     pub(crate) disks: Vec<Disk>,
-    /// The calls of drives that fail in the run.
-    pub(crate) failing: Vec<FailingCall>,
+    /// The calls of drives that fail.
+    pub(crate) failing: Failing,
 }
 
 impl Row {
     /// The row of a line: the words, the file of modules, the number of zero bytes behind it, the
     /// slice text, the script of keys, the status, the bytes written, the line on the error stream,
-    /// for each of two images what it holds before the run, and its tree behind it, and the calls
-    /// of drives that fail (`failing_calls`), a field that may be missing.
+    /// for each of two images what it holds before the run, and its tree behind it, and what fails
+    /// (`Failing::parse`), a field that may be missing. If a drive stops, this is all of the run in
+    /// which it does not.
     pub(crate) fn parse(alloc: Global, line: &str) -> Result<Row, RowError> {
         let mut fields = Fields::of(line);
         let row = Row {
@@ -41,7 +42,7 @@ impl Row {
             out: fields.bytes(alloc)?,
             err: String::from_str(alloc, fields.text()?)?,
             disks: disks(alloc, &mut fields)?,
-            failing: failing_calls(alloc, fields.last_text()?)?,
+            failing: Failing::parse(alloc, fields.last_text()?)?,
         };
         fields.end()?;
         Ok(row)

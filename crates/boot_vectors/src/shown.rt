@@ -1,21 +1,20 @@
-ghost use Rattle.boot_images.specs.Drives.{IsEmpty};
-ghost use Rattle.boot_images.specs.Ready.{AreFree};
-ghost use Rattle.os9_kernel.specs.Outside.{outside};
+ghost use Rattle.boot_images.specs.Drives.{HaveRoom};
 ghost use Rattle.file_drives.specs.Drives.{drive_views};
-ghost use Rattle.key_loading.specs.Loaded.{HasNoKeys};
+ghost use Rattle.key_loading.specs.Loaded.{AreUnloaded};
 ghost use Rattle.os9_outer.specs.TerminalState.{terminal_states};
-ghost use Rattle.std.specs.Prelude.{◌≡◌, ◌+◌, true, All, None, IfOk, OnOk, bytes_eq, length, []};
+ghost use Rattle.std.specs.Prelude.{◌≡◌, true, bytes_eq};
 ghost use Rattle.std.specs.Bool.{OnTrue};
 
+use crate::answering::are_answering;
 use crate::disk::Disk;
-use crate::failing::plan_of;
+use crate::failing::Plan;
 use crate::row::Row;
+use crate::stop::is_stop_of;
 use device_table::devices::Devices;
-use os9_boot::os9_main;
+use os9_boot::{add_drive, os9_main};
 use os9_outer::drive::BlockDriver;
 use os9_outer::host_file::HostFile;
 use os9_outer::mem_host::MemHost;
-use os9_outer::ram_drive::RamDrive;
 use os9_outer::sure_tty::SureTty;
 use os9_outer::terminal::CharDriver;
 use std::alloc::{AllocError, Global};
@@ -26,6 +25,9 @@ const ENDED: u8 = 0;
 /// The status of a run behind which a process lives.
 const LIVING: u8 = 5;
 
+/// The status of a run that did not begin, since a drive failed when its image was mounted.
+const NOT_MOUNTED: u8 = 9;
+
 /// What a run shows.
 #[derive(Drop)]
 pub(crate) struct Shown {
@@ -35,6 +37,8 @@ pub(crate) struct Shown {
     /// The files that are no images are as they were.
     kept: bool,
     disks: Vec<Disk>,
+    /// Each drive answers a read behind the run.
+    answering: bool,
 }
 
 impl Shown {
@@ -51,74 +55,83 @@ impl Shown {
         self.status == row.status && written && told && self.kept && self.has_disks(row)
     }
 
+    /// Has no call failed of drives that stop?
+    pub(crate) fn has_not_stopped(&self) -> bool
+        ensures { result ≡ self.now.answering }
+    {
+        self.answering
+    }
+
+    /// Is it what a run of the row may show in which a drive stopped? It came to its end, or began
+    /// not, since an image was not mounted.
+    pub(crate) fn is_stop_of(&self, alloc: Global, row: &Row) -> Result<bool, AllocError> {
+        let as_told = match self.status {
+            ENDED | LIVING => self.has_stopped_disks(alloc, row)?,
+            NOT_MOUNTED => self.has_same_disks(row),
+            _ => false,
+        };
+        Ok(as_told && self.kept)
+    }
+
     /// Are the images what the row says?
     fn has_disks(&self, row: &Row) -> bool {
         let mut pairs = self.disks.iter().zip(row.disks.iter());
         match self.status {
             ENDED | LIVING => pairs.all(|(disk, before)| disk.is_left_of(before)),
-            _ => pairs.all(|(disk, before)| disk.is_same(before)),
+            _ => self.has_same_disks(row),
         }
+    }
+
+    /// Are the images those of the row?
+    fn has_same_disks(&self, row: &Row) -> bool {
+        let mut pairs = self.disks.iter().zip(row.disks.iter());
+        pairs.all(|(disk, before)| disk.is_same(before))
+    }
+
+    /// Are the images what a stop may leave of those of the row?
+    fn has_stopped_disks(&self, alloc: Global, row: &Row) -> Result<bool, AllocError> {
+        for (disk, before) in self.disks.iter().zip(row.disks.iter()) {
+            if !is_stop_of(alloc, &disk.image, before)? {
+                return Ok(false);
+            }
+        }
+        Ok(true)
     }
 }
 
-/// Runs the words of a row over a host in memory that has its files, four drives without an image,
-/// whose calls fail as the row says, and four terminals.
-pub(crate) fn run(alloc: Global, row: &Row) -> Result<Shown, AllocError> {
-    let mut drives = Vec::new(alloc);
-    add_drive(&mut drives, Box::new(alloc, drive(alloc, row, 0)?)?)?;
-    add_drive(&mut drives, Box::new(alloc, drive(alloc, row, 1)?)?)?;
-    add_drive(&mut drives, Box::new(alloc, drive(alloc, row, 2)?)?)?;
-    add_drive(&mut drives, Box::new(alloc, drive(alloc, row, 3)?)?)?;
-    let mut terms = Vec::new(alloc);
-    add_terminal(&mut terms, Box::new(alloc, SureTty::new(alloc))?)?;
-    add_terminal(&mut terms, Box::new(alloc, SureTty::new(alloc))?)?;
-    add_terminal(&mut terms, Box::new(alloc, SureTty::new(alloc))?)?;
-    add_terminal(&mut terms, Box::new(alloc, SureTty::new(alloc))?)?;
+/// Runs the words of a row over a host in memory that has its files, on four drives without an
+/// image, of which these calls fail, and on four terminals.
+pub(crate) fn run(alloc: Global, row: &Row, plan: &Plan<'_>) -> Result<Shown, AllocError> {
+    let mut drives: Vec<Box<dyn BlockDriver>> = Vec::new(alloc);
+    add_drive(&mut drives, Box::new(alloc, plan.drive(alloc, 0)?)?)?;
+    add_drive(&mut drives, Box::new(alloc, plan.drive(alloc, 1)?)?)?;
+    add_drive(&mut drives, Box::new(alloc, plan.drive(alloc, 2)?)?)?;
+    add_drive(&mut drives, Box::new(alloc, plan.drive(alloc, 3)?)?)?;
+    run_with(alloc, row, drives)
+}
+
+/// The same on these drives.
+fn run_with(
+    alloc: Global,
+    row: &Row,
+    drives: Vec<Box<dyn BlockDriver>>,
+) -> Result<Shown, AllocError>
+    requires { HaveRoom 4 (drive_views ⟦<dyn BlockDriver as BlockDriver>⟧ drives.items) }
+{
+    let mut terms: Vec<Box<dyn CharDriver>> = Vec::new(alloc);
+    terms.push(Box::new(alloc, SureTty::new(alloc))?)?;
+    terms.push(Box::new(alloc, SureTty::new(alloc))?)?;
+    terms.push(Box::new(alloc, SureTty::new(alloc))?)?;
+    terms.push(Box::new(alloc, SureTty::new(alloc))?)?;
     run_on(alloc, row, Devices { drives, terms })
-}
-
-/// The drive of this number, without an image.
-fn drive(alloc: Global, row: &Row, number: u8) -> Result<RamDrive, AllocError>
-    ensures { IfOk result (λ drive. ⟦<RamDrive as BlockDriver>⟧.media drive ≡ None) }
-{
-    Ok(RamDrive::new(plan_of(alloc, row.failing.as_slice(), number)?))
-}
-
-/// Puts a drive without an image behind others.
-fn add_drive(
-    drives: &mut Vec<Box<dyn BlockDriver>>,
-    drive: Box<dyn BlockDriver>,
-) -> Result<(), AllocError>
-    requires empty { All IsEmpty (drive_views ⟦<dyn BlockDriver as BlockDriver>⟧ drives.old.items) }
-    requires drive { media drive ≡ None }
-    ensures empty { OnOk result
-        (All IsEmpty (drive_views ⟦<dyn BlockDriver as BlockDriver>⟧ drives.new.items)) }
-    ensures count { OnOk result (length drives.new.items ≡ length drives.old.items + 1) }
-{
-    drives.push(drive)?;
-    Ok(())
-}
-
-/// Puts a terminal without keys behind others.
-fn add_terminal(
-    terms: &mut Vec<Box<dyn CharDriver>>,
-    term: Box<dyn CharDriver>,
-) -> Result<(), AllocError>
-    requires keys { All HasNoKeys
-        (terminal_states ⟦<dyn CharDriver as CharDriver>⟧ terms.old.items) }
-    requires term { keys_left term ≡ [] }
-    ensures keys { OnOk result
-        (All HasNoKeys (terminal_states ⟦<dyn CharDriver as CharDriver>⟧ terms.new.items)) }
-    ensures count { OnOk result (length terms.new.items ≡ length terms.old.items + 1) }
-{
-    terms.push(term)?;
-    Ok(())
 }
 
 /// The same on these devices.
 fn run_on(alloc: Global, row: &Row, devices: Devices) -> Result<Shown, AllocError>
-    requires { AreFree 4 (outside ⟦<dyn BlockDriver as BlockDriver>⟧ devices.drives.items
-        ⟦<dyn CharDriver as CharDriver>⟧ devices.terms.items) }
+    requires terminals { AreUnloaded
+        (terminal_states ⟦<dyn CharDriver as CharDriver>⟧ devices.terms.items) }
+    requires room { HaveRoom 4
+        (drive_views ⟦<dyn BlockDriver as BlockDriver>⟧ devices.drives.items) }
 {
     let words = words(alloc, row)?;
     let mut host = MemHost::new(alloc, files(alloc, row)?, Vec::new(alloc));
@@ -130,6 +143,7 @@ fn run_on(alloc: Global, row: &Row, devices: Devices) -> Result<Shown, AllocErro
         err: Vec::from_slice(alloc, host.err_bytes.as_slice())?,
         kept: are_kept(row, &host.files, &files(alloc, row)?),
         disks: disks(alloc, row, &host.files)?,
+        answering: are_answering(alloc, &mut devices.drives)?,
     })
 }
 

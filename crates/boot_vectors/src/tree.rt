@@ -33,7 +33,7 @@ pub(crate) fn tree_text(alloc: Global, image: &[u8]) -> Result<String, AllocErro
 
 /// The line of a file: its path, what its descriptor says, its size and the checksum of its bytes.
 /// That of a directory has the names of its entries in place of the last two.
-fn line(alloc: Global, nodes: &Nodes, node: &Node) -> Result<String, AllocError> {
+pub(crate) fn line(alloc: Global, nodes: &Nodes, node: &Node) -> Result<String, AllocError> {
     let mut text = path(alloc, nodes, node)?;
     let bytes = node.bytes.bytes();
     write!(text, " {} ", Described(node))?;
@@ -77,7 +77,7 @@ fn names_up(alloc: Global, nodes: &Nodes, node: &Node) -> Result<Vec<Name>, Allo
 }
 
 /// The file of this descriptor number. They stand by rising numbers.
-fn node_of(nodes: &Nodes, fd: u32) -> Option<&Node> {
+pub(crate) fn node_of(nodes: &Nodes, fd: u32) -> Option<&Node> {
     let (mut low, mut high) = (0, nodes.len());
     while low < high {
         let middle = low + (high - low) / 2;
