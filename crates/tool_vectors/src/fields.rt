@@ -1,0 +1,87 @@
+use hex::{FromHexError, decode};
+use rbf_access::VolFault;
+use std::alloc::{AllocError, AllocFailed, Global};
+use thiserror::Error;
+
+/// The bytes of the longest image that a row may have: those of a volume of the most sectors.
+const MOST_BYTES: usize = 134_217_728;
+
+/// The bytes of a sector.
+const SECTOR: usize = 256;
+
+/// Why a line is no row.
+#[derive(Clone, Copy, Debug, PartialEq, Eq, Error)]
+pub(crate) enum RowError {
+    #[error("a field is missing")]
+    Missing,
+    #[error("a number is bad")]
+    BadNumber,
+    #[error("the image is bad")]
+    BadImage,
+    #[error("there is no such command")]
+    NoCommand,
+    #[error("the drive failed")]
+    Device,
+    #[error("no memory")]
+    OutOfMemory,
+}
+
+impl From<AllocError> for RowError {
+    fn from(_error: AllocError) -> RowError {
+        RowError::OutOfMemory
+    }
+}
+
+impl<T: Drop> From<AllocFailed<T>> for RowError {
+    fn from(_error: AllocFailed<T>) -> RowError {
+        RowError::OutOfMemory
+    }
+}
+
+impl From<VolFault> for RowError {
+    fn from(fault: VolFault) -> RowError {
+        match fault {
+            VolFault::OutOfMemory => RowError::OutOfMemory,
+            _ => RowError::Device,
+        }
+    }
+}
+
+/// The image of a field: its length, and then for each sector that is not all zero `;`, its number,
+/// `:` and its bytes in hexadecimal digits, without the zeros at its end.
+pub(crate) fn parse_image(alloc: Global, field: &str) -> Result<Vec<u8>, RowError> {
+    let mut parts = field.split(';');
+    let length = parts.next().ok_or(RowError::Missing)?;
+    let length = number(length.parse::<usize>().ok())?;
+    if length > MOST_BYTES {
+        return Err(RowError::BadImage);
+    }
+    let mut image = vec![in alloc; 0u8; length]?;
+    for part in parts {
+        put_sector(alloc, &mut image, part)?;
+    }
+    Ok(image)
+}
+
+// Puts a sector into an image. The one behind the last whole sector is shorter.
+fn put_sector(alloc: Global, image: &mut Vec<u8>, part: &str) -> Result<(), RowError> {
+    let (lsn, digits) = part.split_once(':').ok_or(RowError::Missing)?;
+    let lsn = number(lsn.parse::<u32>().ok())?;
+    let bytes = match decode(alloc, digits) {
+        Ok(bytes) => bytes,
+        Err(FromHexError::OutOfMemory) => return Err(RowError::OutOfMemory),
+        Err(_) => return Err(RowError::BadImage),
+    };
+    let start = SECTOR * lsn as usize;
+    let end = start + bytes.len();
+    if bytes.len() > SECTOR || end > image.len() {
+        return Err(RowError::BadImage);
+    }
+    image[start..end].copy_from_slice(&bytes);
+    Ok(())
+}
+
+/// A number that was read.
+pub(crate) fn number<T: Drop>(read: Option<T>) -> Result<T, RowError> {
+    read.ok_or(RowError::BadNumber)
+}

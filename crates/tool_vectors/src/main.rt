@@ -1,0 +1,69 @@
+//! Uses tools on disk images of which it is known from elsewhere what they answer and leave, a list of
+//! them a line, and prints how many there were and how many came out otherwise.
+#![tactic(auto)]
+
+mod command;
+mod fields;
+mod files;
+mod tree;
+mod used;
+mod words;
+
+use anyhow::Result;
+use command::differs;
+use fields::RowError;
+use files::Files;
+use std::alloc::Global;
+use std::io::{BufRead, BufReader};
+
+/// How many commands were run, and of how many it is only known that their words are refused or that a
+/// file is missing.
+#[derive(Clone, Copy, Debug)]
+struct Counts {
+    run: u64,
+    differ: u64,
+    passed_over: u64,
+}
+
+fn main(rt: HostRuntime) -> Result<()> {
+    let mut counts = Counts {
+        run: 0,
+        differ: 0,
+        passed_over: 0,
+    };
+    for line in BufReader::new(rt.alloc(), rt.reader())?.lines(rt.alloc()) {
+        let line = line?;
+        let before = counts.differ;
+        run_row(rt.alloc(), line.as_str(), &mut counts)?;
+        if counts.differ != before {
+            println!(rt;
+                "differs: row {}",
+                line.as_str().split('\t').next().unwrap_or("")
+            )?;
+        }
+    }
+    println!(rt;
+        "{} commands, {} differ, {} passed over",
+        counts.run, counts.differ, counts.passed_over
+    )?;
+    Ok(())
+}
+
+// The commands of a row, each on the files that the ones before left.
+fn run_row(alloc: Global, line: &str, counts: &mut Counts) -> Result<(), RowError> {
+    let mut fields = line.split('\t');
+    let _number = fields.next().ok_or(RowError::Missing)?;
+    let mut files = Files::of_image(alloc, fields.next().ok_or(RowError::Missing)?)?;
+    for field in fields {
+        match differs(alloc, field, &mut files)? {
+            None => counts.passed_over = counts.passed_over.saturating_add(1),
+            Some(other) => {
+                counts.run = counts.run.saturating_add(1);
+                if other {
+                    counts.differ = counts.differ.saturating_add(1);
+                }
+            }
+        }
+    }
+    Ok(())
+}
