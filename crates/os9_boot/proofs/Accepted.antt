@@ -20,14 +20,14 @@ use Rattle.boot_images.specs.Images.{images_of}
 use Rattle.boot_run.specs.Console.{IsObserved}
 use Rattle.boot_run.specs.Machine.{Setup}
 use Rattle.boot_run.specs.World.{World}
-use Rattle.os9_boot.specs.declared.status.End.{End}
-use Rattle.os9_boot.specs.declared.status.End.TheVariants.{Ended, Living, CannotRead, CannotWrite, CannotWriteImage, NoMemory, BadImage, BadText, BadBounds, BadModule, NoFirst, TooLarge, DriveFailed}
-use Rattle.os9_boot.specs.declared.status.Input.TheVariants.{Script, Slices, Modules, Image}
+use Rattle.command_files.specs.declared.status.End.{End}
+use Rattle.command_files.specs.declared.status.End.TheVariants.{Ended, Living, CannotRead, CannotWrite, CannotWriteImage, NoMemory, BadImage, BadText, BadBounds, BadModule, NoFirst, TooLarge, DriveFailed, CannotWriteFile, Refused}
+use Rattle.command_files.specs.declared.status.Input.TheVariants.{Script, Slices, Modules, Image, File}
 use Rattle.os9_boot.specs.Boots.{BootComesTo, RunsToEnd}
-use Rattle.os9_boot.specs.End.{status_number}
+use Rattle.command_files.specs.End.{status_number}
 use Rattle.os9_boot.specs.Headline.{BootIsOneRun, IsAccepted, IsOneRun}
 use Rattle.os9_boot.specs.Host.{FailsAsTold}
-use Rattle.os9_boot.specs.Setup.{SetsUpBoot}
+use Rattle.command_files.specs.Setup.{SetsUpBoot}
 use Rattle.os9_boot.specs.TopCall.{CommandReport, TopCall, WordsReport}
 
 ok-err : {A E : Type 0} (a : A) (e : E) → ◌≡◌ {A = Result A E} (Ok a) (Err e) → ⊥
@@ -94,9 +94,12 @@ module _ (files : Files) (boot : RunWords) (before after : World) (accepted : Is
         broken line comes = ok-err accepted.setup.slices line (sym accepted.sets.words.texts.slice_text ∙ comes.refused)
     by-end (BadText Modules line) host comes is = absurd comes
     by-end (BadText (Image number) line) host comes is = absurd comes
+    by-end (BadText File line) host comes is = absurd comes
     by-end (BadImage number fault) host comes is =
         let volume : IsVolume comes.1.image = volume-at number (images_of files boot.files) comes.1.image comes.1.is (subst (λ (images : List (List ℕ)). All IsVolume images) accepted.sets.images accepted.sets.volumes) in
         absurd (no_image_breach comes.1.image volume.0 volume.1 comes.1.broken.broken)
+    by-end CannotWriteFile host comes is = absurd comes
+    by-end (Refused number) host comes is = absurd comes
     by-end BadBounds host comes is =
         absurd (comes.1.1.2 (subst HasBootFile (sym (first-image comes.1.1.0 comes.1.1.1)) accepted.sets.file.has))
     by-end (BadModule at error) host comes is = absurd (not-refused comes.0 comes.1 comes.2.0 comes.2.1)

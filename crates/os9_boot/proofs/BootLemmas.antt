@@ -13,17 +13,18 @@ use Rattle.boot_run.specs.Console.{IsObserved}
 use Rattle.boot_run.specs.Machine.{Setup}
 use Rattle.boot_run.specs.World.{World}
 use Rattle.boot_run.specs.declared.machine.RunEnd.{RunEnd}
-use Rattle.os9_boot.specs.declared.files.BootFiles.{BootFiles}
-use Rattle.os9_boot.specs.declared.status.End.{End}
-use Rattle.os9_boot.specs.declared.status.End.TheVariants.{CannotRead, CannotWrite, CannotWriteImage, NoMemory, BadImage, BadText, BadBounds}
-use Rattle.os9_boot.specs.declared.status.Input.TheVariants.{Script as ScriptInput, Slices as SlicesInput}
+use Rattle.command_files.specs.declared.files.BootFiles.{BootFiles}
+use Rattle.command_files.specs.declared.status.End.{End}
+use Rattle.command_files.specs.declared.status.End.TheVariants.{CannotRead, CannotWrite, CannotWriteImage, NoMemory, BadImage, BadText, BadBounds, CannotWriteFile, Refused}
+use Rattle.command_files.specs.declared.status.Input.TheVariants.{Script as ScriptInput, Slices as SlicesInput}
 use Rattle.os9_boot.specs.Boots.{BootComesTo, MachineComesTo}
 use Rattle.os9_boot.specs.Commands.{CommandCall}
 use Rattle.os9_boot.specs.Host.{FailsAsTold}
+use Rattle.os9_boot.specs.Left.{BootMayEnd}
 use Rattle.os9_boot.specs.Meaning.{IfAllObserved}
 use Rattle.os9_boot.specs.Images.{RefusesImages}
-use Rattle.os9_boot.specs.Reading.{HasBootFiles, RefusesTexts}
-use Rattle.os9_boot.specs.Setup.{HaveTexts, SetsUpBoot}
+use Rattle.command_files.specs.Reading.{HasBootFiles, RefusesTexts}
+use Rattle.command_files.specs.Setup.{HaveTexts, SetsUpBoot}
 use Rattle.os9_boot.specs.Written.{EndsBoot}
 use Rattle.os9_boot.proofs.CallLemmas.{kept-counts, out-of-memory, still-silent, unchanged}
 use Rattle.os9_boot.proofs.MachineLemmas.{RunFails, IsOfMachine, machine-ends}
@@ -36,6 +37,8 @@ module _ (files : Files) (boot : RunWords) (setup : Setup) (before after : World
   boot-comes (BadText input line) of comes = absurd of
   boot-comes (BadImage number fault) of comes = absurd of
   boot-comes BadBounds of comes = absurd of
+  boot-comes CannotWriteFile of comes = absurd of
+  boot-comes (Refused number) of comes = absurd of
   boot-comes NoMemory of comes = inr (setup, sets, comes)
   boot-comes end of comes = (setup, sets, comes)
 
@@ -43,7 +46,13 @@ boot-fails : (boot : RunWords) (before after : World) (end : End) → RunFails b
 boot-fails boot before after (CannotRead input) failed = absurd failed
 boot-fails boot before after CannotWrite failed = failed
 boot-fails boot before after (CannotWriteImage number) failed = failed
+boot-fails boot before after CannotWriteFile failed = absurd failed
 boot-fails boot before after end kept = kept
+
+boot-may : (end : End) → IsOfMachine end → BootMayEnd end
+boot-may CannotWriteFile of = absurd of
+boot-may (Refused number) of = absurd of
+boot-may end of = tt
 
 -- ---- the files of the words were read
 
@@ -112,7 +121,7 @@ module _ (before : World) (boot : RunWords) (read : BootFiles) (has : IfSome bef
           let it = machine-ends setup boot.files images before mid after end answer run ends in
           record {
             comes = of-files (λ files. BootComesTo files boot before after answer) (λ files has observed. boot-comes files boot setup before after (sets-up files has) answer it.kind (it.comes observed));
-            may = tt;
+            may = boot-may answer it.kind;
             devices = it.devices;
             host = boot-fails boot before after answer it.host;
             files = it.files;

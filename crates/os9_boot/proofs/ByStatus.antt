@@ -7,9 +7,9 @@ use Rattle.os9_words.specs.declared.command.Command.{Command}
 use Rattle.os9_words.specs.declared.command.Command.TheVariants.{Boot as BootCommand}
 use Rattle.os9_words.specs.declared.command.RunWords.{RunWords}
 use Rattle.boot_run.specs.World.{World}
-use Rattle.os9_boot.specs.declared.status.End.{End}
-use Rattle.os9_boot.specs.declared.status.End.TheVariants.{Ended, Living, CannotRead, CannotWrite, CannotWriteImage, NoMemory}
-use Rattle.os9_boot.specs.End.{status_number}
+use Rattle.command_files.specs.declared.status.End.{End}
+use Rattle.command_files.specs.declared.status.End.TheVariants.{Ended, Living, CannotRead, CannotWrite, CannotWriteImage, NoMemory}
+use Rattle.command_files.specs.End.{status_number}
 use Rattle.os9_boot.specs.FileNames.{BootWrites}
 use Rattle.os9_boot.specs.Headline.{WritesByStatus}
 use Rattle.os9_boot.specs.TopCall.{CommandReport, TopCall, WordsReport}

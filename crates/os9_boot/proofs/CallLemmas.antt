@@ -1,11 +1,11 @@
 -- Commands that end before anything ran, stresses, and the top call.
 use Rattle.std.proofs.Common.{◌≡◌, ◌⊎◌, ℕ, Option, Some, None, Ok, Err, List, refl, ap, subst, inl, inr, All}
 use Rattle.std.specs.Prelude.{IfSome, Result}
-use Rattle.os9_outer.specs.Host.{Files, IfObserved, file_contents}
+use Rattle.os9_outer.specs.Host.{Files, file_contents}
 use Rattle.os9_outer.specs.declared.host.Host.{Ghosts}
 use Rattle.os9_outer.specs.declared.host.HostFault.{HostFault}
 use Rattle.os9_words.specs.declared.command.Command.{Command}
-use Rattle.os9_words.specs.declared.command.Command.TheVariants.{Run as RunCommand, Boot as BootCommand, Check as CheckCommand, Stress as StressCommand}
+use Rattle.os9_words.specs.declared.command.Command.TheVariants.{Run as RunCommand, Boot as BootCommand, Check as CheckCommand, Stress as StressCommand, Vol as VolCommand}
 use Rattle.os9_words.specs.Command.{command_of}
 use Rattle.os9_words.specs.Lines.{no_memory_line, words_line}
 use Rattle.os9_words.specs.Notes.{Notes, notes_of}
@@ -18,16 +18,24 @@ use Rattle.boot_run.specs.World.{World, FailsToReadFile, HasNoFault, world_of}
 use Rattle.stress_run.specs.Stress.{StressCall}
 use Rattle.stress_run.specs.declared.stress.StressEnd.{StressEnd}
 use Rattle.stress_run.specs.declared.stress.StressEnd.TheVariants as Stress
-use Rattle.os9_boot.specs.declared.status.End.{End}
-use Rattle.os9_boot.specs.declared.status.End.TheVariants.{Ended, Living, CannotRead, CannotWriteImage, NoMemory}
-use Rattle.os9_boot.specs.declared.status.Input.{Input}
+use Rattle.command_files.specs.declared.status.End.{End}
+use Rattle.command_files.specs.declared.status.End.TheVariants.{Ended, Living, CannotRead, CannotWriteImage, NoMemory, BadImage, DriveFailed, Refused}
+use Rattle.command_files.specs.declared.status.Input.{Input}
+use Rattle.command_files.specs.Stops.{StopsAtRead}
+use Rattle.os9_words.specs.declared.vol_words.VolWords.{VolWords}
+use Rattle.vol_command.specs.Call.{VolCall}
+use Rattle.vol_command.specs.Vol.{VolComesTo}
+use Rattle.vol_command.proofs.CallLemmas.{devices-quiet, files-same}
 use Rattle.os9_boot.specs.Boots.{BootComesTo, IsUndone, RunComesTo}
 use Rattle.os9_boot.specs.Check.{CheckComesTo}
 use Rattle.os9_boot.specs.Commands.{CommandCall}
-use Rattle.os9_boot.specs.End.{status_number, stress_end}
+use Rattle.command_files.specs.End.{status_number}
+use Rattle.os9_boot.specs.End.{stress_end}
 use Rattle.os9_boot.specs.EndLines.{end_line}
 use Rattle.os9_boot.specs.Host.{FailsAsTold}
-use Rattle.os9_boot.specs.Left.{BootLeavesFiles, ChangesOnly, IsSilent, LeavesDevices, StressMayEnd}
+use Rattle.command_files.specs.Left.{IsSilent}
+use Rattle.command_files.proofs.ChangeLemmas.{same-changes}
+use Rattle.os9_boot.specs.Left.{BootLeavesFiles, LeavesDevices, StressMayEnd}
 use Rattle.os9_boot.specs.Meaning.{IfAllObserved, meaning}
 use Rattle.os9_boot.specs.TopCall.{CommandReport, GainsLine, LosesLine, Reports, TopCall}
 use Rattle.os9_boot.specs.FilesNoted.{NotesFiles}
@@ -78,12 +86,6 @@ of-any (Some files) fact holds = holds files
 
 -- ---- files
 
--- files that are as they were have changed under no name
-pub same-changes : (names : List (List ℕ)) (before now : Option Files) → now ≡ before → IfObserved (ChangesOnly names) before now
-same-changes names None now same = same
-same-changes names (Some before) None same = absurd (cc same)
-same-changes names (Some before) (Some now) same = λ name others. let equal : now ≡ before = cc same in ap (λ (files : Files). files name) equal
-
 boot-leaves : (names : List (List ℕ)) (before after : World) (end : End) → after.files ≡ before.files → BootLeavesFiles names before after end
 boot-leaves names before after Ended same = same-changes names before.files after.files same
 boot-leaves names before after Living same = same-changes names before.files after.files same
@@ -96,6 +98,7 @@ leaves-same (BootCommand boot) before after end same = boot-leaves boot.files be
 leaves-same (RunCommand run) before after end same = same
 leaves-same (CheckCommand image) before after end same = same
 leaves-same (StressCommand seed) before after end same = same
+leaves-same (VolCommand vol) before after end same = files-same vol before after end same
 
 -- ---- devices
 
@@ -105,6 +108,11 @@ leaves-as (RunCommand run) before after end left same = left
 leaves-as (BootCommand boot) before after end left same = left
 leaves-as (CheckCommand image) before after end left same = record { out = left; devices = same }
 leaves-as (StressCommand seed) before after end left same = left
+leaves-as (VolCommand vol) before after (DriveFailed drive number) left same = left
+leaves-as (VolCommand vol) before after (Refused number) left same = record { out = left.out; quiet = devices-quiet before after same }
+leaves-as (VolCommand vol) before after (CannotRead input) left same = left
+leaves-as (VolCommand vol) before after (BadImage number fault) left same = left
+leaves-as (VolCommand vol) before after end left same = devices-quiet before after same
 
 -- ---- commands that end before anything ran
 
@@ -127,12 +135,15 @@ nothing-comes (CheckCommand image) before after same =
     of-any before.files (λ files. CheckComesTo (file_contents files image) before after NoMemory) (λ files. inl (ap (λ (w : World). w.out) same))
 nothing-comes (StressCommand seed) before after same =
     λ observed. (Stress.NoMemory, refl, inl (still-unrun before after same))
+nothing-comes (VolCommand vol) before after same =
+    of-any before.files (λ files. VolComesTo files vol before after NoMemory) (λ files. inl (record { output = ap (λ (w : World). w.out) same; files = ap (λ (w : World). w.files) same }))
 
 nothing-may : (command : Command) → (meaning command).may NoMemory
 nothing-may (RunCommand run) = tt
 nothing-may (BootCommand boot) = tt
 nothing-may (CheckCommand image) = tt
 nothing-may (StressCommand seed) = tt
+nothing-may (VolCommand vol) = tt
 
 -- memory was out
 pub out-of-memory : (command : Command) (before after : World) → after ≡ before → CommandCall command before after NoMemory
@@ -147,21 +158,35 @@ unread-comes (BootCommand boot) input name before after named =
 unread-comes (CheckCommand image) input name before after named =
     of-any before.files (λ files. CheckComesTo (file_contents files image) before after (CannotRead input)) (λ files. tt)
 unread-comes (StressCommand seed) input name before after named = absurd (cc named)
-
-unread-may : (command : Command) (input : Input) (name : List ℕ) → (meaning command).file_name input ≡ Some name → (meaning command).may (CannotRead input)
-unread-may (RunCommand run) input name named = tt
-unread-may (BootCommand boot) input name named = tt
-unread-may (CheckCommand image) input name named = tt
-unread-may (StressCommand seed) input name named = absurd (cc named)
+unread-comes (VolCommand vol) input name before after named =
+    of-any before.files (λ files. VolComesTo files vol before after (CannotRead input)) (λ files. tt)
 
 -- a file could not be read
-pub could-not-read : (command : Command) (input : Input) (name : List ℕ) (before after : World) → (meaning command).file_name input ≡ Some name → FailsToReadFile name before after → after.files ≡ before.files → after.out ≡ before.out → after.devices ≡ before.devices → CommandCall command before after (CannotRead input)
-could-not-read command input name before after named failed files out devices = record {
+pub could-not-read : (command : Command) (input : Input) (name : List ℕ) (before after : World) → (meaning command).file_name input ≡ Some name → (meaning command).may (CannotRead input) → FailsToReadFile name before after → after.files ≡ before.files → after.out ≡ before.out → after.devices ≡ before.devices → CommandCall command before after (CannotRead input)
+could-not-read command input name before after named may failed files out devices = record {
   comes = unread-comes command input name before after named;
-  may = unread-may command input name named;
+  may = may;
   devices = leaves-as command before after (CannotRead input) (record { out = out; devices = devices }) devices;
   host = (name, named, failed);
   files = leaves-same command before after (CannotRead input) files;
+}
+
+-- a read of its files ended it
+pub stopped-call : (command : Command) (before after : World) (end : End) → ((input : Input) → (meaning command).may (CannotRead input)) → StopsAtRead (meaning command).file_name before after end → CommandCall command before after end
+stopped-call command before after (CannotRead input) may (name, named, could) =
+    could-not-read command input name before after named (may input) could.failed could.files could.out could.devices
+stopped-call command before after NoMemory may same = out-of-memory command before after same
+stopped-call command before after end may stops = absurd stops
+
+-- ---- volumes
+
+pub vol-called : (vol : VolWords) (before after : World) (end : End) → VolCall vol before after end → CommandCall (VolCommand vol) before after end
+vol-called vol before after end call = record {
+  comes = call.comes;
+  may = call.may;
+  devices = call.devices;
+  host = call.host;
+  files = call.files;
 }
 
 -- ---- stresses

@@ -2,17 +2,17 @@
 use Rattle.std.proofs.Common.{◌≡◌, ℕ, Option, Some, None, List, ◌⊎◌, inl, inr, arith}
 use Rattle.std.specs.Prelude.{MatchOption}
 use Rattle.os9_words.specs.declared.command.Command.{Command}
-use Rattle.os9_words.specs.declared.command.Command.TheVariants.{Run, Boot, Check, Stress}
+use Rattle.os9_words.specs.declared.command.Command.TheVariants.{Run, Boot, Check, Stress, Vol}
 use Rattle.os9_words.specs.Command.{command_of}
 use Rattle.os9_words.specs.Notes.{Notes}
 use Rattle.os9_words.specs.Lines.{no_memory_line, words_line}
 use Rattle.boot_run.specs.Machine.{FailsToMount}
 use Rattle.boot_run.specs.World.{World}
-use Rattle.os9_boot.specs.declared.status.End.{End}
-use Rattle.os9_boot.specs.declared.status.End.TheVariants.{CannotRead, CannotWrite, CannotWriteImage, DriveFailed}
+use Rattle.command_files.specs.declared.status.End.{End}
+use Rattle.command_files.specs.declared.status.End.TheVariants.{CannotRead, CannotWrite, CannotWriteImage, CannotWriteFile, DriveFailed}
 use Rattle.os9_boot.specs.Commands.{CommandCall}
 use Rattle.os9_boot.specs.Completeness.{IsNoFault, NoneRose, TellsNoFault}
-use Rattle.os9_boot.specs.End.{status_number}
+use Rattle.command_files.specs.End.{status_number}
 use Rattle.os9_boot.specs.Meaning.{meaning}
 use Rattle.os9_boot.specs.TopCall.{CommandReport, Reports, TopCall, WordsReport}
 
@@ -22,12 +22,14 @@ drive-failed (Run run) before after drive number left = left
 drive-failed (Boot boot) before after drive number left = left
 drive-failed (Check image) before after drive number left = left.out
 drive-failed (Stress seed) before after drive number left = left
+drive-failed (Vol vol) before after drive number left = left
 
 -- the end of a command
 pub tells-no-fault : (command : Command) (before after : World) (end : End) → CommandCall command before after end → NoneRose before after → TellsNoFault end
 tells-no-fault command before after (CannotRead input) call none = none.host call.host.2.0
 tells-no-fault command before after CannotWrite call none = none.host call.host.0
 tells-no-fault command before after (CannotWriteImage number) call none = none.host call.host.2.0
+tells-no-fault command before after CannotWriteFile call none = none.host call.host.2.0
 tells-no-fault command before after (DriveFailed drive number) call none = none.drives drive (drive-failed command before after drive number call.devices).failed.rose
 tells-no-fault command before after end call none = tt
 
@@ -35,6 +37,7 @@ no-fault : (end : End) → TellsNoFault end → IsNoFault (status_number end)
 no-fault (CannotRead input) tells = absurd tells
 no-fault CannotWrite tells = absurd tells
 no-fault (CannotWriteImage number) tells = absurd tells
+no-fault CannotWriteFile tells = absurd tells
 no-fault (DriveFailed drive number) tells = absurd tells
 no-fault end tells = record {
   read = λ e. omega (arith, e);

@@ -1,4 +1,3 @@
-pub mod FileLemmas
 pub mod CallLemmas
 pub mod CheckLemmas
 pub mod WriteLemmas

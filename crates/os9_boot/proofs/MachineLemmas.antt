@@ -14,20 +14,22 @@ use Rattle.boot_run.specs.Machine.{IsUnrun, RunsFirst, Setup}
 use Rattle.boot_run.specs.World.{World, FailsToWrite, HasNoFault}
 use Rattle.boot_run.specs.declared.machine.RunEnd.{RunEnd}
 use Rattle.boot_run.specs.declared.machine.RunEnd.TheVariants as Run
-use Rattle.os9_boot.specs.declared.status.End.{End}
-use Rattle.os9_boot.specs.declared.status.End.TheVariants.{Ended, Living, CannotRead, CannotWrite, CannotWriteImage, NoMemory, BadImage, BadText, BadBounds, DriveFailed}
+use Rattle.command_files.specs.declared.status.End.{End}
+use Rattle.command_files.specs.declared.status.End.TheVariants.{Ended, Living, CannotRead, CannotWrite, CannotWriteImage, NoMemory, BadImage, BadText, BadBounds, DriveFailed, CannotWriteFile, Refused}
 use Rattle.os9_boot.specs.Boots.{MachineComesTo, RunsToEnd, RunsUnwritten}
-use Rattle.os9_boot.specs.Left.{BootLeavesFiles, ChangesOnly, LeavesDevices}
-use Rattle.os9_boot.specs.End.{boot_end}
+use Rattle.command_files.specs.Left.{ChangesOnly}
+use Rattle.os9_boot.specs.Left.{BootLeavesFiles, LeavesDevices}
+use Rattle.command_files.specs.End.{boot_end}
 use Rattle.os9_boot.specs.Written.{EndsBoot, StopsAt, WritesBack, ends_run}
-use Rattle.os9_boot.proofs.CallLemmas.{kept-counts, same-changes, still-silent, still-undone}
-use Rattle.os9_boot.proofs.WriteLemmas.{all-change, first-change}
+use Rattle.os9_boot.proofs.CallLemmas.{kept-counts, still-silent, still-undone}
+use Rattle.command_files.proofs.ChangeLemmas.{all-change, first-change, same-changes}
 
 -- the host failed as the end of a machine's run says, whose images have these names
 abbrev pub RunFails : List (List ℕ) → End → World → World → Type 0
 RunFails names (CannotRead input) before after = ⊥
 RunFails names CannotWrite before after = FailsToWrite before after
 RunFails names (CannotWriteImage number) before after = FailsAt number names before after
+RunFails names CannotWriteFile before after = ⊥
 RunFails names end before after = HasNoFault before after
 
 -- the end is that of a machine, and not of what was read before
@@ -36,6 +38,8 @@ IsOfMachine (CannotRead input) = ⊥
 IsOfMachine (BadText input line) = ⊥
 IsOfMachine (BadImage number fault) = ⊥
 IsOfMachine BadBounds = ⊥
+IsOfMachine CannotWriteFile = ⊥
+IsOfMachine (Refused number) = ⊥
 IsOfMachine end = Unit {0}
 
 -- a machine that was set up so has run, its images were written under these names, and the command ends so

@@ -12,17 +12,17 @@ use Rattle.boot_run.specs.Console.{IsObserved}
 use Rattle.boot_run.specs.Machine.{Setup}
 use Rattle.boot_run.specs.World.{World}
 use Rattle.boot_run.specs.declared.machine.RunEnd.{RunEnd}
-use Rattle.os9_boot.specs.declared.files.RunFiles.{RunFiles}
-use Rattle.os9_boot.specs.declared.status.End.{End}
-use Rattle.os9_boot.specs.declared.status.End.TheVariants.{CannotRead, CannotWrite, CannotWriteImage, NoMemory, BadImage, BadText, BadBounds}
-use Rattle.os9_boot.specs.declared.status.Input.TheVariants.{Script as ScriptInput, Slices as SlicesInput}
+use Rattle.command_files.specs.declared.files.RunFiles.{RunFiles}
+use Rattle.command_files.specs.declared.status.End.{End}
+use Rattle.command_files.specs.declared.status.End.TheVariants.{CannotRead, CannotWrite, CannotWriteImage, NoMemory, BadImage, BadText, BadBounds, CannotWriteFile, Refused}
+use Rattle.command_files.specs.declared.status.Input.TheVariants.{Script as ScriptInput, Slices as SlicesInput}
 use Rattle.os9_boot.specs.Boots.{MachineComesTo, RunComesTo}
 use Rattle.os9_boot.specs.Commands.{CommandCall}
 use Rattle.os9_boot.specs.Left.{RunMayEnd}
 use Rattle.os9_boot.specs.Host.{FailsAsTold}
 use Rattle.os9_boot.specs.Meaning.{IfAllObserved}
-use Rattle.os9_boot.specs.Reading.{HasRunFiles, RefusesTexts}
-use Rattle.os9_boot.specs.Setup.{SetsUpRun}
+use Rattle.command_files.specs.Reading.{HasRunFiles, RefusesTexts}
+use Rattle.command_files.specs.Setup.{SetsUpRun}
 use Rattle.os9_boot.specs.Written.{ends_run}
 use Rattle.os9_boot.proofs.CallLemmas.{kept-counts, out-of-memory, still-silent, unchanged}
 use Rattle.os9_boot.proofs.MachineLemmas.{RunFails, ends-alone, IsOfMachine, machine-ends}
@@ -35,6 +35,8 @@ module _ (files : Files) (run : RunWords) (setup : Setup) (before after : World)
   run-comes (BadText input line) of comes = absurd of
   run-comes (BadImage number fault) of comes = absurd of
   run-comes BadBounds of comes = absurd of
+  run-comes CannotWriteFile of comes = absurd of
+  run-comes (Refused number) of comes = absurd of
   run-comes NoMemory of comes = inr (setup, sets, comes)
   run-comes end of comes = (setup, sets, comes)
 
@@ -42,12 +44,15 @@ run-may : (before after : World) (end : End) → IsOfMachine end → RunFails []
 run-may before after (BadImage number fault) of failed = absurd of
 run-may before after BadBounds of failed = absurd of
 run-may before after (CannotWriteImage number) of failed = absurd (cc failed.1)
+run-may before after CannotWriteFile of failed = absurd of
+run-may before after (Refused number) of failed = absurd of
 run-may before after end of failed = tt
 
 run-fails : (run : RunWords) (before after : World) (end : End) → RunFails [] end before after → FailsAsTold (RunCommand run) end before after
 run-fails run before after (CannotRead input) failed = absurd failed
 run-fails run before after CannotWrite failed = failed
 run-fails run before after (CannotWriteImage number) failed = absurd (cc failed.1)
+run-fails run before after CannotWriteFile failed = absurd failed
 run-fails run before after end kept = kept
 
 -- ---- the files of the words were read

@@ -14,13 +14,13 @@ use Rattle.boot_images.specs.Images.{WritesAll, WritesUpTo, images_of}
 use Rattle.boot_images.specs.Outcome.{HasOutcome, StopsWithImages}
 use Rattle.boot_run.specs.Machine.{IsUnrun, Setup}
 use Rattle.boot_run.specs.World.{World}
-use Rattle.os9_boot.specs.declared.status.End.{End}
-use Rattle.os9_boot.specs.declared.status.End.TheVariants.{Ended, Living, CannotRead, CannotWrite, CannotWriteImage, NoMemory, BadImage, BadText, BadBounds, DriveFailed}
-use Rattle.os9_boot.specs.declared.status.Input.TheVariants.{Script as ScriptInput, Slices as SlicesInput}
-use Rattle.os9_boot.specs.End.{boot_end}
+use Rattle.command_files.specs.declared.status.End.{End}
+use Rattle.command_files.specs.declared.status.End.TheVariants.{Ended, Living, CannotRead, CannotWrite, CannotWriteImage, NoMemory, BadImage, BadText, BadBounds, DriveFailed, CannotWriteFile, Refused}
+use Rattle.command_files.specs.declared.status.Input.TheVariants.{Script as ScriptInput, Slices as SlicesInput}
+use Rattle.command_files.specs.End.{boot_end}
 use Rattle.os9_boot.specs.Images.{LackBootFile}
-use Rattle.os9_boot.specs.Reading.{BreaksSlices}
-use Rattle.os9_boot.specs.Setup.{HaveTexts, SetsUpBoot, SetsUpRun, script_of}
+use Rattle.command_files.specs.Reading.{BreaksSlices}
+use Rattle.command_files.specs.Setup.{HaveTexts, SetsUpBoot, SetsUpRun, script_of}
 
 -- ---- of a machine that is set up so
 
@@ -94,6 +94,8 @@ RunComesTo files run before after (BadText SlicesInput line) =
 RunComesTo files run before after (BadText input line) = ⊥
 RunComesTo files run before after (BadImage number fault) = ⊥
 RunComesTo files run before after BadBounds = ⊥
+RunComesTo files run before after CannotWriteFile = ⊥
+RunComesTo files run before after (Refused number) = ⊥
 RunComesTo files run before after NoMemory =
     IsUndone before after
     ⊎ ((setup : Setup) × SetsUpRun files run (length before.devices.terms) setup
@@ -110,6 +112,8 @@ BootComesTo files boot before after (BadText ScriptInput line) =
 BootComesTo files boot before after (BadText SlicesInput line) =
     RefusesSlices files boot (length before.devices.terms) line
 BootComesTo files boot before after (BadText input line) = ⊥
+BootComesTo files boot before after CannotWriteFile = ⊥
+BootComesTo files boot before after (Refused number) = ⊥
 BootComesTo files boot before after (BadImage number fault) =
     AcceptsTexts files boot (length before.devices.terms) × IsFirstFault (images_of files boot.files) number fault
 BootComesTo files boot before after BadBounds =

@@ -4,8 +4,8 @@ use Rattle.os9_base.specs.Count.{Rose}
 use Rattle.file_drives.specs.Drives.{drive_states}
 use Rattle.file_rules.specs.Files.{drive_at}
 use Rattle.boot_run.specs.World.{World}
-use Rattle.os9_boot.specs.declared.status.End.{End}
-use Rattle.os9_boot.specs.declared.status.End.TheVariants.{CannotRead, CannotWrite, CannotWriteImage, DriveFailed}
+use Rattle.command_files.specs.declared.status.End.{End}
+use Rattle.command_files.specs.declared.status.End.TheVariants.{CannotRead, CannotWrite, CannotWriteImage, CannotWriteFile, DriveFailed}
 
 -- neither the host's count of faults rose, nor that of a drive
 pub record NoneRose (before after : World) : Type 0 where
@@ -18,10 +18,11 @@ abbrev pub TellsNoFault : End → Type 0
 TellsNoFault (CannotRead input) = ⊥
 TellsNoFault CannotWrite = ⊥
 TellsNoFault (CannotWriteImage number) = ⊥
+TellsNoFault CannotWriteFile = ⊥
 TellsNoFault (DriveFailed drive number) = ⊥
 TellsNoFault end = ⊤
 
--- the status is that of no such fault: it is 0, 1, 4, 5, 6, 7 or 8
+-- the status is that of no such fault: it is 0, 1, 4, 5, 6, 7, 8 or 11
 pub record IsNoFault (status : ℕ) : Type 0 where
   pub read : status ≢ 2
   pub written : status ≢ 3

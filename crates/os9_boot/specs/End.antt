@@ -1,48 +1,11 @@
--- How a command ended.
-use Rattle.std.specs.Prelude.{ℕ, Option, Some, List, slice_get}
-use Rattle.os9_words.specs.declared.command.RunWords.{RunWords}
-use Rattle.event_rules.specs.declared.ends.BootFault.{BootFault}
-use Rattle.event_rules.specs.declared.ends.BootFault.TheVariants.{OutOfMemory, BadModule as BadModuleFault, NoFirst as NoFirstFault, TooLarge as TooLargeFault}
+-- How a command ends whose stress ended so.
 use Rattle.stress_run.specs.declared.stress.StressEnd.{StressEnd}
-use Rattle.os9_boot.specs.declared.status.Input.{Input}
-use Rattle.os9_boot.specs.declared.status.Input.TheVariants.{Script, Slices, Modules, Image}
-use Rattle.os9_boot.specs.declared.status.End.{End}
-use Rattle.os9_boot.specs.declared.status.End.TheVariants.{Ended, Living, CannotRead, CannotWrite, CannotWriteImage, NoMemory, BadImage, BadText, BadBounds, BadModule, NoFirst, TooLarge, DriveFailed}
+use Rattle.command_files.specs.declared.status.End.{End}
+use Rattle.command_files.specs.declared.status.End.TheVariants.{Ended, Living, CannotWrite, NoMemory, DriveFailed}
 
--- the status that the end gives
-abbrev pub status_number : End → ℕ
-status_number Ended = 0
-status_number Living = 5
-status_number (CannotRead _) = 2
-status_number CannotWrite = 3
-status_number (CannotWriteImage _) = 3
-status_number NoMemory = 4
-status_number (BadImage _ _) = 6
-status_number (BadText _ _) = 7
-status_number BadBounds = 8
-status_number (BadModule _ _) = 8
-status_number NoFirst = 8
-status_number TooLarge = 8
-status_number (DriveFailed _ _) = 9
-
--- how a refused boot file ends a command
-abbrev pub boot_end : BootFault → End
-boot_end OutOfMemory = NoMemory
-boot_end (BadModuleFault at error) = BadModule at error
-boot_end NoFirstFault = NoFirst
-boot_end TooLargeFault = TooLarge
-
--- how a stress ends the command
 abbrev pub stress_end : StressEnd → End
 stress_end StressEnd.Ended = Ended
 stress_end StressEnd.Living = Living
 stress_end (StressEnd.DriveFailed drive number) = DriveFailed drive number
 stress_end StressEnd.OutputFailed = CannotWrite
 stress_end StressEnd.NoMemory = NoMemory
-
--- the name of a file that the words of a run or a boot give, if they give one
-abbrev pub run_file_name : RunWords → Input → Option (List ℕ)
-run_file_name run Script = run.script
-run_file_name run Slices = Some run.slices
-run_file_name run Modules = slice_get run.files 0
-run_file_name run (Image number) = slice_get run.files number

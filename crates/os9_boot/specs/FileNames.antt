@@ -1,38 +1,11 @@
--- The names of the files that a run or a boot reads and writes (this project's own).
-use Rattle.std.specs.Prelude.{◌≡◌, ℕ, suc, List, [], ◌∷◌, ◌++◌, take}
-use Rattle.std.specs.Option.{option_map_or}
-use Rattle.os9_words.specs.declared.command.RunWords.{RunWords}
-use Rattle.os9_boot.specs.declared.status.End.{End}
-use Rattle.os9_boot.specs.declared.status.End.TheVariants.{Ended, Living, CannotWriteImage, NoMemory}
+-- The names of the files that a command writes (this project's own).
+use Rattle.std.specs.Prelude.{◌≡◌, ℕ, suc, List, [], take}
+use Rattle.command_files.specs.FileNames.{IsFront}
+use Rattle.command_files.specs.declared.status.End.{End}
+use Rattle.command_files.specs.declared.status.End.TheVariants.{Ended, Living, CannotWriteImage, NoMemory}
 
--- ---- the names
-
--- the script, if the words name one
-abbrev pub script_names : RunWords → List (List ℕ)
-script_names run = option_map_or (λ script. script ∷ []) run.script []
-
--- the files that the words of a run or a boot name, in the order in which they are read: the script, the slice text,
--- and the modules or the images
-abbrev pub run_inputs : RunWords → List (List ℕ)
-run_inputs run = script_names run ++ run.slices ∷ run.files
-
--- ---- parts of a list of names
-
--- the first of these names: all, some or none
-abbrev pub IsFront : List (List ℕ) → List (List ℕ) → Type 0
-IsFront front names = (rest : List (List ℕ)) × (names ≡ front ++ rest)
-
--- those up to this name, with it
-pub record IsUpTo (name : List ℕ) (front names : List (List ℕ)) : Type 0 where
-  pub earlier : List (List ℕ)
-  pub later : List (List ℕ)
-  pub whole : names ≡ earlier ++ name ∷ later
-  pub is : front ≡ earlier ++ name ∷ []
-
--- ---- a boot that ended so
-
--- of the images of these names it has written these: all behind a run that came to its end, up to the
--- one that could not be written, some if memory was out, and else none
+-- a boot that ended so has written these of the images of these names: all behind a run that came to its end, up to
+-- the one that could not be written, some if memory was out, and else none
 abbrev pub BootWrites : List (List ℕ) → End → List (List ℕ) → Type 0
 BootWrites names Ended written = written ≡ names
 BootWrites names Living written = written ≡ names

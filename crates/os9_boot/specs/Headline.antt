@@ -13,7 +13,7 @@ use Rattle.boot_run.specs.Machine.{Setup, StartsLoaded}
 use Rattle.boot_run.specs.World.{World}
 use Rattle.boot_images.specs.Images.{WritesAll}
 use Rattle.boot_images.specs.Outcome.{AreImagesOf, KeepsUnchanged}
-use Rattle.os9_boot.specs.Setup.{SetsUpBoot}
+use Rattle.command_files.specs.Setup.{SetsUpBoot}
 
 -- the texts and the images are accepted, the first image has a boot file, and that is not refused
 pub record IsAccepted (files : Files) (boot : RunWords) (terminals : ℕ) : Type 0 where

@@ -2,8 +2,8 @@
 use Rattle.std.specs.Prelude.{⊤, ℕ, List, All}
 use Rattle.boot_images.specs.BootFile.{IsFirstFault, IsVolume, LacksBootFile}
 use Rattle.boot_images.specs.declared.boot_file.BootFileFault.TheVariants.{Bounds}
-use Rattle.os9_boot.specs.declared.status.End.{End}
-use Rattle.os9_boot.specs.declared.status.End.TheVariants.{BadBounds, BadImage, NoMemory}
+use Rattle.command_files.specs.declared.status.End.{End}
+use Rattle.command_files.specs.declared.status.End.TheVariants.{BadBounds, BadImage, NoMemory}
 
 -- these are all well formed, and the first has no boot file
 abbrev pub LackBootFile : List (List ℕ) → Type 0

@@ -1,10 +1,11 @@
 -- How a command may end, and what it leaves of the output, the devices and the files (this project's own).
-use Rattle.std.specs.Prelude.{◌≡◌, ◌≢◌, ℕ, ⊤, List, All}
-use Rattle.os9_outer.specs.Host.{Files, IfObserved}
+use Rattle.std.specs.Prelude.{◌≡◌, ℕ, ⊤, List}
+use Rattle.os9_outer.specs.Host.{IfObserved}
 use Rattle.boot_run.specs.Machine.{FailsToMount}
 use Rattle.boot_run.specs.World.{World}
-use Rattle.os9_boot.specs.declared.status.End.{End}
-use Rattle.os9_boot.specs.declared.status.End.TheVariants.{Ended, Living, CannotRead, CannotWrite, CannotWriteImage, NoMemory, BadImage, BadBounds, DriveFailed}
+use Rattle.command_files.specs.Left.{ChangesOnly, IsSilent}
+use Rattle.command_files.specs.declared.status.End.{End}
+use Rattle.command_files.specs.declared.status.End.TheVariants.{Ended, Living, CannotRead, CannotWrite, CannotWriteImage, NoMemory, BadImage, BadBounds, DriveFailed, CannotWriteFile, Refused}
 
 -- ---- how it may end
 
@@ -13,7 +14,15 @@ abbrev pub RunMayEnd : End → Type 0
 RunMayEnd (BadImage number fault) = ⊥
 RunMayEnd BadBounds = ⊥
 RunMayEnd (CannotWriteImage number) = ⊥
+RunMayEnd CannotWriteFile = ⊥
+RunMayEnd (Refused number) = ⊥
 RunMayEnd end = ⊤
+
+-- those of a boot: it makes no file, and uses no tool
+abbrev pub BootMayEnd : End → Type 0
+BootMayEnd CannotWriteFile = ⊥
+BootMayEnd (Refused number) = ⊥
+BootMayEnd end = ⊤
 
 -- those of a check: it has one image, and runs nothing
 abbrev pub CheckMayEnd : End → Type 0
@@ -35,11 +44,6 @@ StressMayEnd end = ⊥
 
 -- ---- what it leaves
 
--- the output and the devices are as they were
-pub record IsSilent (before after : World) : Type 0 where
-  pub out : after.out ≡ before.out
-  pub devices : after.devices ≡ before.devices
-
 -- what is left of the output and the devices, observed or not, by how the command ended: where no machine was started
 -- all is as it was, or a drive failed
 abbrev pub LeavesDevices : World → World → End → Type 0
@@ -50,10 +54,6 @@ LeavesDevices before after (CannotWriteImage number) = ⊤
 LeavesDevices before after NoMemory = ⊤
 LeavesDevices before after (DriveFailed drive number) = FailsToMount drive number before after
 LeavesDevices before after end = IsSilent before after
-
--- no file is changed but those of these names
-abbrev pub ChangesOnly : List (List ℕ) → Files → Files → Type 0
-ChangesOnly names before now = (name : List ℕ) → All (λ other. name ≢ other) names → now name ≡ before name
 
 -- what is left of the files by a boot: only behind its run it writes images
 abbrev pub BootLeavesFiles : List (List ℕ) → World → World → End → Type 0

@@ -12,7 +12,5 @@ pub mod Host
 pub mod Images
 pub mod Left
 pub mod Meaning
-pub mod Reading
-pub mod Setup
 pub mod TopCall
 pub mod Written

@@ -1,20 +1,25 @@
 -- What a command means for a call of the program: one record for each (this project's own).
-use Rattle.std.specs.Prelude.{◌≡◌, ℕ, ⊤, IfSome, Option, Some, None, List, [], ◌∷◌, All, length}
+use Rattle.std.specs.Prelude.{◌≡◌, ℕ, IfSome, Option, Some, None, List, [], ◌∷◌, All, length}
 use Rattle.os9_outer.specs.Host.{Files, file_contents}
 use Rattle.os9_words.specs.declared.command.Command.{Command}
-use Rattle.os9_words.specs.declared.command.Command.TheVariants.{Run as RunCommand, Boot as BootCommand, Check as CheckCommand, Stress as StressCommand}
+use Rattle.os9_words.specs.declared.command.Command.TheVariants.{Run as RunCommand, Boot as BootCommand, Check as CheckCommand, Stress as StressCommand, Vol as VolCommand}
 use Rattle.os9_words.specs.declared.command.RunWords.{RunWords}
+use Rattle.os9_words.specs.declared.vol_words.VolWords.{VolWords}
 use Rattle.boot_run.specs.Console.{IsObserved}
 use Rattle.boot_run.specs.World.{World}
 use Rattle.stress_run.specs.Stress.{StressComesTo}
 use Rattle.stress_run.specs.declared.stress.StressEnd.{StressEnd}
-use Rattle.os9_boot.specs.declared.status.End.{End}
-use Rattle.os9_boot.specs.declared.status.Input.{Input}
+use Rattle.command_files.specs.declared.status.End.{End}
+use Rattle.command_files.specs.declared.status.Input.{Input}
+use Rattle.vol_command.specs.Left.{VolLeaves, VolLeavesFiles, VolMayEnd, VolWrites}
+use Rattle.vol_command.specs.Vol.{VolComesTo, vol_file_name, vol_inputs}
 use Rattle.os9_boot.specs.Boots.{BootComesTo, RunComesTo}
 use Rattle.os9_boot.specs.Check.{CheckComesTo}
-use Rattle.os9_boot.specs.End.{run_file_name, stress_end}
-use Rattle.os9_boot.specs.FileNames.{BootWrites, WritesNone, run_inputs}
-use Rattle.os9_boot.specs.Left.{BootLeavesFiles, CheckLeaves, CheckMayEnd, KeepsFiles, LeavesDevices, RunMayEnd, StressMayEnd}
+use Rattle.command_files.specs.End.{run_file_name}
+use Rattle.os9_boot.specs.End.{stress_end}
+use Rattle.command_files.specs.FileNames.{run_inputs}
+use Rattle.os9_boot.specs.FileNames.{BootWrites, WritesNone}
+use Rattle.os9_boot.specs.Left.{BootLeavesFiles, BootMayEnd, CheckLeaves, CheckMayEnd, KeepsFiles, LeavesDevices, RunMayEnd, StressMayEnd}
 
 pub record Meaning : Type 1 where
   pub comes : World → World → End → Type 0  -- what comes of it, where that can be observed
@@ -47,11 +52,11 @@ run_meaning run = record {
   drives = 0;
 }
 
--- `boot`, which may end in each way, and needs a drive for each of its images
+-- `boot`, which needs a drive for each of its images
 abbrev pub boot_meaning : RunWords → Meaning
 boot_meaning boot = record {
   comes = λ before after end. IfAllObserved before (λ files. BootComesTo files boot before after end);
-  may = λ end. ⊤;
+  may = BootMayEnd;
   devices = LeavesDevices;
   files = BootLeavesFiles boot.files;
   file_name = run_file_name boot;
@@ -86,9 +91,23 @@ stress_meaning seed = record {
   drives = 1;
 }
 
+-- `vol`, which needs a drive for its image
+abbrev pub vol_meaning : VolWords → Meaning
+vol_meaning vol = record {
+  comes = λ before after end. IfSome before.files (λ files. VolComesTo files vol before after end);
+  may = VolMayEnd vol.verb;
+  devices = VolLeaves;
+  files = VolLeavesFiles vol;
+  file_name = vol_file_name vol;
+  inputs = vol_inputs vol;
+  writes = VolWrites vol;
+  drives = 1;
+}
+
 -- an arm for each command
 abbrev pub meaning : Command → Meaning
 meaning (RunCommand run) = run_meaning run
 meaning (BootCommand boot) = boot_meaning boot
 meaning (CheckCommand image) = check_meaning image
 meaning (StressCommand seed) = stress_meaning seed
+meaning (VolCommand vol) = vol_meaning vol

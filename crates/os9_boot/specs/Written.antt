@@ -6,9 +6,9 @@ use Rattle.boot_images.specs.Images.{WritesAll, WritesUpTo}
 use Rattle.boot_run.specs.World.{World, HasNoFault}
 use Rattle.boot_run.specs.declared.machine.RunEnd.{RunEnd}
 use Rattle.boot_run.specs.declared.machine.RunEnd.TheVariants as Run
-use Rattle.os9_boot.specs.declared.status.End.{End}
-use Rattle.os9_boot.specs.declared.status.End.TheVariants.{Ended, Living, CannotWrite, CannotWriteImage, NoMemory, DriveFailed}
-use Rattle.os9_boot.specs.End.{boot_end}
+use Rattle.command_files.specs.declared.status.End.{End}
+use Rattle.command_files.specs.declared.status.End.TheVariants.{Ended, Living, CannotWrite, CannotWriteImage, NoMemory, DriveFailed}
+use Rattle.command_files.specs.End.{boot_end}
 
 -- where its images are written, or there are none
 abbrev pub ends_run : RunEnd → End

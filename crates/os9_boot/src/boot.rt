@@ -10,13 +10,13 @@ ghost use Rattle.os9_boot.specs.FilesNoted.{NotesFiles};
 ghost use Rattle.os9_words.specs.Notes.{notes_of};
 ghost use Rattle.os9_words.specs.Command.{IsCommand};
 
-use crate::files::{read_boot_files, read_files};
 use crate::start::{accept_images, end_of_run};
-use crate::status::End;
-use crate::texts::read_texts;
 use crate::write::write_back;
 use boot_images::images::Images;
 use boot_images::machine::{Start, run_images};
+use command_files::files::{read_boot_files, read_files};
+use command_files::status::End;
+use command_files::texts::read_texts;
 use device_table::devices::Devices;
 use os9_outer::drive::BlockDriver;
 use os9_outer::host::Host;

@@ -10,7 +10,7 @@ ghost use Rattle.os9_words.specs.declared.command.Command.TheVariants.{Boot};
 ghost use Rattle.os9_words.specs.declared.command.RunWords.{RunWords};
 ghost use Rattle.boot_run.specs.Console.{IsObserved};
 ghost use Rattle.boot_run.specs.World.{World};
-ghost use Rattle.os9_boot.specs.declared.status.End.{End};
+ghost use Rattle.command_files.specs.declared.status.End.{End};
 ghost use Rattle.os9_boot.specs.Commands.{CommandCall};
 ghost use Rattle.os9_boot.specs.Completeness.{IsNoFault, NoneRose, TellsNoFault};
 ghost use Rattle.os9_boot.specs.Headline.{BootIsOneRun, IsAccepted, WritesByStatus};

@@ -4,14 +4,11 @@
 mod boot;
 mod check;
 mod devices;
-mod files;
-mod input;
 pub mod laws;
 mod start;
 mod status;
 #[cfg(test)]
 mod tests;
-mod texts;
 mod top;
 mod write;
 

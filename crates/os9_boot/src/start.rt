@@ -5,10 +5,10 @@ ghost use Rattle.boot_images.specs.BootFile.{IsBootFile, IsVolume};
 ghost use Rattle.os9_boot.specs.Images.{RefusesImages};
 ghost use Rattle.os9_boot.specs.Written.{ends_run};
 
-use crate::status::End;
 use boot_images::boot_file::{BootFileFault, ImagesFault, boot_file, check_images};
 use boot_images::images::Images;
 use boot_run::RunEnd;
+use command_files::status::End;
 use std::alloc::Global;
 
 /// Checks the images, and reads the boot file of the first.

@@ -14,7 +14,8 @@ ghost use Rattle.os9_words.specs.Notes.{notes_of};
 
 use crate::boot::{boot_images, run_modules};
 use crate::check::check_image;
-use crate::status::{End, report_end};
+use crate::status::{end_of_stress, report_end};
+use command_files::status::End;
 use device_table::devices::Devices;
 use os9_outer::drive::BlockDriver;
 use os9_outer::host::Host;
@@ -23,6 +24,7 @@ use os9_words::command::{Command, WordsFault, read_words};
 use os9_words::message::{Message, report};
 use std::alloc::Global;
 use stress_run::run_stress;
+use vol_command::do_vol;
 
 /// The status where the words are no command line.
 const NO_COMMAND: u8 = 1;
@@ -39,22 +41,23 @@ const NO_MEMORY: u8 = 4;
 /// the images back. `run MODULES --slices SLICES`, with `--script SCRIPT` or not, does so with a file of
 /// modules and without images. Both take `--blocks N` and `--time T`. `check IMAGE` reads the image of a
 /// disk and passes the counts of its volume to the output stream. `stress N` boots a disk that it makes
-/// of the seed N, and passes the counts of its end to the output stream.
+/// of the seed N, and passes the counts of its end to the output stream. `vol VERB IMAGE ..` makes the
+/// image of a disk, looks into it, changes it or repairs it, by the tools of `vol_tools`.
 ///
 /// There are one to four terminals, and none has keys; at most four drives, none with an image, and at
-/// least as many as images are booted.
+/// least as many as images are booted, and one for `vol`.
 ///
 /// Statuses: 0 the command is done, and no process lives; 5 the slices are used up and a process
 /// lives; 1 the words are no command line; 2 a file could not be read; 3 the output stream or an
 /// image could not be written; 4 out of memory; 6 an image is not well formed; 7 the script or the
 /// slice text is refused; 8 the file of modules, or the boot file, is refused; 9 a drive failed when
-/// its image was mounted.
+/// its image was mounted or used by a tool; 11 a tool is refused.
 ///
 /// A run begins with the devices as they are when the call is made, each terminal loaded with its
 /// keys, and ends with them as they are when it returns: a terminal or a drive fails in it only where
 /// its count of faults rose in this call. At 1, 2, 6, 7 and 8 the devices, the output and the files
-/// are as they were. At 9 the output, the terminals and the files are as they were, and no other
-/// drive has failed. No image is in a drive behind the call.
+/// are as they were. At 9 and 11 the output, the terminals and the files are as they were, and no
+/// other drive has failed. No image is in a drive behind the call.
 ///
 /// The line that says why the call ended goes to the error stream: the whole of it, or that stream
 /// counts a fault.
@@ -125,6 +128,7 @@ fn perform<H: Host>(alloc: Global, command: &Command, host: &mut H, devices: &mu
         Command::Run(run) => run_modules(alloc, run, host, devices),
         Command::Boot(boot) => boot_images(alloc, boot, host, devices),
         Command::Check(image) => check_image(alloc, image, host),
-        Command::Stress(seed) => End::of_stress(run_stress(alloc, *seed, host, devices)),
+        Command::Stress(seed) => end_of_stress(run_stress(alloc, *seed, host, devices)),
+        Command::Vol(vol) => do_vol(alloc, vol, host, devices),
     }
 }

@@ -8,10 +8,10 @@ ghost use Rattle.os9_boot.specs.Written.{EndsBoot};
 ghost use Rattle.os9_words.specs.Notes.{notes_of};
 
 use crate::start::end_of_run;
-use crate::status::End;
 use boot_images::images::Images;
 use boot_images::write::{WriteFault, write_images};
 use boot_run::RunEnd;
+use command_files::status::End;
 use os9_outer::host::Host;
 use os9_words::word::Words;
 

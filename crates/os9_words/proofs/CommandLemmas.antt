@@ -10,8 +10,12 @@ use Rattle.time_text.specs.TimeText.{time_in}
 use Rattle.time_text.proofs.Places.{is-read}
 use Rattle.word_options.specs.Given.{Given, only_argument, value_of, words_give}
 use Rattle.os9_words.specs.declared.command.Command.{Command}
-use Rattle.os9_words.specs.declared.command.Command.TheVariants.{Boot, Check, Stress}
-use Rattle.os9_words.specs.Command.{blocks_of, boot_of, boot_with, check_of, check_options, command_of, default_start, most_images, most_seed, run_of, run_options, run_with, seed_of, stress_of, stress_options, time_of, IsCommand}
+use Rattle.os9_words.specs.declared.command.Command.TheVariants.{Boot, Check, Stress, Vol}
+use Rattle.os9_words.specs.Command.{blocks_of, boot_of, boot_with, check_of, check_options, command_of, most_images, most_seed, run_of, run_options, run_with, seed_of, stress_of, stress_options, IsCommand}
+use Rattle.os9_words.specs.Times.{default_start, time_of}
+use Rattle.os9_words.specs.Vol.{vol_of, vol_options}
+use Rattle.os9_words.specs.declared.vol_words.VolWords.{VolWords}
+use Rattle.os9_words.proofs.VolLemmas.{vol-complete}
 
 some-is : {X : Type 0} (x y : X) → Some x ≡ Some y → x ≡ y
 some-is x y is = cc is
@@ -120,19 +124,25 @@ stresses-complete : (given : Given) (command : Command) → stress_of given ≡ 
 stresses-complete given command is =
     stress-complete (option_and_then seed_of (only_argument given)) command (seed-most (only_argument given)) is
 
+vols-complete : (vol : Option VolWords) (command : Command) → ((words : VolWords) → vol ≡ Some words → IsCommand (Vol words)) → option_map Vol vol ≡ Some command → IsCommand command
+vols-complete None command complete is = absurd (cc is)
+vols-complete (Some words) command complete is = subst IsCommand (some-is (Vol words) command is) (complete words refl)
+
 -- what words spell has what a command has
 pub is-complete : (words : List (List ℕ)) (command : Command) → command_of words ≡ Some command → IsCommand command
 is-complete [] command is = absurd (cc is)
 is-complete (first ∷ words) command is =
-    by (bytes_eq first (codes "run")) (bytes_eq first (codes "boot")) (bytes_eq first (codes "check")) (bytes_eq first (codes "stress")) is
+    by (bytes_eq first (codes "run")) (bytes_eq first (codes "boot")) (bytes_eq first (codes "check")) (bytes_eq first (codes "stress")) (bytes_eq first (codes "vol")) is
   where
-    by : (run boot check stress : Bool) → (if run then option_and_then run_of (words_give run_options words) else (if boot then option_and_then boot_of (words_give run_options words) else (if check then option_and_then check_of (words_give check_options words) else (if stress then option_and_then stress_of (words_give stress_options words) else None)))) ≡ Some command → IsCommand command
-    by true boot check stress is =
+    by : (run boot check stress vol : Bool) → (if run then option_and_then run_of (words_give run_options words) else (if boot then option_and_then boot_of (words_give run_options words) else (if check then option_and_then check_of (words_give check_options words) else (if stress then option_and_then stress_of (words_give stress_options words) else (if vol then option_map Vol (option_and_then vol_of (words_give vol_options words)) else None))))) ≡ Some command → IsCommand command
+    by true boot check stress vol is =
         given-complete (words_give run_options words) run_of command (λ given e. runs-complete given command e) is
-    by false true check stress is =
+    by false true check stress vol is =
         given-complete (words_give run_options words) boot_of command (λ given e. boots-complete given command e) is
-    by false false true stress is =
+    by false false true stress vol is =
         given-complete (words_give check_options words) check_of command (λ given e. checks-complete given command e) is
-    by false false false true is =
+    by false false false true vol is =
         given-complete (words_give stress_options words) stress_of command (λ given e. stresses-complete given command e) is
-    by false false false false is = absurd (cc is)
+    by false false false false true is =
+        vols-complete (option_and_then vol_of (words_give vol_options words)) command (λ vol e. vol-complete time-is (words_give vol_options words) vol e) is
+    by false false false false false is = absurd (cc is)

@@ -2,3 +2,4 @@ pub mod PieceLemmas
 pub mod Prefixes
 pub mod CommandLemmas
 pub mod NoteLemmas
+pub mod VolLemmas

@@ -4,10 +4,11 @@ use Rattle.std.specs.Option.{option_map_or}
 use Rattle.os9_base.specs.declared.registers.TimePacket.{TimePacket}
 use Rattle.civil_time.specs.CivilTime.{is_time_packet}
 use Rattle.number_text.specs.Number.{number_of, within}
-use Rattle.time_text.specs.TimeText.{time_in}
 use Rattle.word_options.specs.Given.{Given, only_argument, value_of, words_give}
+use Rattle.os9_words.specs.Times.{time_of}
+use Rattle.os9_words.specs.Vol.{vol_of, vol_options, IsVol}
 use Rattle.os9_words.specs.declared.command.Command.{Command}
-use Rattle.os9_words.specs.declared.command.Command.TheVariants.{Run, Boot, Check, Stress}
+use Rattle.os9_words.specs.declared.command.Command.TheVariants.{Run, Boot, Check, Stress, Vol}
 use Rattle.os9_words.specs.declared.command.RunWords.{RunWords}
 use Rattle.os9_words.specs.declared.command.WordsFault.{WordsFault}
 use Rattle.os9_words.specs.declared.command.WordsFault.TheVariants.{Refused, OutOfMemory}
@@ -26,14 +27,6 @@ stress_options = []
 abbrev pub blocks_of : Given → Option ℕ
 blocks_of words =
     option_map_or (λ number. within 8 256 (number_of number)) (value_of words (codes "blocks")) (Some 64)
-
--- the start of a run without `--time`: the beginning of 1990
-abbrev pub default_start : TimePacket
-default_start = record { year = 90; month = 1; day = 1; hour = 0; minute = 0; second = 0 }
-
--- the date and time at the start: T by `--time T`
-abbrev pub time_of : Given → Option TimePacket
-time_of words = option_map_or time_in (value_of words (codes "time")) (Some default_start)
 
 -- `run` of this file of modules, with this script or without one, over these slices and blocks, from this time on,
 -- where files of modules and slices, a number of blocks and a time are given
@@ -103,7 +96,9 @@ command_of (command ∷ words) =
     then option_and_then check_of (words_give check_options words)
     else (if bytes_eq command (codes "stress")
     then option_and_then stress_of (words_give stress_options words)
-    else None)))
+    else (if bytes_eq command (codes "vol")
+    then option_map Vol (option_and_then vol_of (words_give vol_options words))
+    else None))))
 
 -- a boot names one to four images and a script
 pub record HasImages (run : RunWords) : Type 0 where
@@ -132,6 +127,7 @@ IsCommand (Run run) = IsRun run
 IsCommand (Boot boot) = IsBoot boot
 IsCommand (Check image) = ⊤
 IsCommand (Stress seed) = seed < 2147483648
+IsCommand (Vol vol) = IsVol vol
 
 -- the fact holds where the words are refused
 abbrev pub OnRefused : {T : Type 0} → Result T WordsFault → Type 0 → Type 0

@@ -2,3 +2,5 @@ pub mod Command
 pub mod Lines
 pub mod Notes
 pub mod Streams
+pub mod Times
+pub mod Vol

@@ -1,7 +1,7 @@
 -- The lines on the error stream, and the lines of `check` and `stress` on the output stream.
 use Rattle.std.specs.Prelude.{ℕ, List, [], ◌∷◌, ◌++◌, codes, decimal}
 use Rattle.os9_words.specs.declared.message.Message.{Message}
-use Rattle.os9_words.specs.declared.message.Message.TheVariants.{Words, CannotRead, CannotWrite, CannotWriteFile, NoMemory, BadImage, BadText, BadBounds, BadModule, TooLarge, NoFirst, DriveFailed}
+use Rattle.os9_words.specs.declared.message.Message.TheVariants.{Words, CannotRead, CannotWrite, CannotWriteFile, NoMemory, BadImage, BadText, BadBounds, BadModule, TooLarge, NoFirst, DriveFailed, BadSource, Refused, TerminalFailed}
 use Rattle.os9_words.specs.declared.stress_counts.StressCounts.{StressCounts}
 
 -- the line with this text
@@ -57,6 +57,19 @@ no_first_line = line_of (codes "os9: boot no SysGo")
 abbrev pub drive_failed_line : ℕ → ℕ → List ℕ
 drive_failed_line drive fault = line_of (codes "os9: drive " ++ decimal drive ++ codes ": " ++ decimal fault)
 
+-- the source in the file of this name is refused: this line of it, 0 for the whole, with the fault of this number
+abbrev pub source_fault_line : List ℕ → ℕ → ℕ → List ℕ
+source_fault_line name line error =
+    line_of (codes "os9: " ++ name ++ codes ": line " ++ decimal line ++ codes " error " ++ decimal error)
+
+-- a tool for the image in the file of this name is refused with the error of this number
+abbrev pub refused_line : List ℕ → ℕ → List ℕ
+refused_line name error = line_of (codes "os9: " ++ name ++ codes ": error " ++ decimal error)
+
+-- the terminal of this number failed
+abbrev pub terminal_failed_line : ℕ → List ℕ
+terminal_failed_line terminal = line_of (codes "os9: terminal " ++ decimal terminal)
+
 -- the line of a message
 abbrev pub message_line : Message → List ℕ
 message_line Words = words_line
@@ -71,6 +84,9 @@ message_line (BadModule at error) = boot_module_line at error
 message_line TooLarge = boot_too_large_line
 message_line NoFirst = no_first_line
 message_line (DriveFailed drive fault) = drive_failed_line drive fault
+message_line (BadSource name line error) = source_fault_line name.now line error
+message_line (Refused name error) = refused_line name.now error
+message_line (TerminalFailed terminal) = terminal_failed_line terminal
 
 -- what `check` counts: files that are no directories, directories with the root, free clusters and
 -- lost clusters

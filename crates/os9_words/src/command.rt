@@ -3,9 +3,13 @@ ghost use Rattle.std.specs.List.{All};
 ghost use Rattle.civil_time.specs.CivilTime.{is_time_packet};
 ghost use Rattle.os9_words.specs.Command.{command_of, check_options, most_images, run_options, stress_options, IsCommand, OnRefused};
 ghost use Rattle.os9_words.specs.Command.{blocks_of as blocks_of_lem, boot_of as boot_of_lem, check_of as check_of_lem, run_of as run_of_lem};
-ghost use Rattle.os9_words.specs.Command.{seed_of as seed_of_lem, stress_of as stress_of_lem, time_of as time_of_lem};
+ghost use Rattle.os9_words.specs.Command.{seed_of as seed_of_lem, stress_of as stress_of_lem};
+ghost use Rattle.os9_words.specs.Times.{time_of as time_of_lem};
+ghost use Rattle.os9_words.specs.Vol.{vol_of as vol_of_lem, vol_options};
+ghost use Rattle.os9_words.specs.declared.command.Command.TheVariants.{Vol};
 ghost use Rattle.word_options.specs.Given.{words_give};
 
+use crate::vol_words::{VolWords, read_vol};
 use crate::word::{Word, Words};
 use number_text::read_number;
 use option_reader::{GivenWords, read_given};
@@ -42,6 +46,8 @@ pub enum Command {
     Check(Word),
     /// `stress N`: runs the programs of the load of this seed, which is below 2,147,483,648.
     Stress(u32),
+    /// `vol VERB IMAGE ..`, with `--time T` or not: looks into the image of a disk, or changes it.
+    Vol(VolWords),
 }
 
 /// Why words were not read.
@@ -99,6 +105,7 @@ pub fn read_words(alloc: Global, words: &[String]) -> Result<Command, WordsFault
         "boot" => read_boot(alloc, words),
         "check" => read_check(alloc, words),
         "stress" => read_stress(alloc, words),
+        "vol" => read_tool(alloc, words),
         _ => Err(WordsFault::Refused),
     }
 }
@@ -152,8 +159,22 @@ fn read_stress(alloc: Global, words: &[String]) -> Result<Command, WordsFault>
     stress_of(&read_options(alloc, &[], words)?)
 }
 
+// Reads the words behind `vol`.
+fn read_tool(alloc: Global, words: &[String]) -> Result<Command, WordsFault>
+    ensures command { IfOk result (λ read. option_map Vol (option_and_then vol_of_lem
+        (words_give vol_options (map string_bytes words.now))) ≡ Some read) }
+    ensures complete { IfOk result IsCommand }
+    ensures refused { OnRefused result (option_map Vol (option_and_then vol_of_lem
+        (words_give vol_options (map string_bytes words.now))) ≡ None) }
+{
+    match read_vol(alloc, words) {
+        Ok(vol) => Ok(Command::Vol(vol)),
+        Err(fault) => Err(fault),
+    }
+}
+
 // Reads the words behind a command, whose options have these names.
-fn read_options<'a>(
+pub(crate) fn read_options<'a>(
     alloc: Global,
     names: &'a [&'a str],
     words: &'a [String],
@@ -341,7 +362,7 @@ fn blocks_of(given: &GivenWords<'_>) -> Option<u16>
 }
 
 // The date and time at the start: the beginning of 1990 without `--time`.
-fn time_of(given: &GivenWords<'_>) -> Option<TimePacket>
+pub(crate) fn time_of(given: &GivenWords<'_>) -> Option<TimePacket>
     ensures time { result ≡ time_of_lem given.now }
     ensures civil { IfSome result (λ start. is_time_packet start ≡ true) }
 {

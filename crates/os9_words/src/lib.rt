@@ -7,5 +7,6 @@ pub mod counts;
 pub mod message;
 mod pieces;
 pub mod stress_counts;
+pub mod vol_words;
 pub mod word;
 pub mod worked;

@@ -1,4 +1,4 @@
-ghost use Rattle.os9_words.specs.Lines.{boot_module_line, drive_failed_line, image_fault_line, text_fault_line, message_line};
+ghost use Rattle.os9_words.specs.Lines.{boot_module_line, drive_failed_line, image_fault_line, message_line, refused_line, source_fault_line, terminal_failed_line, text_fault_line};
 ghost use Rattle.os9_words.specs.Streams.{WritesErr};
 
 use crate::pieces::{report_pieces, report_text};
@@ -37,6 +37,13 @@ pub enum Message<'a> {
     NoFirst,
     /// The drive of this number, from 0, failed with the fault of this number: `os9: drive D: E`.
     DriveFailed(u8, u8),
+    /// The source in the file of this name is refused: the line, from 1 or 0 for the whole, and the
+    /// number of the fault: `os9: NAME: line L error K`.
+    BadSource(&'a str, u64, u8),
+    /// A tool for the image in the file of this name is refused with this error: `os9: NAME: error E`.
+    Refused(&'a str, u8),
+    /// The terminal of this number, from 0, failed: `os9: terminal D`.
+    TerminalFailed(u8),
 }
 
 /// Writes the line of a message to the error stream.
@@ -64,6 +71,9 @@ pub fn report<H: Host>(host: &mut H, message: &Message) -> Result<(), HostFault>
         Message::TooLarge => report_text(host, b"os9: boot too large\n"),
         Message::NoFirst => report_text(host, b"os9: boot no SysGo\n"),
         Message::DriveFailed(drive, fault) => report_drive_failed(host, *drive, *fault),
+        Message::BadSource(name, line, error) => report_bad_source(host, name, *line, *error),
+        Message::Refused(name, error) => report_refused(host, name, *error),
+        Message::TerminalFailed(terminal) => report_terminal_failed(host, *terminal),
     }
 }
 
@@ -140,6 +150,59 @@ fn report_drive_failed<H: Host>(host: &mut H, drive: u8, fault: u8) -> Result<()
     )
 }
 
+/// Writes that a source is refused.
+fn report_bad_source<H: Host>(
+    host: &mut H,
+    name: &str,
+    line: u64,
+    error: u8,
+) -> Result<(), HostFault>
+    ensures { WritesErr H.Host (source_fault_line name.now line error) result host.old host.new }
+{
+    let mut line_text = Buffer::new();
+    let mut error_text = Buffer::new();
+    report_pieces(
+        host,
+        &[
+            b"os9: ",
+            name.as_bytes(),
+            b": line ",
+            line_text.format(line).as_bytes(),
+            b" error ",
+            error_text.format(error).as_bytes(),
+            b"\n",
+        ],
+    )
+}
+
+/// Writes that a tool for an image is refused.
+fn report_refused<H: Host>(host: &mut H, name: &str, error: u8) -> Result<(), HostFault>
+    ensures { WritesErr H.Host (refused_line name.now error) result host.old host.new }
+{
+    let mut error_text = Buffer::new();
+    report_pieces(
+        host,
+        &[
+            b"os9: ",
+            name.as_bytes(),
+            b": error ",
+            error_text.format(error).as_bytes(),
+            b"\n",
+        ],
+    )
+}
+
+/// Writes that a terminal failed.
+fn report_terminal_failed<H: Host>(host: &mut H, terminal: u8) -> Result<(), HostFault>
+    ensures { WritesErr H.Host (terminal_failed_line terminal) result host.old host.new }
+{
+    let mut text = Buffer::new();
+    report_pieces(
+        host,
+        &[b"os9: terminal ", text.format(terminal).as_bytes(), b"\n"],
+    )
+}
+
 #[cfg(test)]
 mod tests {
     use super::*;
@@ -163,6 +226,9 @@ mod tests {
             Message::TooLarge,
             Message::NoFirst,
             Message::DriveFailed(1, 244),
+            Message::BadSource("a", 7, 4),
+            Message::Refused("i", 218),
+            Message::TerminalFailed(0),
         ] {
             report(&mut host, &message)?;
         }
@@ -177,7 +243,10 @@ mod tests {
             os9: boot module 232 at 0\n\
             os9: boot too large\n\
             os9: boot no SysGo\n\
-            os9: drive 1: 244\n";
+            os9: drive 1: 244\n\
+            os9: a: line 7 error 4\n\
+            os9: i: error 218\n\
+            os9: terminal 0\n";
         assert_eq!(rt; host.err_bytes.as_slice(), lines.as_slice());
         Ok(())
     }

@@ -1,7 +1,7 @@
 -- What `stress` runs and prints (this project's own).
 use Rattle.std.specs.Prelude.{◌≡◌, ◌≢◌, ◌⊎◌, ◌++◌, ℕ, ⊤, Bool, true, false, Some, List, [], ◌∷◌, All}
 use Rattle.os9_outer.specs.Stream.{stream_with, GainsPrefix}
-use Rattle.os9_words.specs.Command.{default_start}
+use Rattle.os9_words.specs.Times.{default_start}
 use Rattle.os9_words.specs.Lines.{stress_line}
 use Rattle.rbf_model.specs.Volume.{DiskVolume}
 use Rattle.boot_disk.specs.BootDisk.{boot_image}

@@ -2,18 +2,19 @@ use Rattle.std.proofs.Common.{◌≡◌, ◌∙◌, length, refl, arith}
 use Rattle.std.proofs.lemmas.List.{length-map}
 use Rattle.os9_outer.specs.TerminalState.{terminal_states}
 use Rattle.os9_kernel.specs.Outside.{outside}
+use Rattle.os9_boot.proofs.CallLemmas.{stopped-call}
 use Rattle.os9_boot.proofs.BootLemmas.{boot-ended, boot-refused, boot-texts-refused}
 use Rattle.os9_boot.proofs.MachineLemmas.{runs-after}
 use Rattle.os9_words.specs.Notes.{HasRead, notes_of}
 use Rattle.os9_words.specs.declared.command.Command.TheVariants.{Boot as BootCommand}
 use Rattle.boot_run.specs.World.{world_of}
-use Rattle.os9_boot.specs.FileNames.{run_inputs}
-use Rattle.os9_boot.proofs.NameLemmas.{behind-end, behind-images, behind-texts, images-unwritten, names-read, names-written, texts-unwritten}
+use Rattle.command_files.specs.FileNames.{run_inputs}
+use Rattle.os9_boot.proofs.NameLemmas.{behind-end, behind-images, behind-texts, images-unwritten, names-read, names-stopped, names-written, texts-unwritten}
 use Rattle.os9_boot.proofs.boot.boot_images.Goals as goal
 
 pub returns-in-Err-clause-call : goal.returns-in-Err-clause-call
 returns-in-Err-clause-call g c =
-    c.in-Err.ensures.ended (outside (λ table. (g.dyn-1.0.entry table).1) c.args.devices.now.drives.items (λ table. (g.dyn-2.0.entry table).1) c.args.devices.now.terms.items)
+    stopped-call (BootCommand c.args.boot.now) _ _ _ (λ input. tt) (c.in-Err.ensures.ended (outside (λ table. (g.dyn-1.0.entry table).1) c.args.devices.now.drives.items (λ table. (g.dyn-2.0.entry table).1) c.args.devices.now.terms.items))
 
 pub returns-in-Err-read_texts-clause-call : goal.returns-in-Err-read_texts-clause-call
 returns-in-Err-read_texts-clause-call g c =
@@ -38,6 +39,9 @@ pub returns-clause-drives : goal.returns-clause-drives
 returns-clause-drives g c = c.run_images-end.ensures.run.drives
 
 -- ---- the names
+
+pub returns-in-Err-clause-noted : goal.returns-in-Err-clause-noted
+returns-in-Err-clause-noted g c = names-stopped (BootCommand c.args.boot.now) _ _ _ c.in-Err.ensures.stopped
 
 pub returns-in-Err-read_texts-clause-noted : goal.returns-in-Err-read_texts-clause-noted
 returns-in-Err-read_texts-clause-noted g c =

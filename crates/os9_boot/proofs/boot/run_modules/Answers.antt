@@ -2,16 +2,17 @@ use Rattle.std.proofs.Common.{◌≡◌, length, refl, arith}
 use Rattle.std.proofs.lemmas.List.{length-map}
 use Rattle.os9_outer.specs.TerminalState.{terminal_states}
 use Rattle.os9_kernel.specs.Outside.{outside}
+use Rattle.os9_boot.proofs.CallLemmas.{stopped-call}
 use Rattle.os9_boot.proofs.RunLemmas.{run-ended, run-texts-refused}
 use Rattle.os9_boot.proofs.MachineLemmas.{runs-after}
 use Rattle.os9_words.specs.declared.command.Command.TheVariants.{Run as RunCommand}
 use Rattle.os9_boot.specs.Written.{ends_run}
-use Rattle.os9_boot.proofs.NameLemmas.{behind-run, behind-texts, names-read}
+use Rattle.os9_boot.proofs.NameLemmas.{behind-run, behind-texts, names-read, names-stopped}
 use Rattle.os9_boot.proofs.boot.run_modules.Goals as goal
 
 pub returns-in-Err-clause-call : goal.returns-in-Err-clause-call
 returns-in-Err-clause-call g c =
-    c.in-Err.ensures.ended (outside (λ table. (g.dyn-1.0.entry table).1) c.args.devices.now.drives.items (λ table. (g.dyn-2.0.entry table).1) c.args.devices.now.terms.items)
+    stopped-call (RunCommand c.args.run.now) _ _ _ (λ input. tt) (c.in-Err.ensures.ended (outside (λ table. (g.dyn-1.0.entry table).1) c.args.devices.now.drives.items (λ table. (g.dyn-2.0.entry table).1) c.args.devices.now.terms.items))
 
 pub returns-in-Err-read_texts-clause-call : goal.returns-in-Err-read_texts-clause-call
 returns-in-Err-read_texts-clause-call g c =
@@ -29,6 +30,9 @@ pub returns-clause-drives : goal.returns-clause-drives
 returns-clause-drives g c = c.run_images.ensures.run.drives
 
 -- ---- the names
+
+pub returns-in-Err-clause-noted : goal.returns-in-Err-clause-noted
+returns-in-Err-clause-noted g c = names-stopped (RunCommand c.args.run.now) _ _ _ c.in-Err.ensures.stopped
 
 pub returns-in-Err-read_texts-clause-noted : goal.returns-in-Err-read_texts-clause-noted
 returns-in-Err-read_texts-clause-noted g c =

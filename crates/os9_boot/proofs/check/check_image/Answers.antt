@@ -2,14 +2,15 @@ use Rattle.std.proofs.Common.{Some, [], refl, subst}
 use Rattle.rbf_model.specs.Faults.{IsFault}
 use Rattle.rbf_check.specs.Tree.{IsTreeOf}
 use Rattle.os9_words.specs.declared.command.Command.TheVariants.{Check as CheckCommand}
-use Rattle.os9_boot.proofs.CallLemmas.{out-of-memory}
+use Rattle.os9_boot.proofs.CallLemmas.{out-of-memory, stopped-call}
 use Rattle.os9_boot.proofs.CheckLemmas.{counts-printed, image-faulted, printed-after}
-use Rattle.os9_boot.specs.declared.status.End.TheVariants.{NoMemory, BadImage}
+use Rattle.command_files.specs.declared.status.End.TheVariants.{NoMemory, BadImage}
 use Rattle.os9_boot.proofs.NameLemmas.{behind-print, names-read, names-stopped}
 use Rattle.os9_boot.proofs.check.check_image.Goals as goal
 
 pub returns-in-Err-clause-call : goal.returns-in-Err-clause-call
-returns-in-Err-clause-call g c devices = c.in-Err.ensures.ended devices (CheckCommand c.args.image.now) refl
+returns-in-Err-clause-call g c devices =
+    stopped-call (CheckCommand c.args.image.now) _ _ _ (λ input. tt) (c.in-Err.ensures.ended devices (λ input. Some c.args.image.now) refl)
 
 pub returns-clause-call : goal.returns-clause-call
 returns-clause-call g c devices = out-of-memory (CheckCommand c.args.image.now) _ _ (c.in-Ok.ensures.kept devices)

@@ -1,4 +1,4 @@
-use Rattle.os9_boot.proofs.CallLemmas.{stressed}
+use Rattle.os9_boot.proofs.CallLemmas.{stressed, vol-called}
 use Rattle.os9_boot.proofs.NameLemmas.{stress-names}
 use Rattle.os9_boot.proofs.top.perform.Goals as goal
 
@@ -7,11 +7,24 @@ returns-in-Check-clause-call g c = rw c.in-Check.is (c.check_image.ensures.call 
 
 pub returns-in-Stress-clause-call : goal.returns-in-Stress-clause-call
 returns-in-Stress-clause-call g c =
-    rw (c.of_stress.ensures, c.in-Stress.is) (stressed c.in-Stress.seed _ _ c.run_stress.result c.run_stress.ensures.call)
+    rw (c.end_of_stress.ensures, c.in-Stress.is) (stressed c.in-Stress.seed _ _ c.run_stress.result c.run_stress.ensures.call)
 
 pub returns-in-Check-clause-noted : goal.returns-in-Check-clause-noted
 returns-in-Check-clause-noted g c = rw c.in-Check.is c.check_image.ensures.noted
 
 pub returns-in-Stress-clause-noted : goal.returns-in-Stress-clause-noted
 returns-in-Stress-clause-noted g c =
-    rw (c.of_stress.ensures, c.in-Stress.is) (stress-names c.in-Stress.seed c.run_stress.result _ _ c.run_stress.ensures.notes_kept)
+    rw (c.end_of_stress.ensures, c.in-Stress.is) (stress-names c.in-Stress.seed c.run_stress.result _ _ c.run_stress.ensures.notes_kept)
+
+pub do_vol-requires : goal.do_vol-requires
+do_vol-requires g c = record {
+  words = rw c.in-Vol.is at c.requires.words;
+  room = (rw c.in-Vol.is at c.requires.devices).room;
+}
+
+pub returns-in-Vol-clause-call : goal.returns-in-Vol-clause-call
+returns-in-Vol-clause-call g c =
+    rw c.in-Vol.is (vol-called c.in-Vol.vol _ _ c.do_vol.result c.do_vol.ensures.call)
+
+pub returns-in-Vol-clause-noted : goal.returns-in-Vol-clause-noted
+returns-in-Vol-clause-noted g c = rw c.in-Vol.is c.do_vol.ensures.noted

@@ -1,0 +1,4 @@
+pub mod ReadLemmas
+pub mod FileLemmas
+pub mod OutputLemmas
+pub mod ChangeLemmas

@@ -1,0 +1,10 @@
+pub mod End
+pub mod EndLines
+pub mod Fails
+pub mod FileNames
+pub mod Left
+pub mod Noted
+pub mod Output
+pub mod Reading
+pub mod Setup
+pub mod Stops

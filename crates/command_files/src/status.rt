@@ -1,0 +1,101 @@
+ghost use Rattle.std.specs.Prelude.{◌≡◌};
+ghost use Rattle.command_files.specs.End.{boot_end, named_by, status_number};
+
+use event_rules::ends::BootFault;
+use rbf_check::CheckFault;
+
+/// A file that the words of a command name.
+#[derive(Clone, Copy, Debug, PartialEq, Eq)]
+pub enum Input {
+    /// The script of keys.
+    Script,
+    /// The list of slices.
+    Slices,
+    /// The file of modules.
+    Modules,
+    /// The image of a disk: that of `check` and of `vol`, which is 0, or of a boot by its place, from 0.
+    Image(u8),
+    /// FILE of `vol put`, which is read, or of `vol get`, which is written.
+    File,
+}
+
+/// How a command ended.
+#[derive(Clone, Copy, Debug, PartialEq, Eq)]
+pub enum End {
+    /// The command is done, and no process lives.
+    Ended,
+    /// The slices are used up, and a process lives.
+    Living,
+    /// A file could not be read.
+    CannotRead(Input),
+    /// The output stream could not be written.
+    CannotWrite,
+    /// The image of this place could not be written back.
+    CannotWriteImage(u8),
+    /// The file that the command makes, FILE of `vol get`, could not be written.
+    CannotWriteFile,
+    /// Out of memory.
+    NoMemory,
+    /// The image of this place is not well formed.
+    BadImage(u8, CheckFault),
+    /// The text in a file is refused: the first line, from 1, that breaks a rule.
+    BadText(Input, u64),
+    /// The first image has no boot file within its volume.
+    BadBounds,
+    /// A module of the boot file is refused: where it begins, and the number of the error.
+    BadModule(u32, u8),
+    /// The boot file has no program `SysGo`.
+    NoFirst,
+    /// The boot file is too long, or there is no room for it and the data area of `SysGo`.
+    TooLarge,
+    /// A drive failed when its image was mounted, or for `vol` when its tool was used: its number, and
+    /// that of its fault.
+    DriveFailed(u8, u8),
+    /// The tool of `vol` is refused: the number of the error.
+    Refused(u8),
+}
+
+impl End {
+    /// The status that the end gives.
+    pub fn number(self) -> u8
+        ensures { result ≡ status_number self }
+    {
+        match self {
+            End::Ended => 0,
+            End::Living => 5,
+            End::CannotRead(_) => 2,
+            End::CannotWrite | End::CannotWriteImage(_) | End::CannotWriteFile => 3,
+            End::NoMemory => 4,
+            End::BadImage(..) => 6,
+            End::BadText(..) => 7,
+            End::BadBounds | End::BadModule(..) | End::NoFirst | End::TooLarge => 8,
+            End::DriveFailed(..) => 9,
+            End::Refused(_) => 11,
+        }
+    }
+
+    /// How a command ends whose boot file is refused.
+    pub fn of_boot_fault(fault: BootFault) -> End
+        ensures { result ≡ boot_end fault }
+    {
+        match fault {
+            BootFault::OutOfMemory => End::NoMemory,
+            BootFault::BadModule(at, error) => End::BadModule(at, error),
+            BootFault::NoFirst => End::NoFirst,
+            BootFault::TooLarge => End::TooLarge,
+        }
+    }
+
+    /// The file of which the line of the end speaks, if it speaks of one.
+    pub fn named(self) -> Option<Input>
+        ensures { result ≡ named_by self }
+    {
+        match self {
+            End::CannotRead(input) | End::BadText(input, _) => Some(input),
+            End::CannotWriteImage(number) | End::BadImage(number, _) => Some(Input::Image(number)),
+            End::CannotWriteFile => Some(Input::File),
+            End::Refused(_) => Some(Input::Image(0)),
+            _ => None,
+        }
+    }
+}

@@ -1,0 +1,33 @@
+-- Each tool is the one that is named; a tool without bytes answers none.
+use Rattle.image_tools.proofs.Answers.{faults-so, on-volume-so}
+use Rattle.image_tools.proofs.tool.use_mounted.Goals as goal
+
+pub returns-in-Put-clause-answer : goal.returns-in-Put-clause-answer
+returns-in-Put-clause-answer g c =
+    rw c.in-Put.is (on-volume-so _ _ (λ bytes. bytes.items) _ _ _ _ _ c.no_bytes.ensures c.put.ensures.answer)
+
+pub returns-in-Put-clause-fault : goal.returns-in-Put-clause-fault
+returns-in-Put-clause-fault g c =
+    faults-so _ _ (λ bytes. bytes.items) _ _ c.no_bytes.ensures _ _ c.put.ensures.fault
+
+pub returns-in-Get-clause-answer : goal.returns-in-Get-clause-answer
+returns-in-Get-clause-answer g c = rw c.in-Get.is (c.get.ensures.answer c.args.now)
+
+pub returns-in-Mkdir-clause-answer : goal.returns-in-Mkdir-clause-answer
+returns-in-Mkdir-clause-answer g c =
+    rw c.in-Mkdir.is (on-volume-so _ _ (λ bytes. bytes.items) _ _ _ _ _ c.no_bytes-in-Mkdir.ensures c.mkdir.ensures.answer)
+
+pub returns-in-Mkdir-clause-fault : goal.returns-in-Mkdir-clause-fault
+returns-in-Mkdir-clause-fault g c =
+    faults-so _ _ (λ bytes. bytes.items) _ _ c.no_bytes-in-Mkdir.ensures _ _ c.mkdir.ensures.fault
+
+pub returns-in-Remove-clause-answer : goal.returns-in-Remove-clause-answer
+returns-in-Remove-clause-answer g c =
+    rw c.in-Remove.is (on-volume-so _ _ (λ bytes. bytes.items) _ _ _ _ _ c.no_bytes-in-Remove.ensures (c.remove.ensures.answer c.args.now))
+
+pub returns-in-Remove-clause-fault : goal.returns-in-Remove-clause-fault
+returns-in-Remove-clause-fault g c =
+    faults-so _ _ (λ bytes. bytes.items) _ _ c.no_bytes-in-Remove.ensures _ _ c.remove.ensures.fault
+
+pub returns-in-List-clause-answer : goal.returns-in-List-clause-answer
+returns-in-List-clause-answer g c = rw c.in-List.is (c.list.ensures.answer c.args.now)

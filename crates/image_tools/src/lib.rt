@@ -1,0 +1,8 @@
+//! Tools for the image in a drive: its volume is mounted, and the tool is used on it.
+#![tactic(auto)]
+
+pub use mounted::use_tool;
+pub use tool::ToolUse;
+
+mod mounted;
+mod tool;

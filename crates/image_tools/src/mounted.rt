@@ -1,0 +1,39 @@
+ghost use Rattle.rbf_access.specs.Mounted.{IsSound};
+ghost use Rattle.vol_tools.specs.Answers.{OnVolumeBefore};
+ghost use Rattle.vol_tools.specs.Faults.{Faults, tool_fault};
+ghost use Rattle.vol_tools.specs.Tail.{TailStays};
+ghost use Rattle.image_tools.specs.Uses.{at_time};
+
+use crate::tool::{ToolUse, use_mounted};
+use os9_base::registers::TimePacket;
+use os9_outer::drive::BlockDriver;
+use rbf_access::{VolFault, Volume};
+use std::alloc::Global;
+use vol_tools::ToolFault;
+
+/// Mounts the volume of the image in a drive, which is well formed, and uses a tool on it, for user 0
+/// (this project's own). The answer is the tool's bytes, none if it has none.
+///
+/// # Errors
+///
+/// `Number` if the tool is refused; `Device` if an access of the drive fails when the volume is mounted
+/// or the tool used; or out of memory.
+pub fn use_tool(
+    alloc: Global,
+    d: &mut dyn BlockDriver,
+    tool: &ToolUse,
+    now: TimePacket,
+) -> Result<Vec<u8>, ToolFault>
+    requires { IsSound (media d.old) }
+    ensures answer { OnVolumeBefore (at_time now tool.now) (λ bytes. bytes.items)
+        (media d.old) (media d.new) result }
+    ensures tail { TailStays (media d.old) (media d.new) }
+    ensures fault { Faults ⟦<dyn BlockDriver as BlockDriver>⟧ (tool_fault result) d.old d.new }
+{
+    match Volume::mount(alloc, d) {
+        Ok(mut volume) => use_mounted(alloc, &mut volume, d, tool, now),
+        Err(VolFault::Device(number)) => Err(ToolFault::Device(number)),
+        Err(VolFault::OutOfMemory) => Err(ToolFault::OutOfMemory),
+        Err(VolFault::NotRbf) => unreachable!(),
+    }
+}

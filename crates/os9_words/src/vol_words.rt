@@ -1,0 +1,384 @@
+//! The words of `vol`, the tools for the images of disks.
+
+ghost use Rattle.std.specs.Prelude.{◌≡◌, ◌≢◌, ◌+◌, ◌≤◌, nat_eq, codes, IfOk, IfSome, Some, None, drop, length, map, option_and_then, slice_get, string_bytes, take, true};
+ghost use Rattle.civil_time.specs.CivilTime.{is_time_packet};
+ghost use Rattle.rbf_model.specs.Geometry.{is_cluster_size as is_cluster_size_lem};
+ghost use Rattle.word_options.specs.Given.{value_of, words_give};
+ghost use Rattle.os9_words.specs.Command.{OnRefused};
+ghost use Rattle.os9_words.specs.Vol.{cluster_of as cluster_of_lem, format_with, rest_count as rest_count_lem, sectors_in, tool_with};
+ghost use Rattle.os9_words.specs.Vol.{verb_of as verb_of_lem, vol_of as vol_of_lem, vol_options, IsVol};
+
+use crate::command::{WordsFault, read_options, time_of};
+use crate::word::{Word, Words};
+use number_text::read_number;
+use option_reader::GivenWords;
+use os9_base::registers::TimePacket;
+use std::alloc::{AllocError, Global};
+
+/// What `vol` is to do with an image.
+#[derive(Clone, Copy, Debug, PartialEq, Eq)]
+pub enum Verb {
+    /// `format`: makes the image of a disk without files.
+    Format,
+    /// `put`: makes a file on the disk of the bytes of a host's file.
+    Put,
+    /// `get`: makes a host's file of the bytes of a file on the disk.
+    Get,
+    /// `mkdir`: makes a directory.
+    Mkdir,
+    /// `delete`: deletes a file.
+    Delete,
+    /// `dir`: lists a directory.
+    Dir,
+    /// `repair`: frees the clusters that are lost.
+    Repair,
+}
+
+/// The words of `vol`.
+#[derive(Debug, Drop)]
+pub struct VolWords {
+    /// What is to be done.
+    pub verb: Verb,
+    /// The file with the image.
+    pub image: Word,
+    /// PATH and FILE, in this order, as far as the verb takes them.
+    pub rest: Words,
+    /// For `format` the sectors of the disk, from 16 to 524,280; else 0.
+    pub sectors: u32,
+    /// For `format` the sectors of a cluster, a power of two up to 64; else 1.
+    pub cluster: u16,
+    /// The date and time of the command.
+    pub start: TimePacket,
+}
+
+/// The least number of sectors that `format` takes.
+const FEWEST_SECTORS: u32 = 16;
+
+/// The greatest number of sectors that `format` takes.
+const MOST_SECTORS: u32 = 524_280;
+
+/// The greatest number of sectors in a cluster that `--cluster` takes.
+const MOST_CLUSTER: u32 = 64;
+
+/// The sectors of a cluster without `--cluster`.
+const DEFAULT_CLUSTER: u16 = 1;
+
+// Reads the words behind `vol`.
+pub(crate) fn read_vol(alloc: Global, words: &[String]) -> Result<VolWords, WordsFault>
+    ensures words { IfOk result (λ read. option_and_then vol_of_lem
+        (words_give vol_options (map string_bytes words.now)) ≡ Some read) }
+    ensures complete { IfOk result IsVol }
+    ensures refused { OnRefused result (option_and_then vol_of_lem
+        (words_give vol_options (map string_bytes words.now)) ≡ None) }
+{
+    let names = ["time", "cluster"];
+    let given = read_options(alloc, &names, words)?;
+    vol_of(alloc, &given)
+}
+
+// `vol VERB IMAGE ..`, with `--time T` or not.
+fn vol_of(alloc: Global, given: &GivenWords<'_>) -> Result<VolWords, WordsFault>
+    ensures words { IfOk result (λ read. vol_of_lem given.now ≡ Some read) }
+    ensures complete { IfOk result IsVol }
+    ensures refused { OnRefused result (vol_of_lem given.now ≡ None) }
+{
+    let verb = verb_in(given);
+    let image = given.argument(1);
+    let start = time_of(given);
+    let (Some(verb), Some(image), Some(start)) = (verb, image, start) else {
+        return Err(WordsFault::Refused);
+    };
+    match verb {
+        Verb::Format => format_of(alloc, given, image, start),
+        _ => tool_of(alloc, given, verb, image, start),
+    }
+}
+
+// `vol format IMAGE SECTORS`, with `--cluster K` or not.
+fn format_of(
+    alloc: Global,
+    given: &GivenWords<'_>,
+    image: &str,
+    start: TimePacket,
+) -> Result<VolWords, WordsFault>
+    requires { is_time_packet start ≡ true }
+    ensures words { IfOk result (λ read. format_with image.now start
+        (sectors_in given.now.arguments) (cluster_of_lem given.now) ≡ Some read) }
+    ensures complete { IfOk result IsVol }
+    ensures refused { OnRefused result (format_with image.now start
+        (sectors_in given.now.arguments) (cluster_of_lem given.now) ≡ None) }
+{
+    let sectors = sectors_of(given);
+    let cluster = cluster_of(given);
+    let (Some(sectors), Some(cluster)) = (sectors, cluster) else {
+        return Err(WordsFault::Refused);
+    };
+    match Word::copy_of(alloc, image) {
+        Ok(image) => Ok(VolWords {
+            verb: Verb::Format,
+            image,
+            rest: Words::of(Vec::new(alloc)),
+            sectors,
+            cluster,
+            start,
+        }),
+        Err(_) => Err(WordsFault::OutOfMemory),
+    }
+}
+
+// Another verb, with the words that it takes behind IMAGE.
+fn tool_of(
+    alloc: Global,
+    given: &GivenWords<'_>,
+    verb: Verb,
+    image: &str,
+    start: TimePacket,
+) -> Result<VolWords, WordsFault>
+    requires other { verb ≢ Verb.Format }
+    requires time { is_time_packet start ≡ true }
+    ensures words { IfOk result (λ read. tool_with verb image.now start given.now.arguments
+        (value_of given.now (codes "cluster")) ≡ Some read) }
+    ensures complete { IfOk result IsVol }
+    ensures refused { OnRefused result (tool_with verb image.now start given.now.arguments
+        (value_of given.now (codes "cluster")) ≡ None) }
+{
+    let count = rest_count(verb);
+    if given.value("cluster").is_some() || !has_arguments(given, count + 2) {
+        return Err(WordsFault::Refused);
+    }
+    match tool_words(alloc, given, verb, image, start) {
+        Ok(words) => Ok(words),
+        Err(_) => Err(WordsFault::OutOfMemory),
+    }
+}
+
+fn tool_words(
+    alloc: Global,
+    given: &GivenWords<'_>,
+    verb: Verb,
+    image: &str,
+    start: TimePacket,
+) -> Result<VolWords, AllocError>
+    requires { length given.now.arguments ≡ rest_count_lem verb + 2 }
+    ensures { IfOk result (λ words. words ≡ record {
+      verb = verb;
+      image = image.now;
+      rest = drop 2 given.now.arguments;
+      sectors = 0;
+      cluster = 1;
+      start = start;
+    }) }
+{
+    Ok(VolWords {
+        verb,
+        image: Word::copy_of(alloc, image)?,
+        rest: rest_words(alloc, given, rest_count(verb) + 2)?,
+        sectors: 0,
+        cluster: DEFAULT_CLUSTER,
+        start,
+    })
+}
+
+// The arguments behind the verb and IMAGE, of so many.
+fn rest_words(alloc: Global, given: &GivenWords<'_>, count: usize) -> Result<Words, AllocError>
+    requires least { 2 ≤ count }
+    requires most { count ≤ 4 }
+    ensures { IfOk result (λ words. words ≡ drop 2 (take count given.now.arguments)) }
+{
+    let mut words = Vec::new(alloc);
+    for place in 2..count {
+        match given.argument(place) {
+            Some(argument) => words.push(Word::copy_of(alloc, argument)?)?,
+            None => break,
+        }
+    }
+    Ok(Words::of(words))
+}
+
+// The verb, which is the first argument.
+fn verb_in(given: &GivenWords<'_>) -> Option<Verb>
+    ensures { result ≡ option_and_then verb_of_lem (slice_get given.now.arguments 0) }
+{
+    verb_of(given.argument(0)?)
+}
+
+// The verb that a word spells.
+fn verb_of(word: &str) -> Option<Verb>
+    ensures { result ≡ verb_of_lem word.now }
+{
+    match word {
+        "format" => Some(Verb::Format),
+        "put" => Some(Verb::Put),
+        "get" => Some(Verb::Get),
+        "mkdir" => Some(Verb::Mkdir),
+        "delete" => Some(Verb::Delete),
+        "dir" => Some(Verb::Dir),
+        "repair" => Some(Verb::Repair),
+        _ => None,
+    }
+}
+
+// How many words a verb takes behind IMAGE beside SECTORS.
+fn rest_count(verb: Verb) -> usize
+    ensures { result ≡ rest_count_lem verb }
+{
+    match verb {
+        Verb::Put | Verb::Get => 2,
+        Verb::Mkdir | Verb::Delete | Verb::Dir => 1,
+        Verb::Format | Verb::Repair => 0,
+    }
+}
+
+// Are there exactly so many arguments?
+fn has_arguments(given: &GivenWords<'_>, count: usize) -> bool
+    requires some { 1 ≤ count }
+    requires few { count ≤ 4 }
+    ensures { result ≡ nat_eq (length given.now.arguments) count }
+{
+    given.argument(count - 1).is_some() && given.argument(count).is_none()
+}
+
+// SECTORS, the only argument behind IMAGE.
+fn sectors_of(given: &GivenWords<'_>) -> Option<u32>
+    ensures sectors { result ≡ sectors_in given.now.arguments }
+    ensures least { IfSome result (λ sectors. 16 ≤ sectors) }
+    ensures most { IfSome result (λ sectors. sectors ≤ 524280) }
+{
+    if !has_arguments(given, 3) {
+        return None;
+    }
+    let number = given.argument(2)?;
+    read_number(number.as_bytes(), FEWEST_SECTORS, MOST_SECTORS)
+}
+
+// The sectors of a cluster: 1 without `--cluster`.
+fn cluster_of(given: &GivenWords<'_>) -> Option<u16>
+    ensures cluster { result ≡ cluster_of_lem given.now }
+    ensures size { IfSome result (λ cluster. is_cluster_size_lem cluster ≡ true) }
+{
+    let Some(number) = given.value("cluster") else {
+        return Some(DEFAULT_CLUSTER);
+    };
+    let cluster = read_number(number.as_bytes(), 1, MOST_CLUSTER)?;
+    if is_cluster_size(cluster) {
+        Some(cluster as u16)
+    } else {
+        None
+    }
+}
+
+// May a cluster have so many sectors?
+fn is_cluster_size(sectors: u32) -> bool
+    ensures { result ≡ is_cluster_size_lem sectors }
+{
+    matches!(sectors, 1 | 2 | 4 | 8 | 16 | 32 | 64)
+}
+
+#[cfg(test)]
+mod tests {
+    use super::*;
+    use crate::command::{Command, read_words};
+    use std::test::Fail;
+
+    fn words_of(alloc: Global, words: &[&str]) -> Result<Vec<String>, AllocError> {
+        words
+            .iter()
+            .map(|word| String::from_str(alloc, word))
+            .try_collect(alloc)
+    }
+
+    #[test]
+    fn vol_words_are_read(rt: HostRuntime) -> Result<(), Fail> {
+        for (words, verb, rest) in [
+            (
+                ["vol", "put", "i", "A", "f"].as_slice(),
+                Verb::Put,
+                ["A", "f"].as_slice(),
+            ),
+            (&["vol", "get", "i", "a", "g"], Verb::Get, &["a", "g"]),
+            (
+                &["vol", "--time=1990-01-01T00:00:00", "mkdir", "i", "B"],
+                Verb::Mkdir,
+                &["B"],
+            ),
+            (&["vol", "delete", "--", "i", "-x"], Verb::Delete, &["-x"]),
+            (&["vol", "dir", "i", "/"], Verb::Dir, &["/"]),
+            (&["vol", "repair", "i"], Verb::Repair, &[]),
+        ] {
+            let words = words_of(rt.alloc(), words)?;
+            let Command::Vol(vol) = read_words(rt.alloc(), &words)? else {
+                return Err(Fail::from("no vol"));
+            };
+            assert_eq!(rt; vol.verb, verb);
+            assert_eq!(rt; vol.image.text() == "i", true);
+            assert_eq!(rt; vol.rest.len() as usize, rest.len());
+            for (place, word) in rest.iter().enumerate() {
+                let given = vol.rest.get(place as u32).map_or("", |word| word.text());
+                assert_eq!(rt; given == *word, true);
+            }
+            assert_eq!(rt; (vol.sectors, vol.cluster), (0, 1));
+            assert_eq!(rt; vol.start.year, 90);
+        }
+        Ok(())
+    }
+
+    #[test]
+    fn sizes_are_read(rt: HostRuntime) -> Result<(), Fail> {
+        for (words, sectors, cluster) in [
+            (["vol", "format", "i", "630"].as_slice(), 630, 1),
+            (&["vol", "format", "i", "16", "--cluster", "64"], 16, 64),
+            (
+                &["vol", "--cluster=008", "format", "i", "00524280"],
+                524_280,
+                8,
+            ),
+        ] {
+            let words = words_of(rt.alloc(), words)?;
+            let Command::Vol(vol) = read_words(rt.alloc(), &words)? else {
+                return Err(Fail::from("no vol"));
+            };
+            assert_eq!(rt; vol.verb, Verb::Format);
+            assert_eq!(rt; (vol.sectors, vol.cluster), (sectors, cluster));
+            assert_eq!(rt; vol.rest.len(), 0);
+        }
+        Ok(())
+    }
+
+    #[test]
+    fn bad_vol_words(rt: HostRuntime) -> Result<(), Fail> {
+        for words in [
+            ["vol"].as_slice(),
+            &["vol", "put"],
+            &["vol", "Put", "i", "A", "f"],
+            &["vol", "put", "i", "A"],
+            &["vol", "put", "i", "A", "f", "g"],
+            &["vol", "put", "i", "A", "f", "--cluster", "1"],
+            &["vol", "put", "i", "A", "f", "--time", "1990-01-01"],
+            &["vol", "dir", "i"],
+            &["vol", "repair", "i", "A"],
+            &["vol", "repair", "i", "--slices", "s"],
+            &["vol", "format", "i"],
+            &["vol", "format", "i", "15"],
+            &["vol", "format", "i", "524281"],
+            &["vol", "format", "i", "630", "1"],
+            &["vol", "format", "i", "630", "--cluster", "0"],
+            &["vol", "format", "i", "630", "--cluster", "3"],
+            &["vol", "format", "i", "630", "--cluster", "128"],
+            &[
+                "vol",
+                "format",
+                "i",
+                "630",
+                "--cluster",
+                "1",
+                "--cluster",
+                "1",
+            ],
+        ] {
+            let words = words_of(rt.alloc(), words)?;
+            let refused = read_words(rt.alloc(), &words).err();
+            assert_eq!(rt; refused, Some(WordsFault::Refused));
+        }
+        Ok(())
+    }
+}

@@ -1,0 +1,6 @@
+pub mod CallLemmas
+pub mod DriveLemmas
+pub mod NoteLemmas
+pub mod OutputLemmas
+pub mod ReadLemmas
+pub mod VerbLemmas

@@ -1,0 +1,94 @@
+-- How `vol` may end, and what it leaves (this project's own).
+use Rattle.std.specs.Prelude.{◌≡◌, ℕ, ⊤, List, [], map}
+use Rattle.os9_outer.specs.Host.{IfObserved}
+use Rattle.os9_words.specs.Notes.{HasWritten, Notes}
+use Rattle.os9_words.specs.declared.vol_words.Verb.{Verb}
+use Rattle.os9_words.specs.declared.vol_words.Verb.TheVariants.{Format, Put, Get, Dir}
+use Rattle.os9_words.specs.declared.vol_words.VolWords.{VolWords}
+use Rattle.boot_run.specs.Machine.{FailsToMount}
+use Rattle.boot_run.specs.World.{World}
+use Rattle.file_drives.specs.Drives.{DriveView, media_of}
+use Rattle.command_files.specs.FileNames.{IsFront}
+use Rattle.command_files.specs.Left.{ChangesOnly, IsSilent}
+use Rattle.command_files.specs.declared.status.End.{End}
+use Rattle.command_files.specs.declared.status.End.TheVariants.{Ended, CannotRead, CannotWrite, CannotWriteImage, CannotWriteFile, NoMemory, BadImage, DriveFailed, Refused}
+use Rattle.command_files.specs.declared.status.Input.{Input}
+use Rattle.command_files.specs.declared.status.Input.TheVariants.{File, Image}
+use Rattle.vol_command.specs.Vol.{vol_outputs}
+
+-- ---- how it may end
+
+-- FILE of `get` alone is written, and `dir` and `get` write no image
+abbrev pub WritesImage : Verb → Type 0
+WritesImage Get = ⊥
+WritesImage Dir = ⊥
+WritesImage verb = ⊤
+
+-- it reads the image, but not for `format`, and FILE of `put`
+abbrev pub ReadsInput : Verb → Input → Type 0
+ReadsInput Format input = ⊥
+ReadsInput verb (Image number) = number ≡ 0
+ReadsInput verb File = verb ≡ Put
+ReadsInput verb input = ⊥
+
+abbrev pub VolMayEnd : Verb → End → Type 0
+VolMayEnd verb Ended = ⊤
+VolMayEnd verb (CannotRead input) = ReadsInput verb input
+VolMayEnd verb CannotWrite = ⊤
+VolMayEnd verb (CannotWriteImage number) = (number ≡ 0) × WritesImage verb
+VolMayEnd verb CannotWriteFile = verb ≡ Get
+VolMayEnd verb NoMemory = ⊤
+VolMayEnd verb (BadImage number fault) = number ≡ 0
+VolMayEnd verb (DriveFailed drive number) = drive ≡ 0
+VolMayEnd verb (Refused number) = ⊤
+VolMayEnd verb end = ⊥
+
+-- ---- what it leaves
+
+-- how often each drive has failed
+abbrev pub fault_counts : List DriveView → List ℕ
+fault_counts drives = map (λ drive. drive.counts.faults) drives
+
+-- the terminals and the media are as they were, and no drive has failed
+pub record LeavesQuiet (before after : World) : Type 0 where
+  pub terminals : after.devices.terms ≡ before.devices.terms
+  pub none_failed : fault_counts after.devices.drives ≡ fault_counts before.devices.drives
+  pub media_kept : media_of after.devices.drives ≡ media_of before.devices.drives
+
+-- and the output
+pub record LeavesUnprinted (before after : World) : Type 0 where
+  pub out : after.out ≡ before.out
+  pub quiet : LeavesQuiet before after
+
+-- of the output and the devices, observed or not
+abbrev pub VolLeaves : World → World → End → Type 0
+VolLeaves before after (DriveFailed drive number) = FailsToMount drive number before after
+VolLeaves before after (Refused number) = LeavesUnprinted before after
+VolLeaves before after (CannotRead input) = IsSilent before after
+VolLeaves before after (BadImage number fault) = IsSilent before after
+VolLeaves before after end = LeavesQuiet before after
+
+-- of the files: only behind what it prints it writes one
+abbrev pub VolLeavesFiles : VolWords → World → World → End → Type 0
+VolLeavesFiles vol before after Ended = IfObserved (ChangesOnly (vol_outputs vol)) before.files after.files
+VolLeavesFiles vol before after (CannotWriteImage number) =
+    IfObserved (ChangesOnly (vol_outputs vol)) before.files after.files
+VolLeavesFiles vol before after CannotWriteFile =
+    IfObserved (ChangesOnly (vol_outputs vol)) before.files after.files
+VolLeavesFiles vol before after NoMemory = IfObserved (ChangesOnly (vol_outputs vol)) before.files after.files
+VolLeavesFiles vol before after end = after.files ≡ before.files
+
+-- the files that it has written: its one file when it is done or that could not be written, it or none if memory was
+-- out, and else none
+abbrev pub VolWrites : VolWords → End → List (List ℕ) → Type 0
+VolWrites vol Ended written = written ≡ vol_outputs vol
+VolWrites vol (CannotWriteImage number) written = written ≡ vol_outputs vol
+VolWrites vol CannotWriteFile written = written ≡ vol_outputs vol
+VolWrites vol NoMemory written = IsFront written (vol_outputs vol)
+VolWrites vol end written = written ≡ []
+
+-- as the host notes it
+pub record NotesOutputs (vol : VolWords) (end : End) (before after : Notes) : Type 0 where
+  pub written : List (List ℕ)
+  pub writes : VolWrites vol end written
+  pub noted : HasWritten written before after

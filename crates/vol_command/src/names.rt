@@ -1,0 +1,35 @@
+//! The names of the files that the words of `vol` give.
+
+ghost use Rattle.std.specs.Prelude.{◌≡◌, [], slice_get, unwrap_or};
+ghost use Rattle.vol_command.specs.Vol.{path_of as path_of_lem, vol_file_name};
+
+use command_files::status::Input;
+use os9_words::vol_words::VolWords;
+
+/// The name of a file that the words give; empty if they give no such file.
+pub fn vol_name(vol: &VolWords, input: Input) -> &str
+    ensures { result.now ≡ unwrap_or (vol_file_name vol.now input) [] }
+{
+    match input {
+        Input::Image(_) => vol.image.text(),
+        Input::File => word_at(vol, 1),
+        _ => "",
+    }
+}
+
+/// PATH; empty for a verb that takes none.
+pub fn path_of(vol: &VolWords) -> &str
+    ensures { result.now ≡ path_of_lem vol.now }
+{
+    word_at(vol, 0)
+}
+
+/// The word behind the image at a place, from 0; empty where there are fewer.
+fn word_at(vol: &VolWords, place: u32) -> &str
+    ensures { result.now ≡ unwrap_or (slice_get vol.now.rest place) [] }
+{
+    match vol.rest.get(place) {
+        Some(word) => word.text(),
+        None => "",
+    }
+}
