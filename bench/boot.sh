@@ -5,6 +5,7 @@
 top=$(cd "$(dirname "$(readlink -f "${BASH_SOURCE[0]}")")/.." && pwd) || exit 1
 folder=$(mktemp -d) || exit 1
 trap 'rm -rf "$folder"' EXIT
+"$top/os9" build || exit 1
 
 # Runs a program, and writes its seconds and its peak memory in KiB into the file `cost`.
 measure() {

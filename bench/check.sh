@@ -24,9 +24,7 @@ PYTHON
     fi
 }
 
-# The first run builds the program, where that is needed.
-python3 "$top/bench/make_image.py" "$folder/image" 4096 || exit 1
-"$top/os9" check "$folder/image" >/dev/null || exit 1
+"$top/os9" build || exit 1
 
 for sectors in 4096 65536 524280; do
     python3 "$top/bench/make_image.py" "$folder/image" $sectors || exit 1

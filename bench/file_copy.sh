@@ -1,7 +1,10 @@
 #!/usr/bin/env bash
-# Prints what a call costs in host instructions by which a guest copies a file of 1 MB on a disk, 256
-# bytes at a time, and what `stress 1` costs. Needs valgrind.
+# Prints what a call costs in host instructions by which a guest copies a file of 1 MiB on a disk, 256
+# bytes at a time, and what the copy of 512 KiB and `stress 1` cost and how often they call drives. Takes
+# the file of a program, else the one that is built here is measured. Needs valgrind.
 top=$(cd "$(dirname "$(readlink -f "${BASH_SOURCE[0]}")")/.." && pwd) || exit 1
+[ -n "${1-}" ] || "$top/os9" build || exit 1
+program=$(readlink -f "${1:-$top/crates/os9/out/os9}")
 folder=$(mktemp -d) || exit 1
 trap 'rm -rf "$folder"' EXIT
 cd "$folder" || exit 1
@@ -44,9 +47,9 @@ python3 "$top/crates/proc_vectors/assemble.py" copy.asm copy.mod || exit 1
 echo "# no key" >script
 echo "1000000*10" >slices
 
-# The host instructions of `os9` with these words.
+# The host instructions of `os9` with these words; the file `profile` has what they were spent on.
 host_instructions() {
-    valgrind --tool=callgrind --callgrind-out-file=/dev/null "$top/crates/os9/out/os9" "$@" >out 2>err
+    valgrind --tool=callgrind --callgrind-out-file=profile "$program" "$@" >out 2>err
     sed -n 's/.*Collected : \([0-9]*\).*/\1/p' err
 }
 
@@ -66,11 +69,14 @@ PYTHON
     host_instructions boot disk --script script --slices slices
 }
 
-# The first run builds the program, where that is needed.
-"$top/os9" stress 1 || exit 1
+"$program" stress 1 || exit 1
 few=$(copied 2048) || exit 1
+cp profile copy_profile
 many=$(copied 4096) || exit 1
-"$top/os9" check disk || exit 1
+"$program" check disk || exit 1
 awk -v few="$few" -v many="$many" \
     'BEGIN { printf "a call of 256 bytes: %.0f host instructions, the mean of I$Read and I$Write\n", (many - few) / 4096 }'
+echo "the copy of 2048 sectors: $few host instructions"
+python3 "$top/bench/drive_calls.py" copy_profile
 echo "stress 1: $(host_instructions stress 1) host instructions"
+python3 "$top/bench/drive_calls.py" profile

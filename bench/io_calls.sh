@@ -150,9 +150,7 @@ for lines in 1000 2000; do
     keys $lines >keys$lines
 done
 
-# The first run builds the program, where that is needed.
-echo 1 >slices
-"$top/os9" run read.mod --slices slices >out
+"$top/os9" build || exit 1
 
 # A call of a line is five instructions, so a slice of 100 has 20.
 for guest in screen closed; do

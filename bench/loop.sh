@@ -72,12 +72,11 @@ host_instructions_each() {
     awk -v all="$all" -v start="$start" -v many=$many 'BEGIN { printf "%.1f", (all - start) / (many - 1) }'
 }
 
+"$top/os9" build || exit 1
 each=-
 printf '%-32s %20s %20s\n' program 'millions a second' 'host instructions'
 for guest in "${guests[@]}"; do
     python3 "$top/bench/make_module.py" "$folder/guest.mod" "${guest#*|}" || exit 1
-    # The first run builds the program, where that is needed.
-    run one "$top/os9"
     millions=$(millions_a_second) || exit 1
     if command -v valgrind >/dev/null; then
         each=$(host_instructions_each) || exit 1

@@ -8,7 +8,7 @@ python3 "$top/bench/make_image.py" "$folder/old" 65536 "$top/examples/hello.mod"
 echo "# no key" >"$folder/script"
 cp "$folder/old" "$folder/image"
 
-# The first run builds the program, where that is needed.
+"$top/os9" build || exit 1
 "$top/os9" boot "$folder/image" --script "$folder/script" --slices "$top/examples/hello.slices" >/dev/null || exit 1
 
 without=0

@@ -40,10 +40,7 @@ host_instructions() {
     sed -n 's/.*Collected : \([0-9]*\).*/\1/p' "$folder/err"
 }
 
-# The first run builds the program, where that is needed.
-python3 "$top/crates/proc_vectors/assemble.py" "$folder/one.asm" "$folder/one.mod" || exit 1
-echo 1 >"$folder/slices"
-"$top/os9" run "$folder/one.mod" --slices "$folder/slices"
+"$top/os9" build || exit 1
 
 printf '%-12s %24s %24s\n' processes 'a slice' 'an instruction'
 for guest in one all; do
