@@ -8,11 +8,12 @@ use Rattle.proc_model.specs.MemoryChanges.{first_slots, linked, new_numbers, sta
 use Rattle.proc_model.specs.Objects.{slot_of, with_cell, with_object_byte, with_writes, zero_object}
 use Rattle.proc_model.specs.Slots.{Slots, no_slots}
 use Rattle.call_rules.specs.Inner.{Inner}
+use Rattle.call_rules.specs.ModuleLinks.{Entered}
 use Rattle.call_rules.specs.Program.{Program, area_size, blocks_of_pages, parameters_at, with_parameters}
 use Rattle.call_laws.proofs.Lists.{replicate-is, right-some}
 use Rattle.call_laws.proofs.MemoryKept.{Started, started-is}
 use Rattle.isolation_laws.proofs.DataAreas.{area-held}
-use Rattle.object_laws.specs.NewObjects.{HoldArea, HoldZeros, StartsProgram}
+use Rattle.object_laws.specs.NewObjects.{BeginsIn, HoldArea, HoldZeros, StartsProgram}
 
 -- ---- nothing is written where no slot names an object
 
@@ -50,10 +51,11 @@ module _ (base n : MemoryState) (c : ℕ) (program : Program) (is : started base
       (subst (HoldZeros (length base.objects)) (sym (none-written (base.objects ++ replicate count zero_object) (replicate 8 None) (none-slot 8) (parameters_at program) program.parameters))
       (zeros-new base.objects count)))
 
-  pub begun-area : (m : Inner) (p : ℕ) → StartsProgram m p program → length program.parameters ≤ area_size program
-      → HoldArea m p (length base.objects) (with_parameters (linked n program.entered.number) c program).objects
-  begun-area m p starts fits = by_map (cases_lt c (length base.maps))
+  pub begun-area : (m : Inner) (p : ℕ) (which : Option Entered) → BeginsIn m p c → length base.maps ≡ length m.memory.maps → StartsProgram m p which program
+      → length program.parameters ≤ area_size program
+      → HoldArea m p which (length base.objects) (with_parameters (linked n program.entered.number) c program).objects
+  begun-area m p which begins maps starts fits = by_map (cases_lt c (length base.maps))
     where
-      by_map : (c < length base.maps) ⊎ (length base.maps ≤ c) → HoldArea m p (length base.objects) (with_parameters (linked n program.entered.number) c program).objects
+      by_map : (c < length base.maps) ⊎ (length base.maps ≤ c) → HoldArea m p which (length base.objects) (with_parameters (linked n program.entered.number) c program).objects
       by_map (inl within) = inr (program, starts, area-held base n c program within fits is)
-      by_map (inr past) = inl (past-zeros past)
+      by_map (inr past) = inl (inr (c, begins, subst (λ (n : ℕ). n ≤ c) maps past), past-zeros past)

@@ -25,7 +25,6 @@ use Rattle.file_rules.specs.ProgramFile.{ProgramFile, ReadsProgram, program_file
 use Rattle.time_rules.specs.Codes.{time_call_of}
 use Rattle.event_rules.specs.declared.ends.EventEnd.{EventEnd}
 use Rattle.call_laws.specs.Others.{AttemptsCall}
-use Rattle.call_laws.proofs.Lists.{get-within}
 use Rattle.isolation_laws.specs.Loading.{StartsFileBy}
 use Rattle.isolation_laws.specs.NewObjects.{HoldFile, HoldParameters}
 use Rattle.isolation_laws.proofs.Asked.{Asks, asks}
@@ -53,8 +52,8 @@ zeros-by s p first n none hold object bytes late there k byte at =
 none-started : (s t : State) (end : EventEnd) (p : ℕ) → s.chosen ≡ Some p → Event s end t → StartsNone s p → HoldNewObjects s p t.inner.memory.objects
 none-started s t end p chosen event none =
     elim ((event-leaves s t end p chosen event).new_objects) [
-      | inl hold ↦ inl (inl (zeros-by s p (length s.inner.memory.objects) t.inner.memory none hold))
-      | inr first ↦ inr (by_file first)
+      | inl hold ↦ inr (inl (inl (inl none, zeros-by s p (length s.inner.memory.objects) t.inner.memory none hold)))
+      | inr first ↦ inr (inr (by_file first))
     ]
   where
     by_file : HoldFile s p t.inner.memory → HoldFileFirst s p t.inner.memory.objects
@@ -64,7 +63,7 @@ none-started s t end p chosen event none =
       loads = first.loads;
       blocks = first.blocks;
       rest =
-          inl (zeros-by s p (length s.inner.memory.objects + file_blocks first.file.bytes) t.inner.memory none first.rest);
+          inl (inl none, zeros-by s p (length s.inner.memory.objects + file_blocks first.file.bytes) t.inner.memory none first.rest);
     }
 
 -- ---- F$Fork and F$Chain
@@ -72,8 +71,7 @@ none-started s t end p chosen event none =
 module _ (s : State) (p : ℕ) where
   -- no object appears where none is behind those that were
   none-new : HoldNewObjects s p s.inner.memory.objects
-  none-new =
-      inl (inl (λ object bytes late there k byte at. (let within = get-within s.inner.memory.objects object bytes there in absurd (omega (arith, within, late)))))
+  none-new = inl (omega arith)
 
   done-holds : (P : List (List ℕ) → Type 0) → ((objects : List (List ℕ)) → P objects → HoldNewObjects s p objects) → (result : CallResult) → Leaves P result
       → HoldNewObjects s p (after_attempt s.inner p result).memory.objects
@@ -94,8 +92,8 @@ module _ (s : State) (p : ℕ) where
     forks-file by (Ok file) reads result (Ok loaded, loading, is) =
         let read : HasRead s.inner p file (program_file (asker_of s.inner p now) s.files (length s.terms) (λ step. step)) = program-found s p now file new reads in
         subst Held (sym is)
-        (done-holds (HoldFileFirst s p) (λ objects first. inr first) (starts_first forks s.inner p file loaded)
-        (fork-file s p file loaded (record { call = inr (inl by); found = read.found; loads = loading }) (inl by.attempted) read.parameters read.given))
+        (done-holds (HoldFileFirst s p) (λ objects first. inr (inr first)) (starts_first forks s.inner p file loaded)
+        (fork-file s p file loaded (record { call = inr (inl by); found = read.found; loads = loading }) (inl by.attempted) read.parameters read.given by.attempted))
 
     chains-file : StartsFileBy s.inner p Call.Chain → (reading : Result ProgramFile ℕ)
         → ReadsProgram (program_file (asker_of s.inner p now) s.files (length s.terms) (tests_program s.inner p)) reading s.files new → (result : CallResult)
@@ -105,8 +103,8 @@ module _ (s : State) (p : ℕ) where
     chains-file by (Ok file) reads result (Ok loaded, loading, is) =
         let read : HasRead s.inner p file (program_file (asker_of s.inner p now) s.files (length s.terms) (λ step. step)) = program-found s p now file new reads in
         subst Held (sym is)
-        (done-holds (HoldFileFirst s p) (λ objects first. inr first) (starts_first chains s.inner p file loaded)
-        (chain-file s p file loaded (record { call = inr (inr by); found = read.found; loads = loading }) (inr by.attempted) read.parameters read.given))
+        (done-holds (HoldFileFirst s p) (λ objects first. inr (inr first)) (starts_first chains s.inner p file loaded)
+        (chain-file s p file loaded (record { call = inr (inr by); found = read.found; loads = loading }) (inr by.attempted) read.parameters read.given by.attempted))
 
     fork-holds : AttemptsCall s.inner p Call.Fork → (result : CallResult) → ForkAttempts s.inner (asker_of s.inner p now) s.files (length s.terms) p result new → Held result
     fork-holds call result it = by_named (named_program s.inner p) refl it
@@ -117,7 +115,7 @@ module _ (s : State) (p : ℕ) where
         by_named None unnamed it =
             forks-file (record { attempted = call; unnamed = unnamed }) it.reading it.reads result it.comes
         by_named (Some entered) named (is, same) =
-            subst Held (sym is) (done-holds _ (λ objects area. inl area) (f_fork s.inner p) (fork-area s.inner p call))
+            subst Held (sym is) (done-holds _ (λ objects area. inr (inl area)) (f_fork s.inner p) (fork-area s.inner p call))
 
     chain-holds : AttemptsCall s.inner p Call.Chain → (result : CallResult) → ChainAttempts s.inner (asker_of s.inner p now) s.files (length s.terms) p result new → Held result
     chain-holds call result it = by_named (named_program s.inner p) refl it
@@ -128,7 +126,7 @@ module _ (s : State) (p : ℕ) where
         by_named None unnamed it =
             chains-file (record { attempted = call; unnamed = unnamed }) it.reading it.reads result it.comes
         by_named (Some entered) named (is, same) =
-            subst Held (sym is) (done-holds _ (λ objects area. inl area) (f_chain s.inner p) (chain-area s.inner p call))
+            subst Held (sym is) (done-holds _ (λ objects area. inr (inl area)) (f_chain s.inner p) (chain-area s.inner p call))
 
 -- ---- the code of a call asks for it
 

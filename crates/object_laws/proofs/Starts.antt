@@ -1,6 +1,6 @@
 -- What F$Fork and F$Chain leave in the objects that appear.
 use Rattle.std.proofs.Common.{◌≡◌, ◌⊎◌, ℕ, ◌+◌, ◌*◌, ◌<◌, ◌≤◌, ◌==◌, not, nat_lt, Bool, true, false, Option, Some, None, Result, Ok, Err, List, [], length, slice_get, refl, sym, ap, ◌∙◌, subst, inl, inr, arith}
-use Rattle.std.specs.Prelude.{unwrap_or}
+use Rattle.std.specs.Prelude.{option_and_then, unwrap_or}
 use Rattle.std.specs.Option.{option_map_or}
 use Rattle.os9_base.specs.declared.errors.TheConstants.{E_BNAM, E_BPADDR, E_MEMFUL, E_MNF, E_NEMOD, E_PRCFUL}
 use Rattle.proc_model.specs.Memory.{MemoryState}
@@ -18,7 +18,7 @@ use Rattle.call_rules.specs.Program.{Program, area_pages, area_size, asks_for_pr
 use Rattle.call_rules.specs.UserBytes.{user_bytes}
 use Rattle.call_rules.specs.declared.proc_call.ProcCall.TheVariants as Call
 use Rattle.file_rules.specs.Load.{Loaded}
-use Rattle.file_rules.specs.Program.{chains, forks, loaded_program, parameters_of, starts_first}
+use Rattle.file_rules.specs.Program.{chains, forks, loaded_program, named_program, parameters_of, starts_first}
 use Rattle.file_rules.specs.ProgramFile.{ProgramFile}
 use Rattle.call_laws.specs.Others.{AttemptsCall}
 use Rattle.call_laws.proofs.ForksKept.{room-of, within-area}
@@ -27,7 +27,7 @@ use Rattle.isolation_laws.specs.Loading.{LoadsFile}
 use Rattle.isolation_laws.proofs.FileKept.{is-loaded}
 use Rattle.isolation_laws.proofs.Loaded.{file-block-at, more-objects, user-length}
 use Rattle.machine_model.specs.State.{State}
-use Rattle.object_laws.specs.NewObjects.{HoldArea, HoldFileFirst, StartsProgram}
+use Rattle.object_laws.specs.NewObjects.{BeginsIn, HoldArea, HoldFileFirst, StartsProgram}
 use Rattle.object_laws.proofs.Areas.{begun-area}
 
 -- ---- results
@@ -59,13 +59,13 @@ unlinked-objects t (Some id) = refl
 
 -- ---- a program that is started from a state
 
-module _ (from : Inner) (p : ℕ) (P : List (List ℕ) → Type 0) (program : Program) (begins : (c : ℕ) (memory : MemoryState)
+module _ (from : Inner) (p : ℕ) (P : List (List ℕ) → Type 0) (program : Program) (In : ℕ → Type 0) (begins : (c : ℕ) → In c → (memory : MemoryState)
     → started from.memory c program.entered.number (blocks_of_pages program.pages) ≡ Ok memory → P (with_parameters (linked memory program.entered.number) c program).objects) where
-  pub forks-leave : Leaves P (forks from p program)
-  forks-leave =
+  pub forks-leave : ((child : ℕ) → free_process from.records ≡ Some child → In child) → Leaves P (forks from p program)
+  forks-leave in_child =
       of-needs P (free_process from.records) E_PRCFUL (λ child. refuses (nat_lt most_pages program.pages) E_MEMFUL (making child))
       (λ child free. of-refuses P (nat_lt most_pages program.pages) E_MEMFUL (making child)
-      (of-changes P (started from.memory child program.entered.number (blocks_of_pages program.pages)) (begun child) (λ memory is. begins child memory is)))
+      (of-changes P (started from.memory child program.entered.number (blocks_of_pages program.pages)) (begun child) (λ memory is. begins child (in_child child free) memory is)))
     where
       begun : ℕ → MemoryState → CallResult
       begun child memory =
@@ -75,11 +75,11 @@ module _ (from : Inner) (p : ℕ) (P : List (List ℕ) → Type 0) (program : Pr
       making child =
           changes (started from.memory child program.entered.number (blocks_of_pages program.pages)) (begun child)
 
-  pub chains-leave : Leaves P (chains from p program)
-  chains-leave =
+  pub chains-leave : In p → Leaves P (chains from p program)
+  chains-leave in_it =
       of-refuses P (nat_lt most_pages program.pages) E_MEMFUL (changes (started from.memory p program.entered.number (blocks_of_pages program.pages)) anew)
       (of-changes P (started from.memory p program.entered.number (blocks_of_pages program.pages)) anew
-      (λ memory is. subst P (sym (unlinked-objects (begun_anew (with_program from p program memory) p program) (own_at from p).primary)) (begins p memory is)))
+      (λ memory is. subst P (sym (unlinked-objects (begun_anew (with_program from p program memory) p program) (own_at from p).primary)) (begins p in_it memory is)))
     where
       anew : MemoryState → CallResult
       anew memory =
@@ -88,7 +88,7 @@ module _ (from : Inner) (p : ℕ) (P : List (List ℕ) → Type 0) (program : Pr
 -- ---- an entered module is started
 
 module _ (m : Inner) (p : ℕ) (P : List (List ℕ) → Type 0) (starts : AttemptsCall m p Call.Fork ⊎ AttemptsCall m p Call.Chain) (next : Program → CallResult) (leaves : (program : Program)
-    → StartsProgram m p program → length program.parameters ≤ area_size program → Leaves P (next program)) where
+    → StartsProgram m p (named_program m p) program → length program.parameters ≤ area_size program → Leaves P (next program)) where
   abbrev program-of : Entered → List ℕ → ℕ → Program
   program-of found parameters count = record {
     entered = found;
@@ -109,11 +109,13 @@ module _ (m : Inner) (p : ℕ) (P : List (List ℕ) → Type 0) (starts : Attemp
   with-read parameters =
       refuses (not (asks_for_program (regs_at m p).a)) E_NEMOD (needs (module_name (name_at_x m p)) E_BNAM (with-name parameters))
 
-  started-leaves : (parameters : List ℕ) → parameters_of m p ≡ Some parameters → (name : List ℕ) (found : Entered) → Leaves P (next (program-of found parameters (length name)))
-  started-leaves parameters given name found =
+  started-leaves : (parameters : List ℕ) → parameters_of m p ≡ Some parameters → (name : List ℕ) (found : Entered) → named_program m p ≡ Some found
+      → Leaves P (next (program-of found parameters (length name)))
+  started-leaves parameters given name found named =
       leaves (program-of found parameters (length name))
       (record {
         call = starts;
+        entered = named;
         pages =
             ap (area_pages found.entry (regs_at m p).b) (user-length (cells_at m p) (regs_at m p).u (regs_at m p).y parameters given);
         parameters = given;
@@ -128,19 +130,26 @@ module _ (m : Inner) (p : ℕ) (P : List (List ℕ) → Type 0) (starts : Attemp
       (of-needs P (module_name (name_at_x m p)) E_BNAM (with-name parameters)
       (λ name name_is. of-needs P (found_entry m.memory.modules name (regs_at m p).a) E_MNF (with-found parameters name)
       (λ found found_is. of-refuses P (not (found.entry.info.kind == program_kind)) E_NEMOD (next (program-of found parameters (length name)))
-      (started-leaves parameters given name found))))))
+      (started-leaves parameters given name found (ap (option_and_then named) name_is ∙ found_is)))))))
+    where
+      named : List ℕ → Option Entered
+      named name = found_entry m.memory.modules name (regs_at m p).a
 
 module _ (m : Inner) (p : ℕ) where
   abbrev Area : List (List ℕ) → Type 0
-  Area objects = HoldArea m p (length m.memory.objects) objects
+  Area objects = HoldArea m p (named_program m p) (length m.memory.objects) objects
 
   pub fork-area : AttemptsCall m p Call.Fork → Leaves Area (f_fork m p)
   fork-area call =
-      program-leaves m p Area (inl call) (forks m p) (λ program starts fits. forks-leave m p Area program (λ c memory is. begun-area m.memory memory c program is m p starts fits))
+      program-leaves m p Area (inl call) (forks m p) (λ program starts fits. forks-leave m p Area program (BeginsIn m p)
+      (λ c begins memory is. begun-area m.memory memory c program is m p (named_program m p) begins refl starts fits)
+      (λ child free. inl (call, free)))
 
   pub chain-area : AttemptsCall m p Call.Chain → Leaves Area (f_chain m p)
   chain-area call =
-      program-leaves m p Area (inr call) (chains m p) (λ program starts fits. chains-leave m p Area program (λ c memory is. begun-area m.memory memory c program is m p starts fits))
+      program-leaves m p Area (inr call) (chains m p) (λ program starts fits. chains-leave m p Area program (BeginsIn m p)
+      (λ c begins memory is. begun-area m.memory memory c program is m p (named_program m p) begins refl starts fits)
+      (inr (call, refl)))
 
 -- ---- a program of a file is started
 
@@ -155,8 +164,8 @@ module _ (s : State) (p : ℕ) (file : ProgramFile) (loaded : Loaded) (loads : L
   parameters-are : program.parameters ≡ parameters
   parameters-are = ap (λ (some : Option (List ℕ)). unwrap_or some []) given
 
-  starts-it : StartsProgram s.inner p program
-  starts-it = record { call = starts; pages = refl; parameters = given ∙ ap Some (sym parameters-are) }
+  starts-it : StartsProgram s.inner p (Some loaded.first) program
+  starts-it = record { call = starts; entered = refl; pages = refl; parameters = given ∙ ap Some (sym parameters-are) }
 
   fits : length program.parameters ≤ area_size program
   fits =
@@ -167,10 +176,13 @@ module _ (s : State) (p : ℕ) (file : ProgramFile) (loaded : Loaded) (loads : L
   long : length loaded.memory.objects ≡ length s.inner.memory.objects + file_blocks file.bytes
   long = more-objects s.inner.memory file.bytes loaded (is-loaded s p file loaded loads)
 
+  maps-same : length loaded.memory.maps ≡ length s.inner.memory.maps
+  maps-same = ap (λ (n : MemoryState). length n.maps) (is-loaded s p file loaded loads).memory
+
   -- the file is still there
-  file-first : (c : ℕ) (memory : MemoryState) → started loaded.memory c loaded.first.number (blocks_of_pages program.pages) ≡ Ok memory
+  file-first : (c : ℕ) → BeginsIn s.inner p c → (memory : MemoryState) → started loaded.memory c loaded.first.number (blocks_of_pages program.pages) ≡ Ok memory
       → HoldFileFirst s p (with_parameters (linked memory loaded.first.number) c program).objects
-  file-first c memory is = record {
+  file-first c begins memory is = record {
     file = file;
     loaded = loaded;
     loads = loads;
@@ -178,22 +190,24 @@ module _ (s : State) (p : ℕ) (file : ProgramFile) (loaded : Loaded) (loads : L
         still (length s.inner.memory.objects + k) (subst (λ (n : ℕ). length s.inner.memory.objects + k < n) (sym long) (omega (arith, within)))
         ∙ file-block-at s.inner.memory file.bytes loaded (is-loaded s p file loaded loads) k within;
     rest =
-        subst (λ (first : ℕ). HoldArea s.inner p first (with_parameters (linked memory loaded.first.number) c program).objects) long
-        (begun-area loaded.memory memory c program is s.inner p starts-it fits);
+        subst (λ (first : ℕ). HoldArea s.inner p (Some loaded.first) first (with_parameters (linked memory loaded.first.number) c program).objects) long
+        (begun-area loaded.memory memory c program is s.inner p (Some loaded.first) begins maps-same starts-it fits);
   }
     where
       still : (object : ℕ) → object < length loaded.memory.objects → slice_get (with_parameters (linked memory loaded.first.number) c program).objects object ≡ slice_get loaded.memory.objects object
       still object there =
-          let begins : Started loaded.memory c loaded.first.number (blocks_of_pages program.pages) memory = started-is loaded.memory c loaded.first.number (blocks_of_pages program.pages) memory is in
+          let it : Started loaded.memory c loaded.first.number (blocks_of_pages program.pages) memory = started-is loaded.memory c loaded.first.number (blocks_of_pages program.pages) memory is in
           subst (λ (n : MemoryState). slice_get (stored (linked n loaded.first.number) c (parameters_at program) program.parameters).objects object ≡ slice_get loaded.memory.objects object)
-          (sym begins.memory)
-          (old-kept loaded.memory c (blocks_of_pages program.pages) begins.entry.group begins.fits loaded.first.number (parameters_at program) program.parameters
+          (sym it.memory)
+          (old-kept loaded.memory c (blocks_of_pages program.pages) it.entry.group it.fits loaded.first.number (parameters_at program) program.parameters
           (within-area before p program.pages (length program.parameters) fits) object there)
 
-  pub fork-file : Leaves (HoldFileFirst s p) (starts_first forks s.inner p file loaded)
-  fork-file =
-      of-refuses (HoldFileFirst s p) (not (loaded.first.entry.info.kind == program_kind)) E_NEMOD (forks before p program) (forks-leave before p (HoldFileFirst s p) program file-first)
+  pub fork-file : AttemptsCall s.inner p Call.Fork → Leaves (HoldFileFirst s p) (starts_first forks s.inner p file loaded)
+  fork-file call =
+      of-refuses (HoldFileFirst s p) (not (loaded.first.entry.info.kind == program_kind)) E_NEMOD (forks before p program)
+      (forks-leave before p (HoldFileFirst s p) program (BeginsIn s.inner p) file-first (λ child free. inl (call, free)))
 
-  pub chain-file : Leaves (HoldFileFirst s p) (starts_first chains s.inner p file loaded)
-  chain-file =
-      of-refuses (HoldFileFirst s p) (not (loaded.first.entry.info.kind == program_kind)) E_NEMOD (chains before p program) (chains-leave before p (HoldFileFirst s p) program file-first)
+  pub chain-file : AttemptsCall s.inner p Call.Chain → Leaves (HoldFileFirst s p) (starts_first chains s.inner p file loaded)
+  chain-file call =
+      of-refuses (HoldFileFirst s p) (not (loaded.first.entry.info.kind == program_kind)) E_NEMOD (chains before p program)
+      (chains-leave before p (HoldFileFirst s p) program (BeginsIn s.inner p) file-first (inr (call, refl)))
