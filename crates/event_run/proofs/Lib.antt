@@ -1,0 +1,5 @@
+pub mod Emptying
+pub mod Faults
+pub mod Looks
+pub mod Positions
+pub mod Remaining

@@ -1,0 +1,51 @@
+ghost use Rattle.std.specs.Prelude.{◌≡◌, ◌<◌, vec_len};
+ghost use Rattle.os9_outer.specs.Stream.{emptied};
+ghost use Rattle.os9_outer.specs.TerminalState.{terminal_states, ChangesOneTerminal};
+ghost use Rattle.event_rules.specs.Console.{terminals_emptied};
+ghost use Rattle.event_run.specs.Devices.{IsEmptied};
+
+use device_table::devices::Devices;
+use os9_outer::terminal::CharDriver;
+
+// [`CharDriver::take`], whose bytes nobody wants.
+fn empty_terminal(term: &mut dyn CharDriver)
+    ensures none_left { bytes_put term.new ≡ emptied (bytes_put term.old) }
+    ensures keys_kept { keys_left term.new ≡ keys_left term.old }
+    ensures faults_kept { term_faults term.new ≡ term_faults term.old }
+{
+    let _ = term.take();
+}
+
+// The same of the terminal in a box.
+fn empty_box(term: &mut Box<dyn CharDriver>)
+    ensures none_left { bytes_put term.new ≡ emptied (bytes_put term.old) }
+    ensures keys_kept { keys_left term.new ≡ keys_left term.old }
+    ensures faults_kept { term_faults term.new ≡ term_faults term.old }
+{
+    empty_terminal(&mut **term);
+}
+
+// The same of the terminal of this number.
+fn empty_at(devices: &mut Devices, n: usize)
+    requires { n < vec_len devices.old.terms }
+    ensures terminal { ChangesOneTerminal IsEmptied n
+        (terminal_states ⟦<dyn CharDriver as CharDriver>⟧ devices.old.terms.items)
+        (terminal_states ⟦<dyn CharDriver as CharDriver>⟧ devices.new.terms.items) }
+    ensures terminals { vec_len devices.new.terms ≡ vec_len devices.old.terms }
+    ensures drives_kept { devices.new.drives ≡ devices.old.drives }
+{
+    empty_box(&mut devices.terms[n]);
+}
+
+/// Takes the bytes that were put on the terminals.
+pub fn empty_terminals(devices: &mut Devices)
+    ensures emptied { terminal_states ⟦<dyn CharDriver as CharDriver>⟧ devices.new.terms.items
+        ≡ terminals_emptied
+        (terminal_states ⟦<dyn CharDriver as CharDriver>⟧ devices.old.terms.items) }
+    ensures terminals { vec_len devices.new.terms ≡ vec_len devices.old.terms }
+    ensures drives_kept { devices.new.drives ≡ devices.old.drives }
+{
+    for n in 0..devices.terms.len() {
+        empty_at(devices, n);
+    }
+}

@@ -1,0 +1,282 @@
+ghost use Rattle.std.specs.Prelude.{◌≡◌, ◌⊎◌, ◌<◌, ◌≤◌, ◌-◌, ◌^◌, ℕ, IsSome, List, None, [], length, true, false, vec_len};
+ghost use Rattle.os9_kernel.specs.Outside.{OnDevices, Outside, outside};
+ghost use Rattle.os9_kernel.specs.Tie.{IsGoing, Represents, Stands, executed, ticks};
+ghost use Rattle.machine_model.specs.Start.{Boot};
+ghost use Rattle.machine_model.specs.State.{State};
+ghost use Rattle.debug_rules.specs.Course.{Course, state_at};
+ghost use Rattle.debug_rules.specs.Prints.{IsCourse};
+ghost use Rattle.debug_rules.specs.Show.{shown, shown_cells, shown_regs};
+ghost use Rattle.event_run.specs.Moves.{HasAdvanced, HasBegun, HasEvent, HasFound, HasGone};
+ghost use Rattle.event_run.specs.Position.{CanGoOn, IsAt};
+
+use crate::console::empty_terminals;
+use device_table::devices::Devices;
+use event_rules::ends::EventEnd;
+use os9_base::call::OutOfMemory;
+use os9_base::limits::{LAST_TICK, PROCESS_PLACES};
+use os9_base::registers::{Pid, Regs};
+use os9_kernel::Kernel;
+use os9_outer::drive::BlockDriver;
+use os9_outer::terminal::CharDriver;
+
+/// The process with which a machine starts.
+const FIRST: Pid = Pid(2);
+
+/// A kernel in its run: behind so many events.
+#[derive(Drop)]
+pub struct Position {
+    kernel: Kernel,
+    /// The instructions of the slice that is under way, 0 between two slices.
+    slice: u32,
+    /// The events from the start on.
+    events: u64,
+    /// The process of the last event; before any that with which the machine starts.
+    process: Pid,
+}
+
+/// What a run comes to next.
+#[derive(Clone, Copy, Debug, PartialEq, Eq)]
+pub enum Step {
+    /// An event.
+    Event,
+    /// Its end: no process lives, or none is Ready in the slices that are left.
+    End,
+}
+
+// Has a slice of so many instructions events, if this process was chosen?
+fn has_events(chosen: Option<Pid>, n: u32) -> bool
+    ensures yes { result ≡ true → IsSome chosen × (0 < n) }
+    ensures no { result ≡ false → (chosen ≡ None) ⊎ (n ≡ 0) }
+{
+    match chosen {
+        None => false,
+        Some(_) => n > 0,
+    }
+}
+
+impl Position {
+    /// The start of a run of a kernel that has begun no slice.
+    pub fn start(kernel: Kernel) -> Self
+        requires { ticks kernel ≡ 0 }
+        ensures goes_on { (slices : List ℕ) (devices : Outside) → Stands kernel devices
+            → length slices < LAST_TICK → CanGoOn slices result devices }
+        ensures at { (boot : Boot) (slices : List ℕ) (course : Course) (devices : Outside)
+            → boot.images ≡ [] → (is : IsCourse boot slices course)
+            → Represents kernel devices course.start → IsAt course is.last slices result devices }
+        ensures first { result.events ≡ 0 }
+    {
+        Position {
+            kernel,
+            slice: 0,
+            events: 0,
+            process: FIRST,
+        }
+    }
+
+    /// How many events were had.
+    pub fn events(&self) -> u64
+        ensures { result ≡ self.now.events }
+    {
+        self.events
+    }
+
+    /// The process that is shown here: that of the last event, before any the first process.
+    pub fn process(&self) -> Pid
+        ensures shown { (course : Course) (last : State) (slices : List ℕ) (devices : Outside)
+            → IsAt course last slices self.now devices
+            → result.0 ≡ shown (state_at course self.now.events) }
+        ensures is { result ≡ self.now.process }
+    {
+        self.process
+    }
+
+    /// The registers of the process that is shown, if it lives.
+    pub fn regs(&self) -> Option<Regs>
+        ensures { (course : Course) (last : State) (slices : List ℕ) (devices : Outside)
+            → IsAt course last slices self.now devices
+            → result ≡ shown_regs (state_at course self.now.events) }
+    {
+        self.kernel.regs(self.process)
+    }
+
+    /// The byte that the process that is shown sees at an address, if one is there.
+    pub fn byte(&self, at: u16) -> Option<u8>
+        requires { self.now.process.0 < PROCESS_PLACES }
+        ensures { (course : Course) (last : State) (slices : List ℕ) (devices : Outside)
+            → IsAt course last slices self.now devices
+            → result ≡ shown_cells (state_at course self.now.events) at }
+    {
+        self.kernel.byte(self.process, at)
+    }
+
+    /// Goes on by one event, over these slices. What the terminals are given in a slice is taken from
+    /// them when it is over.
+    ///
+    /// # Errors
+    ///
+    /// Out of memory. The position is used no more then.
+    pub fn advance(&mut self, slices: &[u32], devices: &mut Devices) -> Result<Step, OutOfMemory>
+        requires goes_on { CanGoOn slices.now self.old
+            (outside ⟦<dyn BlockDriver as BlockDriver>⟧ devices.old.drives.items
+            ⟦<dyn CharDriver as CharDriver>⟧ devices.old.terms.items) }
+        requires few { self.old.events < 2 ^ 64 - 1 }
+        ensures advanced { OnDevices (HasAdvanced slices.now self.old self.new result)
+            ⟦<dyn BlockDriver as BlockDriver>⟧ devices.old.drives.items devices.new.drives.items
+            ⟦<dyn CharDriver as CharDriver>⟧ devices.old.terms.items devices.new.terms.items }
+        ensures terminals { vec_len devices.new.terms ≡ vec_len devices.old.terms }
+        ensures drives { vec_len devices.new.drives ≡ vec_len devices.old.drives }
+    {
+        match self.find_event(slices, devices) {
+            Ok(Step::Event) => {}
+            Ok(Step::End) => return Ok(Step::End),
+            Err(OutOfMemory) => return Err(OutOfMemory),
+        }
+        match self.event(devices) {
+            Ok(()) => Ok(Step::Event),
+            Err(OutOfMemory) => Err(OutOfMemory),
+        }
+    }
+
+    /// Goes on to the position behind `k` events, which is not before this one, or to the last one.
+    ///
+    /// # Errors
+    ///
+    /// Out of memory. The position is used no more then.
+    pub fn advance_to(
+        &mut self,
+        k: u64,
+        slices: &[u32],
+        devices: &mut Devices,
+    ) -> Result<Step, OutOfMemory>
+        requires goes_on { CanGoOn slices.now self.old
+            (outside ⟦<dyn BlockDriver as BlockDriver>⟧ devices.old.drives.items
+            ⟦<dyn CharDriver as CharDriver>⟧ devices.old.terms.items) }
+        requires later { self.old.events ≤ k }
+        ensures gone { OnDevices (HasGone k slices.now self.old self.new result)
+            ⟦<dyn BlockDriver as BlockDriver>⟧ devices.old.drives.items devices.new.drives.items
+            ⟦<dyn CharDriver as CharDriver>⟧ devices.old.terms.items devices.new.terms.items }
+        ensures terminals { vec_len devices.new.terms ≡ vec_len devices.old.terms }
+        ensures drives { vec_len devices.new.drives ≡ vec_len devices.old.drives }
+    {
+        for at in self.events..k {
+            match self.advance(slices, devices) {
+                Ok(Step::Event) => {}
+                Ok(Step::End) => return Ok(Step::End),
+                Err(OutOfMemory) => return Err(OutOfMemory),
+            }
+        }
+        Ok(Step::Event)
+    }
+
+    // What comes next. Begins slices for an event if none is under way.
+    fn find_event(&mut self, slices: &[u32], devices: &mut Devices) -> Result<Step, OutOfMemory>
+        requires { CanGoOn slices.now self.old
+            (outside ⟦<dyn BlockDriver as BlockDriver>⟧ devices.old.drives.items
+            ⟦<dyn CharDriver as CharDriver>⟧ devices.old.terms.items) }
+        ensures found { OnDevices (HasFound slices.now self.old self.new result)
+            ⟦<dyn BlockDriver as BlockDriver>⟧ devices.old.drives.items devices.new.drives.items
+            ⟦<dyn CharDriver as CharDriver>⟧ devices.old.terms.items devices.new.terms.items }
+        ensures terminals { vec_len devices.new.terms ≡ vec_len devices.old.terms }
+        ensures drives { vec_len devices.new.drives ≡ vec_len devices.old.drives }
+    {
+        if self.slice == 0 {
+            self.find_slice(slices, devices)
+        } else {
+            Ok(Step::Event)
+        }
+    }
+
+    // Begins the next slices, up to one that has an event, if there is one.
+    fn find_slice(&mut self, slices: &[u32], devices: &mut Devices) -> Result<Step, OutOfMemory>
+        requires goes_on { CanGoOn slices.now self.old
+            (outside ⟦<dyn BlockDriver as BlockDriver>⟧ devices.old.drives.items
+            ⟦<dyn CharDriver as CharDriver>⟧ devices.old.terms.items) }
+        requires between { self.old.slice ≡ 0 }
+        ensures found { OnDevices (HasFound slices.now self.old self.new result)
+            ⟦<dyn BlockDriver as BlockDriver>⟧ devices.old.drives.items devices.new.drives.items
+            ⟦<dyn CharDriver as CharDriver>⟧ devices.old.terms.items devices.new.terms.items }
+        ensures terminals { vec_len devices.new.terms ≡ vec_len devices.old.terms }
+        ensures drives { vec_len devices.new.drives ≡ vec_len devices.old.drives }
+    {
+        for index in self.kernel.ticks() as usize..slices.len() {
+            if self.kernel.living() == 0 {
+                return Ok(Step::End);
+            }
+            match self.begin_slice(slices[index], devices) {
+                Ok(Step::Event) => return Ok(Step::Event),
+                Ok(Step::End) => {}
+                Err(OutOfMemory) => return Err(OutOfMemory),
+            }
+        }
+        Ok(Step::End)
+    }
+
+    // Begins a slice of so many instructions: it has an event, or it ends at once, since no process is
+    // Ready or it has no instructions.
+    fn begin_slice(&mut self, n: u32, devices: &mut Devices) -> Result<Step, OutOfMemory>
+        requires count { ticks self.old.kernel < LAST_TICK }
+        requires stands { Stands self.old.kernel
+            (outside ⟦<dyn BlockDriver as BlockDriver>⟧ devices.old.drives.items
+            ⟦<dyn CharDriver as CharDriver>⟧ devices.old.terms.items) }
+        requires between { self.old.slice ≡ 0 }
+        ensures begun { OnDevices (HasBegun n self.old self.new result)
+            ⟦<dyn BlockDriver as BlockDriver>⟧ devices.old.drives.items devices.new.drives.items
+            ⟦<dyn CharDriver as CharDriver>⟧ devices.old.terms.items devices.new.terms.items }
+        ensures terminals { vec_len devices.new.terms ≡ vec_len devices.old.terms }
+        ensures drives { vec_len devices.new.drives ≡ vec_len devices.old.drives }
+    {
+        match self.kernel.tick(devices) {
+            Ok(()) => {}
+            Err(OutOfMemory) => return Err(OutOfMemory),
+        }
+        let chosen = self.kernel.choose();
+        if has_events(chosen, n) {
+            self.slice = n;
+            return Ok(Step::Event);
+        }
+        empty_terminals(devices);
+        Ok(Step::End)
+    }
+
+    // One event of the slice that is under way.
+    fn event(&mut self, devices: &mut Devices) -> Result<(), OutOfMemory>
+        requires stands { Stands self.old.kernel
+            (outside ⟦<dyn BlockDriver as BlockDriver>⟧ devices.old.drives.items
+            ⟦<dyn CharDriver as CharDriver>⟧ devices.old.terms.items) }
+        requires going { IsGoing self.old.kernel }
+        requires left { executed self.old.kernel < self.old.slice }
+        requires few { self.old.events < 2 ^ 64 - 1 }
+        ensures event { OnDevices (HasEvent self.old self.new result)
+            ⟦<dyn BlockDriver as BlockDriver>⟧ devices.old.drives.items devices.new.drives.items
+            ⟦<dyn CharDriver as CharDriver>⟧ devices.old.terms.items devices.new.terms.items }
+        ensures terminals { vec_len devices.new.terms ≡ vec_len devices.old.terms }
+        ensures drives { vec_len devices.new.drives ≡ vec_len devices.old.drives }
+    {
+        let process = self.kernel.chosen().unwrap();
+        let end = self.kernel.event(devices);
+        if let EventEnd::NoMemory = end {
+            return Err(OutOfMemory);
+        }
+        self.process = process;
+        self.events += 1;
+        if self.goes_on(end) {
+            return Ok(());
+        }
+        self.slice = 0;
+        empty_terminals(devices);
+        Ok(())
+    }
+
+    // Does the slice go on behind an event that ended so?
+    fn goes_on(&self, end: EventEnd) -> bool
+        ensures ran { result ≡ true → end ≡ EventEnd.Ran }
+        ensures left { result ≡ true → executed self.now.kernel < self.now.slice }
+        ensures over { result ≡ false → end ≡ EventEnd.Ran
+            → self.now.slice ≤ executed self.now.kernel }
+    {
+        match end {
+            EventEnd::Ran => self.kernel.executed() < self.slice,
+            EventEnd::Waits | EventEnd::Ended | EventEnd::NoMemory => false,
+        }
+    }
+}
