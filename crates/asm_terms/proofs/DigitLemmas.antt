@@ -16,7 +16,8 @@ limit-next = on_below 4 (λ i. limit (i + 1)) (λ i. 16 * limit i) refl
 pub limit-small : (i : ℕ) → i < 4 → limit i ≤ 4096
 limit-small i h = leb-true (limit i) 4096 (on_below 4 (λ i. nat_le (limit i) 4096) (λ i. true) refl i h)
 
-digit-step : (value : ℕ) (rest : List ℕ) (digit : Option ℕ) → option_and_then (λ d. hex_after (16 * value + d) rest) digit ≡ option_and_then (λ next. hex_after next rest) (option_map (λ d. 16 * value + d) digit)
+digit-step : (value : ℕ) (rest : List ℕ) (digit : Option ℕ) →
+    option_and_then (λ d. hex_after (16 * value + d) rest) digit ≡ option_and_then (λ next. hex_after next rest) (option_map (λ d. 16 * value + d) digit)
 digit-step value rest None = refl
 digit-step value rest (Some d) = refl
 

@@ -114,7 +114,8 @@ module _ {A : Type 0} (step : A → Bool → Term → Option A) where
       fold-split a sign [] text ∙ ap (λ parts. all_of a (terms_with (sign ∷ filter is_sign text) parts)) (no-part text)
 
   -- one byte more: a sign, or another one
-  module _ (a : A) (sign start i d : ℕ) (text : List ℕ) (whole : Option A) (begun : start ≤ i) (below : i < length text) (so_far : fold_from a sign (take (i - start) (drop start text)) (drop i text) ≡ whole) where
+  module _ (a : A) (sign start i d : ℕ) (text : List ℕ) (whole : Option A) (begun : start ≤ i) (below : i < length text)
+      (so_far : fold_from a sign (take (i - start) (drop start text)) (drop i text) ≡ whole) where
     here-fold : (c : ℕ) → c ≡ get_or text i d → fold_from a sign (take (i - start) (drop start text)) (c ∷ drop (i + 1) text) ≡ whole
     here-fold c is =
         let dropped : drop i text ≡ c ∷ drop (i + 1) text =

@@ -110,7 +110,8 @@ two-none sign s signs part (next ∷ parts) = by-term (term part)
     by-rest t u None = refl
     by-rest t u (Some ts) = refl
 
-    by-next : (t : Term) (u : Option Term) → option_and_then lone_value (option_map (λ ts. signed sign t ∷ ts) (option_and_then (λ u. option_map (λ ts. signed s u ∷ ts) (terms_with signs parts)) u)) ≡ None
+    by-next : (t : Term) (u : Option Term) →
+        option_and_then lone_value (option_map (λ ts. signed sign t ∷ ts) (option_and_then (λ u. option_map (λ ts. signed s u ∷ ts) (terms_with signs parts)) u)) ≡ None
     by-next t None = refl
     by-next t (Some u) = by-rest t u (terms_with signs parts)
 

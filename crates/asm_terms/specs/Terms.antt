@@ -17,7 +17,8 @@ joined value minus n = if minus then value -ℤ n else value +ℤ n
 
 -- a value with the term of this text and sign, if the text is a term that has a value
 abbrev pub with_part : (TermOf → Option ℤ) → ℤ → ℕ → List ℕ → Option ℤ
-with_part meaning value sign part = option_and_then (λ t. option_map (joined value (is_minus sign)) (meaning t)) (term part)
+with_part meaning value sign part =
+    option_and_then (λ t. option_map (joined value (is_minus sign)) (meaning t)) (term part)
 
 -- a test that the terms so far pass or not, with the term of this text, if it is one
 abbrev pub tested : (TermOf → Bool) → Bool → List ℕ → Option Bool

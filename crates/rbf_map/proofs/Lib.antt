@@ -1,4 +1,5 @@
 pub mod Changed
 pub mod Marks
 pub mod Searched
+pub mod Sectors
 pub mod Volume

@@ -149,10 +149,12 @@ impl RbfMap {
     pub fn sector(&self, n: u16, into: &mut [u8; 256])
         ensures { IsSectorOf self.now.bytes n into.new }
     {
-        let start = 256 * usize::from(n);
-        for (i, byte) in into.iter_mut().enumerate() {
-            *byte = self.bytes.get(start + i).copied().unwrap_or(0);
-        }
+        let start = self.bytes.len().min(256 * usize::from(n));
+        let rest = &self.bytes[start..];
+        let count = rest.len().min(256);
+        let mut bytes = [0; 256];
+        bytes[..count].copy_from_slice(&rest[..count]);
+        *into = bytes;
     }
 }
 
