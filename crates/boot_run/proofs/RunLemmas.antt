@@ -153,6 +153,8 @@ begins-later slices count n s m states begun written here lives run at it = reco
     all = refl;
   };
   next = it.next;
+  end = it.end;
+  event = it.event;
   later = it.later;
   all = ap (λ begun. states ++ begun) it.all ∙ sym (append_assoc states it.first (it.next ∷ it.later));
 }

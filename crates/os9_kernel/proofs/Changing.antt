@@ -14,6 +14,8 @@ use Rattle.file_rules.specs.declared.path_call.PathCall.{PathCall}
 use Rattle.file_state.proofs.MediaLemmas.{media-of_same, media-same}
 use Rattle.file_state.specs.Media.{KeepsDrives, MediaAfter}
 use Rattle.time_rules.specs.Clock.{IsNow}
+use Rattle.event_rules.specs.declared.ends.EventEnd.{EventEnd}
+use Rattle.machine_model.specs.Event.{Event}
 use Rattle.machine_model.specs.Services.{on_paths, service_of}
 use Rattle.machine_model.specs.State.{State}
 use Rattle.os9_kernel.specs.Changes.{AsksToChange, BeginsAt, KeepsImages, KeepsUnasked, NoneAsks}
@@ -91,6 +93,8 @@ begins-more leads states more at it = record {
   first = it.first;
   there = it.there;
   next = it.next;
+  end = it.end;
+  event = it.event;
   later = it.later ++ more;
   all = ap (λ states. states ++ more) it.all ∙ append_assoc it.first (it.next ∷ it.later) more;
 }
@@ -99,15 +103,15 @@ pub none-before : (leads : List State → State → Type 0) (states more : List 
 none-before leads states more drive none at it = none at (begins-more leads states more at it)
 
 -- events more, the first of which begins here
-pub keeps-more : (leads : List State → State → Type 0) (states : List State) (m next : State) (later : List State) (before mid after : List DriveView) → leads states m
-    → KeepsImages leads states before mid → ((drive : ℕ) → ¬ AsksToChange drive m → media_at after drive ≡ media_at mid drive)
+pub keeps-more : (leads : List State → State → Type 0) (states : List State) (m next : State) (end : EventEnd) (later : List State) (before mid after : List DriveView) → leads states m
+    → Event m end next → KeepsImages leads states before mid → ((drive : ℕ) → ¬ AsksToChange drive m → media_at after drive ≡ media_at mid drive)
     → KeepsImages leads (states ++ (next ∷ later)) before after
-keeps-more leads states m next later before mid after there so_far keeps drive none =
-    keeps drive (none m (record { first = states; there = there; next = next; later = later; all = refl }))
+keeps-more leads states m next end later before mid after there event so_far keeps drive none =
+    keeps drive (none m (record { first = states; there = there; next = next; end = end; event = event; later = later; all = refl }))
     ∙ so_far drive (none-before leads states (next ∷ later) drive none)
 
 -- the same events, to which another relation leads
 pub keeps-by : (leads by : List State → State → Type 0) (states : List State) (before after : List DriveView) → ((first : List State) (at : State) → leads first at → by first at)
     → KeepsImages leads states before after → KeepsImages by states before after
 keeps-by leads by states before after then keeps drive none =
-    keeps drive (λ at it. none at (record { first = it.first; there = then it.first at it.there; next = it.next; later = it.later; all = it.all }))
+    keeps drive (λ at it. none at (record { first = it.first; there = then it.first at it.there; next = it.next; end = it.end; event = it.event; later = it.later; all = it.all }))

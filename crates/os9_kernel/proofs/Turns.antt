@@ -48,6 +48,7 @@ BeginsFrom n s all left m =
 -- here
 pub record Turned (left : ℕ) (m : State) (rest : ℕ) (t : State) : Type 0 where
   pub first : State
+  pub event : Event m EventEnd.Ran first
   pub later : List State
   pub steps : (states : List State) (u : State) → Steps rest t states u → Steps left m (first ∷ (later ++ states)) u
   pub begun : (states : List State) (u : State) → FirstSteps rest t states u → FirstSteps left m (first ∷ (later ++ states)) u
@@ -55,6 +56,7 @@ pub record Turned (left : ℕ) (m : State) (rest : ℕ) (t : State) : Type 0 whe
 one-turned : (left : ℕ) (m t : State) → 0 < left → Event m EventEnd.Ran t → Turned left m (left - cost m) t
 one-turned left m t some event = record {
   first = t;
+  event = event;
   later = [];
   steps = λ states u rest. (some, EventEnd.Ran, event, rest);
   begun = λ states u rest. (some, event, rest);
@@ -64,6 +66,7 @@ one-turned left m t some event = record {
 before-turned : (left rest : ℕ) (m u t : State) → 0 < left → Event m EventEnd.Ran u → Turned (left - cost m) u rest t → Turned left m rest t
 before-turned left rest m u t some event it = record {
   first = u;
+  event = event;
   later = it.first ∷ it.later;
   steps = λ states v more. (some, EventEnd.Ran, event, it.steps states v more);
   begun = λ states v more. (some, event, it.begun states v more);

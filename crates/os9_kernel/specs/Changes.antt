@@ -8,6 +8,8 @@ use Rattle.file_rules.specs.Attempts.{asker_of, file_step}
 use Rattle.file_rules.specs.Step.{FileStep, VolumeChange, changes, deed_of, drive_of}
 use Rattle.file_rules.specs.declared.path_call.PathCall.{PathCall}
 use Rattle.time_rules.specs.Clock.{IsNow}
+use Rattle.event_rules.specs.declared.ends.EventEnd.{EventEnd}
+use Rattle.machine_model.specs.Event.{Event}
 use Rattle.machine_model.specs.Services.{on_paths, service_of}
 use Rattle.machine_model.specs.State.{State}
 use Rattle.os9_kernel.specs.Outside.{Outside}
@@ -40,11 +42,13 @@ KeepsUnasked old before after =
 -- ---- of many events
 
 -- Events left these states, and one of them began in this one: states that lead there come first, and behind them the
--- one that it left.
+-- one to which the event leads.
 pub record BeginsAt (leads : List State → State → Type 0) (states : List State) (at : State) : Type 0 where
   pub first : List State
   pub there : leads first at
   pub next : State
+  pub end : EventEnd
+  pub event : Event at end next
   pub later : List State
   pub all : states ≡ first ++ (next ∷ later)
 

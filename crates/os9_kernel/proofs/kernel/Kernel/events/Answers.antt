@@ -34,7 +34,7 @@ loop-left-preserved g c =
             now,
             turn-continues c.args.n c.loop-left.left _ s m t all it continues,
             turn-begins c.args.n c.loop-left.left _ s m t all it begins,
-            keeps-more (FirstSteps c.args.n s) all m it.first it.later _ _ _ (begun-here c.args.n c.loop-left.left s m all (omega arith) begins) kept (λ drive unasked. turn.images m drive there unasked),
+            keeps-more (FirstSteps c.args.n s) all m it.first Ran it.later _ _ _ (begun-here c.args.n c.loop-left.left s m all (omega arith) begins) it.event kept (λ drive unasked. turn.images m drive there unasked),
           );
     }
 
@@ -44,12 +44,13 @@ returns-in-Waits-clause-events g c =
       step = λ _ s tied.
           let (m, all, there, continues, begins, kept) = c.loop-left.invariant.tied s tied in
           let (t, events, now) = turn.step (other c.turn-turn.result.end c.in-Waits.is) m there in
-          let (first, later, steps) = turn-ends events (stops c.turn-turn.result.end c.in-Waits.is) in (
+          let (first, later, steps) = turn-ends events (stops c.turn-turn.result.end c.in-Waits.is) in
+          let (some, end, event, over) = steps in (
             all ++ (first ∷ later),
             t,
             continues (first ∷ later) t steps,
             now,
-            keeps-more (FirstSteps c.args.n s) all m first later _ _ _ (begun-here c.args.n c.loop-left.left s m all (omega arith) begins) kept (λ drive unasked. turn.images m drive there unasked),
+            keeps-more (FirstSteps c.args.n s) all m first end later _ _ _ (begun-here c.args.n c.loop-left.left s m all (omega arith) begins) event kept (λ drive unasked. turn.images m drive there unasked),
           );
       ran = λ _. refl;
       part = λ is. cc;
