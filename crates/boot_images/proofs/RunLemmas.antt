@@ -258,8 +258,8 @@ module _ (setup : Setup) (before ran : World) (new : List (List ℕ)) (drives : 
   run-gives : (end : RunEnd) → ComesTo setup held ran end → RunGives setup new before after end
   run-gives (Ended begun) it = ends-with false begun it
   run-gives (Living begun) it = ends-with true begun it
-  run-gives (Refused fault) it = it
-  run-gives (DriveFailed drive number) it = it
+  run-gives (Refused fault) it = tt
+  run-gives (DriveFailed drive number) it = tt
   run-gives OutputFailed it = runs-first it
   run-gives NoMemory (inl unrun) = inl (unrun-after unrun)
   run-gives NoMemory (inr first) = inr (runs-first first)
@@ -288,6 +288,7 @@ module _ (setup : Setup) (before ran : World) (new : List (List ℕ)) (drives : 
   runs-images : (end : RunEnd) → MachineCall setup held ran end → RunsImages setup new before after end
   runs-images end call = record {
     gives = λ told. run-gives end (call.comes told);
+    judged = call.judged;
     unrun = leaves-unrun end call.unrun;
     drives = empty-again new before.devices.drives ran.devices.drives drives many taken;
     output_fault = call.output_fault;

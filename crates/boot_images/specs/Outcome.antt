@@ -1,9 +1,7 @@
 -- The outcome of a run: what the machine wrote, its last state, and the images that hold the volumes of that state
 -- (this project's own).
-use Rattle.std.specs.Prelude.{◌≡◌, ◌≢◌, ◌⊎◌, ℕ, Bool, true, false, Some, List, length, slice_get, All}
+use Rattle.std.specs.Prelude.{◌≡◌, ◌≢◌, ◌⊎◌, ⊤, ℕ, Bool, true, false, Some, List, length, slice_get, All}
 use Rattle.os9_outer.specs.Stream.{stream_with}
-use Rattle.event_rules.specs.Start.{Refuses}
-use Rattle.event_rules.specs.declared.ends.BootFault.{BootFault}
 use Rattle.rbf_model.specs.Volume.{DiskVolume}
 use Rattle.file_drives.specs.Drives.{drive_states}
 use Rattle.file_rules.specs.Files.{volume_at}
@@ -12,11 +10,11 @@ use Rattle.machine_model.specs.State.{State, has_living}
 use Rattle.disk_ends.specs.Images.{IsWrittenBack}
 use Rattle.boot_run.specs.Console.{IsObserved}
 use Rattle.os9_kernel.specs.Changes.{NoneAsks}
-use Rattle.boot_run.specs.Machine.{IsUnrun, LeavesUnrun, RunsFirst, Setup, StartsLoaded}
+use Rattle.boot_run.specs.Machine.{IsUnrun, Judges, LeavesUnrun, RunsFirst, Setup, StartsLoaded}
 use Rattle.boot_run.specs.Slices.{ComesInto}
 use Rattle.boot_run.specs.World.{World, FailsToWrite, HasNoFault}
 use Rattle.boot_run.specs.declared.machine.RunEnd.{RunEnd}
-use Rattle.boot_run.specs.declared.machine.RunEnd.TheVariants.{Ended, Living, Refused, DriveFailed, OutputFailed, NoMemory}
+use Rattle.boot_run.specs.declared.machine.RunEnd.TheVariants.{Ended, Living, OutputFailed, NoMemory}
 use Rattle.boot_images.specs.Drives.{holding}
 use Rattle.boot_images.specs.Ready.{AreEmptyAgain}
 use Rattle.boot_images.specs.declared.machine.Start.{Start}
@@ -81,16 +79,15 @@ pub record StopsWithImages (setup : Setup) (before after : World) : Type 0 where
 abbrev pub RunGives : Setup → List (List ℕ) → World → World → RunEnd → Type 0
 RunGives setup images before after (Ended begun) = EndsWithImages setup false begun images before after
 RunGives setup images before after (Living begun) = EndsWithImages setup true begun images before after
-RunGives setup images before after (Refused fault) = Refuses setup.file setup.blocks fault
-RunGives setup images before after (DriveFailed drive number) =
-    (fault : BootFault) → ¬ Refuses setup.file setup.blocks fault
 RunGives setup images before after OutputFailed = RunsFirst setup before (with_images_in images after)
 RunGives setup images before after NoMemory =
     IsUnrun before after ⊎ RunsFirst setup before (with_images_in images after)
+RunGives setup images before after end = ⊤
 
 -- A machine was started with the images in its drives, run over its slices, and these images were taken out again.
 pub record RunsImages (setup : Setup) (images : List (List ℕ)) (before after : World) (end : RunEnd) : Type 0 where
   pub gives : All IsObserved before.devices.terms → RunGives setup images before after end
+  pub judged : Judges setup end
   pub unrun : LeavesUnrun before after end
   pub drives : AreEmptyAgain before.devices.drives after.devices.drives
   -- the host failed, and last at a write to the output; at every other end it did not fail

@@ -200,6 +200,7 @@ module _ (setup : Setup) (kernel : Kernel) (before : World) (started later : Out
   ran-ended : {Value : Type 0} (value : Value) (new : Kernel) (after : World) (ticks : ℕ) → RunsSlices setup.slices kernel new (Ok value) (with_devices before later) after → ((t : State) → Represents new after.devices t → living_count t.inner ≡ 0) → ((t : State) → Represents new after.devices t → ticks ≡ t.inner.tick) → MachineCall setup before after (Ended ticks)
   ran-ended value new after ticks ran none counted = record {
     comes = runs-whole value new after false ticks ran (λ t there. none-living t (none t there)) counted;
+    judged = tt;
     unrun = tt;
     output_fault = λ e. cc e;
     no_fault = λ no. ran.no_fault;
@@ -209,6 +210,7 @@ module _ (setup : Setup) (kernel : Kernel) (before : World) (started later : Out
   ran-living : {Value : Type 0} (value : Value) (new : Kernel) (after : World) (ticks : ℕ) → RunsSlices setup.slices kernel new (Ok value) (with_devices before later) after → ((t : State) → Represents new after.devices t → living_count t.inner ≢ 0) → ((t : State) → Represents new after.devices t → ticks ≡ t.inner.tick) → MachineCall setup before after (Living ticks)
   ran-living value new after ticks ran some counted = record {
     comes = runs-whole value new after true ticks ran (λ t there. some-living t (some t there)) counted;
+    judged = tt;
     unrun = tt;
     output_fault = λ e. cc e;
     no_fault = λ no. ran.no_fault;
@@ -229,6 +231,7 @@ module _ (setup : Setup) (kernel : Kernel) (before : World) (started later : Out
   pub called-output : {Value : Type 0} (new : Kernel) (after : World) → RunsSlices {Value = Value} setup.slices kernel new (Err Output) (with_devices before later) after → MachineCall setup before after OutputFailed
   called-output new after ran = record {
     comes = λ told. record { s = begun; starts = starts-loaded; partly = partly after ran.partial told };
+    judged = tt;
     unrun = tt;
     output_fault = λ e. ran.output_fault;
     no_fault = λ no. absurd (no refl);
@@ -239,6 +242,7 @@ module _ (setup : Setup) (kernel : Kernel) (before : World) (started later : Out
   pub called-without_memory : {Value : Type 0} (new : Kernel) (after : World) → RunsSlices {Value = Value} setup.slices kernel new (Err RunFault.NoMemory) (with_devices before later) after → MachineCall setup before after NoMemory
   called-without_memory new after ran = record {
     comes = λ told. inr (record { s = begun; starts = starts-loaded; partly = partly after ran.partial told });
+    judged = tt;
     unrun = tt;
     output_fault = λ e. cc e;
     no_fault = λ no. ran.no_fault;
@@ -252,6 +256,7 @@ pub called-nothing : (setup : Setup) (world : World) (devices : Outside) → Non
     → media_of devices.drives ≡ media_of world.devices.drives → devices.terms ≡ world.devices.terms → MachineCall setup world (with_devices world devices) NoMemory
 called-nothing setup world devices none_failed media terms = record {
   comes = λ told. inl (record { out = refl; terminals = terms; none_failed = none_failed; media_kept = media });
+  judged = tt;
   unrun = tt;
   output_fault = λ e. cc e;
   no_fault = λ no. (refl, refl, refl);
@@ -267,28 +272,32 @@ pub called-refused : (setup : Setup) (config : Config) (world : World) (devices 
 called-refused setup config world devices (Boot OutOfMemory) blocks refused same moved count terms =
     called-nothing setup world devices moved.moves (media-kept world.devices.drives devices.drives count moved.media) terms
 called-refused setup config world devices (Boot (BadModule at error)) blocks refused same moved count terms = record {
-  comes = λ told. subst (λ (blocks : ℕ). Refuses setup.file blocks (BadModule at error)) blocks (refused (λ e. cc e));
+  comes = λ told. tt;
+  judged = subst (λ (blocks : ℕ). Refuses setup.file blocks (BadModule at error)) blocks (refused (λ e. cc e));
   unrun = ap (λ (devices : Outside). with_devices world devices) (same (λ e. cc e));
   output_fault = λ e. cc e;
   no_fault = λ no. (refl, refl, refl);
   files_kept = refl;
 }
 called-refused setup config world devices (Boot NoFirst) blocks refused same moved count terms = record {
-  comes = λ told. subst (λ (blocks : ℕ). Refuses setup.file blocks NoFirst) blocks (refused (λ e. cc e));
+  comes = λ told. tt;
+  judged = subst (λ (blocks : ℕ). Refuses setup.file blocks NoFirst) blocks (refused (λ e. cc e));
   unrun = ap (λ (devices : Outside). with_devices world devices) (same (λ e. cc e));
   output_fault = λ e. cc e;
   no_fault = λ no. (refl, refl, refl);
   files_kept = refl;
 }
 called-refused setup config world devices (Boot TooLarge) blocks refused same moved count terms = record {
-  comes = λ told. subst (λ (blocks : ℕ). Refuses setup.file blocks TooLarge) blocks (refused (λ e. cc e));
+  comes = λ told. tt;
+  judged = subst (λ (blocks : ℕ). Refuses setup.file blocks TooLarge) blocks (refused (λ e. cc e));
   unrun = ap (λ (devices : Outside). with_devices world devices) (same (λ e. cc e));
   output_fault = λ e. cc e;
   no_fault = λ no. (refl, refl, refl);
   files_kept = refl;
 }
 called-refused setup config world devices (Drive drive number) blocks accepted same moved count terms = record {
-  comes = λ told. subst (λ (blocks : ℕ). (fault : BootFault) → ¬ Refuses setup.file blocks fault) blocks accepted;
+  comes = λ told. tt;
+  judged = subst (λ (blocks : ℕ). (fault : BootFault) → ¬ Refuses setup.file blocks fault) blocks accepted;
   unrun = record {
     failed = moved.moves;
     media_kept = media-kept world.devices.drives devices.drives count moved.media;

@@ -109,10 +109,15 @@ pub record IsUnrun (before after : World) : Type 0 where
 abbrev pub ComesTo : Setup → World → World → RunEnd → Type 0
 ComesTo setup before after (Ended begun) = RunsWhole setup false begun before after
 ComesTo setup before after (Living begun) = RunsWhole setup true begun before after
-ComesTo setup before after (Refused fault) = Refuses setup.file setup.blocks fault
-ComesTo setup before after (DriveFailed drive number) = (fault : BootFault) → ¬ Refuses setup.file setup.blocks fault
 ComesTo setup before after OutputFailed = RunsFirst setup before after
 ComesTo setup before after NoMemory = IsUnrun before after ⊎ RunsFirst setup before after
+ComesTo setup before after end = ⊤
+
+-- what the end says of the boot file, observed or not: it has this fault; or none, if a drive failed
+abbrev pub Judges : Setup → RunEnd → Type 0
+Judges setup (Refused fault) = Refuses setup.file setup.blocks fault
+Judges setup (DriveFailed drive number) = (fault : BootFault) → ¬ Refuses setup.file setup.blocks fault
+Judges setup end = ⊤
 
 -- A drive failed when its image was mounted, and no other one; the media, the terminals and the output are as they
 -- were.
@@ -131,6 +136,7 @@ LeavesUnrun before after end = ⊤
 -- a machine was started, and its run ended so
 pub record MachineCall (setup : Setup) (before after : World) (end : RunEnd) : Type 0 where
   pub comes : All IsObserved before.devices.terms → ComesTo setup before after end
+  pub judged : Judges setup end
   pub unrun : LeavesUnrun before after end
   -- the host failed, and last at a write to the output; at every other end it did not fail
   pub output_fault : end ≡ OutputFailed → FailsToWrite before after

@@ -167,21 +167,21 @@ refused setup names images before mid OutOfMemory run = record {
 }
 refused setup names images before mid (BadModuleFault at error) run = record {
   kind = tt;
-  comes = λ observed. (BadModuleFault at error, run.gives observed, refl);
+  comes = λ observed. (BadModuleFault at error, run.judged, refl);
   devices = still-silent before mid run.unrun;
   host = kept-counts before mid run.unrun;
   files = run.files_kept;
 }
 refused setup names images before mid NoFirstFault run = record {
   kind = tt;
-  comes = λ observed. (NoFirstFault, run.gives observed, refl);
+  comes = λ observed. (NoFirstFault, run.judged, refl);
   devices = still-silent before mid run.unrun;
   host = kept-counts before mid run.unrun;
   files = run.files_kept;
 }
 refused setup names images before mid TooLargeFault run = record {
   kind = tt;
-  comes = λ observed. (TooLargeFault, run.gives observed, refl);
+  comes = λ observed. (TooLargeFault, run.judged, refl);
   devices = still-silent before mid run.unrun;
   host = kept-counts before mid run.unrun;
   files = run.files_kept;
@@ -190,7 +190,7 @@ refused setup names images before mid TooLargeFault run = record {
 failed-to-mount : (setup : Setup) (names images : List (List ℕ)) (before mid : World) (drive number : ℕ) → RunsImages setup images before mid (Run.DriveFailed drive number) → MachineEnds setup names before mid (DriveFailed drive number)
 failed-to-mount setup names images before mid drive number run = record {
   kind = tt;
-  comes = run.gives;
+  comes = λ observed. run.judged;
   devices = run.unrun;
   host = run.no_fault (λ is. cc is);
   files = run.files_kept;

@@ -208,7 +208,7 @@ module _ {Host : Type 0} (members : Ghosts Host) (seed : ℕ) (below : seed < 21
       with-counts Living true begun (Run.Living begun) end told (λ same. cc) (λ same. cc) (λ ends. ends) tt run run.gives tells
   called (Run.Refused fault) end told run tells =
       without-counts NoMemory end told (record {
-        comes = λ observed. absurd (never-refused seed below fault (run.gives observed));
+        comes = λ observed. absurd (never-refused seed below fault run.judged);
         devices = tt;
         output_fault = λ same. cc;
         no_fault = λ other. run.no_fault (λ same. cc);
