@@ -1,10 +1,10 @@
 -- A boot of which all is accepted is one run of the machine.
-use Rattle.std.proofs.Common.{◌≡◌, ◌⊎◌, ℕ, zero, suc, Bool, true, false, Option, None, Some, Result, Ok, Err, List, [], ◌∷◌, length, slice_get, sym, ◌∙◌, ap, subst, inl, inr, All}
+use Rattle.std.proofs.Common.{◌≡◌, ℕ, zero, suc, Bool, true, false, Option, Some, Result, Ok, Err, List, [], ◌∷◌, length, slice_get, sym, ◌∙◌, ap, subst, inl, inr, All}
 use Rattle.std.proofs.lemmas.List.Elements.{All-head, All-tail}
 use Rattle.std.proofs.lemmas.Option.{none-some, same_Some}
 use Rattle.std.specs.Prelude.{IfSome, MatchOption, if◌then◌else◌}
 use Rattle.os9_base.specs.Count.{Rose}
-use Rattle.os9_outer.specs.Host.{Files}
+use Rattle.os9_outer.specs.Host.{Files, file_contents}
 use Rattle.os9_words.specs.declared.command.Command.{Command}
 use Rattle.os9_words.specs.declared.command.Command.TheVariants.{Boot as BootCommand}
 use Rattle.os9_words.specs.declared.command.RunWords.{RunWords}
@@ -22,12 +22,13 @@ use Rattle.boot_run.specs.Machine.{Setup}
 use Rattle.boot_run.specs.World.{World}
 use Rattle.command_files.specs.declared.status.End.{End}
 use Rattle.command_files.specs.declared.status.End.TheVariants.{Ended, Living, CannotRead, CannotWrite, CannotWriteImage, NoMemory, BadImage, BadText, BadBounds, BadModule, NoFirst, TooLarge, DriveFailed, CannotWriteFile, Refused}
-use Rattle.command_files.specs.declared.status.Input.TheVariants.{Script, Slices, Modules, Image, File}
+use Rattle.command_files.specs.declared.status.Input.TheVariants.{Script}
 use Rattle.os9_boot.specs.Boots.{BootComesTo, RunsToEnd}
 use Rattle.command_files.specs.End.{status_number}
 use Rattle.os9_boot.specs.Headline.{BootIsOneRun, IsAccepted, IsOneRun}
-use Rattle.os9_boot.specs.Host.{FailsAsTold}
-use Rattle.command_files.specs.Setup.{SetsUpBoot}
+use Rattle.command_files.specs.Reading.{BreaksSlices}
+use Rattle.command_files.specs.Setup.{SetsUpBoot, script_of}
+use Rattle.os9_boot.specs.Commands.{CommandCall}
 use Rattle.os9_boot.specs.TopCall.{CommandReport, TopCall, WordsReport}
 
 ok-err : {A E : Type 0} (a : A) (e : E) → ◌≡◌ {A = Result A E} (Ok a) (Err e) → ⊥
@@ -78,40 +79,39 @@ module _ (files : Files) (boot : RunWords) (before after : World) (accepted : Is
     lives = is ∙ sym (lives-status ran.t lives ran.living);
   }
 
-  module _ (kept : ¬ Rose before.faults after.faults) (status : ℕ) where
-    by-end : (end : End) → FailsAsTold (BootCommand boot) end before after → BootComesTo files boot before after end → status ≡ status_number end → BootIsOneRun files boot before after status
-    by-end Ended host comes is = inl (one-run comes.0 false comes.1 comes.2 status is)
-    by-end Living host comes is = inl (one-run comes.0 true comes.1 comes.2 status is)
-    by-end NoMemory host comes is = inr (inl is)
-    by-end (DriveFailed drive number) host comes is = inr (inr is)
-    by-end (CannotRead input) host comes is = absurd (kept host.2.0)
-    by-end CannotWrite host comes is = absurd (kept host.0)
-    by-end (CannotWriteImage number) host comes is = absurd (kept host.2.0)
-    by-end (BadText Script line) host comes is = absurd (ok-err accepted.setup.keys line (sym accepted.sets.words.texts.script ∙ comes))
-    by-end (BadText Slices line) host comes is = absurd (broken line comes)
-      where
-        broken : (line : ℕ) → BootComesTo files boot before after (BadText Slices line) → ⊥
-        broken line comes = ok-err accepted.setup.slices line (sym accepted.sets.words.texts.slice_text ∙ comes.refused)
-    by-end (BadText Modules line) host comes is = absurd comes
-    by-end (BadText (Image number) line) host comes is = absurd comes
-    by-end (BadText File line) host comes is = absurd comes
-    by-end (BadImage number fault) host comes is =
+  -- the slice text is not refused
+  unbroken : (line : ℕ) → BreaksSlices (length before.devices.terms) line (script_of files boot) (file_contents files boot.slices) → ⊥
+  unbroken line broken = ok-err accepted.setup.slices line (sym accepted.sets.words.texts.slice_text ∙ broken.refused)
+
+  module _ (kept : ¬ Rose before.faults after.faults) (observed : All IsObserved before.devices.terms) (status : ℕ) where
+    by-end : (end : End) → CommandCall (BootCommand boot) before after end → BootComesTo files boot before after end → status ≡ status_number end → BootIsOneRun files boot before after status
+    by-end Ended call comes is = inl (one-run comes.0 false comes.1 (comes.2 observed) status is)
+    by-end Living call comes is = inl (one-run comes.0 true comes.1 (comes.2 observed) status is)
+    by-end NoMemory call comes is = inr (inl (record { told = is; left = comes }))
+    by-end (DriveFailed drive number) call comes is =
+        inr (inr (record { drive = drive; number = number; failed = call.devices; told = is }))
+    by-end (CannotRead input) call comes is = absurd (kept call.host.2.0)
+    by-end CannotWrite call comes is = absurd (kept call.host.0)
+    by-end (CannotWriteImage number) call comes is = absurd (kept call.host.2.0)
+    by-end (BadText Script line) call comes is = absurd (ok-err accepted.setup.keys line (sym accepted.sets.words.texts.script ∙ comes))
+    by-end (BadText input line) call comes is = absurd (unbroken line comes)
+    by-end (BadImage number fault) call comes is =
         let volume : IsVolume comes.1.image = volume-at number (images_of files boot.files) comes.1.image comes.1.is (subst (λ (images : List (List ℕ)). All IsVolume images) accepted.sets.images accepted.sets.volumes) in
         absurd (no_image_breach comes.1.image volume.0 volume.1 comes.1.broken.broken)
-    by-end CannotWriteFile host comes is = absurd comes
-    by-end (Refused number) host comes is = absurd comes
-    by-end BadBounds host comes is =
+    by-end CannotWriteFile call comes is = absurd call.may
+    by-end (Refused number) call comes is = absurd call.may
+    by-end BadBounds call comes is =
         absurd (comes.1.1.2 (subst HasBootFile (sym (first-image comes.1.1.0 comes.1.1.1)) accepted.sets.file.has))
-    by-end (BadModule at error) host comes is = absurd (not-refused comes.0 comes.1 comes.2.0 comes.2.1)
-    by-end NoFirst host comes is = absurd (not-refused comes.0 comes.1 comes.2.0 comes.2.1)
-    by-end TooLarge host comes is = absurd (not-refused comes.0 comes.1 comes.2.0 comes.2.1)
+    by-end (BadModule at error) call comes is = absurd (not-refused comes.0 comes.1 comes.2.0 comes.2.1)
+    by-end NoFirst call comes is = absurd (not-refused comes.0 comes.1 comes.2.0 comes.2.1)
+    by-end TooLarge call comes is = absurd (not-refused comes.0 comes.1 comes.2.0 comes.2.1)
 
 pub is-one-run : (words : List (List ℕ)) (boot : RunWords) (files : Files) (before after : World) (noted notes : Notes) (status : ℕ) → command_of words ≡ Some (BootCommand boot) → TopCall words before after noted notes status → before.files ≡ Some files → All IsObserved before.devices.terms → IsAccepted files boot (length before.devices.terms) → ¬ Rose before.faults after.faults → BootIsOneRun files boot before after status
 is-one-run words boot files before after noted notes status spelled call told observed accepted kept =
-    by-end files boot before after accepted kept status report.end report.call.host (comes observed) report.status_is
+    by-end files boot before after accepted kept observed status report.end report.call comes report.status_is
   where
     report : CommandReport (BootCommand boot) before after noted notes status
     report = subst (λ (found : Option Command). MatchOption found (WordsReport before after noted notes status) (λ command. CommandReport command before after noted notes status)) spelled call
 
-    comes : IfSome (Some files) (λ (files : Files). All IsObserved before.devices.terms → BootComesTo files boot before after report.end)
-    comes = subst (λ (some : Option Files). IfSome some (λ (files : Files). All IsObserved before.devices.terms → BootComesTo files boot before after report.end)) told report.call.comes
+    comes : BootComesTo files boot before after report.end
+    comes = subst (λ (some : Option Files). IfSome some (λ (files : Files). BootComesTo files boot before after report.end)) told report.call.comes

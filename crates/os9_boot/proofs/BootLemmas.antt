@@ -9,7 +9,6 @@ use Rattle.os9_words.specs.declared.command.Command.TheVariants.{Boot as BootCom
 use Rattle.os9_words.specs.declared.command.RunWords.{RunWords}
 use Rattle.boot_images.specs.BootFile.{IsBootFile, IsVolume}
 use Rattle.boot_images.specs.Outcome.{RunsImages}
-use Rattle.boot_run.specs.Console.{IsObserved}
 use Rattle.boot_run.specs.Machine.{Setup}
 use Rattle.boot_run.specs.World.{World}
 use Rattle.boot_run.specs.declared.machine.RunEnd.{RunEnd}
@@ -21,7 +20,6 @@ use Rattle.os9_boot.specs.Boots.{BootComesTo, MachineComesTo}
 use Rattle.os9_boot.specs.Commands.{CommandCall}
 use Rattle.os9_boot.specs.Host.{FailsAsTold}
 use Rattle.os9_boot.specs.Left.{BootMayEnd}
-use Rattle.os9_boot.specs.Meaning.{IfAllObserved}
 use Rattle.os9_boot.specs.Images.{RefusesImages}
 use Rattle.command_files.specs.Reading.{HasBootFiles, RefusesTexts}
 use Rattle.command_files.specs.Setup.{HaveTexts, SetsUpBoot}
@@ -37,8 +35,6 @@ module _ (files : Files) (boot : RunWords) (setup : Setup) (before after : World
   boot-comes (BadText input line) of comes = absurd of
   boot-comes (BadImage number fault) of comes = absurd of
   boot-comes BadBounds of comes = absurd of
-  boot-comes CannotWriteFile of comes = absurd of
-  boot-comes (Refused number) of comes = absurd of
   boot-comes NoMemory of comes = inr (setup, sets, comes)
   boot-comes end of comes = (setup, sets, comes)
 
@@ -50,6 +46,7 @@ boot-fails boot before after CannotWriteFile failed = absurd failed
 boot-fails boot before after end kept = kept
 
 boot-may : (end : End) → IsOfMachine end → BootMayEnd end
+boot-may (BadText input line) of = absurd of
 boot-may CannotWriteFile of = absurd of
 boot-may (Refused number) of = absurd of
 boot-may end of = tt
@@ -58,21 +55,21 @@ boot-may end of = tt
 
 module _ (before : World) (boot : RunWords) (read : BootFiles) (has : IfSome before.files (λ files. HasBootFiles files boot read)) where
   -- what follows of the files that were read
-  of-files : (fact : Files → Type 0) → ((files : Files) → HasBootFiles files boot read → All IsObserved before.devices.terms → fact files) → IfAllObserved before fact
+  of-files : (fact : Files → Type 0) → ((files : Files) → HasBootFiles files boot read → fact files) → IfSome before.files fact
   of-files fact follows = by before.files has
     where
-      by : (told : Option Files) → IfSome told (λ files. HasBootFiles files boot read) → IfSome told (λ files. All IsObserved before.devices.terms → fact files)
+      by : (told : Option Files) → IfSome told (λ files. HasBootFiles files boot read) → IfSome told fact
       by None has = tt
-      by (Some files) has = λ observed. follows files has observed
+      by (Some files) has = follows files has
 
   module _ (after : World) (same : after ≡ before) where
     script-refused : (line : ℕ) → keys_of (length before.devices.terms) read.script.items ≡ Err line → CommandCall (BootCommand boot) before after (BadText ScriptInput line)
     script-refused line refused =
-        unchanged (BootCommand boot) before after (BadText ScriptInput line) same tt (still-silent before after same) (kept-counts before after same) (of-files (λ files. BootComesTo files boot before after (BadText ScriptInput line)) (λ files has observed. rw (← has.script) refused))
+        unchanged (BootCommand boot) before after (BadText ScriptInput line) same tt (still-silent before after same) (kept-counts before after same) (of-files (λ files. BootComesTo files boot before after (BadText ScriptInput line)) (λ files has. rw (← has.script) refused))
 
     slices-refused : (keys : List ScriptKey) (line : ℕ) → keys_of (length before.devices.terms) read.script.items ≡ Ok keys → slices_of read.slices.items ≡ Err line → CommandCall (BootCommand boot) before after (BadText SlicesInput line)
     slices-refused keys line given refused =
-        unchanged (BootCommand boot) before after (BadText SlicesInput line) same tt (still-silent before after same) (kept-counts before after same) (of-files (λ files. BootComesTo files boot before after (BadText SlicesInput line)) (λ files has observed. record { keys = keys; accepted = rw (← has.script) given; refused = rw (← has.slices) refused }))
+        unchanged (BootCommand boot) before after (BadText SlicesInput line) same tt (still-silent before after same) (kept-counts before after same) (of-files (λ files. BootComesTo files boot before after (BadText SlicesInput line)) (λ files has. record { keys = keys; accepted = rw (← has.script) given; refused = rw (← has.slices) refused }))
 
     -- a text was refused
     pub boot-texts-refused : (terminals : ℕ) (end : End) → terminals ≡ length before.devices.terms → RefusesTexts terminals read.script.items read.slices.items end → CommandCall (BootCommand boot) before after end
@@ -90,9 +87,9 @@ module _ (before : World) (boot : RunWords) (read : BootFiles) (has : IfSome bef
     -- the images were refused
     pub boot-refused : (after : World) (end : End) → after ≡ before → RefusesImages read.images end → CommandCall (BootCommand boot) before after end
     boot-refused after (BadImage number fault) same refused =
-        unchanged (BootCommand boot) before after (BadImage number fault) same tt (still-silent before after same) (kept-counts before after same) (of-files (λ files. BootComesTo files boot before after (BadImage number fault)) (λ files has observed. ((keys, slices, accepted files has), rw (← has.images) refused)))
+        unchanged (BootCommand boot) before after (BadImage number fault) same tt (still-silent before after same) (kept-counts before after same) (of-files (λ files. BootComesTo files boot before after (BadImage number fault)) (λ files has. ((keys, slices, accepted files has), rw (← has.images) refused)))
     boot-refused after BadBounds same refused =
-        unchanged (BootCommand boot) before after BadBounds same tt (still-silent before after same) (kept-counts before after same) (of-files (λ files. BootComesTo files boot before after BadBounds) (λ files has observed. ((keys, slices, accepted files has), rw (← has.images) refused)))
+        unchanged (BootCommand boot) before after BadBounds same tt (still-silent before after same) (kept-counts before after same) (of-files (λ files. BootComesTo files boot before after BadBounds) (λ files has. ((keys, slices, accepted files has), rw (← has.images) refused)))
     boot-refused after NoMemory same refused = out-of-memory (BootCommand boot) before after same
     boot-refused after end same refused = absurd refused
 
@@ -120,7 +117,7 @@ module _ (before : World) (boot : RunWords) (read : BootFiles) (has : IfSome bef
       boot-ended images mid after end answer run ends =
           let it = machine-ends setup boot.files images before mid after end answer run ends in
           record {
-            comes = of-files (λ files. BootComesTo files boot before after answer) (λ files has observed. boot-comes files boot setup before after (sets-up files has) answer it.kind (it.comes observed));
+            comes = of-files (λ files. BootComesTo files boot before after answer) (λ files has. boot-comes files boot setup before after (sets-up files has) answer it.kind it.comes);
             may = boot-may answer it.kind;
             devices = it.devices;
             host = boot-fails boot before after answer it.host;

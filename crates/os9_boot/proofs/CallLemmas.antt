@@ -1,5 +1,5 @@
 -- Commands that end before anything ran, stresses, and the top call.
-use Rattle.std.proofs.Common.{◌≡◌, ◌⊎◌, ℕ, Option, Some, None, Ok, Err, List, refl, ap, subst, inl, inr, All}
+use Rattle.std.proofs.Common.{◌≡◌, ◌⊎◌, ℕ, Option, Some, None, Ok, Err, List, refl, ap, subst, inl, inr}
 use Rattle.std.specs.Prelude.{IfSome, Result}
 use Rattle.os9_outer.specs.Host.{Files, file_contents}
 use Rattle.os9_outer.specs.declared.host.Host.{Ghosts}
@@ -12,7 +12,6 @@ use Rattle.os9_words.specs.Notes.{Notes, notes_of}
 use Rattle.os9_words.specs.Streams.{ChangesErrOnly, WritesErr}
 use Rattle.file_drives.specs.Drives.{drive_states, media_of}
 use Rattle.os9_kernel.specs.Outside.{Outside}
-use Rattle.boot_run.specs.Console.{IsObserved}
 use Rattle.boot_run.specs.Machine.{IsUnrun}
 use Rattle.boot_run.specs.World.{World, FailsToReadFile, HasNoFault, world_of}
 use Rattle.stress_run.specs.Stress.{StressCall}
@@ -36,9 +35,10 @@ use Rattle.os9_boot.specs.Host.{FailsAsTold}
 use Rattle.command_files.specs.Left.{IsSilent}
 use Rattle.command_files.proofs.ChangeLemmas.{same-changes}
 use Rattle.os9_boot.specs.Left.{BootLeavesFiles, LeavesDevices, StressMayEnd}
-use Rattle.os9_boot.specs.Meaning.{IfAllObserved, meaning}
+use Rattle.os9_boot.specs.Meaning.{meaning}
 use Rattle.os9_boot.specs.TopCall.{CommandReport, GainsLine, LosesLine, Reports, TopCall}
 use Rattle.os9_boot.specs.FilesNoted.{NotesFiles}
+use Rattle.os9_boot.specs.declared.top.TheConstants.{NO_COMMAND}
 use Rattle.os9_boot.proofs.NameLemmas.{names-none}
 
 -- ---- worlds
@@ -71,13 +71,6 @@ still-undone before after same = record {
   unrun = still-unrun before after same;
   files = ap (λ (w : World). w.files) same;
 }
-
-pub always : (world : World) (fact : Files → Type 0) → ((files : Files) → All IsObserved world.devices.terms → fact files) → IfAllObserved world fact
-always world fact holds = by world.files
-  where
-    by : (told : Option Files) → IfSome told (λ files. All IsObserved world.devices.terms → fact files)
-    by None = tt
-    by (Some files) = holds files
 
 -- what holds of all files
 pub of-any : (told : Option Files) (fact : Files → Type 0) → ((files : Files) → fact files) → IfSome told fact
@@ -128,9 +121,9 @@ unchanged command before after end same may left told comes = record {
 
 nothing-comes : (command : Command) (before after : World) → after ≡ before → (meaning command).comes before after NoMemory
 nothing-comes (RunCommand run) before after same =
-    always before (λ files. RunComesTo files run before after NoMemory) (λ files observed. inl (still-undone before after same))
+    of-any before.files (λ files. RunComesTo files run before after NoMemory) (λ files. inl (still-undone before after same))
 nothing-comes (BootCommand boot) before after same =
-    always before (λ files. BootComesTo files boot before after NoMemory) (λ files observed. inl (still-undone before after same))
+    of-any before.files (λ files. BootComesTo files boot before after NoMemory) (λ files. inl (still-undone before after same))
 nothing-comes (CheckCommand image) before after same =
     of-any before.files (λ files. CheckComesTo (file_contents files image) before after NoMemory) (λ files. inl (ap (λ (w : World). w.out) same))
 nothing-comes (StressCommand seed) before after same =
@@ -152,9 +145,9 @@ out-of-memory command before after same =
 
 unread-comes : (command : Command) (input : Input) (name : List ℕ) (before after : World) → (meaning command).file_name input ≡ Some name → (meaning command).comes before after (CannotRead input)
 unread-comes (RunCommand run) input name before after named =
-    always before (λ files. RunComesTo files run before after (CannotRead input)) (λ files observed. tt)
+    of-any before.files (λ files. RunComesTo files run before after (CannotRead input)) (λ files. tt)
 unread-comes (BootCommand boot) input name before after named =
-    always before (λ files. BootComesTo files boot before after (CannotRead input)) (λ files observed. tt)
+    of-any before.files (λ files. BootComesTo files boot before after (CannotRead input)) (λ files. tt)
 unread-comes (CheckCommand image) input name before after named =
     of-any before.files (λ files. CheckComesTo (file_contents files image) before after (CannotRead input)) (λ files. tt)
 unread-comes (StressCommand seed) input name before after named = absurd (cc named)
@@ -257,14 +250,14 @@ module _ (words : List (List ℕ)) (before after : World) (noted notes : Notes) 
   top-command command status spelled report = rw spelled report
 
   -- they are none
-  pub top-refused : Reports words_line noted notes → command_of words ≡ None → after ≡ before → TopCall words before after noted notes 1
+  pub top-refused : Reports words_line noted notes → command_of words ≡ None → after ≡ before → TopCall words before after noted notes NO_COMMAND
   top-refused line refused same = rw refused (record { undone = same; line = inl (refl, line) })
 
   -- memory was out before it was known
-  pub top-memory : Reports no_memory_line noted notes → after ≡ before → TopCall words before after noted notes 4
+  pub top-memory : Reports no_memory_line noted notes → after ≡ before → TopCall words before after noted notes (status_number NoMemory)
   top-memory line same = by (command_of words) refl
     where
-      by : (found : Option Command) → command_of words ≡ found → TopCall words before after noted notes 4
+      by : (found : Option Command) → command_of words ≡ found → TopCall words before after noted notes (status_number NoMemory)
       by None is = rw is (record { undone = same; line = inr (refl, line) })
       by (Some command) is =
           rw is (record {

@@ -1,5 +1,5 @@
 -- Where no count of faults rose, a call tells no fault of the host or of a drive.
-use Rattle.std.proofs.Common.{◌≡◌, ℕ, Option, Some, None, List, ◌⊎◌, inl, inr, arith}
+use Rattle.std.proofs.Common.{◌≡◌, ◌≢◌, ℕ, Option, Some, None, List, ◌⊎◌, inl, inr, arith}
 use Rattle.std.specs.Prelude.{MatchOption}
 use Rattle.os9_words.specs.declared.command.Command.{Command}
 use Rattle.os9_words.specs.declared.command.Command.TheVariants.{Run, Boot, Check, Stress, Vol}
@@ -9,12 +9,13 @@ use Rattle.os9_words.specs.Lines.{no_memory_line, words_line}
 use Rattle.boot_run.specs.Machine.{FailsToMount}
 use Rattle.boot_run.specs.World.{World}
 use Rattle.command_files.specs.declared.status.End.{End}
-use Rattle.command_files.specs.declared.status.End.TheVariants.{CannotRead, CannotWrite, CannotWriteImage, CannotWriteFile, DriveFailed}
+use Rattle.command_files.specs.declared.status.End.TheVariants.{CannotRead, CannotWrite, CannotWriteImage, CannotWriteFile, DriveFailed, NoMemory}
 use Rattle.os9_boot.specs.Commands.{CommandCall}
 use Rattle.os9_boot.specs.Completeness.{IsNoFault, NoneRose, TellsNoFault}
 use Rattle.command_files.specs.End.{status_number}
 use Rattle.os9_boot.specs.Meaning.{meaning}
 use Rattle.os9_boot.specs.TopCall.{CommandReport, Reports, TopCall, WordsReport}
+use Rattle.os9_boot.specs.declared.top.TheConstants.{NO_COMMAND}
 
 -- a drive failed
 drive-failed : (command : Command) (before after : World) (drive number : ℕ) → (meaning command).devices before after (DriveFailed drive number) → FailsToMount drive number before after
@@ -33,17 +34,23 @@ tells-no-fault command before after CannotWriteFile call none = none.host call.h
 tells-no-fault command before after (DriveFailed drive number) call none = none.drives drive (drive-failed command before after drive number call.devices).failed.rose
 tells-no-fault command before after end call none = tt
 
+-- a status that is not of these is of no end that tells a fault
+apart : (status : ℕ) → status ≢ 2 → status ≢ 3 → status ≢ 9 → (end : End) → ¬ TellsNoFault end → status ≢ status_number end
+apart status read written mounted (CannotRead input) tells = read
+apart status read written mounted CannotWrite tells = written
+apart status read written mounted (CannotWriteImage number) tells = written
+apart status read written mounted CannotWriteFile tells = written
+apart status read written mounted (DriveFailed drive number) tells = mounted
+apart status read written mounted end tells = absurd (tells tt)
+
 no-fault : (end : End) → TellsNoFault end → IsNoFault (status_number end)
 no-fault (CannotRead input) tells = absurd tells
 no-fault CannotWrite tells = absurd tells
 no-fault (CannotWriteImage number) tells = absurd tells
 no-fault CannotWriteFile tells = absurd tells
 no-fault (DriveFailed drive number) tells = absurd tells
-no-fault end tells = record {
-  read = λ e. omega (arith, e);
-  written = λ e. omega (arith, e);
-  mounted = λ e. omega (arith, e);
-}
+no-fault end tells =
+    apart (status_number end) (λ e. omega (arith, e)) (λ e. omega (arith, e)) (λ e. omega (arith, e))
 
 -- the status of a call
 pub status-tells-no-fault : (words : List (List ℕ)) (before after : World) (noted notes : Notes) (status : ℕ) → TopCall words before after noted notes status → NoneRose before after → IsNoFault status
@@ -52,9 +59,9 @@ status-tells-no-fault words before after noted notes status call none = by (comm
     no-words : WordsReport before after noted notes status → IsNoFault status
     no-words report = of report.line
       where
-        of : ((status ≡ 1) × Reports words_line noted notes) ⊎ ((status ≡ 4) × Reports no_memory_line noted notes) → IsNoFault status
-        of (inl (is, line)) = rw is (record { read = λ e. omega (arith, e); written = λ e. omega (arith, e); mounted = λ e. omega (arith, e) })
-        of (inr (is, line)) = rw is (record { read = λ e. omega (arith, e); written = λ e. omega (arith, e); mounted = λ e. omega (arith, e) })
+        of : ((status ≡ NO_COMMAND) × Reports words_line noted notes) ⊎ ((status ≡ status_number NoMemory) × Reports no_memory_line noted notes) → IsNoFault status
+        of (inl (is, line)) = rw is (apart NO_COMMAND (λ e. omega (arith, e)) (λ e. omega (arith, e)) (λ e. omega (arith, e)))
+        of (inr (is, line)) = rw is (no-fault NoMemory tt)
 
     by : (found : Option Command) → MatchOption found (WordsReport before after noted notes status) (λ command. CommandReport command before after noted notes status) → IsNoFault status
     by None report = no-words report

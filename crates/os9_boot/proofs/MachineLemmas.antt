@@ -16,7 +16,7 @@ use Rattle.boot_run.specs.declared.machine.RunEnd.{RunEnd}
 use Rattle.boot_run.specs.declared.machine.RunEnd.TheVariants as Run
 use Rattle.command_files.specs.declared.status.End.{End}
 use Rattle.command_files.specs.declared.status.End.TheVariants.{Ended, Living, CannotRead, CannotWrite, CannotWriteImage, NoMemory, BadImage, BadText, BadBounds, DriveFailed, CannotWriteFile, Refused}
-use Rattle.os9_boot.specs.Boots.{MachineComesTo, RunsToEnd, RunsUnwritten}
+use Rattle.os9_boot.specs.Boots.{IsUndone, MachineComesTo, RunsToEnd, RunsUnended, RunsUnwritten}
 use Rattle.command_files.specs.Left.{ChangesOnly}
 use Rattle.os9_boot.specs.Left.{BootLeavesFiles, LeavesDevices}
 use Rattle.command_files.specs.End.{boot_end}
@@ -45,7 +45,7 @@ IsOfMachine end = Unit {0}
 -- a machine that was set up so has run, its images were written under these names, and the command ends so
 pub record MachineEnds (setup : Setup) (names : List (List ℕ)) (before after : World) (end : End) : Type 0 where
   pub kind : IsOfMachine end
-  pub comes : All IsObserved before.devices.terms → MachineComesTo setup names before after end
+  pub comes : MachineComesTo setup names before after end
   pub devices : LeavesDevices before after end
   pub host : RunFails names end before after
   pub files : BootLeavesFiles names before after end
@@ -167,21 +167,21 @@ refused setup names images before mid OutOfMemory run = record {
 }
 refused setup names images before mid (BadModuleFault at error) run = record {
   kind = tt;
-  comes = λ observed. (BadModuleFault at error, run.judged, refl);
+  comes = (BadModuleFault at error, run.judged, refl);
   devices = still-silent before mid run.unrun;
   host = kept-counts before mid run.unrun;
   files = run.files_kept;
 }
 refused setup names images before mid NoFirstFault run = record {
   kind = tt;
-  comes = λ observed. (NoFirstFault, run.judged, refl);
+  comes = (NoFirstFault, run.judged, refl);
   devices = still-silent before mid run.unrun;
   host = kept-counts before mid run.unrun;
   files = run.files_kept;
 }
 refused setup names images before mid TooLargeFault run = record {
   kind = tt;
-  comes = λ observed. (TooLargeFault, run.judged, refl);
+  comes = (TooLargeFault, run.judged, refl);
   devices = still-silent before mid run.unrun;
   host = kept-counts before mid run.unrun;
   files = run.files_kept;
@@ -190,7 +190,7 @@ refused setup names images before mid TooLargeFault run = record {
 failed-to-mount : (setup : Setup) (names images : List (List ℕ)) (before mid : World) (drive number : ℕ) → RunsImages setup images before mid (Run.DriveFailed drive number) → MachineEnds setup names before mid (DriveFailed drive number)
 failed-to-mount setup names images before mid drive number run = record {
   kind = tt;
-  comes = λ observed. run.judged;
+  comes = run.judged;
   devices = run.unrun;
   host = run.no_fault (λ is. cc is);
   files = run.files_kept;
@@ -214,7 +214,7 @@ out-of-memory-then setup names images before mid run = record {
   files = same-changes names before.files mid.files run.files_kept;
 }
   where
-    by : IsUnrun before mid ⊎ RunsFirst setup before (with_images_in images mid) → MachineComesTo setup names before mid NoMemory
+    by : IsUnrun before mid ⊎ RunsFirst setup before (with_images_in images mid) → IsUndone before mid ⊎ RunsUnended setup before mid ⊎ ((number : ℕ) × RunsUnwritten setup names number before mid)
     by (inl unrun) = inl (record { unrun = unrun; files = run.files_kept })
     by (inr first) = inr (inl (record { first = record { images = images; first = first }; files = run.files_kept }))
 

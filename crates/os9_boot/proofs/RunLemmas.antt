@@ -8,7 +8,6 @@ use Rattle.script_text.specs.Slices.{slices_of}
 use Rattle.os9_words.specs.declared.command.Command.TheVariants.{Run as RunCommand}
 use Rattle.os9_words.specs.declared.command.RunWords.{RunWords}
 use Rattle.boot_images.specs.Outcome.{RunsImages}
-use Rattle.boot_run.specs.Console.{IsObserved}
 use Rattle.boot_run.specs.Machine.{Setup}
 use Rattle.boot_run.specs.World.{World}
 use Rattle.boot_run.specs.declared.machine.RunEnd.{RunEnd}
@@ -20,7 +19,6 @@ use Rattle.os9_boot.specs.Boots.{MachineComesTo, RunComesTo}
 use Rattle.os9_boot.specs.Commands.{CommandCall}
 use Rattle.os9_boot.specs.Left.{RunMayEnd}
 use Rattle.os9_boot.specs.Host.{FailsAsTold}
-use Rattle.os9_boot.specs.Meaning.{IfAllObserved}
 use Rattle.command_files.specs.Reading.{HasRunFiles, RefusesTexts}
 use Rattle.command_files.specs.Setup.{SetsUpRun}
 use Rattle.os9_boot.specs.Written.{ends_run}
@@ -33,15 +31,12 @@ module _ (files : Files) (run : RunWords) (setup : Setup) (before after : World)
   run-comes : (end : End) → IsOfMachine end → MachineComesTo setup [] before after end → RunComesTo files run before after end
   run-comes (CannotRead input) of comes = tt
   run-comes (BadText input line) of comes = absurd of
-  run-comes (BadImage number fault) of comes = absurd of
-  run-comes BadBounds of comes = absurd of
-  run-comes CannotWriteFile of comes = absurd of
-  run-comes (Refused number) of comes = absurd of
   run-comes NoMemory of comes = inr (setup, sets, comes)
   run-comes end of comes = (setup, sets, comes)
 
 run-may : (before after : World) (end : End) → IsOfMachine end → RunFails [] end before after → RunMayEnd end
 run-may before after (BadImage number fault) of failed = absurd of
+run-may before after (BadText input line) of failed = absurd of
 run-may before after BadBounds of failed = absurd of
 run-may before after (CannotWriteImage number) of failed = absurd (cc failed.1)
 run-may before after CannotWriteFile of failed = absurd of
@@ -59,21 +54,21 @@ run-fails run before after end kept = kept
 
 module _ (before : World) (run : RunWords) (read : RunFiles) (has : IfSome before.files (λ files. HasRunFiles files run read)) where
   -- what follows of the files that were read
-  of-files : (fact : Files → Type 0) → ((files : Files) → HasRunFiles files run read → All IsObserved before.devices.terms → fact files) → IfAllObserved before fact
+  of-files : (fact : Files → Type 0) → ((files : Files) → HasRunFiles files run read → fact files) → IfSome before.files fact
   of-files fact follows = by before.files has
     where
-      by : (told : Option Files) → IfSome told (λ files. HasRunFiles files run read) → IfSome told (λ files. All IsObserved before.devices.terms → fact files)
+      by : (told : Option Files) → IfSome told (λ files. HasRunFiles files run read) → IfSome told fact
       by None has = tt
-      by (Some files) has = λ observed. follows files has observed
+      by (Some files) has = follows files has
 
   module _ (after : World) (same : after ≡ before) where
     script-refused : (line : ℕ) → keys_of (length before.devices.terms) read.script.items ≡ Err line → CommandCall (RunCommand run) before after (BadText ScriptInput line)
     script-refused line refused =
-        unchanged (RunCommand run) before after (BadText ScriptInput line) same tt (still-silent before after same) (kept-counts before after same) (of-files (λ files. RunComesTo files run before after (BadText ScriptInput line)) (λ files has observed. rw (← has.script) refused))
+        unchanged (RunCommand run) before after (BadText ScriptInput line) same tt (still-silent before after same) (kept-counts before after same) (of-files (λ files. RunComesTo files run before after (BadText ScriptInput line)) (λ files has. rw (← has.script) refused))
 
     slices-refused : (keys : List ScriptKey) (line : ℕ) → keys_of (length before.devices.terms) read.script.items ≡ Ok keys → slices_of read.slices.items ≡ Err line → CommandCall (RunCommand run) before after (BadText SlicesInput line)
     slices-refused keys line given refused =
-        unchanged (RunCommand run) before after (BadText SlicesInput line) same tt (still-silent before after same) (kept-counts before after same) (of-files (λ files. RunComesTo files run before after (BadText SlicesInput line)) (λ files has observed. record { keys = keys; accepted = rw (← has.script) given; refused = rw (← has.slices) refused }))
+        unchanged (RunCommand run) before after (BadText SlicesInput line) same tt (still-silent before after same) (kept-counts before after same) (of-files (λ files. RunComesTo files run before after (BadText SlicesInput line)) (λ files has. record { keys = keys; accepted = rw (← has.script) given; refused = rw (← has.slices) refused }))
 
     -- a text was refused
     pub run-texts-refused : (terminals : ℕ) (end : End) → terminals ≡ length before.devices.terms → RefusesTexts terminals read.script.items read.slices.items end → CommandCall (RunCommand run) before after end
@@ -112,7 +107,7 @@ module _ (before : World) (run : RunWords) (read : RunFiles) (has : IfSome befor
     run-ended images after end run_call =
         let it = machine-ends setup [] images before after after end (ends_run end) run_call (ends-alone images end after) in
         record {
-          comes = of-files (λ files. RunComesTo files run before after (ends_run end)) (λ files has observed. run-comes files run setup before after (sets-up files has) (ends_run end) it.kind (it.comes observed));
+          comes = of-files (λ files. RunComesTo files run before after (ends_run end)) (λ files has. run-comes files run setup before after (sets-up files has) (ends_run end) it.kind it.comes);
           may = run-may before after (ends_run end) it.kind it.host;
           devices = it.devices;
           host = run-fails run before after (ends_run end) it.host;

@@ -1,6 +1,6 @@
 -- What comes of a command that runs a machine on what its files hold (Level Two manual, "Booting"; the order of the
 -- tests is this project's own).
-use Rattle.std.specs.Prelude.{◌≡◌, ◌⊎◌, ℕ, ⊤, Bool, true, false, Err, List, [], length}
+use Rattle.std.specs.Prelude.{◌≡◌, ◌⊎◌, ℕ, ⊤, Bool, true, false, Err, List, [], length, All}
 use Rattle.os9_outer.specs.Host.{Files, file_contents, IfObserved}
 use Rattle.os9_outer.specs.Stream.{stream_with}
 use Rattle.script_text.specs.declared.script.ScriptKey.{ScriptKey}
@@ -12,11 +12,13 @@ use Rattle.os9_words.specs.declared.command.RunWords.{RunWords}
 use Rattle.boot_images.specs.BootFile.{IsFirstFault}
 use Rattle.boot_images.specs.Images.{WritesAll, WritesUpTo, images_of}
 use Rattle.boot_images.specs.Outcome.{HasOutcome, StopsWithImages}
+use Rattle.boot_run.specs.Console.{IsObserved}
 use Rattle.boot_run.specs.Machine.{IsUnrun, Setup}
 use Rattle.boot_run.specs.World.{World}
 use Rattle.command_files.specs.declared.status.End.{End}
-use Rattle.command_files.specs.declared.status.End.TheVariants.{Ended, Living, CannotRead, CannotWrite, CannotWriteImage, NoMemory, BadImage, BadText, BadBounds, DriveFailed, CannotWriteFile, Refused}
-use Rattle.command_files.specs.declared.status.Input.TheVariants.{Script as ScriptInput, Slices as SlicesInput}
+use Rattle.command_files.specs.declared.status.End.TheVariants.{Ended, Living, CannotRead, CannotWrite, CannotWriteImage, NoMemory, BadImage, BadText, BadBounds, DriveFailed}
+use Rattle.command_files.specs.declared.status.Input.{Input}
+use Rattle.command_files.specs.declared.status.Input.TheVariants.{Script}
 use Rattle.command_files.specs.End.{boot_end}
 use Rattle.os9_boot.specs.Images.{LackBootFile}
 use Rattle.command_files.specs.Reading.{BreaksSlices}
@@ -55,15 +57,21 @@ pub record RunsUnended (setup : Setup) (before after : World) : Type 0 where
   pub first : StopsWithImages setup before after
   pub files : after.files ≡ before.files
 
--- what comes of it, by how the command ends that writes its images under these names
+-- the fact holds if the bytes of all terminals are observed
+abbrev pub IfAllObserved : World → Type 0 → Type 0
+IfAllObserved before fact = All IsObserved before.devices.terms → fact
+
+-- What comes of it, by how the command ends that writes its images under these names. What it ran is said if all
+-- terminals are observed, what its boot file is refused for in any case.
 abbrev pub MachineComesTo : Setup → List (List ℕ) → World → World → End → Type 0
-MachineComesTo setup names before after Ended = RunsToEnd setup names false before after
-MachineComesTo setup names before after Living = RunsToEnd setup names true before after
-MachineComesTo setup names before after CannotWrite = RunsUnended setup before after
-MachineComesTo setup names before after (CannotWriteImage number) = RunsUnwritten setup names number before after
+MachineComesTo setup names before after Ended = IfAllObserved before (RunsToEnd setup names false before after)
+MachineComesTo setup names before after Living = IfAllObserved before (RunsToEnd setup names true before after)
+MachineComesTo setup names before after CannotWrite = IfAllObserved before (RunsUnended setup before after)
+MachineComesTo setup names before after (CannotWriteImage number) =
+    IfAllObserved before (RunsUnwritten setup names number before after)
 MachineComesTo setup names before after NoMemory =
-    IsUndone before after ⊎ RunsUnended setup before after
-    ⊎ ((number : ℕ) × RunsUnwritten setup names number before after)
+    IfAllObserved before (IsUndone before after ⊎ RunsUnended setup before after
+    ⊎ ((number : ℕ) × RunsUnwritten setup names number before after))
 MachineComesTo setup names before after (DriveFailed drive number) =
     (fault : BootFault) → ¬ Refuses setup.file setup.blocks fault
 MachineComesTo setup names before after end =
@@ -71,12 +79,10 @@ MachineComesTo setup names before after end =
 
 -- ---- of a run and of a boot
 
--- the script, and then the slice text, is refused: its first line that breaks a rule
-abbrev pub RefusesScript : Files → RunWords → ℕ → ℕ → Type 0
-RefusesScript files run terminals line = keys_of terminals (script_of files run) ≡ Err line
-
-abbrev pub RefusesSlices : Files → RunWords → ℕ → ℕ → Type 0
-RefusesSlices files run terminals line =
+-- a text is refused, with its first line that breaks a rule: the script, or after an accepted script the slice text
+abbrev pub RefusesText : Files → RunWords → ℕ → Input → ℕ → Type 0
+RefusesText files run terminals Script line = keys_of terminals (script_of files run) ≡ Err line
+RefusesText files run terminals input line =
     BreaksSlices terminals line (script_of files run) (file_contents files run.slices)
 
 -- the texts are accepted
@@ -84,44 +90,33 @@ abbrev pub AcceptsTexts : Files → RunWords → ℕ → Type 0
 AcceptsTexts files run terminals =
     (keys : List ScriptKey) × (slices : List ℕ) × HaveTexts files run terminals keys slices
 
+-- a machine is set up so, and this comes of it
+abbrev pub SetUpComesTo : (Setup → Type 0) → List (List ℕ) → World → World → End → Type 0
+SetUpComesTo is_so names before after end =
+    (setup : Setup) × is_so setup × MachineComesTo setup names before after end
+
 -- what comes of a run, by how it ends
 abbrev pub RunComesTo : Files → RunWords → World → World → End → Type 0
 RunComesTo files run before after (CannotRead input) = ⊤
-RunComesTo files run before after (BadText ScriptInput line) =
-    RefusesScript files run (length before.devices.terms) line
-RunComesTo files run before after (BadText SlicesInput line) =
-    RefusesSlices files run (length before.devices.terms) line
-RunComesTo files run before after (BadText input line) = ⊥
-RunComesTo files run before after (BadImage number fault) = ⊥
-RunComesTo files run before after BadBounds = ⊥
-RunComesTo files run before after CannotWriteFile = ⊥
-RunComesTo files run before after (Refused number) = ⊥
+RunComesTo files run before after (BadText input line) =
+    RefusesText files run (length before.devices.terms) input line
 RunComesTo files run before after NoMemory =
     IsUndone before after
-    ⊎ ((setup : Setup) × SetsUpRun files run (length before.devices.terms) setup
-    × MachineComesTo setup [] before after NoMemory)
+    ⊎ SetUpComesTo (SetsUpRun files run (length before.devices.terms)) [] before after NoMemory
 RunComesTo files run before after end =
-    (setup : Setup) × SetsUpRun files run (length before.devices.terms) setup
-    × MachineComesTo setup [] before after end
+    SetUpComesTo (SetsUpRun files run (length before.devices.terms)) [] before after end
 
 -- what comes of a boot
 abbrev pub BootComesTo : Files → RunWords → World → World → End → Type 0
 BootComesTo files boot before after (CannotRead input) = ⊤
-BootComesTo files boot before after (BadText ScriptInput line) =
-    RefusesScript files boot (length before.devices.terms) line
-BootComesTo files boot before after (BadText SlicesInput line) =
-    RefusesSlices files boot (length before.devices.terms) line
-BootComesTo files boot before after (BadText input line) = ⊥
-BootComesTo files boot before after CannotWriteFile = ⊥
-BootComesTo files boot before after (Refused number) = ⊥
+BootComesTo files boot before after (BadText input line) =
+    RefusesText files boot (length before.devices.terms) input line
 BootComesTo files boot before after (BadImage number fault) =
     AcceptsTexts files boot (length before.devices.terms) × IsFirstFault (images_of files boot.files) number fault
 BootComesTo files boot before after BadBounds =
     AcceptsTexts files boot (length before.devices.terms) × LackBootFile (images_of files boot.files)
 BootComesTo files boot before after NoMemory =
     IsUndone before after
-    ⊎ ((setup : Setup) × SetsUpBoot files boot (length before.devices.terms) setup
-    × MachineComesTo setup boot.files before after NoMemory)
+    ⊎ SetUpComesTo (SetsUpBoot files boot (length before.devices.terms)) boot.files before after NoMemory
 BootComesTo files boot before after end =
-    (setup : Setup) × SetsUpBoot files boot (length before.devices.terms) setup
-    × MachineComesTo setup boot.files before after end
+    SetUpComesTo (SetsUpBoot files boot (length before.devices.terms)) boot.files before after end

@@ -10,7 +10,7 @@ use Rattle.rbf_check.specs.declared.tree.Tree.{Tree}
 use Rattle.rbf_check.specs.Tree.{is_directory_node}
 use Rattle.boot_run.specs.World.{World, FailsToWrite, HasNoFault}
 use Rattle.command_files.specs.declared.status.End.{End}
-use Rattle.command_files.specs.declared.status.End.TheVariants.{Ended, CannotRead, CannotWrite, NoMemory, BadImage}
+use Rattle.command_files.specs.declared.status.End.TheVariants.{Ended, CannotWrite, NoMemory, BadImage}
 
 -- the line of the counts of a volume
 abbrev pub counts_of : Geometry → DiskVolume → List ℕ
@@ -32,11 +32,10 @@ PrintsPartly image before after =
 abbrev pub CheckComesTo : List ℕ → World → World → End → Type 0
 CheckComesTo image before after Ended =
     (v : DiskVolume) × Vol image v × (after.out ≡ stream_with before.out (counts_of (image_geometry image) v))
-CheckComesTo image before after (BadImage number fault) = (number ≡ 0) × IsFault image fault.rule fault.lsn
+CheckComesTo image before after (BadImage number fault) = IsFault image fault.rule fault.lsn
 CheckComesTo image before after CannotWrite = PrintsPartly image before after
 CheckComesTo image before after NoMemory = (after.out ≡ before.out) ⊎ PrintsPartly image before after
-CheckComesTo image before after (CannotRead input) = ⊤
-CheckComesTo image before after end = ⊥
+CheckComesTo image before after end = ⊤
 
 -- how a line came out, by how the command that printed it ended
 abbrev pub PrintsAs : List ℕ → World → World → End → Type 0

@@ -4,6 +4,7 @@ use Rattle.os9_base.specs.Count.{Rose}
 use Rattle.file_drives.specs.Drives.{drive_states}
 use Rattle.file_rules.specs.Files.{drive_at}
 use Rattle.boot_run.specs.World.{World}
+use Rattle.command_files.specs.End.{status_number}
 use Rattle.command_files.specs.declared.status.End.{End}
 use Rattle.command_files.specs.declared.status.End.TheVariants.{CannotRead, CannotWrite, CannotWriteImage, CannotWriteFile, DriveFailed}
 
@@ -22,8 +23,6 @@ TellsNoFault CannotWriteFile = ⊥
 TellsNoFault (DriveFailed drive number) = ⊥
 TellsNoFault end = ⊤
 
--- the status is that of no such fault: it is 0, 1, 4, 5, 6, 7, 8 or 11
-pub record IsNoFault (status : ℕ) : Type 0 where
-  pub read : status ≢ 2
-  pub written : status ≢ 3
-  pub mounted : status ≢ 9
+-- the status is not that of an end that tells such a fault: it is not 2, 3 or 9
+abbrev pub IsNoFault : ℕ → Type 0
+IsNoFault status = (end : End) → ¬ TellsNoFault end → status ≢ status_number end

@@ -1,5 +1,5 @@
 -- The headline of a boot, in one place (this project's own).
-use Rattle.std.specs.Prelude.{◌≡◌, ◌⊎◌, ◌≤◌, ◌++◌, ℕ, List, length}
+use Rattle.std.specs.Prelude.{◌≡◌, ◌≢◌, ◌⊎◌, ◌++◌, ℕ, List, length}
 use Rattle.os9_outer.specs.Host.{Files, IfObserved}
 use Rattle.os9_outer.specs.Stream.{stream_with}
 use Rattle.os9_words.specs.Notes.{Notes}
@@ -9,11 +9,14 @@ use Rattle.event_rules.specs.declared.ends.BootFault.{BootFault}
 use Rattle.machine_model.specs.Run.{Run, status_of}
 use Rattle.machine_model.specs.State.{State}
 use Rattle.file_drives.specs.Drives.{drive_states}
-use Rattle.boot_run.specs.Machine.{Setup, StartsLoaded}
+use Rattle.boot_run.specs.Machine.{FailsToMount, Setup, StartsLoaded}
 use Rattle.boot_run.specs.World.{World}
 use Rattle.boot_images.specs.Images.{WritesAll}
 use Rattle.boot_images.specs.Outcome.{AreImagesOf, KeepsUnchanged}
+use Rattle.command_files.specs.declared.status.End.TheVariants.{Ended, Living, CannotWrite, NoMemory, DriveFailed}
+use Rattle.command_files.specs.End.{status_number}
 use Rattle.command_files.specs.Setup.{SetsUpBoot}
+use Rattle.os9_boot.specs.Boots.{BootComesTo}
 
 -- the texts and the images are accepted, the first image has a boot file, and that is not refused
 pub record IsAccepted (files : Files) (boot : RunWords) (terminals : ℕ) : Type 0 where
@@ -42,13 +45,32 @@ pub record IsOneRun (files : Files) (boot : RunWords) (before after : World) (st
   pub drives : drive_states after.devices.drives ≡ t.files.drives
   pub lives : status ≡ status_of t
 
--- or memory was out, or a drive failed when its image was mounted
+-- Memory was out: nothing was run, or a machine that was set up so stopped within its run, or behind it when an image
+-- was to be written. The status tells it.
+pub record EndsWithoutMemory (files : Files) (boot : RunWords) (before after : World) (status : ℕ) : Type 0 where
+  pub told : status ≡ status_number NoMemory
+  pub left : BootComesTo files boot before after NoMemory
+
+-- a drive failed when its image was mounted, and no other; nothing was run, and the status tells it
+pub record EndsAtMount (before after : World) (status : ℕ) : Type 0 where
+  pub drive : ℕ
+  pub number : ℕ
+  pub failed : FailsToMount drive number before after
+  pub told : status ≡ status_number (DriveFailed drive number)
+
+-- or memory was out, or a drive failed at its mount
 abbrev pub BootIsOneRun : Files → RunWords → World → World → ℕ → Type 0
 BootIsOneRun files boot before after status =
-    IsOneRun files boot before after status ⊎ ((status ≡ 4) ⊎ (status ≡ 9))
+    IsOneRun files boot before after status
+    ⊎ (EndsWithoutMemory files boot before after status ⊎ EndsAtMount before after status)
 
--- A boot of images of these names has written each once and in their order if its machine ran to the end, and no file if
--- something was refused or a drive failed.
+-- the status is that of a machine that ran to its end
+abbrev pub IsOfWholeRun : ℕ → Type 0
+IsOfWholeRun status = (status ≡ status_number Ended) ⊎ (status ≡ status_number Living)
+
+-- A boot of images of these names has written each once and in their order if its machine ran to the end. Else it has
+-- written no file, unless a write failed or memory was out.
 pub record WritesByStatus (names : List (List ℕ)) (status : ℕ) (noted notes : Notes) : Type 0 where
-  pub whole : (status ≡ 0) ⊎ (status ≡ 5) → notes.written ≡ noted.written ++ names
-  pub none : 6 ≤ status → status ≤ 9 → notes.written ≡ noted.written
+  pub whole : IsOfWholeRun status → notes.written ≡ noted.written ++ names
+  pub none : ¬ IsOfWholeRun status → status ≢ status_number CannotWrite → status ≢ status_number NoMemory
+      → notes.written ≡ noted.written

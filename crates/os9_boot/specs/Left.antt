@@ -5,12 +5,21 @@ use Rattle.boot_run.specs.Machine.{FailsToMount}
 use Rattle.boot_run.specs.World.{World}
 use Rattle.command_files.specs.Left.{ChangesOnly, IsSilent}
 use Rattle.command_files.specs.declared.status.End.{End}
-use Rattle.command_files.specs.declared.status.End.TheVariants.{Ended, Living, CannotRead, CannotWrite, CannotWriteImage, NoMemory, BadImage, BadBounds, DriveFailed, CannotWriteFile, Refused}
+use Rattle.command_files.specs.declared.status.End.TheVariants.{Ended, Living, CannotRead, CannotWrite, CannotWriteImage, NoMemory, BadImage, BadText, BadBounds, DriveFailed, CannotWriteFile, Refused}
+use Rattle.command_files.specs.declared.status.Input.{Input}
+use Rattle.command_files.specs.declared.status.Input.TheVariants.{Script, Slices}
 
 -- ---- how it may end
 
+-- the words of a run and a boot name two texts
+abbrev pub IsText : Input → Type 0
+IsText Script = ⊤
+IsText Slices = ⊤
+IsText input = ⊥
+
 -- the ends that a run may have: it checks no image, and writes none
 abbrev pub RunMayEnd : End → Type 0
+RunMayEnd (BadText input line) = IsText input
 RunMayEnd (BadImage number fault) = ⊥
 RunMayEnd BadBounds = ⊥
 RunMayEnd (CannotWriteImage number) = ⊥
@@ -20,6 +29,7 @@ RunMayEnd end = ⊤
 
 -- those of a boot: it makes no file, and uses no tool
 abbrev pub BootMayEnd : End → Type 0
+BootMayEnd (BadText input line) = IsText input
 BootMayEnd CannotWriteFile = ⊥
 BootMayEnd (Refused number) = ⊥
 BootMayEnd end = ⊤

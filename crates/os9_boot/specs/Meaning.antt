@@ -1,6 +1,6 @@
 -- What a command means for a call of the program: one record for each (this project's own).
 use Rattle.std.specs.Prelude.{◌≡◌, ℕ, IfSome, Option, Some, None, List, [], ◌∷◌, All, length}
-use Rattle.os9_outer.specs.Host.{Files, file_contents}
+use Rattle.os9_outer.specs.Host.{file_contents}
 use Rattle.os9_words.specs.declared.command.Command.{Command}
 use Rattle.os9_words.specs.declared.command.Command.TheVariants.{Run as RunCommand, Boot as BootCommand, Check as CheckCommand, Stress as StressCommand, Vol as VolCommand}
 use Rattle.os9_words.specs.declared.command.RunWords.{RunWords}
@@ -31,10 +31,6 @@ pub record Meaning : Type 1 where
   pub writes : End → List (List ℕ) → Type 0  -- the files that it has written when it ends so, in order
   pub drives : ℕ  -- how many drives it needs
 
--- the fact holds of the files, if they and the bytes of all terminals are observed
-abbrev pub IfAllObserved : World → (Files → Type 0) → Type 0
-IfAllObserved world fact = IfSome world.files (λ files. All IsObserved world.devices.terms → fact files)
-
 -- what comes of a stress, by how the command ends
 abbrev pub StressGives : ℕ → World → World → End → Type 0
 StressGives seed before after end = (it : StressEnd) × (end ≡ stress_end it) × StressComesTo seed before after it
@@ -42,7 +38,7 @@ StressGives seed before after end = (it : StressEnd) × (end ≡ stress_end it) 
 -- `run`
 abbrev pub run_meaning : RunWords → Meaning
 run_meaning run = record {
-  comes = λ before after end. IfAllObserved before (λ files. RunComesTo files run before after end);
+  comes = λ before after end. IfSome before.files (λ files. RunComesTo files run before after end);
   may = RunMayEnd;
   devices = LeavesDevices;
   files = KeepsFiles;
@@ -55,7 +51,7 @@ run_meaning run = record {
 -- `boot`, which needs a drive for each of its images
 abbrev pub boot_meaning : RunWords → Meaning
 boot_meaning boot = record {
-  comes = λ before after end. IfAllObserved before (λ files. BootComesTo files boot before after end);
+  comes = λ before after end. IfSome before.files (λ files. BootComesTo files boot before after end);
   may = BootMayEnd;
   devices = LeavesDevices;
   files = BootLeavesFiles boot.files;

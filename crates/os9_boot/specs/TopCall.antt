@@ -8,10 +8,12 @@ use Rattle.os9_words.specs.Lines.{words_line, no_memory_line}
 use Rattle.os9_words.specs.Notes.{Notes}
 use Rattle.boot_run.specs.World.{World}
 use Rattle.command_files.specs.declared.status.End.{End}
+use Rattle.command_files.specs.declared.status.End.TheVariants.{NoMemory}
 use Rattle.os9_boot.specs.Commands.{CommandCall}
 use Rattle.command_files.specs.End.{status_number}
 use Rattle.os9_boot.specs.EndLines.{end_line}
 use Rattle.os9_boot.specs.FilesNoted.{NotesFiles}
+use Rattle.os9_boot.specs.declared.top.TheConstants.{NO_COMMAND}
 
 -- the error stream gained this whole line
 pub record GainsLine (line : List ℕ) (before after : Notes) : Type 0 where
@@ -42,7 +44,8 @@ pub record CommandReport (command : Command) (before after : World) (noted notes
 -- The words are no command line: nothing was done. Where memory is out that is not known.
 pub record WordsReport (before after : World) (noted notes : Notes) (status : ℕ) : Type 0 where
   pub undone : after ≡ before
-  pub line : ((status ≡ 1) × Reports words_line noted notes) ⊎ ((status ≡ 4) × Reports no_memory_line noted notes)
+  pub line : ((status ≡ NO_COMMAND) × Reports words_line noted notes)
+      ⊎ ((status ≡ status_number NoMemory) × Reports no_memory_line noted notes)
 
 -- The headline: the words spell a command, which was done; or they spell none, and nothing was done.
 abbrev pub TopCall : List (List ℕ) → World → World → Notes → Notes → ℕ → Type 0

@@ -42,7 +42,7 @@ pub fn a_boot_is_one_run()
 {}
 
 /// Which files a boot writes, on any host, files and terminals observed or not: with status 0 or 5 each
-/// image once, in the order of the words, and no other file; with 6 to 9 none.
+/// image once, in the order of the words, and no other file; with any other but 3 and 4 none.
 pub fn a_boot_writes_its_images_once()
     ensures { (words : List (List ℕ)) (boot : RunWords) (before after : World)
         (noted notes : Notes) (status : ℕ)

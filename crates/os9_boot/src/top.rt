@@ -26,11 +26,8 @@ use std::alloc::Global;
 use stress_run::run_stress;
 use vol_command::do_vol;
 
-/// The status where the words are no command line.
+/// The status if the words are no command line.
 const NO_COMMAND: u8 = 1;
-
-/// The status where memory is out.
-const NO_MEMORY: u8 = 4;
 
 /// Does what a command line says, and answers the status (this project's own).
 ///
@@ -54,7 +51,7 @@ const NO_MEMORY: u8 = 4;
 /// its image was mounted or used by a tool; 11 a tool is refused.
 ///
 /// A run begins with the devices as they are when the call is made, each terminal loaded with its
-/// keys, and ends with them as they are when it returns: a terminal or a drive fails in it only where
+/// keys, and ends with them as they are when it returns: a terminal or a drive fails in it only if
 /// its count of faults rose in this call. At 1, 2, 6, 7 and 8 the devices, the output and the files
 /// are as they were. At 9 and 11 the output, the terminals and the files are as they were, and no
 /// other drive has failed. No image is in a drive behind the call.
@@ -83,7 +80,7 @@ pub fn os9_main<H: Host>(alloc: Global, words: &[String], host: &mut H, devices:
         }
         Err(WordsFault::OutOfMemory) => {
             let _ = report(host, &Message::NoMemory);
-            NO_MEMORY
+            End::NoMemory.number()
         }
     }
 }

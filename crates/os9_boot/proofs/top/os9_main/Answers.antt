@@ -20,4 +20,4 @@ returns-in-Err-Refused-clause-call g c =
 pub returns-in-Err-OutOfMemory-clause-call : goal.returns-in-Err-OutOfMemory-clause-call
 returns-in-Err-OutOfMemory-clause-call g c =
     let devices = outside (λ table. (g.dyn-1.0.entry table).1) c.args.devices.now.drives.items (λ table. (g.dyn-2.0.entry table).1) c.args.devices.now.terms.items in
-    top-memory (map string_bytes c.args.words.now) _ _ (notes_of g.H.Host c.args.host.now) (notes_of g.H.Host c.report-in-Err-OutOfMemory.new.host) (reported g.H.Host _ _ _ _ c.report-in-Err-OutOfMemory.ensures) (err-only g.H.Host c.args.host.now c.report-in-Err-OutOfMemory.new.host devices c.report-in-Err-OutOfMemory.ensures.others)
+    rw c.number.ensures (top-memory (map string_bytes c.args.words.now) _ _ (notes_of g.H.Host c.args.host.now) (notes_of g.H.Host c.report-in-Err-OutOfMemory.new.host) (reported g.H.Host _ _ _ _ c.report-in-Err-OutOfMemory.ensures) (err-only g.H.Host c.args.host.now c.report-in-Err-OutOfMemory.new.host devices c.report-in-Err-OutOfMemory.ensures.others))
