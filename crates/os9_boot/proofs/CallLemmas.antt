@@ -36,9 +36,8 @@ use Rattle.command_files.specs.Left.{IsSilent}
 use Rattle.command_files.proofs.ChangeLemmas.{same-changes}
 use Rattle.os9_boot.specs.Left.{BootLeavesFiles, LeavesDevices, StressMayEnd}
 use Rattle.os9_boot.specs.Meaning.{meaning}
-use Rattle.os9_boot.specs.TopCall.{CommandReport, GainsLine, LosesLine, Reports, TopCall}
+use Rattle.os9_boot.specs.TopCall.{CommandReport, GainsLine, LosesLine, Reports, TopCall, words_status}
 use Rattle.os9_boot.specs.FilesNoted.{NotesFiles}
-use Rattle.os9_boot.specs.declared.top.TheConstants.{NO_COMMAND}
 use Rattle.os9_boot.proofs.NameLemmas.{names-none}
 
 -- ---- worlds
@@ -250,7 +249,7 @@ module _ (words : List (List ℕ)) (before after : World) (noted notes : Notes) 
   top-command command status spelled report = rw spelled report
 
   -- they are none
-  pub top-refused : Reports words_line noted notes → command_of words ≡ None → after ≡ before → TopCall words before after noted notes NO_COMMAND
+  pub top-refused : Reports words_line noted notes → command_of words ≡ None → after ≡ before → TopCall words before after noted notes words_status
   top-refused line refused same = rw refused (record { undone = same; line = inl (refl, line) })
 
   -- memory was out before it was known

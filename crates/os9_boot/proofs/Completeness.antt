@@ -14,8 +14,7 @@ use Rattle.os9_boot.specs.Commands.{CommandCall}
 use Rattle.os9_boot.specs.Completeness.{IsNoFault, NoneRose, TellsNoFault}
 use Rattle.command_files.specs.End.{status_number}
 use Rattle.os9_boot.specs.Meaning.{meaning}
-use Rattle.os9_boot.specs.TopCall.{CommandReport, Reports, TopCall, WordsReport}
-use Rattle.os9_boot.specs.declared.top.TheConstants.{NO_COMMAND}
+use Rattle.os9_boot.specs.TopCall.{CommandReport, Reports, TopCall, WordsReport, words_status}
 
 -- a drive failed
 drive-failed : (command : Command) (before after : World) (drive number : ℕ) → (meaning command).devices before after (DriveFailed drive number) → FailsToMount drive number before after
@@ -59,8 +58,8 @@ status-tells-no-fault words before after noted notes status call none = by (comm
     no-words : WordsReport before after noted notes status → IsNoFault status
     no-words report = of report.line
       where
-        of : ((status ≡ NO_COMMAND) × Reports words_line noted notes) ⊎ ((status ≡ status_number NoMemory) × Reports no_memory_line noted notes) → IsNoFault status
-        of (inl (is, line)) = rw is (apart NO_COMMAND (λ e. omega (arith, e)) (λ e. omega (arith, e)) (λ e. omega (arith, e)))
+        of : ((status ≡ words_status) × Reports words_line noted notes) ⊎ ((status ≡ status_number NoMemory) × Reports no_memory_line noted notes) → IsNoFault status
+        of (inl (is, line)) = rw is (apart words_status (λ e. omega (arith, e)) (λ e. omega (arith, e)) (λ e. omega (arith, e)))
         of (inr (is, line)) = rw is (no-fault NoMemory tt)
 
     by : (found : Option Command) → MatchOption found (WordsReport before after noted notes status) (λ command. CommandReport command before after noted notes status) → IsNoFault status

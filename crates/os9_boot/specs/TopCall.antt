@@ -13,7 +13,6 @@ use Rattle.os9_boot.specs.Commands.{CommandCall}
 use Rattle.command_files.specs.End.{status_number}
 use Rattle.os9_boot.specs.EndLines.{end_line}
 use Rattle.os9_boot.specs.FilesNoted.{NotesFiles}
-use Rattle.os9_boot.specs.declared.top.TheConstants.{NO_COMMAND}
 
 -- the error stream gained this whole line
 pub record GainsLine (line : List ℕ) (before after : Notes) : Type 0 where
@@ -41,10 +40,14 @@ pub record CommandReport (command : Command) (before after : World) (noted notes
   pub files : NotesFiles command end noted done
   pub line : Reports (end_line command end) done notes
 
+-- the status if the words are no command line
+abbrev pub words_status : ℕ
+words_status = 1
+
 -- The words are no command line: nothing was done. Where memory is out that is not known.
 pub record WordsReport (before after : World) (noted notes : Notes) (status : ℕ) : Type 0 where
   pub undone : after ≡ before
-  pub line : ((status ≡ NO_COMMAND) × Reports words_line noted notes)
+  pub line : ((status ≡ words_status) × Reports words_line noted notes)
       ⊎ ((status ≡ status_number NoMemory) × Reports no_memory_line noted notes)
 
 -- The headline: the words spell a command, which was done; or they spell none, and nothing was done.
