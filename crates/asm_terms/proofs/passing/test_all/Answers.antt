@@ -10,7 +10,7 @@ returns-in_err-is_passed g c =
     λ sign. c.from_residual.ensures
     ∙ sign-none (test_step p) _ sign c.loop-i.start c.loop-i.i 0 c.args.text.now _ c.loop-i.invariant.begun c.loop-i-test.true (c.loop-i.invariant.rest sign) _ refl
     (sym c.is_sign.ensures ∙ c.if-is_sign.true) (sym (tested-part p c.loop-i.is_passed sign (take (c.loop-i.i - c.loop-i.start) (drop c.loop-i.start c.args.text.now)))
-        ∙ sym c.test_part.ensures ∙ c.in_err-is_passed.was)
+    ∙ sym c.test_part.ensures ∙ c.in_err-is_passed.was)
     ∙ fold_from-terms (test_step p) true sign c.args.text.now ∙ fold-tests p _
 
 pub loop-i-preserved : goal.loop-i-preserved
