@@ -1,5 +1,5 @@
 -- What a command passes to the output stream, and the file that it makes (this project's own).
-use Rattle.std.specs.Prelude.{◌≡◌, ◌⊎◌, ℕ, List, [], ◌∷◌, Result, Ok, Err, OnOk, OnErr, IfErr}
+use Rattle.std.specs.Prelude.{◌≡◌, ◌≢◌, ◌⊎◌, ℕ, List, [], ◌∷◌, Result, Ok, Err, OnOk, OnErr, IfErr}
 use Rattle.os9_outer.specs.Host.{IfObserved, OnFailed, UnlessFailed}
 use Rattle.os9_outer.specs.Stream.{GainsPrefix, stream_with}
 use Rattle.os9_outer.specs.declared.host.HostFault.{HostFault}
@@ -16,12 +16,13 @@ StopsPrint before after CannotWrite = FailsToWrite before after
 StopsPrint before after NoMemory = HasNoFault before after
 StopsPrint before after end = ⊥
 
--- bytes were passed to the output stream: all, or the first ones, and nothing else was done
+-- bytes were passed to the output stream: all, or the first ones, and nothing else was done; no bytes do not fail
 pub record Prints {Value : Type 0} (bytes : List ℕ) (answer : Result Value End) (before after : World) : Type 0 where
   pub whole : OnOk answer (after.out ≡ stream_with before.out bytes)
   pub prefix : GainsPrefix before.out bytes after.out
   pub no_fault : OnOk answer (HasNoFault before after)
   pub stopped : IfErr answer (StopsPrint before after)
+  pub some : OnErr answer (bytes ≢ [])
   pub files : after.files ≡ before.files
   pub devices : after.devices ≡ before.devices
 

@@ -1,8 +1,8 @@
 ghost use Rattle.rbf_access.specs.Mounted.{IsSound};
 ghost use Rattle.vol_tools.specs.Answers.{OnVolumeBefore};
 ghost use Rattle.vol_tools.specs.Faults.{Faults, tool_fault};
-ghost use Rattle.vol_tools.specs.Tail.{TailStays};
-ghost use Rattle.image_tools.specs.Uses.{at_time};
+ghost use Rattle.vol_tools.specs.Tail.{KeepsTailBy, OnMedia};
+ghost use Rattle.image_tools.specs.Uses.{at_time, tool_of};
 
 use crate::tool::{ToolUse, use_mounted};
 use os9_base::registers::TimePacket;
@@ -27,7 +27,7 @@ pub fn use_tool(
     requires { IsSound (media d.old) }
     ensures answer { OnVolumeBefore (at_time now tool.now) (λ bytes. bytes.items)
         (media d.old) (media d.new) result }
-    ensures tail { TailStays (media d.old) (media d.new) }
+    ensures tail { OnMedia (KeepsTailBy (tool_of tool.now)) (media d.old) (media d.new) }
     ensures fault { Faults ⟦<dyn BlockDriver as BlockDriver>⟧ (tool_fault result) d.old d.new }
 {
     match Volume::mount(alloc, d) {

@@ -2,8 +2,8 @@ ghost use Rattle.std.specs.Prelude.{◌≡◌};
 ghost use Rattle.rbf_access.specs.Mounted.{IsMounted};
 ghost use Rattle.vol_tools.specs.Answers.{OnVolumeBefore};
 ghost use Rattle.vol_tools.specs.Faults.{Faults, tool_fault};
-ghost use Rattle.vol_tools.specs.Tail.{TailStays};
-ghost use Rattle.image_tools.specs.Uses.{AnswersNoBytes, at_time};
+ghost use Rattle.vol_tools.specs.Tail.{KeepsTailBy, OnMedia};
+ghost use Rattle.image_tools.specs.Uses.{AnswersNoBytes, at_time, tool_of};
 
 use os9_base::registers::TimePacket;
 use os9_outer::drive::BlockDriver;
@@ -37,7 +37,7 @@ pub fn use_mounted(
     requires { IsMounted v.old (media d.old) }
     ensures answer { OnVolumeBefore (at_time now tool.now) (λ bytes. bytes.items)
         (media d.old) (media d.new) result }
-    ensures tail { TailStays (media d.old) (media d.new) }
+    ensures tail { OnMedia (KeepsTailBy (tool_of tool.now)) (media d.old) (media d.new) }
     ensures fault { Faults ⟦<dyn BlockDriver as BlockDriver>⟧ (tool_fault result) d.old d.new }
 {
     match tool {

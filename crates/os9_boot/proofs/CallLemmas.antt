@@ -95,16 +95,19 @@ leaves-same (VolCommand vol) before after end same = files-same vol before after
 -- ---- devices
 
 -- what is left of the devices, which are as they were
-leaves-as : (command : Command) (before after : World) (end : End) → LeavesDevices before after end → after.devices ≡ before.devices → (meaning command).devices before after end
+leaves-as : (command : Command) (before after : World) (end : End) → LeavesDevices before after end → IsSilent before after → (meaning command).devices before after end
 leaves-as (RunCommand run) before after end left same = left
 leaves-as (BootCommand boot) before after end left same = left
-leaves-as (CheckCommand image) before after end left same = record { out = left; devices = same }
+leaves-as (CheckCommand image) before after end left same = record { out = left; devices = same.devices }
 leaves-as (StressCommand seed) before after end left same = left
 leaves-as (VolCommand vol) before after (DriveFailed drive number) left same = left
-leaves-as (VolCommand vol) before after (Refused number) left same = record { out = left.out; quiet = devices-quiet before after same }
+leaves-as (VolCommand vol) before after (Refused number) left same = record { out = left.out; quiet = devices-quiet before after same.devices }
 leaves-as (VolCommand vol) before after (CannotRead input) left same = left
 leaves-as (VolCommand vol) before after (BadImage number fault) left same = left
-leaves-as (VolCommand vol) before after end left same = devices-quiet before after same
+leaves-as (VolCommand vol) before after end left same = record {
+  quiet = devices-quiet before after same.devices;
+  out = λ none. same.out;
+}
 
 -- ---- commands that end before anything ran
 
@@ -113,7 +116,7 @@ pub unchanged : (command : Command) (before after : World) (end : End) → after
 unchanged command before after end same may left told comes = record {
   comes = comes;
   may = may;
-  devices = leaves-as command before after end left (ap (λ (w : World). w.devices) same);
+  devices = leaves-as command before after end left (still-silent before after same);
   host = told;
   files = leaves-same command before after end (ap (λ (w : World). w.files) same);
 }
@@ -158,7 +161,7 @@ pub could-not-read : (command : Command) (input : Input) (name : List ℕ) (befo
 could-not-read command input name before after named may failed files out devices = record {
   comes = unread-comes command input name before after named;
   may = may;
-  devices = leaves-as command before after (CannotRead input) (record { out = out; devices = devices }) devices;
+  devices = leaves-as command before after (CannotRead input) (record { out = out; devices = devices }) (record { out = out; devices = devices });
   host = (name, named, failed);
   files = leaves-same command before after (CannotRead input) files;
 }

@@ -92,7 +92,7 @@ abbrev pub vol_meaning : VolWords → Meaning
 vol_meaning vol = record {
   comes = λ before after end. IfSome before.files (λ files. VolComesTo files vol before after end);
   may = VolMayEnd vol.verb;
-  devices = VolLeaves;
+  devices = VolLeaves vol.verb;
   files = VolLeavesFiles vol;
   file_name = vol_file_name vol;
   inputs = vol_inputs vol;

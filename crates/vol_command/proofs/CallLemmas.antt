@@ -1,5 +1,5 @@
 -- From the steps of `vol` to how it ends.
-use Rattle.std.proofs.Common.{◌≡◌, ℕ, Option, Some, None, Result, Ok, Err, List, refl, sym, ap, subst, ◌∙◌, inl, inr}
+use Rattle.std.proofs.Common.{◌≡◌, ◌≢◌, ℕ, zero, suc, Option, Some, None, Result, Ok, Err, List, [], take, append-nil, refl, sym, ap, subst, ◌∙◌, inl, inr}
 use Rattle.std.specs.Prelude.{IfSome}
 use Rattle.os9_base.specs.Count.{Rose}
 use Rattle.os9_outer.specs.Host.{Files, IfObserved, file_contents}
@@ -9,8 +9,10 @@ use Rattle.os9_words.specs.declared.vol_words.Verb.TheVariants.{Format, Put, Get
 use Rattle.os9_words.specs.declared.vol_words.VolWords.{VolWords}
 use Rattle.rbf_model.specs.Faults.{IsFault}
 use Rattle.tool_rules.specs.Tool.{Tool}
-use Rattle.file_drives.specs.Drives.{media_of}
+use Rattle.file_drives.specs.Drives.{drive_states, media_of}
+use Rattle.file_rules.specs.Files.{NoneFailed}
 use Rattle.os9_kernel.specs.Outside.{Outside}
+use Rattle.boot_images.specs.BootFile.{IsVolume}
 use Rattle.boot_images.specs.Images.{WritesAll, WritesUpTo}
 use Rattle.boot_run.specs.World.{World, HasNoFault}
 use Rattle.command_files.specs.Left.{ChangesOnly}
@@ -19,7 +21,7 @@ use Rattle.command_files.specs.declared.status.End.{End}
 use Rattle.command_files.specs.declared.status.End.TheVariants.{Ended, CannotRead, CannotWrite, CannotWriteImage, CannotWriteFile, NoMemory, BadImage, DriveFailed, Refused}
 use Rattle.command_files.proofs.ChangeLemmas.{all-change, first-change, same-changes}
 use Rattle.vol_command.specs.Call.{MakesCall, MakesQuietly, VolCall}
-use Rattle.vol_command.specs.Left.{LeavesQuiet, VolLeavesFiles, VolMayEnd, fault_counts}
+use Rattle.vol_command.specs.Left.{LeavesMade, LeavesQuiet, PrintsLines, VolLeavesFiles, VolMayEnd}
 use Rattle.vol_command.specs.Steps.{DrivesAfter, Finishes, FormatsDisk, HasVolFiles, MakesOf, PrintEnds, WritesEnd}
 use Rattle.vol_command.specs.Vol.{MakesBy, MakesThen, PrintsAndStops, PrintsAndWrites, PrintsFirst, RefusesBy, VolComesTo, file_of, path_of, printed_of, tool_of, vol_file_name, vol_outputs, vol_tool, written_of}
 use Rattle.vol_command.specs.declared.files.VolFiles.{VolFiles}
@@ -38,9 +40,49 @@ of-each (Some files) one other follows holds = follows files holds
 pub devices-quiet : (before after : World) → after.devices ≡ before.devices → LeavesQuiet before after
 devices-quiet before after same = record {
   terminals = ap (λ (devices : Outside). devices.terms) same;
-  none_failed = ap (λ (devices : Outside). fault_counts devices.drives) same;
+  none_failed = ap (λ (devices : Outside). drive_states devices.drives) same;
   media_kept = ap (λ (devices : Outside). media_of devices.drives) same;
 }
+
+-- a verb prints lines, or none
+prints-lines : (verb : Verb) (answer : List ℕ) → printed_of verb answer ≢ [] → PrintsLines verb
+prints-lines Format answer some = some refl
+prints-lines Put answer some = some refl
+prints-lines Get answer some = some refl
+prints-lines Mkdir answer some = some refl
+prints-lines Delete answer some = some refl
+prints-lines Dir answer some = tt
+prints-lines Repair answer some = tt
+
+prints-none : (verb : Verb) (answer : List ℕ) → ¬ PrintsLines verb → printed_of verb answer ≡ []
+prints-none Format answer none = refl
+prints-none Put answer none = refl
+prints-none Get answer none = refl
+prints-none Mkdir answer none = refl
+prints-none Delete answer none = refl
+prints-none Dir answer none = absurd (none tt)
+prints-none Repair answer none = absurd (none tt)
+
+with-none : (stream : Option (List ℕ)) → stream_with stream [] ≡ stream
+with-none None = refl
+with-none (Some bytes) = ap (λ bytes. Some bytes) (append-nil bytes)
+
+first-of-none : (count : ℕ) → take {A = ℕ} count [] ≡ []
+first-of-none zero = refl
+first-of-none (suc count) = refl
+
+none-gained : (before after : World) → GainsPrefix before.out [] after.out → after.out ≡ before.out
+none-gained before after (count, is) =
+    is ∙ ap (stream_with before.out) (first-of-none count) ∙ with-none before.out
+
+-- so the output of a verb without lines is as it was, behind them and behind the first of them
+out-printed : (verb : Verb) (answer : List ℕ) (before after : World) → after.out ≡ stream_with before.out (printed_of verb answer) → ¬ PrintsLines verb → after.out ≡ before.out
+out-printed verb answer before after is none =
+    is ∙ ap (stream_with before.out) (prints-none verb answer none) ∙ with-none before.out
+
+out-begun : (verb : Verb) (answer : List ℕ) (before after : World) → GainsPrefix before.out (printed_of verb answer) after.out → ¬ PrintsLines verb → after.out ≡ before.out
+out-begun verb answer before after gains none =
+    none-gained before after (subst (λ bytes. GainsPrefix before.out bytes after.out) (prints-none verb answer none) gains)
 
 pub files-same : (vol : VolWords) (before after : World) (end : End) → after.files ≡ before.files → VolLeavesFiles vol before after end
 files-same vol before after Ended same = same-changes (vol_outputs vol) before.files after.files same
@@ -69,7 +111,7 @@ read-ended vol before after (CannotRead input) may (name, named, could) = record
 read-ended vol before after NoMemory may same = record {
   comes = of-any before.files (λ files. VolComesTo files vol before after NoMemory) (λ files. inl (record { output = ap (λ (w : World). w.out) same; files = ap (λ (w : World). w.files) same }));
   may = tt;
-  devices = devices-quiet before after (ap (λ (w : World). w.devices) same);
+  devices = record { quiet = devices-quiet before after (ap (λ (w : World). w.devices) same); out = λ none. ap (λ (w : World). w.out) same };
   host = no-fault-same before after same;
   files = files-same vol before after NoMemory (ap (λ (w : World). w.files) same);
 }
@@ -113,7 +155,7 @@ module _ (vol : VolWords) (read : VolFiles) (before : World) (devices : Outside)
   of-read fact holds =
       of-each before.files (λ files. HasVolFiles files vol read) (λ files. fact (vol_tool files vol) (file_contents files vol.image)) (λ files has. subst (λ tool. fact tool (file_contents files vol.image)) (tool-same vol.verb (path_of vol) read.file.items (file_contents files (file_of vol)) has.file) (subst (λ image. fact (tool_of vol.verb (path_of vol) read.file.items) image) has.image holds)) has
 
-  quiet : fault_counts devices.drives ≡ fault_counts before.devices.drives → media_of devices.drives ≡ media_of before.devices.drives → LeavesQuiet before after
+  quiet : NoneFailed (drive_states before.devices.drives) (drive_states devices.drives) → media_of devices.drives ≡ media_of before.devices.drives → LeavesQuiet before after
   quiet counts media = record { terminals = terms; none_failed = counts; media_kept = media }
 
   pub made-of : (result : Result Made End) → MakesOf vol read.image.items read.file.items result → DrivesAfter result before.devices.drives devices.drives → MakesCall vol result before after
@@ -125,22 +167,22 @@ module _ (vol : VolWords) (read : VolFiles) (before : World) (devices : Outside)
     devices = quiet drives.fails drives.media_kept;
   }
   made-of (Err (BadImage number fault)) is drives = record {
-    comes = of-read (λ tool image. IsFault image fault.rule fault.lsn) is.1;
-    may = is.0;
+    comes = of-read (λ tool image. IsFault image fault.rule fault.lsn) is.is;
+    may = is.reads;
     devices = record { out = refl; devices = λ i. record { drives = drives.fails i; terms = terms i } };
     host = (refl, refl, refl);
     files = refl;
   }
   made-of (Err (Refused number)) is drives = record {
-    comes = of-read (λ tool image. RefusesBy tool vol image number) is;
-    may = tt;
+    comes = of-read (λ tool image. RefusesBy tool vol image number) is.refuses;
+    may = is.mounts;
     devices = record { out = refl; quiet = quiet drives.fails drives.media_kept };
     host = (refl, refl, refl);
     files = refl;
   }
   made-of (Err (DriveFailed drive number)) is drives = record {
-    comes = of-any before.files (λ files. VolComesTo files vol before after (DriveFailed drive number)) (λ files. tt);
-    may = is;
+    comes = of-read (λ tool image. IsVolume image) is.volume;
+    may = is.may;
     devices = record { failed = drives.fails; media_kept = drives.media_kept; terms_kept = terms; out_kept = refl };
     host = (refl, refl, refl);
     files = refl;
@@ -148,7 +190,7 @@ module _ (vol : VolWords) (read : VolFiles) (before : World) (devices : Outside)
   made-of (Err NoMemory) is drives = record {
     comes = of-any before.files (λ files. VolComesTo files vol before after NoMemory) (λ files. inl (record { output = refl; files = refl }));
     may = tt;
-    devices = quiet drives.fails drives.media_kept;
+    devices = record { quiet = quiet drives.fails drives.media_kept; out = λ none. refl };
     host = (refl, refl, refl);
     files = files-same vol before after NoMemory refl;
   }
@@ -200,8 +242,8 @@ module _ (vol : VolWords) (made : Made) (before mid after : World) (quiet : Make
     rose-from : Rose printed.faults after.faults → Rose before.faults after.faults
     rose-from rose = subst (λ faults. Rose faults after.faults) first.0 rose
 
-    leaves : LeavesQuiet before after
-    leaves = still-quiet after (last_devices ∙ same)
+    leaves : LeavesMade vol.verb before after
+    leaves = record { quiet = still-quiet after (last_devices ∙ same); out = out-printed vol.verb made.answer.items before after whole }
 
     stops : IfObserved (WritesUpTo 0 (vol_outputs vol) written) printed.files after.files → PrintsAndStops (vol_outputs vol) before after out written
     stops part = record { output = whole; files = files-from (WritesUpTo 0 (vol_outputs vol) written) part }
@@ -217,9 +259,9 @@ module _ (vol : VolWords) (made : Made) (before mid after : World) (quiet : Make
       host = no-fault-then before printed after first done;
       files = all-change (vol_outputs vol) written before.files after.files (files-from (WritesAll (vol_outputs vol) written) all);
     }
-    written-then (CannotWriteImage number) (zero, verb, failed, part) = record {
+    written-then (CannotWriteImage number) (first_image, verb, failed, part) = record {
       comes = comes-then (PrintsAndStops (vol_outputs vol) before after) (stops part.part);
-      may = (zero, verb);
+      may = (first_image, verb);
       devices = leaves;
       host = (vol.image, refl, (rose-from failed.0, failed.1, failed.2));
       files = changes-part part.part;
@@ -247,18 +289,24 @@ module _ (vol : VolWords) (made : Made) (before mid after : World) (quiet : Make
     files = files ∙ quiet.files;
   }
 
+  begun-lines : GainsPrefix mid.out out after.out → after.files ≡ mid.files → after.devices ≡ mid.devices → LeavesMade vol.verb before after
+  begun-lines prefix files same = record {
+    quiet = still-quiet after same;
+    out = out-begun vol.verb made.answer.items before after (prints-first prefix files).output;
+  }
+
   print-ended : (end : End) → PrintEnds out end mid after → VolCall vol before after end
   print-ended CannotWrite ends = record {
     comes = comes-then (PrintsFirst before after) (prints-first ends.prefix ends.files);
-    may = tt;
-    devices = still-quiet after ends.devices;
+    may = prints-lines vol.verb made.answer.items ends.some;
+    devices = begun-lines ends.prefix ends.files ends.devices;
     host = (subst (λ faults. Rose faults after.faults) quiet.no_fault.0 ends.stopped.0, ends.stopped.1, ends.stopped.2);
     files = ends.files ∙ quiet.files;
   }
   print-ended NoMemory ends = record {
     comes = of-each before.files (λ files. MakesThen files vol (PrintsFirst before after)) (λ files. VolComesTo files vol before after NoMemory) (λ files makes. inr (inl makes)) (comes-then (PrintsFirst before after) (prints-first ends.prefix ends.files));
     may = tt;
-    devices = still-quiet after ends.devices;
+    devices = begun-lines ends.prefix ends.files ends.devices;
     host = no-fault-then before mid after quiet.no_fault ends.stopped;
     files = files-same vol before after NoMemory (ends.files ∙ quiet.files);
   }

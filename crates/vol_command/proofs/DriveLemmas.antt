@@ -1,10 +1,10 @@
 -- A tool that is used on an image in D0.
-use Rattle.std.proofs.Common.{◌≡◌, ◌≢◌, ◌≤◌, ℕ, zero, suc, Some, Result, Ok, Err, List, [], ◌∷◌, length, map, slice_get, refl, sym, ap, subst, ◌∙◌, arith, All}
+use Rattle.std.proofs.Common.{◌≡◌, ◌≢◌, ◌≤◌, ℕ, zero, suc, Some, None, Result, Ok, Err, List, [], ◌∷◌, length, map, slice_get, refl, sym, ap, subst, ◌∙◌, arith, All}
 use Rattle.std.proofs.lemmas.List.{length-map}
 use Rattle.rbf_model.specs.Volume.{DiskVolume, Vol}
 use Rattle.rbf_access.specs.Mounted.{IsSound}
 use Rattle.file_drives.specs.Drives.{ChangesOneDrive, DriveView, drive_state, drive_states, media_at, media_of}
-use Rattle.file_rules.specs.Files.{DriveState, OneFailed, drive_at}
+use Rattle.file_rules.specs.Files.{DriveState, NoneFailed, OneFailed, drive_at}
 use Rattle.boot_images.specs.BootFile.{IsVolume}
 use Rattle.boot_images.specs.Drives.{HaveRoom, IsEmpty, TakesImages, holding, with_media, without_media}
 use Rattle.boot_images.specs.Ready.{AreEmptyAgain}
@@ -13,12 +13,12 @@ use Rattle.tool_rules.specs.Tool.{Tool}
 use Rattle.tool_rules.specs.Uses.{Use}
 use Rattle.vol_tools.specs.Answers.{GivesOn}
 use Rattle.vol_tools.specs.Faults.{MovesFaults}
+use Rattle.vol_tools.specs.Tail.{KeepsTailBy, OnMedia}
 use Rattle.vol_tools.specs.declared.fault.ToolFault.{ToolFault}
 use Rattle.vol_tools.specs.declared.fault.ToolFault.TheVariants.{Number, Device, OutOfMemory}
 use Rattle.os9_words.specs.declared.vol_words.VolWords.{VolWords}
 use Rattle.command_files.specs.declared.status.End.{End}
 use Rattle.command_files.specs.declared.status.End.TheVariants.{NoMemory}
-use Rattle.vol_command.specs.Left.{fault_counts}
 use Rattle.vol_command.specs.Steps.{DrivesAfter, DrivesFail, UsesDrive, UsesImage, fault_end}
 use Rattle.vol_command.specs.Vol.{IsUsed}
 use Rattle.vol_command.specs.declared.made.Made.{Made}
@@ -32,10 +32,6 @@ sound-in image [] some volume drive is = absurd (omega (arith, some))
 sound-in image (d ∷ ds) some (v, vol) drive is =
     let same : with_media image d ≡ drive = some-one (with_media image d) drive is in
     (v, record { image = image; is = sym (ap (λ (drive : DriveView). drive.media) same); vol = vol })
-
-counts-kept : (drives : List DriveView) → fault_counts (map without_media drives) ≡ fault_counts drives
-counts-kept [] = refl
-counts-kept (d ∷ ds) = ap (λ counts. d.counts.faults ∷ counts) (counts-kept ds)
 
 -- ---- D0 behind the tool
 
@@ -56,10 +52,11 @@ module _ {A : Type 0} (use_ : Use) (bytes : A → List ℕ) (answer : Result A T
   many : (d : DriveView) (ds mid : List DriveView) → UsedAt d ds mid → length mid ≡ length (d ∷ ds)
   many d ds mid it = ap length it.is
 
-  -- its count has not risen
-  quiet : (d : DriveView) (ds mid : List DriveView) (it : UsedAt d ds mid) → it.new.counts.faults ≡ d.counts.faults → fault_counts (map without_media mid) ≡ fault_counts (d ∷ ds)
-  quiet d ds mid it kept =
-      counts-kept mid ∙ ap fault_counts it.is ∙ ap (λ count. count ∷ fault_counts ds) kept
+  -- its count has not risen, and its last fault is as before
+  quiet : (d : DriveView) (ds mid : List DriveView) (it : UsedAt d ds mid) → MovesFaults None d.counts it.new.counts → NoneFailed (drive_states (d ∷ ds)) (drive_states (map without_media mid))
+  quiet d ds mid it moves =
+      let same : drive_state it.new ≡ drive_state d = λ i. record { faults = moves.kept i; last = moves.last_kept i } in
+      counts-without mid ∙ ap drive_states it.is ∙ ap (λ (state : DriveState). state ∷ drive_states ds) same
 
 -- the other drives have not
 others-kept : (s t : DriveState) (rest : List DriveState) (other : ℕ) → other ≢ 0 → drive_at (t ∷ rest) other ≡ drive_at (s ∷ rest) other
@@ -87,12 +84,12 @@ drives-done use_ bytes a image [] mid made room changes = absurd (omega (arith, 
 drives-done use_ bytes a image (d ∷ ds) mid made room changes =
     let it = used-at use_ bytes (Ok a) image d ds mid changes in
     let left = left-behind (d ∷ ds) mid room.empty (many use_ bytes (Ok a) image d ds mid it) in
-    record { fails = quiet use_ bytes (Ok a) image d ds mid it it.uses.counts.kept; media_kept = left.0; empty = left.1 }
+    record { fails = quiet use_ bytes (Ok a) image d ds mid it it.uses.counts; media_kept = left.0; empty = left.1 }
 
 -- or ended
 ended-fails : {A : Type 0} (use_ : Use) (bytes : A → List ℕ) (fault : ToolFault) (image : List ℕ) (d : DriveView) (ds mid : List DriveView) → UsedAt use_ bytes (Err fault) image d ds mid → DrivesFail {A = Made} (Err (fault_end fault)) (d ∷ ds) (map without_media mid)
-ended-fails use_ bytes (Number n) image d ds mid it = quiet use_ bytes (Err (Number n)) image d ds mid it it.uses.counts.kept
-ended-fails use_ bytes OutOfMemory image d ds mid it = quiet use_ bytes (Err OutOfMemory) image d ds mid it it.uses.counts.kept
+ended-fails use_ bytes (Number n) image d ds mid it = quiet use_ bytes (Err (Number n)) image d ds mid it it.uses.counts
+ended-fails use_ bytes OutOfMemory image d ds mid it = quiet use_ bytes (Err OutOfMemory) image d ds mid it it.uses.counts
 ended-fails use_ bytes (Device n) image d ds mid it =
     subst (λ states. OneFailed 0 n (drive_states (d ∷ ds)) states) (sym (counts-without mid ∙ ap drive_states it.is)) (has-failed d it.new ds n it.uses.counts)
 
@@ -114,8 +111,8 @@ module _ {A : Type 0} (tool : Tool) (vol : VolWords) (bytes : A → List ℕ) (i
   use-of = record { tool = tool; now = vol.start }
 
   -- the image was taken out again
-  taken : (v : DiskVolume) (a : A) (new : DriveView) (ds mid after : List DriveView) (images : List (List ℕ)) (left : List ℕ) → Vol image v → mid ≡ new ∷ ds → GivesOn use-of v (bytes a) new.media → TakesImages images mid after → slice_get images 0 ≡ Some left → IsUsed tool vol image (bytes a) left
-  taken v a new ds mid after images left was is gives takes at =
+  taken : (v : DiskVolume) (a : A) (new : DriveView) (ds mid after : List DriveView) (images : List (List ℕ)) (left : List ℕ) → Vol image v → mid ≡ new ∷ ds → GivesOn use-of v (bytes a) new.media → OnMedia (KeepsTailBy tool) (Some image) new.media → TakesImages images mid after → slice_get images 0 ≡ Some left → IsUsed tool vol image (bytes a) left
+  taken v a new ds mid after images left was is gives tail takes at =
       let there : media_at mid 0 ≡ Some gives.on.image = ap (λ (drives : List DriveView). media_at drives 0) is ∙ gives.on.is in
       record {
         before = v;
@@ -123,13 +120,14 @@ module _ {A : Type 0} (tool : Tool) (vol : VolWords) (bytes : A → List ℕ) (i
         after = gives.volume;
         is = subst (λ image. Vol image gives.volume) (sym (takes.each 0 left gives.on.image at there)) gives.on.vol;
         gives = gives.gives;
+        tail = subst (KeepsTailBy tool image) (sym (takes.each 0 left gives.on.image at there)) (tail image gives.on.image refl gives.on.is);
       }
 
   pub image-used : (a : A) (drives mid after : List DriveView) (images : List (List ℕ)) (left : List ℕ) → HaveRoom 1 drives → ChangesOneDrive (UsesDrive use-of bytes (Ok a)) 0 (holding (image ∷ []) drives) mid → TakesImages images mid after → slice_get images 0 ≡ Some left → IsUsed tool vol image (bytes a) left
   image-used a [] mid after images left room changes takes at = absurd (omega (arith, room.enough))
   image-used a (d ∷ ds) mid after images left room changes takes at =
       let it = used-at use-of bytes (Ok a) image d ds mid changes in
-      taken volume.0 a it.new ds mid after images left volume.1 it.is (it.uses.answers volume.0 (record { image = image; is = refl; vol = volume.1 })) takes at
+      taken volume.0 a it.new ds mid after images left volume.1 it.is (it.uses.answers volume.0 (record { image = image; is = refl; vol = volume.1 })) it.uses.tail takes at
 
   pub tool-ended : (fault : ToolFault) (drives mid : List DriveView) → HaveRoom 1 drives → ChangesOneDrive (UsesDrive {A = A} use-of bytes (Err fault)) 0 (holding (image ∷ []) drives) mid → UsesImage tool vol image (Err (fault_end fault))
   tool-ended fault [] mid room changes = absurd (omega (arith, room.enough))

@@ -21,17 +21,7 @@ use Rattle.vol_command.specs.Vol.{outputs_of, printed_of, vol_outputs, written_o
 
 -- ---- the verbs
 
--- it is neither `dir` nor `repair`
-pub prints-none : (verb : Verb) (answer : List ℕ) → verb ≢ Dir → verb ≢ Repair → printed_of verb answer ≡ []
-prints-none Format answer no_dir no_repair = refl
-prints-none Put answer no_dir no_repair = refl
-prints-none Get answer no_dir no_repair = refl
-prints-none Mkdir answer no_dir no_repair = refl
-prints-none Delete answer no_dir no_repair = refl
-prints-none Dir answer no_dir no_repair = absurd (no_dir refl)
-prints-none Repair answer no_dir no_repair = absurd (no_repair refl)
-
--- neither `dir` nor `get`
+-- it is neither `dir` nor `get`
 pub writes-image : (verb : Verb) → verb ≢ Dir → verb ≢ Get → WritesImage verb
 writes-image Format no_dir no_get = tt
 writes-image Put no_dir no_get = tt
@@ -188,6 +178,7 @@ prints-then vol bytes answer image end before mid after value is printed writes 
 pub print-ends : (vol : VolWords) (bytes answer image : List ℕ) (end : End) (before after : World) → bytes ≡ printed_of vol.verb answer → Prints {Value = Unit {0}} bytes (Err end) before after → Finishes vol answer image end before after
 print-ends vol bytes answer image end before after is printed = inr (record {
   prefix = subst (λ bytes. GainsPrefix before.out bytes after.out) is printed.prefix;
+  some = subst (λ bytes. bytes ≢ []) is printed.some;
   stopped = printed.stopped;
   files = printed.files;
   devices = printed.devices;

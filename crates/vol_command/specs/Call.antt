@@ -13,11 +13,11 @@ use Rattle.vol_command.specs.declared.made.Made.{Made}
 
 -- it was done, and ended so
 pub record VolCall (vol : VolWords) (before after : World) (end : End) : Type 0 where
-  -- what came of it, where that can be observed
+  -- what came of it, if that can be observed
   pub comes : IfSome before.files (λ files. VolComesTo files vol before after end)
   -- and what is so, observed or not
   pub may : VolMayEnd vol.verb end
-  pub devices : VolLeaves before after end
+  pub devices : VolLeaves vol.verb before after end
   pub host : FailsAsTold (vol_file_name vol) end before after
   pub files : VolLeavesFiles vol before after end
 

@@ -1,13 +1,14 @@
 -- How `vol` may end, and what it leaves (this project's own).
-use Rattle.std.specs.Prelude.{◌≡◌, ℕ, ⊤, List, [], map}
+use Rattle.std.specs.Prelude.{◌≡◌, ℕ, ⊤, List, []}
 use Rattle.os9_outer.specs.Host.{IfObserved}
 use Rattle.os9_words.specs.Notes.{HasWritten, Notes}
 use Rattle.os9_words.specs.declared.vol_words.Verb.{Verb}
-use Rattle.os9_words.specs.declared.vol_words.Verb.TheVariants.{Format, Put, Get, Dir}
+use Rattle.os9_words.specs.declared.vol_words.Verb.TheVariants.{Format, Put, Get, Dir, Repair}
 use Rattle.os9_words.specs.declared.vol_words.VolWords.{VolWords}
 use Rattle.boot_run.specs.Machine.{FailsToMount}
 use Rattle.boot_run.specs.World.{World}
-use Rattle.file_drives.specs.Drives.{DriveView, media_of}
+use Rattle.file_drives.specs.Drives.{drive_states, media_of}
+use Rattle.file_rules.specs.Files.{NoneFailed}
 use Rattle.command_files.specs.FileNames.{IsFront}
 use Rattle.command_files.specs.Left.{ChangesOnly, IsSilent}
 use Rattle.command_files.specs.declared.status.End.{End}
@@ -31,29 +32,47 @@ ReadsInput verb (Image number) = number ≡ 0
 ReadsInput verb File = verb ≡ Put
 ReadsInput verb input = ⊥
 
+-- it prints lines
+abbrev pub PrintsLines : Verb → Type 0
+PrintsLines Dir = ⊤
+PrintsLines Repair = ⊤
+PrintsLines verb = ⊥
+
+-- its tool is used on the image in D0
+abbrev pub MountsImage : Verb → Type 0
+MountsImage Format = ⊥
+MountsImage Repair = ⊥
+MountsImage verb = ⊤
+
+-- the drive of the image is D0
+pub record MayFail (verb : Verb) (drive : ℕ) : Type 0 where
+  pub first : drive ≡ 0
+  pub mounts : MountsImage verb
+
 abbrev pub VolMayEnd : Verb → End → Type 0
 VolMayEnd verb Ended = ⊤
 VolMayEnd verb (CannotRead input) = ReadsInput verb input
-VolMayEnd verb CannotWrite = ⊤
+VolMayEnd verb CannotWrite = PrintsLines verb
 VolMayEnd verb (CannotWriteImage number) = (number ≡ 0) × WritesImage verb
 VolMayEnd verb CannotWriteFile = verb ≡ Get
 VolMayEnd verb NoMemory = ⊤
-VolMayEnd verb (BadImage number fault) = number ≡ 0
-VolMayEnd verb (DriveFailed drive number) = drive ≡ 0
-VolMayEnd verb (Refused number) = ⊤
+VolMayEnd verb (BadImage number fault) = ReadsInput verb (Image number)
+VolMayEnd verb (DriveFailed drive number) = MayFail verb drive
+VolMayEnd verb (Refused number) = MountsImage verb
 VolMayEnd verb end = ⊥
 
 -- ---- what it leaves
 
--- how often each drive has failed
-abbrev pub fault_counts : List DriveView → List ℕ
-fault_counts drives = map (λ drive. drive.counts.faults) drives
-
 -- the terminals and the media are as they were, and no drive has failed
 pub record LeavesQuiet (before after : World) : Type 0 where
   pub terminals : after.devices.terms ≡ before.devices.terms
-  pub none_failed : fault_counts after.devices.drives ≡ fault_counts before.devices.drives
+  pub none_failed : NoneFailed (drive_states before.devices.drives) (drive_states after.devices.drives)
   pub media_kept : media_of after.devices.drives ≡ media_of before.devices.drives
+
+-- and the output, if the verb prints no lines
+pub record LeavesMade (verb : Verb) (before after : World) : Type 0 where
+  pub quiet : LeavesQuiet before after
+  pub out : ¬ PrintsLines verb → after.out ≡ before.out
 
 -- and the output
 pub record LeavesUnprinted (before after : World) : Type 0 where
@@ -61,12 +80,12 @@ pub record LeavesUnprinted (before after : World) : Type 0 where
   pub quiet : LeavesQuiet before after
 
 -- of the output and the devices, observed or not
-abbrev pub VolLeaves : World → World → End → Type 0
-VolLeaves before after (DriveFailed drive number) = FailsToMount drive number before after
-VolLeaves before after (Refused number) = LeavesUnprinted before after
-VolLeaves before after (CannotRead input) = IsSilent before after
-VolLeaves before after (BadImage number fault) = IsSilent before after
-VolLeaves before after end = LeavesQuiet before after
+abbrev pub VolLeaves : Verb → World → World → End → Type 0
+VolLeaves verb before after (DriveFailed drive number) = FailsToMount drive number before after
+VolLeaves verb before after (Refused number) = LeavesUnprinted before after
+VolLeaves verb before after (CannotRead input) = IsSilent before after
+VolLeaves verb before after (BadImage number fault) = IsSilent before after
+VolLeaves verb before after end = LeavesMade verb before after
 
 -- of the files: only behind what it prints it writes one
 abbrev pub VolLeavesFiles : VolWords → World → World → End → Type 0

@@ -1,28 +1,32 @@
 -- The steps of `vol`: the files that are read, what is made of them, and what is printed and written.
-use Rattle.std.specs.Prelude.{◌≡◌, ◌⊎◌, ℕ, ⊤, Some, List, Result, Ok, Err}
+use Rattle.std.specs.Prelude.{◌≡◌, ◌≢◌, ◌⊎◌, ℕ, ⊤, Some, List, [], Result, Ok, Err}
 use Rattle.os9_outer.specs.Host.{Files, file_contents, IfObserved}
 use Rattle.os9_outer.specs.Stream.{GainsPrefix, stream_with}
+use Rattle.os9_words.specs.declared.vol_words.Verb.{Verb}
 use Rattle.os9_words.specs.declared.vol_words.Verb.TheVariants.{Put, Get}
 use Rattle.os9_words.specs.declared.vol_words.VolWords.{VolWords}
 use Rattle.rbf_model.specs.Faults.{IsFault}
+use Rattle.rbf_check.specs.declared.faults.CheckFault.{CheckFault}
 use Rattle.tool_rules.specs.Tool.{Tool, repair}
 use Rattle.tool_rules.specs.Uses.{Use}
 use Rattle.file_drives.specs.Drives.{DriveView, drive_states, media_of}
-use Rattle.file_rules.specs.Files.{OneFailed}
+use Rattle.file_rules.specs.Files.{NoneFailed, OneFailed}
+use Rattle.boot_images.specs.BootFile.{IsVolume}
 use Rattle.boot_images.specs.Images.{WritesAll, WritesUpTo}
 use Rattle.boot_images.specs.Ready.{AreEmptyAgain}
 use Rattle.boot_run.specs.World.{World, FailsToWriteFile, HasNoFault}
 use Rattle.vol_tools.specs.Answers.{OnVolumeBefore}
 use Rattle.vol_tools.specs.Faults.{MovesFaults, tool_fault}
+use Rattle.vol_tools.specs.Tail.{KeepsTailBy, OnMedia}
 use Rattle.vol_tools.specs.declared.fault.ToolFault.{ToolFault}
 use Rattle.vol_tools.specs.declared.fault.ToolFault.TheVariants.{Number, Device, OutOfMemory}
 use Rattle.command_files.specs.Fails.{FailsToWriteInput}
 use Rattle.command_files.specs.Output.{StopsPrint}
 use Rattle.command_files.specs.declared.status.End.{End}
 use Rattle.command_files.specs.declared.status.End.TheVariants.{Ended, CannotWriteImage, CannotWriteFile, NoMemory, BadImage, DriveFailed, Refused}
-use Rattle.command_files.specs.declared.status.Input.TheVariants.{File}
-use Rattle.vol_command.specs.Left.{WritesImage, fault_counts}
-use Rattle.vol_command.specs.Vol.{IsFormatted, IsUsed, MakesBy, RefusesBy, file_of, path_of, printed_of, tool_of, vol_file_name, vol_outputs, written_of}
+use Rattle.command_files.specs.declared.status.Input.TheVariants.{File, Image}
+use Rattle.vol_command.specs.Left.{MayFail, MountsImage, ReadsInput, WritesImage}
+use Rattle.vol_command.specs.Vol.{IsFormatted, IsUsed, ClearsLost, MakesBy, RefusesBy, file_of, path_of, printed_of, tool_of, vol_file_name, vol_outputs, written_of}
 use Rattle.vol_command.specs.declared.files.VolFiles.{VolFiles}
 use Rattle.vol_command.specs.declared.made.Made.{Made}
 
@@ -39,6 +43,7 @@ pub record HasVolFiles (files : Files) (vol : VolWords) (read : VolFiles) : Type
 pub record UsesDrive {A : Type 0} (use_ : Use) (bytes : A → List ℕ) (answer : Result A ToolFault)
     (old new : DriveView) : Type 0 where
   pub answers : OnVolumeBefore use_ bytes old.media new.media answer
+  pub tail : OnMedia (KeepsTailBy use_.tool) old.media new.media
   pub counts : MovesFaults (tool_fault answer) old.counts new.counts
 
 -- how a command ends whose tool ended so
@@ -55,13 +60,13 @@ UsesImage tool vol old (Err (DriveFailed drive number)) = drive ≡ 0
 UsesImage tool vol old (Err NoMemory) = ⊤
 UsesImage tool vol old (Err end) = ⊥
 
--- D0 has failed with the fault that ended the command, and no other drive; or none has. Where the image was refused
--- no drive was reached.
+-- D0 has failed with the fault that ended the command, and no other drive; or none has. If the image was refused, no
+-- drive was reached.
 abbrev pub DrivesFail : {A : Type 0} → Result A End → List DriveView → List DriveView → Type 0
 DrivesFail (Err (DriveFailed drive number)) before after =
     OneFailed drive number (drive_states before) (drive_states after)
 DrivesFail (Err (BadImage number fault)) before after = after ≡ before
-DrivesFail answer before after = fault_counts after ≡ fault_counts before
+DrivesFail answer before after = NoneFailed (drive_states before) (drive_states after)
 
 -- the drives behind it: without images, as they were
 pub record DrivesAfter {A : Type 0} (answer : Result A End) (before after : List DriveView) : Type 0 where
@@ -71,14 +76,28 @@ pub record DrivesAfter {A : Type 0} (answer : Result A End) (before after : List
 
 -- ---- what is made
 
+-- the drive of a well formed image has failed
+pub record FailsOn (verb : Verb) (image : List ℕ) (drive : ℕ) : Type 0 where
+  pub may : MayFail verb drive
+  pub volume : IsVolume image
+
+-- a tool for mounted volumes was refused
+pub record RefusesOf (vol : VolWords) (image bytes : List ℕ) (number : ℕ) : Type 0 where
+  pub mounts : MountsImage vol.verb
+  pub refuses : RefusesBy (tool_of vol.verb (path_of vol) bytes) vol image number
+
+-- an image that is read is not well formed
+pub record HasFault (verb : Verb) (image : List ℕ) (number : ℕ) (fault : CheckFault) : Type 0 where
+  pub reads : ReadsInput verb (Image number)
+  pub is : IsFault image fault.rule fault.lsn
+
 -- of an image and the bytes of FILE: what the verb has made, or why it has not
 abbrev pub MakesOf : VolWords → (image bytes : List ℕ) → Result Made End → Type 0
 MakesOf vol image bytes (Ok made) =
     MakesBy (tool_of vol.verb (path_of vol) bytes) vol image made.answer.items made.image.items
-MakesOf vol image bytes (Err (BadImage number fault)) = (number ≡ 0) × IsFault image fault.rule fault.lsn
-MakesOf vol image bytes (Err (Refused number)) =
-    RefusesBy (tool_of vol.verb (path_of vol) bytes) vol image number
-MakesOf vol image bytes (Err (DriveFailed drive number)) = drive ≡ 0
+MakesOf vol image bytes (Err (BadImage number fault)) = HasFault vol.verb image number fault
+MakesOf vol image bytes (Err (Refused number)) = RefusesOf vol image bytes number
+MakesOf vol image bytes (Err (DriveFailed drive number)) = FailsOn vol.verb image drive
 MakesOf vol image bytes (Err NoMemory) = ⊤
 MakesOf vol image bytes (Err end) = ⊥
 
@@ -88,10 +107,14 @@ FormatsDisk vol (Ok made) = IsFormatted vol made.answer.items made.image.items
 FormatsDisk vol (Err NoMemory) = ⊤
 FormatsDisk vol (Err end) = ⊥
 
--- the lost clusters of an image were freed; or it was refused, or memory was out
+-- the lost clusters were freed
+pub record IsMended (old answer image : List ℕ) : Type 0 where
+  pub used : (vol : VolWords) → IsUsed repair vol old answer image
+  pub bits : ClearsLost old image
+
+-- so it was done; or the image was refused, or memory was out
 abbrev pub RepairsImage : List ℕ → Result Made End → Type 0
-RepairsImage old (Ok made) =
-    (vol : VolWords) → IsUsed repair vol old made.answer.items made.image.items
+RepairsImage old (Ok made) = IsMended old made.answer.items made.image.items
 RepairsImage old (Err (BadImage number fault)) = (number ≡ 0) × IsFault old fault.rule fault.lsn
 RepairsImage old (Err NoMemory) = ⊤
 RepairsImage old (Err end) = ⊥
@@ -139,6 +162,7 @@ pub record PrintsThenWrites (vol : VolWords) (answer image : List ℕ) (end : En
 -- or the print ended it
 pub record PrintEnds (bytes : List ℕ) (end : End) (before after : World) : Type 0 where
   pub prefix : GainsPrefix before.out bytes after.out
+  pub some : bytes ≢ []
   pub stopped : StopsPrint before after end
   pub files : after.files ≡ before.files
   pub devices : after.devices ≡ before.devices

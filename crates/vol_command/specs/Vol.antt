@@ -6,10 +6,15 @@ use Rattle.os9_words.specs.declared.vol_words.Verb.{Verb}
 use Rattle.os9_words.specs.declared.vol_words.Verb.TheVariants.{Format, Put, Get, Mkdir, Delete, Dir, Repair}
 use Rattle.os9_words.specs.declared.vol_words.VolWords.{VolWords}
 use Rattle.rbf_model.specs.Faults.{IsFault}
-use Rattle.rbf_model.specs.Volume.{DiskVolume, Vol}
+use Rattle.rbf_model.specs.Geometry.{image_geometry}
+use Rattle.rbf_model.specs.Volume.{DiskVolume, Vol, lost_clusters}
+use Rattle.blank_disk.specs.Image.{IsClean}
+use Rattle.disk_repair.specs.Clearing.{ClearsBits}
 use Rattle.tool_rules.specs.Blank.{blank_volume}
 use Rattle.tool_rules.specs.Refusals.{Refuses}
 use Rattle.tool_rules.specs.Tool.{Gives, Tool, put, get, mkdir, remove, list, repair}
+use Rattle.vol_tools.specs.Tail.{KeepsTailBy}
+use Rattle.boot_images.specs.BootFile.{IsVolume}
 use Rattle.boot_images.specs.Images.{WritesAll, WritesUpTo}
 use Rattle.boot_run.specs.World.{World}
 use Rattle.command_files.specs.declared.status.End.{End}
@@ -81,23 +86,42 @@ written_of Get answer image = answer ∷ []
 written_of Dir answer image = []
 written_of verb answer image = image ∷ []
 
--- a tool was used on the volume of an image, and gave this answer and that of another image
+-- a tool was used on the volume of an image, and gave this answer and that of another image, which has the same LSN 0
+-- and the same bits of the map that no whole cluster has
 pub record IsUsed (tool : Tool) (vol : VolWords) (old answer image : List ℕ) : Type 0 where
   pub before : DiskVolume
   pub was : Vol old before
   pub after : DiskVolume
   pub is : Vol image after
   pub gives : Gives tool vol.start before after answer
+  pub tail : KeepsTailBy tool old image
 
--- a disk was formatted
+-- only the marks of the lost clusters were cleared, and no other bit of the image has changed
+pub record ClearsLost (old image : List ℕ) : Type 0 where
+  pub volume : DiskVolume
+  pub was : Vol old volume
+  pub bits : ClearsBits old image (lost_clusters (image_geometry old) volume)
+
+-- as `repair` does
+abbrev pub ChangesBits : Verb → (old image : List ℕ) → Type 0
+ChangesBits Repair old image = ClearsLost old image
+ChangesBits verb old image = ⊤
+
+-- the tool of the verb was used
+pub record IsDone (tool : Tool) (vol : VolWords) (old answer image : List ℕ) : Type 0 where
+  pub used : IsUsed tool vol old answer image
+  pub bits : ChangesBits vol.verb old image
+
+-- a disk was formatted, and is clear behind what its volume has
 pub record IsFormatted (vol : VolWords) (answer image : List ℕ) : Type 0 where
   pub is : Vol image (blank_volume vol.sectors vol.cluster vol.start)
+  pub clean : IsClean image vol.sectors vol.cluster
   pub silent : answer ≡ []
 
 -- the verb was done: it has this answer, and has made this image
 abbrev pub MakesBy : Option Tool → VolWords → (old answer image : List ℕ) → Type 0
 MakesBy None vol old answer image = IsFormatted vol answer image
-MakesBy (Some tool) vol old answer image = IsUsed tool vol old answer image
+MakesBy (Some tool) vol old answer image = IsDone tool vol old answer image
 
 pub record Makes (files : Files) (vol : VolWords) (out : List ℕ) (written : List (List ℕ)) : Type 0 where
   pub answer : List ℕ
@@ -160,5 +184,5 @@ VolComesTo files vol before after (BadImage number fault) =
 VolComesTo files vol before after (Refused number) =
     RefusesBy (vol_tool files vol) vol (file_contents files vol.image) number
 VolComesTo files vol before after (CannotRead input) = ⊤
-VolComesTo files vol before after (DriveFailed drive number) = ⊤
+VolComesTo files vol before after (DriveFailed drive number) = IsVolume (file_contents files vol.image)
 VolComesTo files vol before after end = ⊥

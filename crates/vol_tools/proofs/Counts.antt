@@ -1,6 +1,7 @@
 -- The drive's count of faults over the calls of a tool.
 use Rattle.std.proofs.Common.{◌≡◌, ℕ, Option, Some, None, IfSome, IfNone, Result, Ok, Err, refl, sym, subst, ◌∙◌, arith}
 use Rattle.os9_base.specs.Count.{Rose}
+use Rattle.os9_outer.specs.declared.drive.DriveFault.{DriveFault}
 use Rattle.rbf_access.specs.Drive.{DriveCounts, MovesCounts}
 use Rattle.rbf_access.specs.Faults.{file_fault}
 use Rattle.rbf_access.specs.declared.faults.FileFault.{FileFault}
@@ -14,10 +15,10 @@ use Rattle.vol_tools.specs.declared.fault.ToolFault.TheVariants.{Number, Device,
 
 -- nothing was done
 pub no_faults : (s : DriveCounts) → MovesFaults None s s
-no_faults s = record { never_falls = omega arith; rose = tt; number = tt; kept = refl }
+no_faults s = record { never_falls = omega arith; rose = tt; number = tt; kept = refl; last_kept = refl }
 
 pub faults_of : (f : Option ℕ) (most : ℕ) (s t : DriveCounts) → MovesCounts f most s t → MovesFaults f s t
-faults_of f most s t m = record { never_falls = m.never_falls; rose = m.rose; number = m.number; kept = m.kept }
+faults_of f most s t m = record { never_falls = m.never_falls; rose = m.rose; number = m.number; kept = m.kept; last_kept = m.last_kept }
 
 -- calls without a fault, and then calls that a fault may end
 pub faults_then : (f : Option ℕ) (s t u : DriveCounts) → MovesFaults None s t → MovesFaults f t u → MovesFaults f s u
@@ -29,6 +30,7 @@ faults_then f s t u one other =
       rose = subst (λ n. IfSome f (λ k. Rose n u.faults)) same other.rose;
       number = other.number;
       kept = subst (λ n. IfNone f (u.faults ≡ n)) same other.kept;
+      last_kept = subst (λ (last : Option DriveFault). IfNone f (u.last ≡ last)) one.last_kept other.last_kept;
     }
 
 -- an error is the same for answers of any kind

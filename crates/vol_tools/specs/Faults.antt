@@ -31,12 +31,14 @@ tool_fault (Err (Number n)) = None
 tool_fault (Err (Device n)) = Some n
 tool_fault (Err OutOfMemory) = None
 
--- a call that the fault of this number ended, if any: then the count of faults rose, and the fault is the last one
+-- a call that the fault of this number ended, if any: then the count of faults rose, and the fault is the last one;
+-- without a fault the count and the last fault are as before
 pub record MovesFaults (fault : Option ℕ) (before now : DriveCounts) : Type 0 where
   pub never_falls : before.faults ≤ now.faults
   pub rose : IfSome fault (λ n. Rose before.faults now.faults)
   pub number : IfSome fault (λ n. option_map drive_error now.last ≡ Some n)
   pub kept : IfNone fault (now.faults ≡ before.faults)
+  pub last_kept : IfNone fault (now.last ≡ before.last)
 
 -- the same of a drive that is lent, as `Faults ⟦<dyn BlockDriver as BlockDriver>⟧ fault d.old d.new`
 abbrev pub Faults : {Table : Type 0} {Driver : Table → Type 0} → ((table : Table) → Ghosts (Driver table))

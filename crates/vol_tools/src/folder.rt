@@ -3,7 +3,7 @@ ghost use Rattle.rbf_access.specs.Mounted.{IsMounted};
 ghost use Rattle.tool_rules.specs.Tool.{mkdir as mkdir_tool};
 ghost use Rattle.vol_tools.specs.Answers.{OnVolumeBefore};
 ghost use Rattle.vol_tools.specs.Faults.{Faults, tool_fault};
-ghost use Rattle.vol_tools.specs.Tail.{TailStays};
+ghost use Rattle.vol_tools.specs.Tail.{KeepsTail, OnMedia};
 
 use crate::fault::ToolFault;
 use crate::making::make_folder;
@@ -32,7 +32,7 @@ pub fn mkdir(
     requires { IsMounted v.old (media d.old) }
     ensures answer { OnVolumeBefore (record { tool = mkdir_tool path.now; now = now }) (λ _. [])
         (media d.old) (media d.new) result }
-    ensures tail { TailStays (media d.old) (media d.new) }
+    ensures tail { OnMedia KeepsTail (media d.old) (media d.new) }
     ensures mounted { IsMounted v.new (media d.new) }
     ensures fault { Faults ⟦<dyn BlockDriver as BlockDriver>⟧ (tool_fault result) d.old d.new }
 {

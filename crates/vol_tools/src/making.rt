@@ -3,7 +3,7 @@ ghost use Rattle.rbf_access.specs.Mounted.{IsMounted};
 ghost use Rattle.rbf_write.specs.Files.{HasDataFile};
 ghost use Rattle.vol_tools.specs.Faults.{Faults, tool_fault};
 ghost use Rattle.vol_tools.specs.Making.{MakesOn, new_directory, new_file};
-ghost use Rattle.vol_tools.specs.Tail.{TailStays};
+ghost use Rattle.vol_tools.specs.Tail.{KeepsTail, OnMedia};
 
 use crate::fault::ToolFault;
 use crate::way::way_to;
@@ -30,7 +30,7 @@ pub fn make_file(
     requires { IsMounted v.old (media d.old) }
     ensures answer { MakesOn (new_file now) place.now (media d.old) (media d.new) result }
     ensures data { IfOk result (HasDataFile (media d.new)) }
-    ensures tail { TailStays (media d.old) (media d.new) }
+    ensures tail { OnMedia KeepsTail (media d.old) (media d.new) }
     ensures mounted { IsMounted v.new (media d.new) }
     ensures fault { Faults ⟦<dyn BlockDriver as BlockDriver>⟧ (tool_fault result) d.old d.new }
 {
@@ -48,7 +48,7 @@ pub fn make_folder(
 ) -> Result<u32, ToolFault>
     requires { IsMounted v.old (media d.old) }
     ensures answer { MakesOn (new_directory now) place.now (media d.old) (media d.new) result }
-    ensures tail { TailStays (media d.old) (media d.new) }
+    ensures tail { OnMedia KeepsTail (media d.old) (media d.new) }
     ensures mounted { IsMounted v.new (media d.new) }
     ensures fault { Faults ⟦<dyn BlockDriver as BlockDriver>⟧ (tool_fault result) d.old d.new }
 {

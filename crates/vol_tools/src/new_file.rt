@@ -4,7 +4,7 @@ ghost use Rattle.tool_rules.specs.Tool.{put as put_tool};
 ghost use Rattle.vol_tools.specs.Answers.{OnVolumeBefore};
 ghost use Rattle.vol_tools.specs.Faults.{Faults, tool_fault};
 ghost use Rattle.vol_tools.specs.Making.{IsNewPlaceOf};
-ghost use Rattle.vol_tools.specs.Tail.{TailStays};
+ghost use Rattle.vol_tools.specs.Tail.{KeepsTail, OnMedia};
 
 use crate::fault::ToolFault;
 use crate::making::make_file;
@@ -43,7 +43,7 @@ pub fn put(
     ensures answer { OnVolumeBefore
         (record { tool = put_tool file.now.path.now file.now.bytes.now; now = now }) (λ _. [])
         (media d.old) (media d.new) result }
-    ensures tail { TailStays (media d.old) (media d.new) }
+    ensures tail { OnMedia KeepsTail (media d.old) (media d.new) }
     ensures mounted { IsMounted v.new (media d.new) }
     ensures fault { Faults ⟦<dyn BlockDriver as BlockDriver>⟧ (tool_fault result) d.old d.new }
 {
@@ -65,7 +65,7 @@ fn put_at(
     ensures answer { (path : List ℕ) → IsNewPlaceOf path place.now → OnVolumeBefore
         (record { tool = put_tool path bytes.now; now = now }) (λ _. [])
         (media d.old) (media d.new) result }
-    ensures tail { TailStays (media d.old) (media d.new) }
+    ensures tail { OnMedia KeepsTail (media d.old) (media d.new) }
     ensures mounted { IsMounted v.new (media d.new) }
     ensures fault { Faults ⟦<dyn BlockDriver as BlockDriver>⟧ (tool_fault result) d.old d.new }
 {

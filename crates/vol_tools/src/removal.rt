@@ -6,7 +6,7 @@ ghost use Rattle.tool_rules.specs.Path.{place_of as place_of_lem};
 ghost use Rattle.tool_rules.specs.Tool.{remove as remove_tool};
 ghost use Rattle.vol_tools.specs.Answers.{OnVolumeBefore};
 ghost use Rattle.vol_tools.specs.Faults.{Faults, tool_fault};
-ghost use Rattle.vol_tools.specs.Tail.{TailStays};
+ghost use Rattle.vol_tools.specs.Tail.{KeepsTailUnused, OnMedia};
 
 use crate::fault::ToolFault;
 use crate::way::way_to;
@@ -36,7 +36,7 @@ pub fn remove(
     ensures answer { (now : TimePacket) → OnVolumeBefore
         (record { tool = remove_tool path.now; now = now }) (λ _. [])
         (media d.old) (media d.new) result }
-    ensures tail { TailStays (media d.old) (media d.new) }
+    ensures tail { OnMedia KeepsTailUnused (media d.old) (media d.new) }
     ensures mounted { IsMounted v.new (media d.new) }
     ensures fault { Faults ⟦<dyn BlockDriver as BlockDriver>⟧ (tool_fault result) d.old d.new }
 {
@@ -52,7 +52,7 @@ fn remove_at(v: &mut Volume, d: &mut dyn BlockDriver, place: &Place) -> Result<(
     ensures answer { (path : List ℕ) (now : TimePacket) → place_of_lem path ≡ Some (place_lem place.now)
         → OnVolumeBefore (record { tool = remove_tool path; now = now }) (λ _. [])
         (media d.old) (media d.new) result }
-    ensures tail { TailStays (media d.old) (media d.new) }
+    ensures tail { OnMedia KeepsTailUnused (media d.old) (media d.new) }
     ensures mounted { IsMounted v.new (media d.new) }
     ensures fault { Faults ⟦<dyn BlockDriver as BlockDriver>⟧ (tool_fault result) d.old d.new }
 {

@@ -1,5 +1,6 @@
 -- The bytes are on the output stream, all or the first ones.
 use Rattle.std.proofs.Common.{refl}
+use Rattle.command_files.proofs.OutputLemmas.{not-none}
 use Rattle.command_files.proofs.output.print.Goals as goal
 
 pub returns-in-Ok-clause-printed : goal.returns-in-Ok-clause-printed
@@ -10,6 +11,7 @@ returns-in-Ok-clause-printed g c devices =
       prefix = wrote.prefix_gained;
       no_fault = (wrote.count_kept, wrote.name_kept, wrote.read_kept);
       stopped = tt;
+      some = tt;
       files = wrote.files_kept;
       devices = refl;
     }
@@ -23,6 +25,7 @@ returns-in-Err-Failed-clause-printed g c devices =
       prefix = wrote.prefix_gained;
       no_fault = tt;
       stopped = (rw is at wrote.fault_counted, rw is at wrote.fault_unnamed, rw is at wrote.fault_in_out);
+      some = not-none c.args.bytes.now c.is_empty.result c.is_empty.ensures c.if-is_empty.false;
       files = wrote.files_kept;
       devices = refl;
     }
@@ -36,6 +39,7 @@ returns-in-Err-OutOfMemory-clause-printed g c devices =
       prefix = wrote.prefix_gained;
       no_fault = tt;
       stopped = (rw is at wrote.count_kept, rw is at wrote.name_kept, rw is at wrote.read_kept);
+      some = not-none c.args.bytes.now c.is_empty.result c.is_empty.ensures c.if-is_empty.false;
       files = wrote.files_kept;
       devices = refl;
     }

@@ -1,4 +1,5 @@
 -- Each tool is the one that is named; a tool without bytes answers none.
+use Rattle.vol_tools.proofs.Tails.{tail_kept}
 use Rattle.image_tools.proofs.Answers.{faults-so, on-volume-so}
 use Rattle.image_tools.proofs.tool.use_mounted.Goals as goal
 
@@ -31,3 +32,18 @@ returns-in-Remove-clause-fault g c =
 
 pub returns-in-List-clause-answer : goal.returns-in-List-clause-answer
 returns-in-List-clause-answer g c = rw c.in-List.is (c.list.ensures.answer c.args.now)
+
+pub returns-in-Put-clause-tail : goal.returns-in-Put-clause-tail
+returns-in-Put-clause-tail g c = rw c.in-Put.is c.put.ensures.tail
+
+pub returns-in-Mkdir-clause-tail : goal.returns-in-Mkdir-clause-tail
+returns-in-Mkdir-clause-tail g c = rw c.in-Mkdir.is c.mkdir.ensures.tail
+
+pub returns-in-Remove-clause-tail : goal.returns-in-Remove-clause-tail
+returns-in-Remove-clause-tail g c = rw c.in-Remove.is c.remove.ensures.tail
+
+pub returns-in-Get-clause-tail : goal.returns-in-Get-clause-tail
+returns-in-Get-clause-tail g c = rw c.in-Get.is (tail_kept _ _ c.get.ensures.media_kept)
+
+pub returns-in-List-clause-tail : goal.returns-in-List-clause-tail
+returns-in-List-clause-tail g c = rw c.in-List.is (tail_kept _ _ c.list.ensures.media_kept)

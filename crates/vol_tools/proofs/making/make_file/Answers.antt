@@ -3,6 +3,7 @@ use Rattle.std.proofs.Common.{ℕ, Ok, Err, refl}
 use Rattle.std.proofs.lemmas.Result.{err_from_is_err_and}
 use Rattle.rbf_walk.proofs.Stepping.{file_in}
 use Rattle.vol_tools.specs.Making.{new_file}
+use Rattle.vol_tools.specs.Tail.{KeepsTail}
 use Rattle.vol_tools.proofs.Tails.{entering-tail, tail_from, tail_kept}
 use Rattle.vol_tools.proofs.Counts.{directory_ends_then, done_then, same_faults}
 use Rattle.vol_tools.proofs.Ways.{still, way_as}
@@ -56,14 +57,14 @@ returns-in_err-n-clause-tail g c =
     let v = c.requires.content in
     let there = file_in _ c.in_ok-dir.dir c.in_ok-dir.ensures.file v c.requires.on in
     let here = still _ _ v c.in_ok-dir.ensures.media_kept c.requires.on in
-    tail_from _ _ _ c.in_ok-dir.ensures.media_kept (entering-tail v _ _ here _ _ (Err c.in_err-n.field-0.0) (c.in_err-n.ensures.answer v _ here there))
+    tail_from KeepsTail _ _ _ c.in_ok-dir.ensures.media_kept (entering-tail v _ _ here _ _ (Err c.in_err-n.field-0.0) (c.in_err-n.ensures.answer v _ here there))
 
 pub returns-clause-tail : goal.returns-clause-tail
 returns-clause-tail g c =
     let v = c.requires.content in
     let there = file_in _ c.in_ok-dir.dir c.in_ok-dir.ensures.file v c.requires.on in
     let here = still _ _ v c.in_ok-dir.ensures.media_kept c.requires.on in
-    tail_from _ _ _ c.in_ok-dir.ensures.media_kept (entering-tail v _ _ here _ _ (Ok c.in_ok-n.n) (c.in_ok-n.ensures.answer v _ here there))
+    tail_from KeepsTail _ _ _ c.in_ok-dir.ensures.media_kept (entering-tail v _ _ here _ _ (Ok c.in_ok-n.n) (c.in_ok-n.ensures.answer v _ here there))
 
 pub returns-in_err-dir-clause-fault : goal.returns-in_err-dir-clause-fault
 returns-in_err-dir-clause-fault g c =

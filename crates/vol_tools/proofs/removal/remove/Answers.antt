@@ -5,7 +5,7 @@ use Rattle.tool_paths.specs.Names.{place}
 use Rattle.tool_rules.specs.Numbers.{removing_number}
 use Rattle.vol_tools.proofs.Counts.{no_faults}
 use Rattle.vol_tools.proofs.Removed.{no_place}
-use Rattle.vol_tools.proofs.Tails.{tail_kept}
+use Rattle.vol_tools.proofs.Tails.{unused_kept}
 use Rattle.vol_tools.proofs.removal.remove.Goals as goal
 
 pub returns-in_err-place-clause-answer : goal.returns-in_err-place-clause-answer
@@ -14,7 +14,7 @@ returns-in_err-place-clause-answer g c now v on =
     rw (p.1, p.2) refl
 
 pub returns-in_err-place-clause-tail : goal.returns-in_err-place-clause-tail
-returns-in_err-place-clause-tail g c = tail_kept _ _ refl
+returns-in_err-place-clause-tail g c = unused_kept _ _ refl
 
 pub returns-in_err-place-clause-fault : goal.returns-in_err-place-clause-fault
 returns-in_err-place-clause-fault g c =
@@ -26,7 +26,7 @@ returns-in_default-clause-answer g c now v on =
     no_place c.args.path.now now v _ on (ap (removing_number v) (sym c.in_ok-place.ensures ∙ ap (option_map place) c.in_default.is))
 
 pub returns-in_default-clause-tail : goal.returns-in_default-clause-tail
-returns-in_default-clause-tail g c = tail_kept _ _ refl
+returns-in_default-clause-tail g c = unused_kept _ _ refl
 
 pub returns-in_default-clause-fault : goal.returns-in_default-clause-fault
 returns-in_default-clause-fault g c = no_faults _

@@ -2,7 +2,8 @@
 use Rattle.std.proofs.Common.{ℕ, Ok, Err}
 use Rattle.std.proofs.lemmas.Result.{err_from_is_err_and}
 use Rattle.rbf_walk.proofs.Stepping.{file_in}
-use Rattle.vol_tools.proofs.Tails.{deleted-tail, stopped-tail, tail_from, tail_kept}
+use Rattle.vol_tools.specs.Tail.{KeepsTailUnused}
+use Rattle.vol_tools.proofs.Tails.{deleted-tail, stopped-tail, tail_from, unused_kept}
 use Rattle.vol_tools.proofs.Counts.{directory_ends_then, done_then, same_faults}
 use Rattle.vol_tools.proofs.Ways.{still, way_as}
 use Rattle.vol_tools.proofs.Removed.{way-refuses, deletion-refuses, deleted}
@@ -45,19 +46,19 @@ returns-clause-fault g c =
     done_then _ _ _ _ c.in_ok-dir.ensures.fault (c.in_ok-delete.ensures.counts v _ (still _ _ v c.in_ok-dir.ensures.media_kept c.requires.on) there)
 
 pub returns-in_err-dir-clause-tail : goal.returns-in_err-dir-clause-tail
-returns-in_err-dir-clause-tail g c = tail_kept _ _ c.in_err-dir.ensures.media_kept
+returns-in_err-dir-clause-tail g c = unused_kept _ _ c.in_err-dir.ensures.media_kept
 
 pub returns-in_err-delete-clause-tail : goal.returns-in_err-delete-clause-tail
 returns-in_err-delete-clause-tail g c =
     let v = c.requires.content in
     let here = still _ _ v c.in_ok-dir.ensures.media_kept c.requires.on in
-    tail_from _ _ _ c.in_ok-dir.ensures.media_kept (stopped-tail v _ _ here _ _ _ _ (c.in_err-delete.ensures.fault v here))
+    tail_from KeepsTailUnused _ _ _ c.in_ok-dir.ensures.media_kept (stopped-tail v _ _ here _ _ _ _ (c.in_err-delete.ensures.fault v here))
 
 pub returns-clause-tail : goal.returns-clause-tail
 returns-clause-tail g c =
     let v = c.requires.content in
     let here = still _ _ v c.in_ok-dir.ensures.media_kept c.requires.on in
-    tail_from _ _ _ c.in_ok-dir.ensures.media_kept (deleted-tail v _ _ here _ _ (c.in_ok-delete.ensures.ok v here))
+    tail_from KeepsTailUnused _ _ _ c.in_ok-dir.ensures.media_kept (deleted-tail v _ _ here _ _ (c.in_ok-delete.ensures.ok v here))
 
 pub returns-in_err-dir-clause-fault : goal.returns-in_err-dir-clause-fault
 returns-in_err-dir-clause-fault g c =
