@@ -17,40 +17,56 @@ from assemble import assemble
 from disk_speed import descriptor, name_field
 from make_image import Volume
 
-# Appends one byte so many times to a file that it makes.
-APPEND = """
-        mod     SysGo,$11,$81,1000
-start   leax    name,pcr
-        lda     #3
-        ldb     #3
-        os9     $83
-        bcs     exit
-        sta     0
+
+def repeated(begin, work, texts, room=1000):
+    """A guest that does its work COUNT times, once it has begun."""
+    return f"""
+        mod     SysGo,$11,$81,{room}
+start   {begin.strip()}
         ldd     #COUNT
-        std     2
-again   lda     0
-        ldx     #256
-        ldy     #1
-        os9     $8A
-        bcs     exit
-        ldd     <2
+        std     <2
+again   {work.strip()}
+count   ldd     <2
         subd    #1
         std     <2
         bne     again
         clrb
 exit    os9     $06
-name    fcc     "NEW"
-        fcb     $0D
-        emod
+{texts}        emod
 """
 
-# Writes 4,096 bytes so many times, each at the end of the file.
-WRITE = APPEND.replace("1000\nstart", "6000\nstart").replace("ldy     #1\n", "ldy     #4096\n")
 
-# Reads so many sectors of BIG, which has 4,096, each 1,237 after the one before.
-READ = """
-        mod     SysGo,$11,$81,1000
-start   leax    name,pcr
+def named(label, text):
+    return f"""{label:8}fcc     "{text}"
+        fcb     $0D
+"""
+
+
+# Makes the file NEW.
+MAKE = """
+        leax    name,pcr
+        lda     #3
+        ldb     #3
+        os9     $83
+        bcs     exit
+        sta     0
+"""
+
+# Writes BYTES to it, each time at its end.
+PUT = """
+        lda     0
+        ldx     #256
+        ldy     #BYTES
+        os9     $8A
+        bcs     exit
+"""
+
+APPEND = repeated(MAKE, PUT.replace("BYTES", "1"), named("name", "NEW"))
+WRITE = repeated(MAKE, PUT.replace("BYTES", "4096"), named("name", "NEW"), room=6000)
+
+# Opens BIG, which has 4,096 sectors.
+OPEN = """
+        leax    name,pcr
         lda     #1
         os9     $84
         bcs     exit
@@ -58,9 +74,11 @@ start   leax    name,pcr
         ldd     #0
         std     <4
         std     <6
-        ldd     #COUNT
-        std     <2
-again   ldd     <5
+"""
+
+# Reads the sector 1,237 behind the one before.
+SEEK_AND_READ = """
+        ldd     <5
         addd    #1237
         anda    #15
         std     <5
@@ -74,21 +92,13 @@ again   ldd     <5
         ldy     #256
         os9     $89
         bcs     exit
-        ldd     <2
-        subd    #1
-        std     <2
-        bne     again
-        clrb
-exit    os9     $06
-name    fcc     "BIG"
-        fcb     $0D
-        emod
 """
 
-# Makes so many files, F0000 and on, in the directory DIR.
-CREATE = """
-        mod     SysGo,$11,$81,1000
-start   leax    dir,pcr
+READ = repeated(OPEN, SEEK_AND_READ, named("name", "BIG"))
+
+# Goes to the directory DIR; the first name is F0000.
+ENTER = """
+        leax    dir,pcr
         lda     #3
         os9     $86
         bcs     exit
@@ -98,9 +108,11 @@ start   leax    dir,pcr
         std     <18
         ldd     #$300D
         std     <20
-        ldd     #COUNT
-        std     <2
-again   ldx     #16
+"""
+
+# Makes the file of the name, and counts the name up.
+CREATE_NEXT = """
+        ldx     #16
         lda     #2
         ldb     #3
         os9     $83
@@ -117,51 +129,13 @@ next    lda     0,x
         sta     0,x
         leax    -1,x
         bra     next
-count   ldd     <2
-        subd    #1
-        std     <2
-        bne     again
-        clrb
-exit    os9     $06
-dir     fcc     "DIR"
-        fcb     $0D
-        emod
 """
 
+CREATE = repeated(ENTER, CREATE_NEXT, named("dir", "DIR"))
+
 # Copies BIG to COPY, 256 bytes at a time.
-COPY = """
-        mod     SysGo,$11,$81,1000
-start   leax    from,pcr
-        lda     #1
-        os9     $84
-        bcs     exit
-        sta     0
-        leax    to,pcr
-        lda     #2
-        ldb     #3
-        os9     $83
-        bcs     exit
-        sta     1
-again   lda     0
-        ldx     #256
-        ldy     #256
-        os9     $89
-        bcs     over
-        lda     1
-        ldx     #256
-        os9     $8A
-        bcc     again
-        bra     exit
-over    cmpb    #211
-        bne     exit
-        clrb
-exit    os9     $06
-from    fcc     "BIG"
-        fcb     $0D
-to      fcc     "COPY"
-        fcb     $0D
-        emod
-"""
+with open(os.path.join(TOP, "bench", "copy.asm")) as source:
+    COPY = source.read()
 
 # Ends at once.
 NOTHING = """

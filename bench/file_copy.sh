@@ -9,41 +9,7 @@ folder=$(mktemp -d) || exit 1
 trap 'rm -rf "$folder"' EXIT
 cd "$folder" || exit 1
 
-# Copies BIG to COPY.
-cat >copy.asm <<'END'
-        mod     SysGo,$11,$81,1000
-start   leax    from,pcr
-        lda     #1
-        os9     $84
-        bcs     exit
-        sta     0
-        leax    to,pcr
-        lda     #2
-        ldb     #3
-        os9     $83
-        bcs     exit
-        sta     1
-again   lda     0
-        ldx     #256
-        ldy     #256
-        os9     $89
-        bcs     over
-        lda     1
-        ldx     #256
-        os9     $8A
-        bcc     again
-        bra     exit
-over    cmpb    #211
-        bne     exit
-        clrb
-exit    os9     $06
-from    fcc     "BIG"
-        fcb     $0D
-to      fcc     "COPY"
-        fcb     $0D
-        emod
-END
-python3 "$top/crates/proc_vectors/assemble.py" copy.asm copy.mod || exit 1
+python3 "$top/crates/proc_vectors/assemble.py" "$top/bench/copy.asm" copy.mod || exit 1
 echo "# no key" >script
 echo "1000000*10" >slices
 

@@ -8,29 +8,11 @@ Calls that are refused leave one state at every fault, and marks in two sectors 
 import copy
 import sys
 
+from disk_bytes import crc24, name_field, pattern
+
 CLUSTERS = 24
 START = bytes([86, 7, 4, 12, 30])
 BORN = bytes([85, 1, 2])
-
-
-def crc24(data):
-    register = 0xFFFFFF
-    for byte in data:
-        register ^= byte << 16
-        for _ in range(8):
-            register = register << 1 ^ (0x800063 if register & 0x800000 else 0)
-            register &= 0xFFFFFF
-    return register ^ 0xFFFFFF
-
-
-def pattern(length, seed):
-    return bytes((seed + 37 * i + i // 256) % 256 for i in range(length))
-
-
-def name_field(name):
-    text = name.encode()
-    return (text[:-1] + bytes([text[-1] | 0x80])).ljust(29, b"\0")
-
 
 FREE = b"\0" * 29
 

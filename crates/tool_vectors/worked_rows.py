@@ -6,24 +6,15 @@ on which a file needs more segments than there are, and permissions that are mis
 other makers, they are rows on these: what is listed and read, and what a new file and a new directory
 leave. A row is as those that are known from elsewhere: its number, the image, the commands.
 """
+import os
 import sys
+
+sys.path.append(os.path.join(os.path.dirname(os.path.abspath(__file__)), "..", "disk_vectors"))
+
+from disk_bytes import crc24, name_field, pattern
 
 DATE = ("5a01010000", "5a0101")
 ROOT_ATTRIBUTES, FILE_ATTRIBUTES = 0xBF, 0x0B
-
-
-def crc24(data):
-    register = 0xFFFFFF
-    for byte in data:
-        register ^= byte << 16
-        for _ in range(8):
-            register = register << 1 ^ (0x800063 if register & 0x800000 else 0)
-            register &= 0xFFFFFF
-    return register ^ 0xFFFFFF
-
-
-def pattern(length, seed):
-    return bytes((seed + 37 * i + i // 256) % 256 for i in range(length))
 
 
 def number(data):
@@ -31,8 +22,7 @@ def number(data):
 
 
 def entry(name, lsn):
-    text = name.encode()
-    return (text[:-1] + bytes([text[-1] | 0x80])).ljust(29, b"\0") + lsn.to_bytes(3, "big")
+    return name_field(name) + lsn.to_bytes(3, "big")
 
 
 def listing(own, parent, entries):
