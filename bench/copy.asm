@@ -1,10 +1,10 @@
         mod     SysGo,$11,$81,1000
-start   leax    from,pcr
+start   leax    <from,pcr
         lda     #1
         os9     $84
         bcs     exit
         sta     0
-        leax    to,pcr
+        leax    <to,pcr
         lda     #2
         ldb     #3
         os9     $83

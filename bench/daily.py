@@ -44,7 +44,7 @@ def named(label, text):
 
 # Makes the file NEW.
 MAKE = """
-        leax    name,pcr
+        leax    <name,pcr
         lda     #3
         ldb     #3
         os9     $83
@@ -66,7 +66,7 @@ WRITE = repeated(MAKE, PUT.replace("BYTES", "4096"), named("name", "NEW"), room=
 
 # Opens BIG, which has 4,096 sectors.
 OPEN = """
-        leax    name,pcr
+        leax    <name,pcr
         lda     #1
         os9     $84
         bcs     exit
@@ -98,7 +98,7 @@ READ = repeated(OPEN, SEEK_AND_READ, named("name", "BIG"))
 
 # Goes to the directory DIR; the first name is F0000.
 ENTER = """
-        leax    dir,pcr
+        leax    <dir,pcr
         lda     #3
         os9     $86
         bcs     exit
@@ -120,14 +120,14 @@ CREATE_NEXT = """
         os9     $8F
         bcs     exit
         ldx     #20
-next    lda     0,x
+next    lda     >0,x
         inca
-        sta     0,x
+        sta     >0,x
         cmpa    #58
         bne     count
         lda     #48
-        sta     0,x
-        leax    -1,x
+        sta     >0,x
+        leax    >-1,x
         bra     next
 """
 

@@ -35,16 +35,15 @@ start   ldx     #0
         emod
 END
 
-# SysGo makes a pipe the standard output of Lines, which writes so many lines there, and reads them all.
-piped() {
-    cat <<END
+# SysGo makes a pipe the standard output of Lines, and reads all lines.
+cat >pipe.asm <<END
         mod     SysGo,\$11,\$81,200
 start   lda     #1
         os9     \$8F
         lda     #3
-        leax    device,pcr
+        leax    <device,pcr
         os9     \$84
-        leax    name,pcr
+        leax    <name,pcr
         ldy     #0
         lda     #\$11
         clrb
@@ -60,15 +59,19 @@ device  fcc     "/PIPE"
         fcb     \$0D
 name    fcs     "Lines"
         emod
+END
 
+# Lines writes so many lines on its standard output.
+lines() {
+    cat <<END
         mod     Lines,\$11,\$81,200
 start   ldd     #$1
-again   pshs    d
-        leax    line,pcr
+again   pshs    a,b
+        leax    <line,pcr
         ldy     #$BYTES
         lda     #1
         os9     \$8C
-        puls    d
+        puls    a,b
         subd    #1
         bne     again
         clrb
@@ -85,7 +88,7 @@ filled() {
     cat <<END
         mod     SysGo,\$11,\$81,600
 start   lda     #3
-        leax    device,pcr
+        leax    <device,pcr
         os9     \$84
         ldx     #0
         ldy     #$1
@@ -143,10 +146,11 @@ a_byte() {
 written 1 >screen.asm
 written 9 >closed.asm
 for bytes in 1 255; do filled $bytes >filled$bytes.asm; done
-for guest in screen closed read sleep filled1 filled255; do assemble $guest.asm $guest.mod; done
+for guest in screen closed read pipe sleep filled1 filled255; do assemble $guest.asm $guest.mod; done
 for lines in 1000 2000; do
-    piped $lines >pipe.asm
-    assemble pipe.asm pipe$lines.mod
+    lines $lines >lines.asm
+    assemble lines.asm lines.mod
+    cat pipe.mod lines.mod >pipe$lines.mod
     keys $lines >keys$lines
 done
 

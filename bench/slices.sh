@@ -20,7 +20,7 @@ start   cmpd    #1
         beq     loop
 again   ldy     #1
         ldu     #0
-        leax    name,pcr
+        leax    <name,pcr
         lda     #$11
         clrb
         os9     $03

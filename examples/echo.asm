@@ -1,4 +1,4 @@
-* echo.mod: SysGo reads lines from standard input and writes each on standard output, until the end of the file.
+* echo.asm: SysGo reads lines from standard input and writes each on standard output, until the end of the file.
         mod     SysGo,$11,$81,200   name, type and language, attributes and revision, storage
 start   ldx     #0                  X: the line, at the front of the data area
         ldy     #80                 Y: the most bytes of it

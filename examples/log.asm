@@ -1,12 +1,12 @@
-* log.mod: SysGo puts a line at the end of the file log, which it makes where there is none, and shows the whole file.
+* log.asm: SysGo puts a line at the end of the file log, which it makes where there is none, and shows the whole file.
         mod     SysGo,$11,$81,200   name, type and language, attributes and revision, storage
-start   leax    name,pcr            X: the path list, from the data directory, which is the root of D0
+start   leax    <name,pcr           X: the path list, from the data directory, which is the root of D0
         lda     #3                  A: read and write
         os9     $84                 I$Open: A the path
         bcc     opened
         cmpb    #216                is there no such file?
         bne     exit                an error is the status
-        leax    name,pcr
+        leax    <name,pcr
         lda     #3
         ldb     #3                  B: the owner may read and write it
         os9     $83                 I$Create
@@ -19,7 +19,7 @@ opened  sta     0                   the path, at the front of the data area
         os9     $88                 I$Seek, to the end
         bcs     exit
         lda     0
-        leax    line,pcr
+        leax    <line,pcr
         ldy     #80                 Y: the most bytes of a line
         os9     $8C                 I$WritLn
         bcs     exit

@@ -1,6 +1,6 @@
-* loop.mod: counts in B for ever.
+* loop.asm: counts in B for ever.
         mod     SysGo,$11,$81,200   name, type and language, attributes and revision, storage
-loop    incb
-        bne     loop
-        bra     loop
+start   incb
+        bne     start
+        bra     start
         emod                        the CRC, 3 bytes

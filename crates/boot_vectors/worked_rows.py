@@ -22,12 +22,14 @@ WRITTEN = "5a01010000 000000"  # those of what stood on an image, and has anothe
 
 
 def program(name, source, storage=200):
+    """The module of a program that shows words and answers."""
     shown = SHOW.replace("PATH", "1")
-    return f"        mod {name},$11,$81,{storage}\n{source}{ANSWER}{shown}        emod\n"
+    return assemble(f"        mod {name},$11,$81,{storage}\n{source}{ANSWER}{shown}        emod\n")
 
 
 def data_module(name, kind, revision, contents):
-    return f"        mod {name},{kind},{revision}\n        fcb {','.join(map(str, contents))}\n        emod\n"
+    listed = ",".join(map(str, contents))
+    return assemble(f"        mod {name},{kind},{revision},0\n        fcb {listed}\n        emod\n")
 
 
 def lines(words):
@@ -135,7 +137,7 @@ fill    stb     ,x+
         incb
         cmpx    #${0x100 + count:X}
         bne     fill
-        leax    name,pcr
+        leax    <name,pcr
         lda     #3
         ldb     #3
         os9     $83
@@ -153,7 +155,7 @@ def file_growth():
         ldu     #{at}
         lbsr    append
 """ for at, byte in added[:count])
-        modules = assemble(program("SysGo", f"""
+        modules = program("SysGo", f"""
 {filled(255)}        sta     <$30
         ldx     #$100
         ldy     #255
@@ -174,7 +176,7 @@ size    lda     <$30
         lbsr    show
         rts
 name    fcs     "/D0/Grown"
-""", 600))
+""", 600)
         disk, contents = boot_disk(modules), first
         for at, byte in added[:count]:
             contents = contents + bytes(at - len(contents)) + byte
@@ -187,15 +189,15 @@ name    fcs     "/D0/Grown"
 
 def full_volumes():
     """No free cluster: 248. A free cluster, but no place for it among the 48 segments of a file: 217."""
-    modules = assemble(program("SysGo", f"""
-start   leax    name,pcr
+    modules = program("SysGo", f"""
+start   leax    <name,pcr
         lda     #3
         ldb     #3
         os9     $83
         lbsr    answer
 {EXIT}
 name    fcs     "/D1/New"
-"""))
+""")
     full = Volume(16)
     full.directory(ROOT, ROOT, [])
     full.mark(0, 16)  # the map is FF FF; sectors 4 to 15 are in no file
@@ -203,8 +205,8 @@ name    fcs     "/D1/New"
         [(boot_disk(modules), tree([directory_line("/", ["OS9Boot"]), file_line("/OS9Boot", 3, modules)],
                                    64 - BOOT_SECTORS - needed(modules))),
          (full, tree([directory_line("/", [])], 0, 12))])
-    modules = assemble(program("SysGo", f"""
-start   leax    name,pcr
+    modules = program("SysGo", f"""
+start   leax    <name,pcr
         lda     #3
         os9     $84
         sta     <$30
@@ -221,7 +223,7 @@ start   leax    name,pcr
         lbsr    answer
 {EXIT}
 name    fcs     "/D0/Runs"
-"""))
+""")
     # Segments of one sector at 20, 22 and so on, the last of them at 114, and each sector is marked but 119, and 115
     # in the second case; the file Next is in sector 115 or 116.
     segments = [(20 + 2 * n, 1) for n in range(48)]
@@ -259,7 +261,7 @@ def clusters():
         ("a byte more, in a second cluster", first + b"\1", 5),
         ("the size 0 again", b"", 6),
     ]):
-        modules = assemble(program("SysGo", f"""
+        modules = program("SysGo", f"""
 {filled(768)}        ldx     #$100
         ldy     #768
         clrb
@@ -267,7 +269,7 @@ def clusters():
         lbsr    answer
 {''.join(steps[: count + 1])}{EXIT}
 name    fcs     "/D1/Data"
-""", 1200))
+""", 1200)
         disk = Volume(32, 4)
         disk.directory(ROOT, ROOT, [])  # all of it is in cluster 0: the map is 80
         shown = lines(" ".join(["0000", "0000", "0002"][: count + 1]))
@@ -279,14 +281,14 @@ name    fcs     "/D1/Data"
 
 
 LINK = """
-        leax    shared,pcr
+        leax    <shared,pcr
         lda     #$40
         os9     $00
         lbsr    show
 """
 SHARED = """
 first   clra
-        ldb     15,u
+        ldb     >15,u
         lbsr    show
         rts
 shared  fcs     "Shared"
@@ -298,21 +300,20 @@ def newer_revision():
     of the module in A, and its attributes and revision in B; its first byte stands 15 behind its header. Process 3
     links it and sleeps until process 2 has loaded what is newer, and process 4 has linked it, stored 77 there, which
     process 2 reads, and unlinked it."""
-    old, newer = (data_module("Shared", "$40", f"$8{revision}", [17 * revision]) for revision in (1, 2))
-    one, two = assemble(old), assemble(newer)
-    modules = assemble(program("SysGo", f"""
-start   leax    holder,pcr
+    one, two = (data_module("Shared", "$40", f"$8{revision}", [17 * revision]) for revision in (1, 2))
+    modules = program("SysGo", f"""
+start   leax    <holder,pcr
         lbsr    fork
         ldx     #4
         os9     $0A
-        leax    one,pcr
+        leax    <one,pcr
         os9     $01
         lbsr    answer
-        leax    two,pcr
+        leax    <two,pcr
         os9     $01
         lbsr    show
         stu     <$30
-        leax    reader,pcr
+        leax    <reader,pcr
         lbsr    fork
         os9     $04
         lbsr    show
@@ -340,7 +341,7 @@ one     fcs     "/D0/One"
 two     fcs     "/D0/Two"
 holder  fcs     "Holder"
 reader  fcs     "Reader"
-{SHARED}""") + old + program("Holder", f"""
+{SHARED}""") + one + program("Holder", f"""
 start   nop
 {LINK}
         ldx     #0
@@ -351,11 +352,11 @@ start   nop
 {LINK}
         lbsr    first
         lda     #$77
-        sta     15,u
+        sta     >15,u
         clrb
         os9     $02
         lbsr    answer
-{EXIT}{SHARED}"""))
+{EXIT}{SHARED}""")
     files = [("One", MORE, 7, one, [(MORE + 1, 1)]), ("Two", MORE + 2, 7, two, [(MORE + 3, 1)])]
     disk = boot_disk(modules, files=files)
     holder, loads, reader = "4081", "01E7 4082", "4082 0022 0000"
@@ -370,16 +371,16 @@ def slash_behind_a_name():
     program shows, or the refusal: `Pr/` and `Pr//` are the name `Pr`, which is entered; `Qr/` is the name of no entered
     module, so the file of the path list is loaded, and there is none of `No/`; `/Pr` begins at a device, and `Pr/x` is
     looked up on the disk. F$Chain of `Pr/` comes last."""
-    shows = {name: assemble(program(name, f"""
+    shows = {name: program(name, f"""
 start   ldd     #{number}
         lbsr    show
-{EXIT}""")) for name, number in [("Pr", "$AA"), ("Qr", "$BB")]}
+{EXIT}""") for name, number in [("Pr", "$AA"), ("Qr", "$BB")]}
     texts = ["Pr/\r", "Pr//", "Qr/\r", "No/\r", "/Pr\r", "Pr/x\r"]
-    forks = "".join(f"        leax    text{n},pcr\n        lbsr    fork\n" for n in range(len(texts)))
+    forks = "".join(f"        leax    <text{n},pcr\n        lbsr    fork\n" for n in range(len(texts)))
     held = "".join(f"text{n}   fcb     {','.join(str(ord(c)) for c in text)}\n" for n, text in enumerate(texts))
-    modules = assemble(program("SysGo", f"""
+    modules = program("SysGo", f"""
 start   nop
-{forks}        leax    text0,pcr
+{forks}        leax    <text0,pcr
         lbsr    taken
         os9     $05
         lbsr    answer
@@ -400,7 +401,7 @@ fork    stx     <$30
         rts
 refused lbsr    answer
         rts
-{held}""")) + shows["Pr"]
+{held}""") + shows["Pr"]
     disk = boot_disk(modules, files=[("Qr", MORE, 7, shows["Qr"], [(MORE + 1, 1)])])
     row("a slash behind the name of a program", lines("0002 00AA 0002 00AA 0002 00BB 01D8 01DD 01D8 00AA"),
         [(disk, tree([directory_line("/", ["OS9Boot", "Qr"]), file_line("/OS9Boot", 3, modules),
@@ -414,13 +415,13 @@ NATIVE = bytes(n * n // 7 % 256 for n in range(1900))  # what stands in the plac
 
 def boot_file():
     """24,000 bytes: a program that opens TERM and writes the names of the entries of D0 there, among system modules."""
-    text = "".join(data_module(name, kind, "$81", NATIVE) for name, kind in SYSTEM) + program("SysGo", """
-start   leax    term,pcr
+    modules = b"".join(data_module(name, kind, "$81", NATIVE) for name, kind in SYSTEM) + program("SysGo", """
+start   leax    <term,pcr
         lda     #2
         os9     $84
         bcs     exit
         sta     <$30
-        leax    drive,pcr
+        leax    <drive,pcr
         lda     #$81
         os9     $84
         bcs     exit
@@ -434,9 +435,9 @@ char    lda     ,x+
         cmpa    #$80
         bcs     char
         anda    #$7F
-        sta     -1,x
+        sta     >-1,x
         lda     #13
-        sta     0,x
+        sta     >0,x
         ldx     #$40
         ldy     #80
         lda     <$30
@@ -449,8 +450,8 @@ exit    os9     $06
 term    fcs     "/TERM"
 drive   fcs     "/D0"
 """)
-    rest = 24000 - len(assemble(text)) - len(assemble(data_module("Config", "$40", "$81", [0]))) + 1
-    return assemble(text + data_module("Config", "$40", "$81", NATIVE[:rest]))
+    rest = 24000 - len(modules) - len(data_module("Config", "$40", "$81", [0])) + 1
+    return modules + data_module("Config", "$40", "$81", NATIVE[:rest])
 
 
 def floppy():
@@ -479,10 +480,10 @@ def floppy():
 
 def mount_faults():
     """The read of sector 0 is call 1 of the drive of an image, which is put in before anything runs."""
-    modules = assemble(program("SysGo", f"""
+    modules = program("SysGo", f"""
 start   lbsr    answer
 {EXIT}
-"""))
+""")
     second = Volume(16)
     second.directory(ROOT, ROOT, [])
     for name, disks, number in [
@@ -516,12 +517,12 @@ def write_fault():
         tfr     u,d
         lbsr    show
 """
-    modules = assemble(program("SysGo", f"""
+    modules = program("SysGo", f"""
 {filled(768)}        sta     <$30
         lbsr    answer
 {write}{write}{EXIT}
 name    fcs     "/D1/Data"
-""", 1200))
+""", 1200)
     disk = Volume(32)
     disk.directory(ROOT, ROOT, [("", 0)])  # clusters 0 to 3
     # the map's mark and the descriptor; then the entry, in a sector that is held since the search
@@ -537,19 +538,19 @@ name    fcs     "/D1/Data"
 
 def delete_faults():
     """A file of two sectors is deleted, and then opened. The first write frees its entry, the second one its marks."""
-    modules = assemble(program("SysGo", f"""
-start   leax    name,pcr
+    modules = program("SysGo", f"""
+start   leax    <name,pcr
         clrb
         os9     $87
         lbsr    answer
-        leax    name,pcr
+        leax    <name,pcr
         lda     #1
         clrb
         os9     $84
         lbsr    answer
 {EXIT}
 name    fcs     "/D1/Gone"
-"""))
+""")
     contents = bytes(n % 7 for n in range(300))
     # the name is searched and the file's descriptor read; then the entry's sector, which is held, is written
     entry = MOUNT + SEARCH + 1 + 1
@@ -578,8 +579,8 @@ start   nop
 start   clra
         clrb
         ldx     #$100
-        std     0,x
-        leax    name,pcr
+        std     >0,x
+        leax    <name,pcr
         lda     #$81
         os9     $84
         sta     <$30
@@ -592,7 +593,7 @@ start   clra
         tfr     y,d
         lbsr    show
         ldx     #$100
-        ldd     0,x
+        ldd     >0,x
         lbsr    show
 {EXIT}
 name    fcs     "/D1"
@@ -605,7 +606,7 @@ name    fcs     "/D1"
         ("opened, and the last call of its read fails", reads, read, "0000 01F4 0040 0000"),
         ("not opened, since the first call after mounting fails", reads, opened, "01F4 01C9 0040 0000"),
     ]:
-        modules = assemble(program("SysGo", source, 600))
+        modules = program("SysGo", source, 600)
         disk = Volume(16)
         disk.directory(ROOT, ROOT, [])  # clusters 0 to 3
         row(f"the root of a second drive is {name}", lines(shown),
@@ -620,7 +621,7 @@ def worn_volume():
     first hole, and its first 32 sectors to the first run that has as many, which is the rest; each further piece goes
     on there. If it took the holes first, it would have 48 segments after 94 sectors."""
     piece = bytes((n + 1) % 256 for n in range(8000))
-    modules = assemble(program("SysGo", f"""
+    modules = program("SysGo", f"""
 {filled(8000)}        sta     <$30
         lda     #10
         sta     <$31
@@ -636,7 +637,7 @@ again   lda     <$30
         bne     again
 {EXIT}
 name    fcs     "/D1/Data"
-""", 8400))
+""", 8400)
     old = bytes(range(100))
     worn = Volume(2520)
     kept = [(f"F{n:03}", 32 + 2 * n) for n in range(0, 140, 2)]
@@ -667,10 +668,10 @@ def two_workers():
         ldx     #0
         {calls["setstt"]}
 """
-    modules = assemble(program("SysGo", f"""
-start   leax    one,pcr
+    modules = program("SysGo", f"""
+start   leax    <one,pcr
         lbsr    make
-        leax    two,pcr
+        leax    <two,pcr
         lbsr    make
         ldb     #65
         lbsr    fork
@@ -686,7 +687,7 @@ make    ldb     #{ALL_MAY}
         lbsr    answer
         rts
 fork    stb     <$30
-        leax    worker,pcr
+        leax    <worker,pcr
         ldy     #1
         ldu     #$30
         lda     #$11
@@ -697,7 +698,7 @@ one     fcs     "/D0/A"
 two     fcs     "/D0/B"
 worker  fcs     "Worker"
 """) + program("Worker", f"""
-start   lda     0,x
+start   lda     >0,x
         sta     <$44
         ldx     #$2F44
         stx     <$40
@@ -727,14 +728,14 @@ fill    sta     ,x+
         ldu     #0
         {calls["seek"]}
         lda     <$31
-        leax    over,pcr
+        leax    <over,pcr
         ldy     #10
         {calls["write"]}
         ldu     #700
 {size}
         ldu     #40
 {size}
-        leax    gone,pcr
+        leax    <gone,pcr
         lda     #3
         ldb     #3
         {calls["create"]}
@@ -742,7 +743,7 @@ fill    sta     ,x+
         ldy     #10
         {calls["write"]}
         {calls["close"]}
-        leax    gone,pcr
+        leax    <gone,pcr
         {calls["delete"]}
         ldb     <$30
         os9     $06
@@ -752,7 +753,7 @@ noted   rts
 data    fcs     "Data"
 gone    fcs     "Gone"
 over    fcc     "0123456789"
-""", 1000))
+""", 1000)
     disk, kept = Volume(128), bytes(n % 251 for n in range(600))
     more = [(f"More{n}", MORE + n, 3, b"", []) for n in range(2)]
     files = [("Kept", 20, 0x0B, kept, [(21, 2), (30, 1)]), *more]

@@ -9,19 +9,20 @@ SHOW = routines.SHOW.replace("PATH", "1")
 
 
 def program(name, source, storage=200):
-    return f"        mod {name},$11,$81,{storage}\n{source}{SHOW}        emod\n"
+    """The module of a program that shows words."""
+    return assemble(f"        mod {name},$11,$81,{storage}\n{source}{SHOW}        emod\n")
 
 
-def row(name, source, slices, status, shown, blocks=64):
+def row(name, modules, slices, status, shown, blocks=64):
     """A row by its name: the words shown are the lines of four digits that are written."""
     out = b"".join(word.encode() + b"\r\n" for word in shown.split())
     words = f"run modules --slices slices --blocks {blocks}"
     print("#", name)
-    print(words, assemble(source).hex(), 0, slices.encode().hex(), "-", status, out.hex() or "-", "-", sep="\t")
+    print(words, modules.hex(), 0, slices.encode().hex(), "-", status, out.hex() or "-", "-", sep="\t")
 
 
 FORK = """
-        leax    child,pcr
+        leax    <child,pcr
         lda     #$11
         clrb
         os9     $03
@@ -95,11 +96,11 @@ start   ldd     #$4000
         os9     $06
 {CHILD}""") + program("Child", f"""{STARTED}
         ldx     <$22
-        ldd     0,x
+        ldd     >0,x
         bsr     show
-        ldd     2,x
+        ldd     >2,x
         bsr     show
-        lda     4,x
+        lda     >4,x
         clrb
         bsr     show
         os9     $06
@@ -118,7 +119,7 @@ refused bsr     show
 # Processes 3 and 4 link one module: what one stores the other reads. Before and after, all blocks but those of the
 # boot file are the parent's to take.
 LINK = """
-        leax    shared,pcr
+        leax    <shared,pcr
         clra
         os9     $00
 """
@@ -127,9 +128,9 @@ shared  fcs     "Shared"
 """
 row("a shared module", program("SysGo", """
 start   bsr     most
-        leax    writer,pcr
+        leax    <writer,pcr
         bsr     fork
-        leax    reader,pcr
+        leax    <reader,pcr
         bsr     fork
         os9     $04
         os9     $04
@@ -155,7 +156,7 @@ reader  fcs     "Reader"
 start   nop
 {LINK}
         lda     #$77
-        sta     15,u
+        sta     >15,u
         ldx     #5
         os9     $0A
         clrb
@@ -164,21 +165,23 @@ start   nop
 start   ldx     #2
         os9     $0A
 {LINK}
-        lda     15,u
+        lda     >15,u
         clrb
         bsr     show
         os9     $06
-{SHARED}""") + """        mod Shared,$40,$81
+{SHARED}""") + assemble("""        mod Shared,$40,$81,0
         fcb     1,2,3
         emod
-""", "1000*30", 0, "E000 0100 7700 E000 0100", blocks=8)
+"""), "1000*30", 0, "E000 0100 7700 E000 0100", blocks=8)
 
-# The parent forks children that sleep for ever, until one is refused: A is the child's number, or is kept, with the
-# number of the refusal in B. Then X has moved from the name by nothing, and Y and U are as before.
-LIMITS = program("SysGo", """
+
+def limits(most):
+    """The parent forks children that sleep for ever, until one is refused: A is the child's number, or is kept, with
+    the number of the refusal in B. Then X has moved from the name by nothing, and Y and U are as before."""
+    return program("SysGo", f"""
 start   ldy     #0
         ldu     #$1234
-again   leax    child,pcr
+again   leax    <child,pcr
         lda     #$11
         clrb
         os9     $03
@@ -187,7 +190,7 @@ again   leax    child,pcr
         bra     again
 refused lbsr    show
         stx     <$30
-        leax    child,pcr
+        leax    <child,pcr
         tfr     x,d
         subd    <$30
         lbsr    show
@@ -195,29 +198,31 @@ refused lbsr    show
         lbsr    show
         tfr     u,d
         lbsr    show
-        ldd     #MOST
+        ldd     #{most}
         os9     $07
         lbsr    show
         clrb
         os9     $06
 child   fcs     "Child"
 """)
+
+
 SLEEPER = program("Child", """
 start   ldx     #0
         os9     $0A
 """)
 children = [f"{number:02X}00" for number in range(3, 33)]
-row("a fork of more processes than there may be", LIMITS.replace("MOST", "$E000") + SLEEPER, "1000*90", 5,
+row("a fork of more processes than there may be", limits("$E000") + SLEEPER, "1000*90", 5,
     " ".join(children) + " 11E5 0000 0000 1234 E000")
-row("a fork without blocks", LIMITS.replace("MOST", "$2001") + SLEEPER, "1000*90", 5,
+row("a fork without blocks", limits("$2001") + SLEEPER, "1000*90", 5,
     " ".join(children[:6]) + " 11ED 0000 0000 1234 20ED", blocks=8)
 
 # Process 3 sleeps for 5 ticks at tick 10, process 4 wakes it at tick 11, and at tick 12 three are left. Each has one
 # instruction of every other slice before that.
 PARENT = program("SysGo", """
-start   leax    first,pcr
+start   leax    <first,pcr
         bsr     fork
-        leax    second,pcr
+        leax    <second,pcr
         bsr     fork
         ldx     #0
         os9     $0A
@@ -261,7 +266,7 @@ start   nop
 # Two signals before process 3 is chosen: the second is refused. Its routine has the signal in B, its area in U and S
 # 12 less; RTI gives all registers back, but E is set in CC.
 row("a signal with a routine", PARENT + program("First", """
-start   leax    routine,pcr
+start   leax    <routine,pcr
         ldu     #$80
         os9     $09
         sts     <$30
@@ -313,8 +318,8 @@ start   lda     #3
 
 # The six instructions of a program that writes a line and exits: what a slice leaves over is executed in the next one,
 # and an attempt comes only while instructions are left.
-HELLO = """        mod     SysGo,$11,$81,200
-start   leax    text,pcr
+HELLO = assemble("""        mod     SysGo,$11,$81,200
+start   leax    <text,pcr
         ldy     #80
         lda     #1
         os9     $8C
@@ -323,7 +328,7 @@ start   leax    text,pcr
 text    fcc     "0123"
         fcb     $0D
         emod
-"""
+""")
 for text, status, shown in [("1*3", 5, ""), ("4", 5, ""), ("6", 5, "0123"), ("7", 0, "0123"), ("1*6", 5, "0123"),
                             ("1*7", 0, "0123"), ("3 2*2", 0, "0123")]:
     row(f"slices {text}", HELLO, text, status, shown)
@@ -337,7 +342,7 @@ start   bsr     fork
         os9     $04
         clrb
         os9     $06
-fork    leax    child,pcr
+fork    leax    <child,pcr
         ldy     #0
         ldu     #0
         lda     #$11
@@ -349,8 +354,8 @@ child   fcs     "Child"
 start   clrb
 first   nop
         lda     #$5C
-        sta     first,pcr
-        sta     next,pcr
+        sta     <first,pcr
+        sta     <next,pcr
 next    nop
         clra
         bsr     show
@@ -375,7 +380,7 @@ start   ldy     #0
         clrb
         os9     $06
 {CHILD}""") + program("Child", f"""
-start   leax    routine,pcr
+start   leax    <routine,pcr
         ldu     #$80
         os9     $09
         ldd     #{stack}
@@ -416,7 +421,7 @@ start   ldd     #$E000
 
 # A pipe has 41, and then 42. The byte at FFFF is read; two bytes from there are refused, and byte and pipe stay.
 row("a read of the byte at FFFF, and of two bytes there", program("SysGo", f"""
-start   leax    pipe,pcr
+start   leax    <pipe,pcr
         lda     #3
         os9     $84
         ldd     #$4142
@@ -454,7 +459,7 @@ read    lda     #3
         rts
 last    ldx     #$FFFF
         clra
-        ldb     0,x
+        ldb     >0,x
         bsr     show
         rts
 pipe    fcs     "/PIPE"
@@ -472,7 +477,7 @@ start   ldd     #$8512
         std     $46
         ldd     #$DEF0
         std     $48
-        leax    back,pcr
+        leax    <back,pcr
         stx     $4A
         ldd     #$0040
         tfr     d,s
@@ -493,9 +498,9 @@ back    pshs    cc
         clrb
         bsr     show
         ldx     #$34
-        ldd     0,x
+        ldd     >0,x
         bsr     show
-        ldd     2,x
+        ldd     >2,x
         bsr     show
         clrb
         os9     $06

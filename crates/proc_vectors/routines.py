@@ -8,7 +8,7 @@ show    pshs    a,b,x,y
         tfr     b,a
         bsr     pair
         lda     #$0D
-        sta     0,x
+        sta     >0,x
         ldx     #$10
         ldy     #5
         lda     #PATH

@@ -85,7 +85,7 @@ def step_source(number, kind, *rest):
     return f"        ldb     #{rest[0]}\n        os9     $06\n"
 
 
-def source(name, steps):
+def guest_module(name, steps):
     code = "".join(step_source(number, *step) for number, step in enumerate(steps))
     texts = "".join(
         f"text{number}  fcb     {','.join(str(code) for code in step[2])}\n"
@@ -96,7 +96,7 @@ def source(name, steps):
 
 
 def module(name, text, storage=2048):
-    return f"        mod {name},$11,$81,{storage}\n{text}        emod\n"
+    return assemble(f"        mod {name},$11,$81,{storage}\n{text}        emod\n")
 
 
 def line(words, modules, slices, script, status, out, err="-", failing="-"):
@@ -115,7 +115,7 @@ def script_text(keys):
 
 def guest(programs, keys, slices, failing=None):
     """A row of programs, worked out by the second implementation. Answers what is written."""
-    modules = assemble("".join(source(name, steps) for name, steps in programs.items()))
+    modules = b"".join(guest_module(name, steps) for name, steps in programs.items())
     status, out = Machine(programs, keys, failing or {}).run(slices)
     calls = ",".join(f"{name} {call}" for name, numbers in (failing or {}).items() for call in numbers)
     line(RUN, modules, f"10000*{slices}", script_text(keys), status, out, failing=calls or "-")
@@ -193,7 +193,7 @@ def long_lines():
 def texts():
     """Scripts and slices that are refused, with the least line that breaks a rule."""
     steps = {"SysGo": [("writln", 0, b"hi\r"), ("exit", 0)]}
-    modules = assemble(source("SysGo", steps["SysGo"]))
+    modules = guest_module("SysGo", steps["SysGo"])
     out = b"hi\r\n0000\r\n0003\r\n"
     for name, script, at in [
         ("ticks that fall", b"2 TERM 61 0D\n1 TERM 62", 2),
@@ -211,7 +211,7 @@ def texts():
     line(RUN, modules, "5*0", b"1 TERM 61\n", 7, b"", "os9: slices: line 1")
     line(RUN, modules, "5*0", b"1 TERM 61\n1 TERM\n", 7, b"", "os9: script: line 2")
     title("a key that arrives at the last tick of a script, in the last of 1,000,000 slices")
-    last = assemble(source("SysGo", [("readln", 0, 80), ("exit", 0)]))
+    last = guest_module("SysGo", [("readln", 0, 80), ("exit", 0)])
     line(RUN, last, "1000*2 1*999997 1000", b"1000000 TERM 61 0D\n", 0, b"a\r\n0000\r\n0002\r\na\r")
     title("1,000,000 keys, which are due after the run; one more, in a line of their own and in one line")
     many, more, next_line = b"1000000 TERM".hex(), b" 61".hex(), b"\n1000000 T1 62".hex()
@@ -223,9 +223,9 @@ def texts():
 def by_hand(name, programs, status, words, slices="10000*9", script=b"", failing="-"):
     """A row whose programs show words on TERM, or what they write themselves."""
     title(name)
-    text = "".join(module(one, code + SHOW.replace("PATH", "1")) for one, code in programs.items())
+    modules = b"".join(module(one, code + SHOW.replace("PATH", "1")) for one, code in programs.items())
     out = words if isinstance(words, bytes) else b"".join(word.encode() + b"\r\n" for word in words.split())
-    line(RUN, assemble(text), slices, script, status, out, failing=failing)
+    line(RUN, modules, slices, script, status, out, failing=failing)
 
 
 PIPE = """
@@ -235,7 +235,7 @@ CHILD = """
 child   fcs     "Child"
 """
 FORK = """
-        leax    child,pcr
+        leax    <child,pcr
         ldy     #0
         ldu     #0
         lda     #$11
@@ -254,7 +254,7 @@ def pipes():
     by_hand("a pipe between two processes: 300 bytes", {"SysGo": f"""
 start   clra
         os9     $8F
-        leax    pipe,pcr
+        leax    <pipe,pcr
         lda     #3
         os9     $84
 {FORK}
@@ -279,7 +279,7 @@ part    ldx     #$200
 """}, 0, "0000 0100 0000 012C 0000 002C 01D3 0200")
     # The first process alone holds the pipe.
     by_hand("a pipe that one process holds: empty, filled, and a byte too many", {"SysGo": f"""
-start   leax    pipe,pcr
+start   leax    <pipe,pcr
         lda     #3
         os9     $84
         ldy     #80
@@ -310,7 +310,7 @@ start   leax    pipe,pcr
 {EXIT}{PIPE}"""}, 0, "01D3 0050 0000 0100 01F5 0001 00FF 0001 0000 0100")
     # Two numbers of one process are one holder: its wait would be of no use.
     by_hand("a pipe on two paths of one process", {"SysGo": f"""
-start   leax    pipe,pcr
+start   leax    <pipe,pcr
         lda     #3
         os9     $84
         os9     $82
@@ -327,11 +327,11 @@ start   leax    pipe,pcr
     by_hand("a line through a pipe that a child has as path 0", {"SysGo": f"""
 start   clra
         os9     $8F
-        leax    pipe,pcr
+        leax    <pipe,pcr
         lda     #3
         os9     $84
 {FORK}
-        leax    lines,pcr
+        leax    <lines,pcr
         ldy     #4
         clra
         clrb
@@ -357,7 +357,7 @@ def limits():
     # Paths 0 to 2 are one path; thirteen more are opened, then one is refused, and so is a further image of one.
     by_hand("a process with sixteen paths", {"SysGo": """
 start   clr     <$30
-again   leax    term,pcr
+again   leax    <term,pcr
         lda     #3
         clrb
         os9     $84
@@ -384,7 +384,7 @@ term    fcs     "/TERM"
     # The first process has two of the paths, TERM and one more; each child opens thirteen, of its own. 64 are open
     # when the fifth child has opened ten.
     by_hand("sixty-four paths", {"SysGo": f"""
-start   leax    term,pcr
+start   leax    <term,pcr
         lda     #3
         os9     $84
         lda     #5
@@ -402,7 +402,7 @@ again   {FORK.strip()}
 term    fcs     "/TERM"
 """, "Child": """
 start   clr     <$30
-again   leax    term,pcr
+again   leax    <term,pcr
         lda     #3
         clrb
         os9     $84
@@ -419,7 +419,7 @@ term    fcs     "/t2"
     by_hand("sixteen pipes", {"SysGo": f"""
 start   lda     #13
         sta     <$30
-again   leax    pipe,pcr
+again   leax    <pipe,pcr
         lda     #3
         clrb
         os9     $84
@@ -435,7 +435,7 @@ start   lbsr    open
         lbsr    open
         lbsr    open
         lbsr    open
-        leax    term,pcr
+        leax    <term,pcr
         lda     #3
         clrb
         os9     $84
@@ -444,7 +444,7 @@ start   lbsr    open
         os9     $8F
         lbsr    open
 {EXIT}
-open    leax    pipe,pcr
+open    leax    <pipe,pcr
         lda     #3
         clrb
         os9     $84
@@ -524,7 +524,7 @@ def refusals():
             0, "01C9 0000 01D0 0000 01C9 0000 01D2 0000")
     # Sixteen numbers are in use: a device that is not there is told first, and so is a mode without a bit.
     opened = "".join(f"""
-        leax    {name},pcr
+        leax    <{name},pcr
         lda     #{mode}
         clrb
         os9     $84
@@ -566,7 +566,7 @@ start   ldx     #$200
 """}, 0, b"0003\r\n0000\r\na\r\n0000\r\n0002\r\n", script=b"3 TERM 03 61 0D\n", failing="TERM 4")
     # The child's write fails, and still it is the last user.
     by_hand("a key 03 after a write that failed", {"SysGo": f"{waiting}{EXIT}{CHILD}", "Child": """
-start   leax    text,pcr
+start   leax    <text,pcr
         ldy     #1
         lda     #1
         os9     $8A
@@ -591,10 +591,10 @@ start   nop
 {FORK}{started}{later}{started}{EXIT}{CHILD}
 later   fcs     "Later"
 """, "Child": """
-start   leax    term,pcr
+start   leax    <term,pcr
         lda     #3
         os9     $84
-        leax    text,pcr
+        leax    <text,pcr
         ldy     #1
         os9     $8A
         clrb
