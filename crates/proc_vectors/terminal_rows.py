@@ -4,11 +4,15 @@ in turn, scripts that are refused, and limits. src/row.rt has the fields of a ro
 
 What programs over terminals write is worked out by a second implementation, which stands in terminal_model.py and
 shares no text with the program; where the bytes of a row are known, it is compared with them. The rows of pipes, of
-signals and of limits are worked out by hand."""
+signals, of limits and of the shell are worked out by hand."""
+
+from pathlib import Path
 
 import routines
 from assemble import assemble
 from terminal_model import Machine
+
+EXAMPLES = Path(__file__).resolve().parents[2] / "examples"
 
 # The programs in assembler. A program opens T1, T2 and T3 as its paths 3, 4 and 5, and shows on T3 what each call
 # answers: carry and B, and Y, as lines of four digits; of a read that is done the bytes too.
@@ -609,6 +613,19 @@ start   ldx     #6
 """}, 0, b"0003\r\nA0000\r\n0000\r\n0003\r\n0000\r\n0000\r\n", "10000*20", b"7 T1 03\n")
 
 
+def shell():
+    """The shell of examples/ and its programs."""
+    shell, hello, say = (assemble((EXAMPLES / f"{name}.asm").read_text()) for name in ("shell", "greet", "say"))
+    title("the shell: a program that it starts, and the end of the file")
+    line(RUN, shell + hello, "1000*20", b"1 TERM 48 65 6C 6C 6F 0D 1B\n", 0, b"OS9:Hello\r\nHello\r\nOS9:")
+    # Blanks are parameters; the status 7 of a program, no program of a name, and an empty line are errors.
+    seven = module("Seven", "start   ldb     #7\n        os9     $06\n")
+    typed = b"Say  a b\rSeven\rNobody\r\r\x1B"
+    title("the shell: parameters, and errors")
+    line(RUN, shell + say + seven, "1000*40", script_text([(1, "TERM", typed)]), 0,
+         b"OS9:Say  a b\r\na b\r\nOS9:Seven\r\nERROR #007\r\nOS9:Nobody\r\nERROR #216\r\nOS9:\r\nERROR #215\r\nOS9:")
+
+
 def main():
     worked()
     failing_terminals()
@@ -618,6 +635,7 @@ def main():
     texts()
     pipes()
     limits()
+    shell()
 
 
 if __name__ == "__main__":
