@@ -9,9 +9,11 @@ use Rattle.number_text.specs.Number.{number_of, within}
 use Rattle.time_text.specs.TimeText.{time_in}
 use Rattle.time_text.proofs.Places.{is-read}
 use Rattle.word_options.specs.Given.{Given, only_argument, value_of, words_give}
+use Rattle.os9_words.specs.declared.asm_words.AsmWords.{AsmWords}
 use Rattle.os9_words.specs.declared.command.Command.{Command}
-use Rattle.os9_words.specs.declared.command.Command.TheVariants.{Boot, Check, Stress, Vol}
+use Rattle.os9_words.specs.declared.command.Command.TheVariants.{Asm, Boot, Check, Stress, Vol}
 use Rattle.os9_words.specs.Command.{blocks_of, boot_of, boot_with, check_of, check_options, command_of, most_images, most_seed, run_of, run_options, run_with, seed_of, stress_of, stress_options, IsCommand}
+use Rattle.os9_words.specs.Asm.{asm_of, asm_options}
 use Rattle.os9_words.specs.Times.{default_start, time_of}
 use Rattle.os9_words.specs.Vol.{vol_of, vol_options}
 use Rattle.os9_words.specs.declared.vol_words.VolWords.{VolWords}
@@ -128,21 +130,27 @@ vols-complete : (vol : Option VolWords) (command : Command) → ((words : VolWor
 vols-complete None command complete is = absurd (cc is)
 vols-complete (Some words) command complete is = subst IsCommand (some-is (Vol words) command is) (complete words refl)
 
+asm-complete : (asm : Option AsmWords) (command : Command) → option_map Asm asm ≡ Some command → IsCommand command
+asm-complete None command is = absurd (cc is)
+asm-complete (Some words) command is = subst IsCommand (some-is (Asm words) command is) tt
+
 -- what words spell has what a command has
 pub is-complete : (words : List (List ℕ)) (command : Command) → command_of words ≡ Some command → IsCommand command
 is-complete [] command is = absurd (cc is)
 is-complete (first ∷ words) command is =
-    by (bytes_eq first (codes "run")) (bytes_eq first (codes "boot")) (bytes_eq first (codes "check")) (bytes_eq first (codes "stress")) (bytes_eq first (codes "vol")) is
+    by (bytes_eq first (codes "run")) (bytes_eq first (codes "boot")) (bytes_eq first (codes "check")) (bytes_eq first (codes "stress")) (bytes_eq first (codes "vol")) (bytes_eq first (codes "asm")) is
   where
-    by : (run boot check stress vol : Bool) → (if run then option_and_then run_of (words_give run_options words) else (if boot then option_and_then boot_of (words_give run_options words) else (if check then option_and_then check_of (words_give check_options words) else (if stress then option_and_then stress_of (words_give stress_options words) else (if vol then option_map Vol (option_and_then vol_of (words_give vol_options words)) else None))))) ≡ Some command → IsCommand command
-    by true boot check stress vol is =
+    by : (run boot check stress vol asm : Bool) → (if run then option_and_then run_of (words_give run_options words) else (if boot then option_and_then boot_of (words_give run_options words) else (if check then option_and_then check_of (words_give check_options words) else (if stress then option_and_then stress_of (words_give stress_options words) else (if vol then option_map Vol (option_and_then vol_of (words_give vol_options words)) else (if asm then option_map Asm (option_and_then asm_of (words_give asm_options words)) else None)))))) ≡ Some command → IsCommand command
+    by true boot check stress vol asm is =
         given-complete (words_give run_options words) run_of command (λ given e. runs-complete given command e) is
-    by false true check stress vol is =
+    by false true check stress vol asm is =
         given-complete (words_give run_options words) boot_of command (λ given e. boots-complete given command e) is
-    by false false true stress vol is =
+    by false false true stress vol asm is =
         given-complete (words_give check_options words) check_of command (λ given e. checks-complete given command e) is
-    by false false false true vol is =
+    by false false false true vol asm is =
         given-complete (words_give stress_options words) stress_of command (λ given e. stresses-complete given command e) is
-    by false false false false true is =
+    by false false false false true asm is =
         vols-complete (option_and_then vol_of (words_give vol_options words)) command (λ vol e. vol-complete time-is (words_give vol_options words) vol e) is
-    by false false false false false is = absurd (cc is)
+    by false false false false false true is =
+        asm-complete (option_and_then asm_of (words_give asm_options words)) command is
+    by false false false false false false is = absurd (cc is)

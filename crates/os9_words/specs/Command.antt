@@ -5,10 +5,11 @@ use Rattle.os9_base.specs.declared.registers.TimePacket.{TimePacket}
 use Rattle.civil_time.specs.CivilTime.{is_time_packet}
 use Rattle.number_text.specs.Number.{number_of, within}
 use Rattle.word_options.specs.Given.{Given, only_argument, value_of, words_give}
+use Rattle.os9_words.specs.Asm.{asm_of, asm_options}
 use Rattle.os9_words.specs.Times.{time_of}
 use Rattle.os9_words.specs.Vol.{vol_of, vol_options, IsVol}
 use Rattle.os9_words.specs.declared.command.Command.{Command}
-use Rattle.os9_words.specs.declared.command.Command.TheVariants.{Run, Boot, Check, Stress, Vol}
+use Rattle.os9_words.specs.declared.command.Command.TheVariants.{Run, Boot, Check, Stress, Vol, Asm}
 use Rattle.os9_words.specs.declared.command.RunWords.{RunWords}
 use Rattle.os9_words.specs.declared.command.WordsFault.{WordsFault}
 use Rattle.os9_words.specs.declared.command.WordsFault.TheVariants.{Refused, OutOfMemory}
@@ -98,7 +99,9 @@ command_of (command ∷ words) =
     then option_and_then stress_of (words_give stress_options words)
     else (if bytes_eq command (codes "vol")
     then option_map Vol (option_and_then vol_of (words_give vol_options words))
-    else None))))
+    else (if bytes_eq command (codes "asm")
+    then option_map Asm (option_and_then asm_of (words_give asm_options words))
+    else None)))))
 
 -- a boot names one to four images and a script
 pub record HasImages (run : RunWords) : Type 0 where
@@ -128,6 +131,7 @@ IsCommand (Boot boot) = IsBoot boot
 IsCommand (Check image) = ⊤
 IsCommand (Stress seed) = seed < 2147483648
 IsCommand (Vol vol) = IsVol vol
+IsCommand (Asm asm) = ⊤
 
 -- the fact holds where the words are refused
 abbrev pub OnRefused : {T : Type 0} → Result T WordsFault → Type 0 → Type 0

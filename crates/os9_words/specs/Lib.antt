@@ -1,3 +1,4 @@
+pub mod Asm
 pub mod Command
 pub mod Lines
 pub mod Notes

@@ -5,10 +5,12 @@ ghost use Rattle.os9_words.specs.Command.{command_of, check_options, most_images
 ghost use Rattle.os9_words.specs.Command.{blocks_of as blocks_of_lem, boot_of as boot_of_lem, check_of as check_of_lem, run_of as run_of_lem};
 ghost use Rattle.os9_words.specs.Command.{seed_of as seed_of_lem, stress_of as stress_of_lem};
 ghost use Rattle.os9_words.specs.Times.{time_of as time_of_lem};
+ghost use Rattle.os9_words.specs.Asm.{asm_of as asm_of_lem, asm_options};
 ghost use Rattle.os9_words.specs.Vol.{vol_of as vol_of_lem, vol_options};
-ghost use Rattle.os9_words.specs.declared.command.Command.TheVariants.{Vol};
+ghost use Rattle.os9_words.specs.declared.command.Command.TheVariants.{Asm, Vol};
 ghost use Rattle.word_options.specs.Given.{words_give};
 
+use crate::asm_words::{AsmWords, read_asm};
 use crate::vol_words::{VolWords, read_vol};
 use crate::word::{Word, Words};
 use number_text::read_number;
@@ -48,6 +50,8 @@ pub enum Command {
     Stress(u32),
     /// `vol VERB IMAGE ..`, with `--time T` or not: looks into the image of a disk, or changes it.
     Vol(VolWords),
+    /// `asm SOURCE OUT`: assembles the source in a file to the module in a file.
+    Asm(AsmWords),
 }
 
 /// Why words were not read.
@@ -106,6 +110,7 @@ pub fn read_words(alloc: Global, words: &[String]) -> Result<Command, WordsFault
         "check" => read_check(alloc, words),
         "stress" => read_stress(alloc, words),
         "vol" => read_tool(alloc, words),
+        "asm" => read_source(alloc, words),
         _ => Err(WordsFault::Refused),
     }
 }
@@ -169,6 +174,20 @@ fn read_tool(alloc: Global, words: &[String]) -> Result<Command, WordsFault>
 {
     match read_vol(alloc, words) {
         Ok(vol) => Ok(Command::Vol(vol)),
+        Err(fault) => Err(fault),
+    }
+}
+
+// Reads the words behind `asm`.
+fn read_source(alloc: Global, words: &[String]) -> Result<Command, WordsFault>
+    ensures command { IfOk result (λ read. option_map Asm (option_and_then asm_of_lem
+        (words_give asm_options (map string_bytes words.now))) ≡ Some read) }
+    ensures complete { IfOk result IsCommand }
+    ensures refused { OnRefused result (option_map Asm (option_and_then asm_of_lem
+        (words_give asm_options (map string_bytes words.now))) ≡ None) }
+{
+    match read_asm(alloc, words) {
+        Ok(asm) => Ok(Command::Asm(asm)),
         Err(fault) => Err(fault),
     }
 }

@@ -2,6 +2,7 @@
 //! on the output stream.
 #![tactic(auto)]
 
+pub mod asm_words;
 pub mod command;
 pub mod counts;
 pub mod message;

@@ -3,7 +3,7 @@
 ghost use Rattle.std.specs.Prelude.{◌≡◌, [], ◌∷◌, Some, None, codes};
 ghost use Rattle.civil_time.specs.Rows.{at};
 ghost use Rattle.os9_words.specs.Command.{boot_with, command_of, run_with};
-ghost use Rattle.os9_words.specs.declared.command.Command.TheVariants.{Stress};
+ghost use Rattle.os9_words.specs.declared.command.Command.TheVariants.{Asm, Stress};
 
 /// Command lines in both forms of an option, and in any order.
 pub fn runs_are_read()
@@ -76,6 +76,19 @@ pub fn stresses_are_read()
     ensures no_number { command_of (codes "stress" ∷ []) ≡ None }
     ensures with_an_option { command_of (codes "stress" ∷ codes "1" ∷ codes "--blocks=8" ∷ [])
         ≡ None }
+{}
+
+/// Command lines of an assembly: a source and a file for the module, and nothing more.
+pub fn assemblies_are_read()
+    ensures two_files { command_of (codes "asm" ∷ codes "s" ∷ codes "m" ∷ [])
+        ≡ Some (Asm (record { source = codes "s"; out = codes "m" })) }
+    ensures behind_dashes { command_of (codes "asm" ∷ codes "--" ∷ codes "-s" ∷ codes "-m" ∷ [])
+        ≡ Some (Asm (record { source = codes "-s"; out = codes "-m" })) }
+    ensures one_file { command_of (codes "asm" ∷ codes "s" ∷ []) ≡ None }
+    ensures three_files { command_of (codes "asm" ∷ codes "s" ∷ codes "m" ∷ codes "n" ∷ [])
+        ≡ None }
+    ensures with_an_option { command_of (codes "asm" ∷ codes "s" ∷ codes "m"
+        ∷ codes "--time=1990-01-01T00:00:00" ∷ []) ≡ None }
 {}
 
 /// Words that are no command line.

@@ -1,0 +1,106 @@
+//! The words of `asm`, the assembler.
+
+ghost use Rattle.std.specs.Prelude.{◌≡◌, IfOk, None, Some, map, option_and_then, string_bytes};
+ghost use Rattle.word_options.specs.Given.{words_give};
+ghost use Rattle.os9_words.specs.Command.{OnRefused};
+ghost use Rattle.os9_words.specs.Asm.{asm_of as asm_of_lem, asm_options};
+
+use crate::command::{WordsFault, read_options};
+use crate::word::Word;
+use option_reader::GivenWords;
+use std::alloc::{AllocError, Global};
+
+/// The words of `asm`.
+#[derive(Debug, Drop)]
+pub struct AsmWords {
+    /// The file with the source.
+    pub source: Word,
+    /// The file for the module.
+    pub out: Word,
+}
+
+// Reads the words behind `asm`.
+pub(crate) fn read_asm(alloc: Global, words: &[String]) -> Result<AsmWords, WordsFault>
+    ensures words { IfOk result (λ read. option_and_then asm_of_lem
+        (words_give asm_options (map string_bytes words.now)) ≡ Some read) }
+    ensures refused { OnRefused result (option_and_then asm_of_lem
+        (words_give asm_options (map string_bytes words.now)) ≡ None) }
+{
+    let given = read_options(alloc, &[], words)?;
+    asm_of(alloc, &given)
+}
+
+// `asm SOURCE OUT`.
+fn asm_of(alloc: Global, given: &GivenWords<'_>) -> Result<AsmWords, WordsFault>
+    ensures words { IfOk result (λ read. asm_of_lem given.now ≡ Some read) }
+    ensures refused { OnRefused result (asm_of_lem given.now ≡ None) }
+{
+    let source = given.argument(0);
+    let out = given.argument(1);
+    let more = given.argument(2);
+    let (Some(source), Some(out), None) = (source, out, more) else {
+        return Err(WordsFault::Refused);
+    };
+    match asm_words(alloc, source, out) {
+        Ok(words) => Ok(words),
+        Err(_) => Err(WordsFault::OutOfMemory),
+    }
+}
+
+fn asm_words(alloc: Global, source: &str, out: &str) -> Result<AsmWords, AllocError>
+    ensures { IfOk result (λ words. words ≡ record { source = source.now; out = out.now }) }
+{
+    Ok(AsmWords {
+        source: Word::copy_of(alloc, source)?,
+        out: Word::copy_of(alloc, out)?,
+    })
+}
+
+#[cfg(test)]
+mod tests {
+    use super::*;
+    use crate::command::{Command, read_words};
+    use std::test::Fail;
+
+    fn words_of(alloc: Global, words: &[&str]) -> Result<Vec<String>, AllocError> {
+        words
+            .iter()
+            .map(|word| String::from_str(alloc, word))
+            .try_collect(alloc)
+    }
+
+    #[test]
+    fn asm_words_are_read(rt: HostRuntime) -> Result<(), Fail> {
+        for (words, source, out) in [
+            (["asm", "s", "m"].as_slice(), "s", "m"),
+            (&["asm", "s", "s"], "s", "s"),
+            (&["asm", "--", "-s", "--time"], "-s", "--time"),
+            (&["asm", "-", ""], "-", ""),
+        ] {
+            let words = words_of(rt.alloc(), words)?;
+            let Command::Asm(asm) = read_words(rt.alloc(), &words)? else {
+                return Err(Fail::from("no asm"));
+            };
+            assert_eq!(rt; asm.source.text() == source, true);
+            assert_eq!(rt; asm.out.text() == out, true);
+        }
+        Ok(())
+    }
+
+    #[test]
+    fn bad_asm_words(rt: HostRuntime) -> Result<(), Fail> {
+        for words in [
+            ["asm"].as_slice(),
+            &["asm", "s"],
+            &["asm", "s", "m", "n"],
+            &["asm", "s", "m", "--time", "1990-01-01T00:00:00"],
+            &["asm", "--out=m", "s"],
+            &["Asm", "s", "m"],
+        ] {
+            let words = words_of(rt.alloc(), words)?;
+            let refused = read_words(rt.alloc(), &words).err();
+            assert_eq!(rt; refused, Some(WordsFault::Refused));
+        }
+        Ok(())
+    }
+}
