@@ -1,0 +1,11 @@
+pub mod StageLemmas
+pub mod CodeLemmas
+pub mod BytesLemmas
+pub mod PushLemmas
+pub mod AssembleLemmas
+pub mod ShapeLemmas
+pub mod PlainLemmas
+pub mod StandLemmas
+pub mod LawLemmas
+pub mod MakeLemmas
+pub mod NameLemmas

@@ -1,0 +1,28 @@
+-- Each part is the next of the text.
+use Rattle.std.proofs.Common.{ℕ, List, [], ◌∷◌, ◌++◌, map, length, refl, ap, ◌∙◌, rules, tests}
+use Rattle.std.specs.List.{slice_split}
+use Rattle.std.proofs.lemmas.List.{length_push}
+use Rattle.std.proofs.lemmas.Iterator.Consumers.{YieldsList-turn, YieldsList-end}
+use Rattle.std.proofs.lemmas.Iterator.Splits.{YieldsList-from_slice_split}
+use Rattle.asm_model.specs.Characters.{is_comma}
+use Rattle.asm6809.specs.Bytes.{byte_in}
+use Rattle.asm6809.proofs.PushLemmas.{pushed-next, pushed-all}
+use Rattle.asm6809.proofs.emit.push_bytes.Goals as goal
+
+pub loop-part-preserved : goal.loop-part-preserved
+loop-part-preserved c =
+    let turn = YieldsList-turn (YieldsList-from_slice_split _ is_comma c.args.text.now (cc) (cc) (cc) (λ x b q k. search (rules, tests)))
+    c.loop-part.yielded _ c.loop-part.yielded_by _ _ c.in-Some.part c.in-Some.is c.next.ensures.steps in
+    let count = length_push c.loop-part.yielded c.in-Some.part in
+    rw count (pushed-next (map (byte_in c.args.place.labels.now c.args.place.offset))
+    (λ (t : List ℕ). byte_in c.args.place.labels.now c.args.place.offset t ∷ []) (λ part rest. refl)
+    (slice_split is_comma c.args.text.now) (length c.loop-part.yielded) c.loop-part.code.items _ c.loop-part.invariant
+    c.in-Some.part.now _ turn.0 turn.1 (c.in_ok-push_byte.ensures ∙ ap (λ b. c.loop-part.code.items ++ b ∷ []) c.byte_at.ensures))
+
+pub returns : goal.returns
+returns c =
+    let end = YieldsList-end (YieldsList-from_slice_split _ is_comma c.args.text.now (cc) (cc) (cc) (λ x b q k. search (rules, tests)))
+    c.loop-part.yielded _ c.loop-part.yielded_by _ _ c.in-None.is c.next.ensures.steps in
+    pushed-all (map (byte_in c.args.place.labels.now c.args.place.offset))
+    (λ (t : List ℕ). byte_in c.args.place.labels.now c.args.place.offset t ∷ []) (λ part rest. refl)
+    (slice_split is_comma c.args.text.now) (length c.loop-part.yielded) c.loop-part.code.items _ c.loop-part.invariant refl end.1

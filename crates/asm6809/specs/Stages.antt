@@ -1,0 +1,33 @@
+-- Where the statements of a module are read.
+use Rattle.std.specs.Prelude.{Bool, Option, Some, None, List}
+use Rattle.asm_model.specs.Statements.{Action, module_start, module_end, LineRead, skipped, broken, stated}
+use Rattle.asm6809.specs.declared.module.Stage.{Stage}
+use Rattle.asm6809.specs.declared.module.Stage.TheVariants.{Before, Within, Behind}
+use Rattle.asm6809.specs.Assembled.{is_empty, is_framed, is_closed}
+
+abbrev pub within_behind : Action → Option Stage
+within_behind (module_start m) = None
+within_behind module_end = Some Behind
+within_behind _ = Some Within
+
+abbrev pub before_behind : Action → Option Stage
+before_behind (module_start m) = Some Within
+before_behind _ = None
+
+-- the stage behind a statement, if it may be there
+abbrev pub stage_behind : Stage → Action → Option Stage
+stage_behind Before action = before_behind action
+stage_behind Within action = within_behind action
+stage_behind Behind action = None
+
+-- the stage behind a line, if its statement may be there
+abbrev pub stage_after : Stage → LineRead → Option Stage
+stage_after stage skipped = Some stage
+stage_after stage (broken name) = Some stage
+stage_after stage (stated s) = stage_behind stage s.action
+
+-- the statements that are left are right at a stage
+abbrev pub is_rest : Stage → List Action → Bool
+is_rest Before actions = is_framed actions
+is_rest Within actions = is_closed actions
+is_rest Behind actions = is_empty actions
