@@ -4,9 +4,9 @@ use Rattle.os9_words.specs.declared.command.RunWords.{RunWords}
 use Rattle.event_rules.specs.declared.ends.BootFault.{BootFault}
 use Rattle.event_rules.specs.declared.ends.BootFault.TheVariants.{OutOfMemory, BadModule as BadModuleFault, NoFirst as NoFirstFault, TooLarge as TooLargeFault}
 use Rattle.command_files.specs.declared.status.Input.{Input}
-use Rattle.command_files.specs.declared.status.Input.TheVariants.{Script, Slices, Modules, Image, File}
+use Rattle.command_files.specs.declared.status.Input.TheVariants.{Script, Slices, Modules, Image, File, Source}
 use Rattle.command_files.specs.declared.status.End.{End}
-use Rattle.command_files.specs.declared.status.End.TheVariants.{Ended, Living, CannotRead, CannotWrite, CannotWriteImage, NoMemory, BadImage, BadText, BadBounds, BadModule, NoFirst, TooLarge, DriveFailed, CannotWriteFile, Refused}
+use Rattle.command_files.specs.declared.status.End.TheVariants.{Ended, Living, CannotRead, CannotWrite, CannotWriteImage, NoMemory, BadImage, BadText, BadBounds, BadModule, NoFirst, TooLarge, DriveFailed, CannotWriteFile, Refused, BadSource}
 
 -- the status that the end gives
 abbrev pub status_number : End → ℕ
@@ -25,6 +25,7 @@ status_number NoFirst = 8
 status_number TooLarge = 8
 status_number (DriveFailed _ _) = 9
 status_number (Refused _) = 11
+status_number (BadSource _ _) = 10
 
 -- how a refused boot file ends a command
 abbrev pub boot_end : BootFault → End
@@ -41,6 +42,7 @@ named_by (BadImage number fault) = Some (Image number)
 named_by (BadText input line) = Some input
 named_by CannotWriteFile = Some File
 named_by (Refused number) = Some (Image 0)
+named_by (BadSource line error) = Some Source
 named_by end = None
 
 -- the name of a file that the words of a run or a boot give, if they give one
@@ -50,3 +52,4 @@ run_file_name run Slices = Some run.slices
 run_file_name run Modules = slice_get run.files 0
 run_file_name run (Image number) = slice_get run.files number
 run_file_name run File = None
+run_file_name run Source = None

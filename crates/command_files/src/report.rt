@@ -5,6 +5,7 @@ ghost use Rattle.os9_words.specs.Streams.{WritesErr};
 ghost use Rattle.command_files.specs.EndLines.{end_line, text_of};
 
 use crate::status::End;
+use asm6809::error_number;
 use os9_outer::host::{Host, HostFault};
 use os9_words::message::{Message, report};
 
@@ -40,6 +41,7 @@ fn message_of<'a>(end: End, name: &'a str) -> Option<Message<'a>>
         End::TooLarge => Some(Message::TooLarge),
         End::DriveFailed(drive, number) => Some(Message::DriveFailed(drive, number)),
         End::Refused(number) => Some(Message::Refused(name, number)),
+        End::BadSource(line, error) => Some(Message::BadSource(name, line, error_number(error))),
         End::Ended | End::Living => None,
     }
 }

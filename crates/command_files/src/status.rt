@@ -1,6 +1,7 @@
 ghost use Rattle.std.specs.Prelude.{◌≡◌};
 ghost use Rattle.command_files.specs.End.{boot_end, named_by, status_number};
 
+use asm_model::error::AsmError;
 use event_rules::ends::BootFault;
 use rbf_check::CheckFault;
 
@@ -15,8 +16,10 @@ pub enum Input {
     Modules,
     /// The image of a disk: that of `check` and of `vol`, which is 0, or of a boot by its place, from 0.
     Image(u8),
-    /// FILE of `vol put`, which is read, or of `vol get`, which is written.
+    /// FILE of `vol put`, which is read, or of `vol get`, which is written; OUT of `asm`, which is written.
     File,
+    /// SOURCE of `asm`.
+    Source,
 }
 
 /// How a command ended.
@@ -32,7 +35,7 @@ pub enum End {
     CannotWrite,
     /// The image of this place could not be written back.
     CannotWriteImage(u8),
-    /// The file that the command makes, FILE of `vol get`, could not be written.
+    /// The file that the command makes, FILE of `vol get` or OUT of `asm`, could not be written.
     CannotWriteFile,
     /// Out of memory.
     NoMemory,
@@ -53,6 +56,9 @@ pub enum End {
     DriveFailed(u8, u8),
     /// The tool of `vol` is refused: the number of the error.
     Refused(u8),
+    /// The source of `asm` is refused: the first line, from 1, that breaks a rule, and the least rule that
+    /// it breaks. Line 0: all lines are right, and make no module.
+    BadSource(u64, AsmError),
 }
 
 impl End {
@@ -70,6 +76,7 @@ impl End {
             End::BadText(..) => 7,
             End::BadBounds | End::BadModule(..) | End::NoFirst | End::TooLarge => 8,
             End::DriveFailed(..) => 9,
+            End::BadSource(..) => 10,
             End::Refused(_) => 11,
         }
     }
@@ -95,6 +102,7 @@ impl End {
             End::CannotWriteImage(number) | End::BadImage(number, _) => Some(Input::Image(number)),
             End::CannotWriteFile => Some(Input::File),
             End::Refused(_) => Some(Input::Image(0)),
+            End::BadSource(..) => Some(Input::Source),
             _ => None,
         }
     }

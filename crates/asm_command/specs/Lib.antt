@@ -1,0 +1,4 @@
+pub mod Asm
+pub mod Call
+pub mod Left
+pub mod Steps
