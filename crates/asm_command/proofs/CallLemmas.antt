@@ -33,7 +33,7 @@ no-fault-same : (before after : World) → after ≡ before → HasNoFault befor
 no-fault-same before after same =
     (ap (λ (w : World). w.faults) same, ap (λ (w : World). w.failed_name) same, ap (λ (w : World). w.failed_in_read) same)
 
-files-same : (asm : AsmWords) (before after : World) (end : End) → after.files ≡ before.files → AsmLeavesFiles asm before after end
+pub files-same : (asm : AsmWords) (before after : World) (end : End) → after.files ≡ before.files → AsmLeavesFiles asm before after end
 files-same asm before after Ended same = same-changes (asm_outputs asm) before.files after.files same
 files-same asm before after CannotWriteFile same = same-changes (asm_outputs asm) before.files after.files same
 files-same asm before after NoMemory same = same-changes (asm_outputs asm) before.files after.files same

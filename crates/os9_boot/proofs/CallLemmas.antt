@@ -5,7 +5,7 @@ use Rattle.os9_outer.specs.Host.{Files, file_contents}
 use Rattle.os9_outer.specs.declared.host.Host.{Ghosts}
 use Rattle.os9_outer.specs.declared.host.HostFault.{HostFault}
 use Rattle.os9_words.specs.declared.command.Command.{Command}
-use Rattle.os9_words.specs.declared.command.Command.TheVariants.{Run as RunCommand, Boot as BootCommand, Check as CheckCommand, Stress as StressCommand, Vol as VolCommand}
+use Rattle.os9_words.specs.declared.command.Command.TheVariants.{Run as RunCommand, Boot as BootCommand, Check as CheckCommand, Stress as StressCommand, Vol as VolCommand, Asm as AsmCommand}
 use Rattle.os9_words.specs.Command.{command_of}
 use Rattle.os9_words.specs.Lines.{no_memory_line, words_line}
 use Rattle.os9_words.specs.Notes.{Notes, notes_of}
@@ -21,7 +21,11 @@ use Rattle.command_files.specs.declared.status.End.{End}
 use Rattle.command_files.specs.declared.status.End.TheVariants.{Ended, Living, CannotRead, CannotWriteImage, NoMemory, BadImage, DriveFailed, Refused}
 use Rattle.command_files.specs.declared.status.Input.{Input}
 use Rattle.command_files.specs.Stops.{StopsAtRead}
+use Rattle.os9_words.specs.declared.asm_words.AsmWords.{AsmWords}
 use Rattle.os9_words.specs.declared.vol_words.VolWords.{VolWords}
+use Rattle.asm_command.specs.Asm.{AsmComesTo}
+use Rattle.asm_command.specs.Call.{AsmCall}
+use Rattle.asm_command.proofs.CallLemmas.{files-same as asm-files-same}
 use Rattle.vol_command.specs.Call.{VolCall}
 use Rattle.vol_command.specs.Vol.{VolComesTo}
 use Rattle.vol_command.proofs.CallLemmas.{devices-quiet, files-same}
@@ -91,10 +95,11 @@ leaves-same (RunCommand run) before after end same = same
 leaves-same (CheckCommand image) before after end same = same
 leaves-same (StressCommand seed) before after end same = same
 leaves-same (VolCommand vol) before after end same = files-same vol before after end same
+leaves-same (AsmCommand asm) before after end same = asm-files-same asm before after end same
 
 -- ---- devices
 
--- what is left of the devices, which are as they were
+-- what is left of the output and the devices, which are as they were
 leaves-as : (command : Command) (before after : World) (end : End) → LeavesDevices before after end → IsSilent before after → (meaning command).devices before after end
 leaves-as (RunCommand run) before after end left same = left
 leaves-as (BootCommand boot) before after end left same = left
@@ -108,6 +113,7 @@ leaves-as (VolCommand vol) before after end left same = record {
   quiet = devices-quiet before after same.devices;
   out = λ none. same.out;
 }
+leaves-as (AsmCommand asm) before after end left same = same
 
 -- ---- commands that end before anything ran
 
@@ -132,6 +138,8 @@ nothing-comes (StressCommand seed) before after same =
     λ observed. (Stress.NoMemory, refl, inl (still-unrun before after same))
 nothing-comes (VolCommand vol) before after same =
     of-any before.files (λ files. VolComesTo files vol before after NoMemory) (λ files. inl (record { output = ap (λ (w : World). w.out) same; files = ap (λ (w : World). w.files) same }))
+nothing-comes (AsmCommand asm) before after same =
+    of-any before.files (λ files. AsmComesTo files asm before after NoMemory) (λ files. inl (ap (λ (w : World). w.files) same))
 
 nothing-may : (command : Command) → (meaning command).may NoMemory
 nothing-may (RunCommand run) = tt
@@ -139,6 +147,7 @@ nothing-may (BootCommand boot) = tt
 nothing-may (CheckCommand image) = tt
 nothing-may (StressCommand seed) = tt
 nothing-may (VolCommand vol) = tt
+nothing-may (AsmCommand asm) = tt
 
 -- memory was out
 pub out-of-memory : (command : Command) (before after : World) → after ≡ before → CommandCall command before after NoMemory
@@ -155,6 +164,8 @@ unread-comes (CheckCommand image) input name before after named =
 unread-comes (StressCommand seed) input name before after named = absurd (cc named)
 unread-comes (VolCommand vol) input name before after named =
     of-any before.files (λ files. VolComesTo files vol before after (CannotRead input)) (λ files. tt)
+unread-comes (AsmCommand asm) input name before after named =
+    of-any before.files (λ files. AsmComesTo files asm before after (CannotRead input)) (λ files. tt)
 
 -- a file could not be read
 pub could-not-read : (command : Command) (input : Input) (name : List ℕ) (before after : World) → (meaning command).file_name input ≡ Some name → (meaning command).may (CannotRead input) → FailsToReadFile name before after → after.files ≡ before.files → after.out ≡ before.out → after.devices ≡ before.devices → CommandCall command before after (CannotRead input)
@@ -177,6 +188,17 @@ stopped-call command before after end may stops = absurd stops
 
 pub vol-called : (vol : VolWords) (before after : World) (end : End) → VolCall vol before after end → CommandCall (VolCommand vol) before after end
 vol-called vol before after end call = record {
+  comes = call.comes;
+  may = call.may;
+  devices = call.devices;
+  host = call.host;
+  files = call.files;
+}
+
+-- ---- sources
+
+pub asm-called : (asm : AsmWords) (before after : World) (end : End) → AsmCall asm before after end → CommandCall (AsmCommand asm) before after end
+asm-called asm before after end call = record {
   comes = call.comes;
   may = call.may;
   devices = call.devices;

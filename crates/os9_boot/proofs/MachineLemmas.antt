@@ -15,7 +15,7 @@ use Rattle.boot_run.specs.World.{World, FailsToWrite, HasNoFault}
 use Rattle.boot_run.specs.declared.machine.RunEnd.{RunEnd}
 use Rattle.boot_run.specs.declared.machine.RunEnd.TheVariants as Run
 use Rattle.command_files.specs.declared.status.End.{End}
-use Rattle.command_files.specs.declared.status.End.TheVariants.{Ended, Living, CannotRead, CannotWrite, CannotWriteImage, NoMemory, BadImage, BadText, BadBounds, DriveFailed, CannotWriteFile, Refused}
+use Rattle.command_files.specs.declared.status.End.TheVariants.{Ended, Living, CannotRead, CannotWrite, CannotWriteImage, NoMemory, BadImage, BadText, BadBounds, DriveFailed, CannotWriteFile, Refused, BadSource}
 use Rattle.os9_boot.specs.Boots.{IsUndone, MachineComesTo, RunsToEnd, RunsUnended, RunsUnwritten}
 use Rattle.command_files.specs.Left.{ChangesOnly}
 use Rattle.os9_boot.specs.Left.{BootLeavesFiles, LeavesDevices}
@@ -40,6 +40,7 @@ IsOfMachine (BadImage number fault) = ⊥
 IsOfMachine BadBounds = ⊥
 IsOfMachine CannotWriteFile = ⊥
 IsOfMachine (Refused number) = ⊥
+IsOfMachine (BadSource line error) = ⊥
 IsOfMachine end = Unit {0}
 
 -- a machine that was set up so has run, its images were written under these names, and the command ends so

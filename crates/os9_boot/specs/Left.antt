@@ -5,7 +5,7 @@ use Rattle.boot_run.specs.Machine.{FailsToMount}
 use Rattle.boot_run.specs.World.{World}
 use Rattle.command_files.specs.Left.{ChangesOnly, IsSilent}
 use Rattle.command_files.specs.declared.status.End.{End}
-use Rattle.command_files.specs.declared.status.End.TheVariants.{Ended, Living, CannotRead, CannotWrite, CannotWriteImage, NoMemory, BadImage, BadText, BadBounds, DriveFailed, CannotWriteFile, Refused}
+use Rattle.command_files.specs.declared.status.End.TheVariants.{Ended, Living, CannotRead, CannotWrite, CannotWriteImage, NoMemory, BadImage, BadText, BadBounds, DriveFailed, CannotWriteFile, Refused, BadSource}
 use Rattle.command_files.specs.declared.status.Input.{Input}
 use Rattle.command_files.specs.declared.status.Input.TheVariants.{Script, Slices}
 
@@ -25,13 +25,15 @@ RunMayEnd BadBounds = ⊥
 RunMayEnd (CannotWriteImage number) = ⊥
 RunMayEnd CannotWriteFile = ⊥
 RunMayEnd (Refused number) = ⊥
+RunMayEnd (BadSource line error) = ⊥
 RunMayEnd end = ⊤
 
--- those of a boot: it makes no file, and uses no tool
+-- those of a boot: it makes no file, uses no tool, and reads no source
 abbrev pub BootMayEnd : End → Type 0
 BootMayEnd (BadText input line) = IsText input
 BootMayEnd CannotWriteFile = ⊥
 BootMayEnd (Refused number) = ⊥
+BootMayEnd (BadSource line error) = ⊥
 BootMayEnd end = ⊤
 
 -- those of a check: it has one image, and runs nothing

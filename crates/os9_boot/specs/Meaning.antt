@@ -2,7 +2,8 @@
 use Rattle.std.specs.Prelude.{◌≡◌, ℕ, IfSome, Option, Some, None, List, [], ◌∷◌, All, length}
 use Rattle.os9_outer.specs.Host.{file_contents}
 use Rattle.os9_words.specs.declared.command.Command.{Command}
-use Rattle.os9_words.specs.declared.command.Command.TheVariants.{Run as RunCommand, Boot as BootCommand, Check as CheckCommand, Stress as StressCommand, Vol as VolCommand}
+use Rattle.os9_words.specs.declared.command.Command.TheVariants.{Run as RunCommand, Boot as BootCommand, Check as CheckCommand, Stress as StressCommand, Vol as VolCommand, Asm as AsmCommand}
+use Rattle.os9_words.specs.declared.asm_words.AsmWords.{AsmWords}
 use Rattle.os9_words.specs.declared.command.RunWords.{RunWords}
 use Rattle.os9_words.specs.declared.vol_words.VolWords.{VolWords}
 use Rattle.boot_run.specs.Console.{IsObserved}
@@ -11,6 +12,8 @@ use Rattle.stress_run.specs.Stress.{StressComesTo}
 use Rattle.stress_run.specs.declared.stress.StressEnd.{StressEnd}
 use Rattle.command_files.specs.declared.status.End.{End}
 use Rattle.command_files.specs.declared.status.Input.{Input}
+use Rattle.asm_command.specs.Asm.{AsmComesTo, asm_file_name, asm_inputs}
+use Rattle.asm_command.specs.Left.{AsmLeaves, AsmLeavesFiles, AsmMayEnd, AsmWrites}
 use Rattle.vol_command.specs.Left.{VolLeaves, VolLeavesFiles, VolMayEnd, VolWrites}
 use Rattle.vol_command.specs.Vol.{VolComesTo, vol_file_name, vol_inputs}
 use Rattle.os9_boot.specs.Boots.{BootComesTo, RunComesTo}
@@ -100,6 +103,19 @@ vol_meaning vol = record {
   drives = 1;
 }
 
+-- `asm`
+abbrev pub asm_meaning : AsmWords → Meaning
+asm_meaning asm = record {
+  comes = λ before after end. IfSome before.files (λ files. AsmComesTo files asm before after end);
+  may = AsmMayEnd;
+  devices = AsmLeaves;
+  files = AsmLeavesFiles asm;
+  file_name = asm_file_name asm;
+  inputs = asm_inputs asm;
+  writes = AsmWrites asm;
+  drives = 0;
+}
+
 -- an arm for each command
 abbrev pub meaning : Command → Meaning
 meaning (RunCommand run) = run_meaning run
@@ -107,3 +123,4 @@ meaning (BootCommand boot) = boot_meaning boot
 meaning (CheckCommand image) = check_meaning image
 meaning (StressCommand seed) = stress_meaning seed
 meaning (VolCommand vol) = vol_meaning vol
+meaning (AsmCommand asm) = asm_meaning asm

@@ -5,6 +5,7 @@ ghost use Rattle.os9_words.specs.Streams.{WritesErr};
 ghost use Rattle.os9_boot.specs.End.{stress_end};
 ghost use Rattle.os9_boot.specs.EndLines.{end_line, end_name, shown_name};
 
+use asm_command::asm_name;
 use command_files::names::name_in;
 use command_files::report;
 use command_files::status::{End, Input};
@@ -57,5 +58,6 @@ fn name_of(command: &Command, input: Input) -> &str
         Command::Boot(run) => name_in(run, input),
         Command::Stress(_) => "",
         Command::Vol(vol) => vol_name(vol, input),
+        Command::Asm(asm) => asm_name(asm, input),
     }
 }

@@ -1,4 +1,4 @@
-use Rattle.os9_boot.proofs.CallLemmas.{stressed, vol-called}
+use Rattle.os9_boot.proofs.CallLemmas.{asm-called, stressed, vol-called}
 use Rattle.os9_boot.proofs.NameLemmas.{stress-names}
 use Rattle.os9_boot.proofs.top.perform.Goals as goal
 
@@ -28,3 +28,10 @@ returns-in-Vol-clause-call g c =
 
 pub returns-in-Vol-clause-noted : goal.returns-in-Vol-clause-noted
 returns-in-Vol-clause-noted g c = rw c.in-Vol.is c.do_vol.ensures.noted
+
+pub returns-in-Asm-clause-call : goal.returns-in-Asm-clause-call
+returns-in-Asm-clause-call g c =
+    rw c.in-Asm.is (asm-called c.in-Asm.asm _ _ c.do_asm.result (c.do_asm.ensures.call _))
+
+pub returns-in-Asm-clause-noted : goal.returns-in-Asm-clause-noted
+returns-in-Asm-clause-noted g c = rw c.in-Asm.is c.do_asm.ensures.noted
