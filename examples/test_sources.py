@@ -35,6 +35,10 @@ class Sources(unittest.TestCase):
                 pieces = PIECES.get(name, [name])
                 self.assertEqual(b"".join(map(made, pieces)), read(name + ".mod"))
 
+    def test_shell_is_that_of_the_program(self):
+        code = read(os.path.join("..", "crates", "guest_mods", "src", "shell.rt"))
+        self.assertIn(b'br#"' + read("shell.asm") + b'"#;', code)
+
 
 if __name__ == "__main__":
     unittest.main()

@@ -1,9 +1,10 @@
-//! What the command `stress` runs: an image with a boot file of modules, and a list of slices. The
-//! maker of modules is passed on from `module_maker`.
+//! What the command `stress` runs: an image with a boot file of modules, and a list of slices; and
+//! the source of a shell. The maker of modules is passed on from `module_maker`.
 #![tactic(auto)]
 
 pub use load::Load;
 pub use module_maker::module;
+pub use shell::shell_source;
 pub use slices::stress_slices;
 pub use stress::stress_image;
 
@@ -11,5 +12,6 @@ mod load;
 mod programs;
 mod random;
 pub mod rows;
+mod shell;
 mod slices;
 mod stress;
