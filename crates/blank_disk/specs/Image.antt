@@ -1,5 +1,5 @@
--- The image of a disk that has just been formatted: LSN 0, the allocation map, the root's descriptor and its entries, and
--- zeros behind them.
+-- The image of a disk that has just been formatted: LSN 0, the allocation map, the root's descriptor and its entries,
+-- and zeros behind them.
 use Rattle.std.specs.Prelude.{◌≡◌, ℕ, ◌+◌, ◌-◌, ◌*◌, ◌/◌, ◌<◌, ◌≤◌, min, nat_lt, true, List, [], ◌∷◌, map, slice_index}
 use Rattle.std.specs.List.{range_with_len}
 use Rattle.rbf_model.specs.Geometry.{is_cluster_size, sector}

@@ -50,7 +50,8 @@ pub fn push_ident(
     now: &TimePacket,
 ) -> Result<(), AllocError>
     requires { IsDiskSize sectors cluster }
-    ensures { IfOk result (λ _. image.new.items ≡ image.old.items ++ blank_ident sectors cluster now.now) }
+    ensures { IfOk result (λ _. image.new.items
+        ≡ image.old.items ++ blank_ident sectors cluster now.now) }
 {
     image.extend_from_slice(&sizes(sectors, cluster))?;
     image.extend_from_slice(&[0; 12])?;

@@ -52,8 +52,8 @@ file_front size =
 -- the disk up to the end of the file
 abbrev pub used_part : List ℕ → List ℕ
 used_part file =
-    ((((sector_with (ident_front (length file)) ++ marks_map (used_sectors (length file)) 512) ++ sector_with root_front)
-    ++ sector_with root_entries) ++ sector_with (file_front (length file))) ++ file
+    ((((sector_with (ident_front (length file)) ++ marks_map (used_sectors (length file)) 512)
+    ++ sector_with root_front) ++ sector_with root_entries) ++ sector_with (file_front (length file))) ++ file
 
 -- the disk of a boot file: zeros follow up to its end
 abbrev pub boot_image : List ℕ → List ℕ

@@ -56,8 +56,8 @@ pub fn read_files<H: Host>(alloc: Global, run: &RunWords, host: &mut H) -> Resul
         (world_of H.Host host.old devices) (world_of H.Host host.new devices) end) }
     ensures noted { OnOk result (HasRead (run_inputs run.now)
         (notes_of H.Host host.old) (notes_of H.Host host.new)) }
-    ensures stopped { IfErr result (λ end. NotesStop (run_file_name run.now) (run_inputs run.now) end
-        (notes_of H.Host host.old) (notes_of H.Host host.new)) }
+    ensures stopped { IfErr result (λ end. NotesStop (run_file_name run.now) (run_inputs run.now)
+        end (notes_of H.Host host.old) (notes_of H.Host host.new)) }
 {
     let script = read_script(alloc, run, host)?;
     let slices = read_input(host, &run.slices, Input::Slices)?;
@@ -90,8 +90,8 @@ pub fn read_boot_files<H: Host>(
         (world_of H.Host host.old devices) (world_of H.Host host.new devices) end) }
     ensures noted { OnOk result (HasRead (run_inputs run.now)
         (notes_of H.Host host.old) (notes_of H.Host host.new)) }
-    ensures stopped { IfErr result (λ end. NotesStop (run_file_name run.now) (run_inputs run.now) end
-        (notes_of H.Host host.old) (notes_of H.Host host.new)) }
+    ensures stopped { IfErr result (λ end. NotesStop (run_file_name run.now) (run_inputs run.now)
+        end (notes_of H.Host host.old) (notes_of H.Host host.new)) }
 {
     let script = read_script(alloc, run, host)?;
     let slices = read_input(host, &run.slices, Input::Slices)?;

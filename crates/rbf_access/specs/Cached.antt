@@ -27,8 +27,8 @@ pub record IsUsed (lsn : ℕ) (old new : List Sector) : Type 0 where
   pub first : IsHeld (take 1 new) lsn
   pub others : (n m : ℕ) → n < 64 → IsHeld (take n old) m → IsHeld (take (n + 1) new) m
 
--- the sectors of these segments from a place on, so many of them, have been used: they are the first ones that are held,
--- and no other sector is further back by more places than they are
+-- the sectors of these segments from a place on, so many of them, have been used: they are the first ones that are
+-- held, and no other sector is further back by more places than they are
 pub record StayFirst (segments : List (ℕ × ℕ)) (from count : ℕ) (old new : List Sector) : Type 0 where
   pub first : count ≤ 64 → AreHeld (take count new) segments from (from + count)
   pub others : (n m : ℕ) → n + count ≤ 64 → IsHeld (take n old) m → IsHeld (take (n + count) new) m

@@ -120,7 +120,8 @@ impl Volume {
         ensures volume_kept { kept self.new ≡ kept self.old }
         ensures cached { IsCacheOf (media d.new) self.new.cache }
         ensures hits { AreHeld self.old.cache segs.now (at / 256)
-            (at / 256 + sector_span at (at + length into.old)) → drive_calls d.new ≡ drive_calls d.old }
+            (at / 256 + sector_span at (at + length into.old))
+            → drive_calls d.new ≡ drive_calls d.old }
         ensures held { OnOk result (StayFirst segs.now (at / 256)
             (sector_span at (at + length into.old)) self.old.cache self.new.cache) }
         ensures counts { Counts ⟦<dyn BlockDriver as BlockDriver>⟧

@@ -35,8 +35,8 @@ pub record MarksBesides (old new : ClusterMap) (taken : List ℕ) : Type 0 where
 abbrev pub last_cluster : ℕ → List (ℕ × ℕ) → Option ℕ
 last_cluster k segments = option_map (λ s. s / k) (slice_get (sectors_of segments) (length (sectors_of segments) - 1))
 
--- the cluster that is chosen for a file with these segments that still needs so many: if the one after its last sector's
--- is not free, the first of the best run
+-- the cluster that is chosen for a file with these segments that still needs so many: if the one after its last
+-- sector's is not free, the first of the best run
 abbrev pub IsChosenFor : ℕ → (ℕ → Bool) → List (ℕ × ℕ) → ℕ → ℕ → Type 0
 IsChosenFor k free segments wanted c =
     ((d : ℕ) → IsAfter k segments d → free d ≡ false) → BeginsBestRun free wanted c

@@ -14,7 +14,8 @@ is_clear map c = is_clear_below map.bytes map.whole c
 abbrev pub AreFree : (ℕ → Bool) → ℕ → ℕ → Type 0
 AreFree free first n = (c : ℕ) → first ≤ c → c < first + n → free c ≡ true
 
--- the run that is chosen for so many: the first with n free clusters; n are all that are wanted, and else no run has more
+-- the run that is chosen for so many: the first with n free clusters; n are all that are wanted, and else no run has
+-- more
 pub record IsBestRun (free : ℕ → Bool) (wanted first n : ℕ) : Type 0 where
   pub needed : n ≤ wanted
   pub are_free : AreFree free first n

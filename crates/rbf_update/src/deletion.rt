@@ -55,8 +55,8 @@ pub fn delete_name(
     ensures media_kept { OnErr result (media d.new ≡ media d.old) }
     ensures mounted { IsMounted v.new (media d.new) }
     ensures volume_kept { kept v.new ≡ kept v.old }
-    ensures counts { OnVolumeFile (media d.old) dir (λ on f. Counts ⟦<dyn BlockDriver as BlockDriver>⟧
-        (directory_fault result) (freeing_calls on f name.now user execute) d.old d.new) }
+    ensures counts { OnVolumeFile (media d.old) dir (λ on f. Counts
+        ⟦<dyn BlockDriver as BlockDriver>⟧ (directory_fault result) (freeing_calls on f name.now user execute) d.old d.new) }
 {
     let found = find_deletable(v, d, dir, name, user, execute)?;
     free_entry(v, d, &found)?;

@@ -38,6 +38,6 @@ pub fn some_run()
     ensures started { (boot : Boot) (slices : List ℕ) (s : State) → Starts boot s
         → 0 < length boot.terms → length boot.terms ≤ 4 → is_time_packet boot.time ≡ true
         → length boot.images ≤ length boot.drives → HasRun slices s }
-    ensures faultless { (s t : State) → SameCounts s t → NoDriveChanged s.files.drives t.files.drives
-        → CanRise s → NoneFailed s t }
+    ensures faultless { (s t : State) → SameCounts s t
+        → NoDriveChanged s.files.drives t.files.drives → CanRise s → NoneFailed s t }
 {}

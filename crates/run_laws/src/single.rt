@@ -14,7 +14,8 @@ ghost use Rattle.run_laws.specs.Faults.{HasNoVolumes, NoneFailed, MayChoose, Sam
 pub fn no_volume_is_mounted()
     ensures start { (boot : Boot) (s : State) → boot.images ≡ [] → Starts boot s → HasNoVolumes s }
     ensures never { (s : State) → HasNoVolumes s → MayChoose s → ⊥ }
-    ensures event { (s t : State) (end : EventEnd) → Event s end t → HasNoVolumes s → HasNoVolumes t }
+    ensures event { (s t : State) (end : EventEnd) → Event s end t → HasNoVolumes s
+        → HasNoVolumes t }
     ensures tick { (s t : State) → Tick s t → HasNoVolumes s → HasNoVolumes t }
     ensures choice { (s t : State) → Choose s t → HasNoVolumes s → HasNoVolumes t }
 {}

@@ -15,13 +15,13 @@ ghost use Rattle.tool_laws.specs.NewDisk.{LeavesNew, NewDisk};
 /// the line of how many clusters are free now.
 pub fn a_repair_leaves_what_it_gives()
     ensures { (old : List ℕ) (outcome : Repaired) (now : TimePacket) → IsRepaired old outcome
-        → LeavesInTurn (record { tool = repair; now = now } ∷ []) (Some old) (Some outcome.image.items)
-        (freed_line outcome.freed ∷ []) }
+        → LeavesInTurn (record { tool = repair; now = now } ∷ []) (Some old)
+        (Some outcome.image.items) (freed_line outcome.freed ∷ []) }
 {}
 
 /// What a list of tools leaves on the image of a new disk, it gives of the volume without files.
 pub fn a_list_begins_with_a_new_disk()
-    ensures { (disk : NewDisk) (image : List ℕ) (uses : List Use) (new : Option (List ℕ)) (answers : List (List ℕ))
-        → Vol image (blank_volume disk.sectors disk.cluster disk.made)
+    ensures { (disk : NewDisk) (image : List ℕ) (uses : List Use) (new : Option (List ℕ))
+        (answers : List (List ℕ)) → Vol image (blank_volume disk.sectors disk.cluster disk.made)
         → LeavesInTurn uses (Some image) new answers → LeavesNew disk uses new answers }
 {}
