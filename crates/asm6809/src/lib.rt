@@ -6,6 +6,4 @@ pub use assembler::{AsmFault, assemble, error_number, size};
 mod assembler;
 mod emit;
 mod module;
-#[cfg(test)]
-mod tests;
 pub mod worked;

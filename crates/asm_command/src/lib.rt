@@ -6,5 +6,3 @@ pub use names::asm_name;
 
 mod command;
 mod names;
-#[cfg(test)]
-mod tests;

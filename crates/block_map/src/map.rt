@@ -267,23 +267,3 @@ fn name_nothing(places: &[Option<BlockId>]) -> bool
 {
     places.iter().all(|place| place.is_none())
 }
-
-#[cfg(test)]
-mod tests {
-    use super::*;
-    use std::test::Fail;
-
-    #[test]
-    fn group_of_one_block(rt: HostRuntime) -> Result<(), Fail> {
-        let mut pool = Pool::new(rt.alloc(), 8)?;
-        let block = pool.take().ok_or("no block")?;
-        let group = Group {
-            blocks: [block; 7],
-            len: 1,
-        };
-        let mut map = Map::empty();
-        assert_eq!(rt; map.map_group(&mut pool, &group), Ok(7));
-        assert_eq!(rt; map.place(7), Some(block));
-        Ok(())
-    }
-}

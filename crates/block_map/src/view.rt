@@ -180,6 +180,3 @@ fn offset_in_block(at: u16) -> u16
 {
     at % 8192
 }
-
-#[cfg(test)]
-mod tests;

@@ -159,35 +159,3 @@ fn all_blocks(alloc: Global, blocks: u16) -> Result<Vec<BlockId>, AllocError>
     }
     Ok(free)
 }
-
-#[cfg(test)]
-mod tests {
-    use super::*;
-    use std::test::Fail;
-
-    #[test]
-    fn ample_memory(rt: HostRuntime) -> Result<(), Fail> {
-        let pool = Pool::new(rt.alloc(), 8)?;
-        assert_eq!(rt; pool.free_blocks(), 8);
-        Ok(())
-    }
-
-    #[test]
-    fn cache_and_free_list(rt: HostRuntime) -> Result<(), Fail> {
-        let mut pool = Pool::new(rt.alloc(), 8)?;
-        for _ in 0..8 {
-            assert!(rt; pool.take().is_some());
-        }
-        assert_eq!(rt; pool.free_blocks(), 0);
-        let third = BlockId(3);
-        assert_eq!(rt; pool.count(third), 1);
-        pool.copy_in(third, 8190, &[1, 2]);
-        assert_eq!(rt; pool.bytes(third)[8191], 2);
-        pool.give(third);
-        assert_eq!(rt; pool.take(), Some(third));
-        assert_eq!(rt; pool.take(), None);
-        assert_eq!(rt; pool.count(third), 1);
-        assert!(rt; pool.bytes(third).iter().all(|byte| *byte == 0));
-        Ok(())
-    }
-}

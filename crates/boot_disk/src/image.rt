@@ -140,21 +140,3 @@ fn descriptor(size: u16) -> [u8; 21]
         0x00, 0x00, 0x06, 0x00, count, // FD.SEG: from sector 6 on
     ]
 }
-
-#[cfg(test)]
-mod tests {
-    use super::*;
-    use std::test::Fail;
-
-    // Of a file of 257 bytes the volume has two sectors.
-    #[test]
-    fn file_of_two_sectors(rt: HostRuntime) -> Result<(), Fail> {
-        let image = boot_image(rt.alloc(), &[0x12; 257])?;
-        assert_eq!(rt; image.len(), 1_048_576);
-        assert_eq!(rt; (image.get(24), image.get(25)), (Some(&1), Some(&1)));
-        assert_eq!(rt; (image.get(256), image.get(257)), (Some(&0xff), Some(&0)));
-        assert_eq!(rt; (image.get(1300), image.get(1301)), (Some(&2), Some(&0)));
-        assert_eq!(rt; (image.get(1792), image.get(1793)), (Some(&0x12), Some(&0)));
-        Ok(())
-    }
-}

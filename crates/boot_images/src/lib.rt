@@ -6,6 +6,4 @@ pub mod boot_file;
 pub mod drives;
 pub mod images;
 pub mod machine;
-#[cfg(test)]
-mod tests;
 pub mod write;

@@ -13,5 +13,3 @@ mod operation;
 mod place;
 mod register;
 mod stack;
-#[cfg(test)]
-mod tests;

@@ -1,92 +1,11 @@
-ghost use Rattle.std.specs.Prelude.{◌≡◌, IfOk, Some};
-
-use os9_base::errors::E_SEEK;
-use os9_outer::drive::{BlockDriver, DriveFault};
-use os9_outer::ram_drive::{PlannedFault, RamDrive};
-use rbf_access::{FileFault, Volume};
-use rbf_check::check;
-use std::alloc::{AllocError, Global};
-use std::test::Fail;
-
-// The volume E, of 16 sectors: its root, whose descriptor is sector 2, is its only file.
-const E: [(usize, u8); 14] = [
-    (2, 16),
-    (5, 2),
-    (7, 1),
-    (10, 2),
-    (256, 0xF0),
-    (512, 0xBF),
-    (524, 64),
-    (530, 3),
-    (532, 1),
-    (768, 0x2E),
-    (769, 0xAE),
-    (799, 2),
-    (800, 0xAE),
-    (831, 2),
-];
-
-pub fn smallest(alloc: Global) -> Result<Vec<u8>, AllocError> {
-    let mut image = vec![in alloc; 0u8; 4096]?;
-    for (at, byte) in E {
-        if let Some(place) = image.get_mut(at) {
-            *place = byte;
-        }
-    }
-    Ok(image)
-}
-
-// A drive that has this image, and of whose calls this one fails.
-pub fn drive_with(alloc: Global, image: &[u8], failing: u64) -> Result<RamDrive, Fail>
-    ensures { IfOk result (λ drive. ⟦<RamDrive as BlockDriver>⟧.media drive ≡ Some image.now) }
-{
-    let fault = DriveFault::SeekFault;
-    let mut drive = RamDrive::new(vec![in alloc;
-        PlannedFault {
-            call: failing,
-            fault
-        },
-    ]?);
-    drive.insert(image.to_vec(alloc)?)?;
-    Ok(drive)
-}
-
-// What a read of the root of this image answers, mounted on a drive that has it.
-fn read_root(
-    alloc: Global,
-    image: &[u8],
-    d: &mut dyn BlockDriver,
-    at: u32,
-    into: &mut [u8],
-) -> Result<Result<u32, FileFault>, Fail>
-    requires { media d.old ≡ Some image.now }
-{
-    let _tree = check(alloc, image)?;
-    let mut volume = Volume::mount(alloc, d)?;
-    let root = volume.root();
-    let answer = volume.read_at(d, root, at, into);
-    Ok(answer)
-}
-
-// A mount makes two calls of the drive; this one of all calls fails.
-#[test]
-fn read_driver_calls(rt: HostRuntime) -> Result<(), Fail> {
-    let rows = [
-        (9, 0, 64, Ok(64), 4, 0x2E),
-        (9, 32, 64, Ok(32), 4, 0xAE),
-        (9, 64, 64, Ok(0), 3, 7),
-        (9, 4000, 64, Ok(0), 3, 7),
-        (9, 0, 0, Ok(0), 3, 7),
-        (3, 0, 64, Err(FileFault::Device(E_SEEK)), 3, 7),
-        (4, 0, 64, Err(FileFault::Device(E_SEEK)), 4, 7),
-    ];
-    for (failing, at, len, answer, calls, first) in rows {
-        let image = smallest(rt.alloc())?;
-        let mut drive = drive_with(rt.alloc(), &image, failing)?;
-        let mut buffer = [7; 64];
-        let read = read_root(rt.alloc(), &image, &mut drive, at, &mut buffer[..len])?;
-        assert_eq!(rt; (read, drive.calls()), (answer, calls));
-        assert_eq!(rt; buffer[0], first);
-    }
-    Ok(())
-}
+mod cache;
+mod checks;
+mod drives;
+mod files;
+mod formats;
+mod mounts;
+mod overlapping;
+mod reads;
+mod sizes;
+mod walks;
+mod writes;

@@ -6,5 +6,3 @@ mod changing;
 pub mod disks;
 mod entries;
 mod reading;
-#[cfg(test)]
-mod tests;

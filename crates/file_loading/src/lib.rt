@@ -2,6 +2,4 @@
 #![tactic(auto)]
 
 pub mod entering;
-#[cfg(test)]
-mod tests;
 pub mod trial;

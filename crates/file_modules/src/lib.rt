@@ -2,6 +2,4 @@
 #![tactic(auto)]
 
 mod namesakes;
-#[cfg(test)]
-mod tests;
 pub mod trying;

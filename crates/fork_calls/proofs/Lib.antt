@@ -1,4 +1,3 @@
-mod EnteredModules
 mod Forking
 mod LoadedPrograms
 pub mod Programs

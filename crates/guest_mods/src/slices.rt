@@ -40,16 +40,3 @@ fn push_length(lengths: &mut Vec<u32>, length: u32) -> Result<(), OutOfMemory>
         Err(_) => Err(OutOfMemory),
     }
 }
-
-#[cfg(test)]
-mod tests {
-    use super::*;
-    use std::test::Fail;
-
-    #[test]
-    fn first_slices(rt: HostRuntime) -> Result<(), Fail> {
-        let slices = stress_slices(rt.alloc(), 0, 2)?;
-        assert_eq!(rt; slices.as_slice(), [397, 175].as_slice());
-        Ok(())
-    }
-}

@@ -43,32 +43,3 @@ fn stress_file(alloc: Global, load: &Load) -> Result<Vec<u8>, OutOfMemory>
     file.extend_from_slice(&worker)?;
     Ok(file)
 }
-
-#[cfg(test)]
-mod tests {
-    use super::*;
-    use std::test::Fail;
-
-    // Of one Worker with two records: its boot file, and the lengths of the records at its end.
-    #[test]
-    fn small_load(rt: HostRuntime) -> Result<(), Fail> {
-        let load = Load {
-            seed: 0,
-            workers: 1,
-            passes: 1,
-            records: 2,
-        };
-        let image = stress_image(rt.alloc(), &load)?;
-        assert_eq!(rt; image.len(), 1_048_576);
-        assert_eq!(rt;
-            (image.get(1536), image.get(1537)),
-            (Some(&0x87), Some(&0xcd))
-        );
-        assert_eq!(rt;
-            (image.get(1616), image.get(1617)),
-            (Some(&0x87), Some(&0xcd))
-        );
-        assert_eq!(rt; (image.get(1819), image.get(1820)), (Some(&1), Some(&29)));
-        Ok(())
-    }
-}

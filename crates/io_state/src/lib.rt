@@ -8,6 +8,4 @@ pub mod state;
 mod streams;
 mod terminal_calls;
 mod terminals;
-#[cfg(test)]
-mod tests;
 mod waiting;

@@ -2,5 +2,3 @@
 #![tactic(auto)]
 
 pub mod keys;
-#[cfg(test)]
-mod tests;

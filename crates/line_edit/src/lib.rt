@@ -5,7 +5,5 @@ pub mod copy;
 pub mod edit;
 pub mod edit_out;
 pub mod line;
-#[cfg(test)]
-mod tests;
 
 pub use io_model::edit::LineEnd;

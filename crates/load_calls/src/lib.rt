@@ -7,5 +7,3 @@ mod front;
 pub mod load;
 mod named;
 mod program;
-#[cfg(test)]
-mod tests;

@@ -47,35 +47,3 @@ pub fn hex_digit(byte: u8) -> Option<u8>
         _ => None,
     }
 }
-
-#[cfg(test)]
-mod tests {
-    use super::*;
-
-    #[test]
-    fn numbers(rt: HostRuntime) {
-        for (digits, number) in [
-            (b"8".as_slice(), Some(8)),
-            (b"256", Some(256)),
-            (b"0000256", Some(256)),
-            (b"7", None),
-            (b"257", None),
-            (b"4294967304", None),
-            (b"18446744073709551624", None),
-            (b"", None),
-            (b"-8", None),
-            (b"+8", None),
-            (b" 8", None),
-            (b"8 ", None),
-            (b"1f", None),
-        ] {
-            assert_eq!(rt; read_number(digits, 8, 256), number);
-        }
-        assert_eq!(rt;
-            read_number(b"4294967295", 0, u32::MAX),
-            Some(4_294_967_295)
-        );
-        assert_eq!(rt; read_number(b"4294967296", 0, u32::MAX), None);
-        assert_eq!(rt; read_number(b"00", 0, u32::MAX), Some(0));
-    }
-}

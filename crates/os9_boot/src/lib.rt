@@ -7,8 +7,6 @@ mod devices;
 pub mod laws;
 mod start;
 mod status;
-#[cfg(test)]
-mod tests;
 mod top;
 mod write;
 

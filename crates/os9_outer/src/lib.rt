@@ -20,5 +20,3 @@ pub mod sure_drive;
 pub mod sure_host;
 pub mod sure_tty;
 pub mod terminal;
-#[cfg(test)]
-mod tests;

@@ -46,34 +46,3 @@ pub fn put_counts<H: Host>(host: &mut H, counts: &Counts) -> Result<(), HostFaul
         ],
     )
 }
-
-#[cfg(test)]
-mod tests {
-    use super::*;
-    use os9_outer::mem_host::MemHost;
-    use std::test::Fail;
-
-    #[test]
-    fn counts_on_out(rt: HostRuntime) -> Result<(), Fail> {
-        let alloc = rt.alloc();
-        let mut host = MemHost::new(alloc, Vec::new(alloc), Vec::new(alloc));
-        let smallest = Counts {
-            files: 0,
-            directories: 1,
-            free: 12,
-            lost: 0,
-        };
-        let largest = Counts {
-            files: 4_294_967_295,
-            directories: 524_280,
-            free: 10,
-            lost: 9,
-        };
-        put_counts(&mut host, &smallest)?;
-        put_counts(&mut host, &largest)?;
-        let lines = b"files 0 dirs 1 free 12 lost 0\n\
-            files 4294967295 dirs 524280 free 10 lost 9\n";
-        assert_eq!(rt; host.out_bytes.as_slice(), lines.as_slice());
-        Ok(())
-    }
-}

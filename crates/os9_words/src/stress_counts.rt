@@ -49,36 +49,3 @@ pub fn put_stress_counts<H: Host>(host: &mut H, counts: &StressCounts) -> Result
         ],
     )
 }
-
-#[cfg(test)]
-mod tests {
-    use super::*;
-    use os9_outer::mem_host::MemHost;
-    use std::test::Fail;
-
-    #[test]
-    fn stress_counts_on_out(rt: HostRuntime) -> Result<(), Fail> {
-        let alloc = rt.alloc();
-        let mut host = MemHost::new(alloc, Vec::new(alloc), Vec::new(alloc));
-        let smallest = StressCounts {
-            slices: 0,
-            files: 1,
-            bytes: 0,
-            free: 12,
-            lost: 0,
-        };
-        let largest = StressCounts {
-            slices: 4_294_967_295,
-            files: 524_280,
-            bytes: 18_446_744_073_709_551_615,
-            free: 10,
-            lost: 9,
-        };
-        put_stress_counts(&mut host, &smallest)?;
-        put_stress_counts(&mut host, &largest)?;
-        let lines = b"slices 0 files 1 bytes 0 free 12 lost 0\n\
-            slices 4294967295 files 524280 bytes 18446744073709551615 free 10 lost 9\n";
-        assert_eq!(rt; host.out_bytes.as_slice(), lines.as_slice());
-        Ok(())
-    }
-}

@@ -3,7 +3,5 @@
 
 mod numbers;
 pub mod paths;
-#[cfg(test)]
-mod tests;
 
 pub use io_model::path::{Desc, PathsFull, SysPath, Target};

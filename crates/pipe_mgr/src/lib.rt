@@ -3,7 +3,5 @@
 
 mod pipe;
 pub mod pipes;
-#[cfg(test)]
-mod tests;
 
 pub use io_model::pipe::{PipeAns, PipeId};

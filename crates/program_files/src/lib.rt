@@ -4,5 +4,3 @@
 mod found;
 pub mod reading;
 pub mod refusal;
-#[cfg(test)]
-mod tests;

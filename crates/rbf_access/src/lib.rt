@@ -8,6 +8,4 @@ mod faults;
 mod mount;
 mod read;
 mod sector;
-#[cfg(test)]
-mod tests;
 mod volume;

@@ -31,6 +31,3 @@ pub fn check(alloc: Global, image: &[u8]) -> Result<Tree, CheckError>
         lost: space.lost,
     })
 }
-
-#[cfg(test)]
-mod tests;

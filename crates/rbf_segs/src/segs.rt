@@ -140,25 +140,3 @@ impl Segs {
         self.len = shorten(&mut self.places, sectors) as u8;
     }
 }
-
-#[cfg(test)]
-mod tests {
-    use super::*;
-
-    #[test]
-    fn runs_are_joined_and_cut(rt: HostRuntime) {
-        let mut segs = Segs::empty();
-        assert_eq!(rt; segs.append(3, 2), Ok(()));
-        assert_eq!(rt; segs.append(5, 65533), Ok(()));
-        assert_eq!(rt; segs.append(65538, 1), Ok(()));
-        assert_eq!(rt; segs.add_run(65539, 4), Ok(()));
-        assert_eq!(rt; segs.runs(), 3);
-        assert_eq!(rt; segs.run(0), (3, 65535));
-        assert_eq!(rt; segs.sectors(), 65540);
-        assert_eq!(rt; segs.last(), Some(65542));
-        assert_eq!(rt; segs.lsn_of(65536), Some(65539));
-        segs.cut(65536);
-        assert_eq!(rt; segs.runs(), 2);
-        assert_eq!(rt; segs.lsn_of(65536), None);
-    }
-}

@@ -12,5 +12,3 @@ mod error;
 mod path;
 mod permission;
 mod sector;
-#[cfg(test)]
-mod tests;

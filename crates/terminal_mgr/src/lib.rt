@@ -4,8 +4,6 @@
 mod arrival;
 mod driver;
 pub mod term;
-#[cfg(test)]
-mod tests;
 mod type_ahead;
 mod typist;
 

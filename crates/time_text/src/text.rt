@@ -91,25 +91,3 @@ fn number_at(text: &[u8], at: usize) -> Option<u8>
         Some(number) => Some(number as u8),
     }
 }
-
-#[cfg(test)]
-mod tests {
-    use super::*;
-
-    #[test]
-    fn times(rt: HostRuntime) {
-        let time = read_time(b"1992-02-29T23:59:58");
-        let packet = TimePacket {
-            year: 92,
-            month: 2,
-            day: 29,
-            hour: 23,
-            minute: 59,
-            second: 58,
-        };
-        assert_eq!(rt; time, Some(packet));
-        assert_eq!(rt; read_time(b"1992-02-29T23:59:5"), None);
-        assert_eq!(rt; read_time(b"1992-02-29t23:59:58"), None);
-        assert_eq!(rt; read_time(b"1992-02-30T23:59:58"), None);
-    }
-}

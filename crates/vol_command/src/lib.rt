@@ -10,6 +10,4 @@ mod files;
 mod made;
 mod names;
 mod output;
-#[cfg(test)]
-mod tests;
 mod verbs;

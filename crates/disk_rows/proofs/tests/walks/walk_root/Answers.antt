@@ -1,0 +1,14 @@
+use Rattle.std.proofs.Common.{◌∙◌}
+use Rattle.disk_rows.proofs.Tree.{on_image, has_root}
+use Rattle.disk_rows.proofs.tests.walks.walk_root.Goals as goal
+
+pub walk-answer-requires-clause-mounted : goal.walk-answer-requires-clause-mounted
+walk-answer-requires-clause-mounted g c =
+    let known = c.in_ok-_tree.ensures.tree in
+    c.in_ok-volume.ensures.mounted known.volume (on_image _ _ _ c.requires known)
+
+pub walk-answer-requires-clause-file : goal.walk-answer-requires-clause-file
+walk-answer-requires-clause-file g c =
+    let known = c.in_ok-_tree.ensures.tree in
+    let mounted = c.in_ok-volume.ensures.mounted known.volume (on_image _ _ _ c.requires known) in
+    has_root _ _ _ mounted (c.root-root.ensures.volume mounted.on.image mounted.content mounted.agrees mounted.on.vol)

@@ -1,0 +1,78 @@
+ghost use Rattle.std.specs.Prelude.{◌≡◌, Some};
+
+use super::reads::drive_with;
+use fixtures::volume::{put, smallest};
+use os9_outer::drive::BlockDriver;
+use rbf_access::Volume;
+use rbf_check::check;
+use std::alloc::{AllocError, Global};
+use std::test::Fail;
+
+// What differs from the smallest volume: there are 128 sectors, and the root has 66 of them.
+const LONG_ROOT: [(usize, u8); 6] = [
+    (2, 128),
+    (5, 16),
+    (264, 0xF8),
+    (523, 66),
+    (524, 0),
+    (532, 66),
+];
+
+fn image_with_long_root(alloc: Global) -> Result<Vec<u8>, AllocError> {
+    let mut image = smallest(alloc)?;
+    image.extend_from_slice(&vec![in alloc; 0u8; 28_672]?)?;
+    for byte in image.iter_mut().skip(256).take(8) {
+        *byte = 0xFF;
+    }
+    put(&mut image, &LONG_ROOT);
+    Ok(image)
+}
+
+// The sectors of the root in these places are read, one after the other, from a drive that has this
+// image.
+fn read_sectors(
+    alloc: Global,
+    image: &[u8],
+    d: &mut dyn BlockDriver,
+    places: &[u8],
+) -> Result<(), Fail>
+    requires { media d.old ≡ Some image.now }
+{
+    let _tree = check(alloc, image)?;
+    let mut volume = Volume::mount(alloc, d)?;
+    let root = volume.root();
+    for place in places {
+        let mut bytes = [0; 256];
+        let _count = volume.read_at(d, root, 256 * u32::from(*place), &mut bytes)?;
+    }
+    Ok(())
+}
+
+// The first sector of the root, so many others, and the first one again.
+fn first_again(alloc: Global, others: u8) -> Result<Vec<u8>, AllocError> {
+    let mut places = vec![in alloc; 0u8]?;
+    for place in 0..others {
+        places.push(place.saturating_add(1))?;
+    }
+    places.push(0)?;
+    Ok(places)
+}
+
+// A mount makes two calls of the drive, and the first read two: for the descriptor, and for the
+// sector. With the descriptor 64 sectors are held, so the first one still is behind 62 others, and
+// is not behind 64.
+#[test]
+fn cache_and_free_list(rt: HostRuntime) -> Result<(), Fail> {
+    for (others, calls) in [(0, 4), (1, 5), (62, 66), (64, 69)] {
+        let image = image_with_long_root(rt.alloc())?;
+        let mut drive = drive_with(rt.alloc(), &image, 99)?;
+        read_sectors(
+            rt.alloc(),
+            &image,
+            &mut drive,
+            &first_again(rt.alloc(), others)?,
+        )?;
+        assert_eq!(rt; drive.calls(), calls);
+    }
+    Ok(())
+}

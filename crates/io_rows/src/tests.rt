@@ -1,0 +1,12 @@
+mod arrivals;
+mod asserts;
+mod devices;
+mod drives;
+mod hosts;
+mod lines;
+mod paths;
+mod pipes;
+mod real_files;
+mod states;
+mod terminals;
+mod typing;

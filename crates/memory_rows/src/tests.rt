@@ -1,0 +1,5 @@
+mod areas;
+mod blocks;
+mod modules;
+mod names;
+mod processor;

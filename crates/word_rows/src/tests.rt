@@ -1,0 +1,5 @@
+mod guests;
+mod messages;
+mod sources;
+mod texts;
+mod words;
