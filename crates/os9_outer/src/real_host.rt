@@ -13,6 +13,9 @@ use std::{fs, io, str};
 /// The most bytes that a file which is read may have.
 const LONGEST_FILE: u64 = 536_870_912;
 
+/// How many bytes of a file are read at a time.
+const PART: usize = 4096;
+
 /// The host of the running program: its files, its standard output and its standard error.
 ///
 /// No contents are observed of it. A file that is missing or too long is a fault, a write that takes nothing
@@ -147,17 +150,38 @@ impl<R: Runtime + AllocGlobal> Host for RealHost<R> {
 fn read_whole<R: Runtime + AllocGlobal>(rt: &R, name: &str) -> io::Result<Vec<u8>>
     ensures { IfOk result (λ bytes. vec_len bytes ≤ 536870912) }
 {
-    let mut bytes = Vec::new(rt.alloc());
-    let file = fs::open(rt, name)?;
-    if file.metadata()?.len() > LONGEST_FILE {
+    let mut file = fs::open(rt, name)?;
+    let length = file.metadata()?.len();
+    if length > LONGEST_FILE {
         return Err(io::Error::from(ErrorKind::FileTooLarge));
     }
-    // (what is no plain file shows no length)
-    file.take(LONGEST_FILE + 1).read_to_end(&mut bytes)?;
-    if bytes.len() as u64 > LONGEST_FILE {
-        return Err(io::Error::from(ErrorKind::FileTooLarge));
+    let mut bytes = Vec::with_capacity(rt.alloc(), length as usize)?;
+    let mut part = [0; PART];
+    // (what is no plain file shows no length, and may have more bytes)
+    for _ in 0..u64::MAX {
+        let count = read_some(&mut file, &mut part)?;
+        if count == 0 {
+            return Ok(bytes);
+        }
+        if bytes.len() + count > LONGEST_FILE as usize {
+            return Err(io::Error::from(ErrorKind::FileTooLarge));
+        }
+        bytes.extend_from_slice(&part[..count])?;
     }
-    Ok(bytes)
+    Err(io::Error::from(ErrorKind::TimedOut))
+}
+
+// Reads some bytes, again if a signal broke in.
+fn read_some(file: &mut impl Read, part: &mut [u8; PART]) -> io::Result<usize>
+    ensures { IfOk result (λ count. count ≤ 4096) }
+{
+    for _ in 0..u64::MAX {
+        match file.read(part) {
+            Err(error) if error.kind() == ErrorKind::Interrupted => {}
+            read => return read,
+        }
+    }
+    Err(io::Error::from(ErrorKind::TimedOut))
 }
 
 fn wants_memory(error: &io::Error) -> bool {
