@@ -11,6 +11,9 @@ ghost use Rattle.os9_kernel.specs.Outside.{outside};
 ghost use Rattle.os9_outer.specs.TerminalState.{terminal_states};
 ghost use Rattle.os9_words.specs.Notes.{notes_of};
 
+#[cfg(test)]
+mod tests;
+
 use device_table::devices::Devices;
 use os9_boot::{add_drive, os9_main};
 use os9_outer::drive::BlockDriver;
