@@ -1,16 +1,18 @@
 #!/usr/bin/env bash
-# Runs `./os9 asm` on sources of 1,000, 10,000 and 100,000 lines, each with a label that a line far
-# below or above names, and prints for each the least seconds of three runs and the peak memory in
-# MiB. With a PROGRAM as its word it runs `PROGRAM asm SOURCE OUT` in turn with it, compares the
-# modules, and prints how many times the seconds of PROGRAM `./os9` takes.
+# Runs `os9 asm` on sources of 1,000, 10,000 and 100,000 lines, each with labels that lines far below
+# and above name, and prints for each the seconds of the processor, the least of five runs, and the
+# peak memory. With a PROGRAM as its word it runs `PROGRAM asm SOURCE OUT` in turn with it, compares
+# the modules, and prints how many times the seconds of PROGRAM os9 takes.
 top=$(cd "$(dirname "$(readlink -f "${BASH_SOURCE[0]}")")/.." && pwd) || exit 1
 folder=$(mktemp -d) || exit 1
 trap 'rm -rf "$folder"' EXIT
 
-python3 - "$folder" "$top/os9" "$@" <<'PYTHON'
-import os, resource, subprocess, sys, time
+"$top/os9" build || exit 1
 
-folder, own, others = sys.argv[1], sys.argv[2], sys.argv[3:4]
+python3 - "$folder" "$top/crates/os9/out/os9" "$@" <<'PYTHON'
+import resource, subprocess, sys
+
+folder, programs = sys.argv[1], sys.argv[2:4]
 
 
 def write_source(path, count):
@@ -26,33 +28,30 @@ def write_source(path, count):
         source.write(" emod\n")
 
 
+def processor_seconds():
+    usage = resource.getrusage(resource.RUSAGE_CHILDREN)
+    return usage.ru_utime + usage.ru_stime
+
+
 def measure(program, source, out):
-    """The seconds of a run, and its peak memory in MiB."""
-    begin = time.monotonic()
-    child = os.posix_spawn(program, [program, "asm", source, out], os.environ)
-    _, status, usage = os.wait4(child, 0)
-    seconds = time.monotonic() - begin
-    if status != 0:
-        sys.exit(f"{program} ended with status {os.waitstatus_to_exitcode(status)}")
-    return seconds, usage.ru_maxrss / 1024
+    """The seconds of the processor, and the peak memory in KiB."""
+    begin = processor_seconds()
+    cost = f"{folder}/cost"
+    run = ["/usr/bin/time", "-f", "%M", "-o", cost, program, "asm", source, out]
+    subprocess.run(run, check=True)
+    return processor_seconds() - begin, int(open(cost).read())
 
 
-# The first run builds the program, where that is needed.
 source = f"{folder}/source"
+outs = [f"{folder}/out{i}" for i in range(len(programs))]
 for count in (1_000, 10_000, 100_000):
     write_source(source, count)
-    costs = {}
-    for program in [own, *others]:
-        measure(program, source, f"{folder}/out")
-    for _ in range(3):
-        for program in [own, *others]:
-            out = f"{folder}/{os.path.basename(program)}.out"
-            costs.setdefault(program, []).append(measure(program, source, out))
-    seconds = {program: min(it[0] for it in runs) for program, runs in costs.items()}
-    print(f"{count} lines: {seconds[own]:.3f} seconds, {max(it[1] for it in costs[own]):.0f} MiB")
-    for program in others:
-        made = [open(f"{folder}/{os.path.basename(it)}.out", "rb").read() for it in (own, program)]
-        if made[0] != made[1]:
+    runs = [[measure(*it) for it in zip(programs, [source] * 2, outs)] for _ in range(5)]
+    seconds = [min(cost for cost, _ in column) for column in zip(*runs)]
+    peak = max(peak for _, peak in next(zip(*runs)))
+    print(f"{count} lines: {seconds[0]:.3f} seconds, {peak / 1024:.1f} MiB")
+    for program, out, other in zip(programs[1:], outs[1:], seconds[1:]):
+        if open(outs[0], "rb").read() != open(out, "rb").read():
             sys.exit(f"{program} made another module")
-        print(f"  {seconds[program]:.3f} seconds of {program}, {seconds[own] / seconds[program]:.2f} times those")
+        print(f"  {seconds[0] / other:.2f} times the {other:.3f} seconds of {program}")
 PYTHON
