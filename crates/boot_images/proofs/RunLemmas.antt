@@ -269,15 +269,16 @@ module _ (setup : Setup) (before ran : World) (new : List (List ℕ)) (drives : 
       ap (λ (world : World). with_drives world drives) is
       ∙ ap (with_drives before) (taken.left ∙ ap (λ (world : World). map without_media world.devices.drives) is ∙ given-back setup.images before.devices.drives room.empty)
 
-  mount-failed : (drive number : ℕ) → FailsToMount drive number held ran → FailsToMount drive number before after
+  mount-failed : (drive number : ℕ) → FailsToMount (length setup.images) drive number held ran → FailsToMount (length setup.images) drive number before after
   mount-failed drive number it = record {
+    among = it.among;
     failed = subst (λ (states : List DriveState). OneFailed drive number states (drive_states drives)) before-counted (subst (OneFailed drive number (drive_states held.devices.drives)) (sym after-counted) it.failed);
     media_kept = media-again;
     terms_kept = it.terms_kept;
     out_kept = it.out_kept;
   }
 
-  leaves-unrun : (end : RunEnd) → LeavesUnrun held ran end → LeavesUnrun before after end
+  leaves-unrun : (end : RunEnd) → LeavesUnrun (length setup.images) held ran end → LeavesUnrun (length setup.images) before after end
   leaves-unrun (Ended begun) it = tt
   leaves-unrun (Living begun) it = tt
   leaves-unrun (Refused fault) it = same-again it

@@ -88,7 +88,7 @@ RunGives setup images before after end = ⊤
 pub record RunsImages (setup : Setup) (images : List (List ℕ)) (before after : World) (end : RunEnd) : Type 0 where
   pub gives : All IsObserved before.devices.terms → RunGives setup images before after end
   pub judged : Judges setup end
-  pub unrun : LeavesUnrun before after end
+  pub unrun : LeavesUnrun (length setup.images) before after end
   pub drives : AreEmptyAgain before.devices.drives after.devices.drives
   -- the host failed, and last at a write to the output; at every other end it did not fail
   pub output_fault : end ≡ OutputFailed → FailsToWrite before after

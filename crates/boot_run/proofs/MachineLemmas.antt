@@ -268,10 +268,10 @@ where-refused (Boot fault) then it = λ e. then (it e)
 where-refused (Drive drive number) then it = tt
 
 -- the machine did not start
-pub called-refused : (setup : Setup) (config : Config) (world : World) (devices : Outside) (error : StartError) → config.blocks ≡ setup.blocks → StartIsRefused config setup.file error → WhereRefused error (devices ≡ world.devices) → StartsDrives {A = Kernel} config.images (drive_fault (Err error)) world.devices.drives devices.drives → length devices.drives ≡ length world.devices.drives → devices.terms ≡ world.devices.terms → MachineCall setup world (with_devices world devices) (start_end error)
-called-refused setup config world devices (Boot OutOfMemory) blocks refused same moved count terms =
+pub called-refused : (setup : Setup) (config : Config) (world : World) (devices : Outside) (error : StartError) → config.blocks ≡ setup.blocks → length setup.images ≡ config.images → StartIsRefused config setup.file error → WhereRefused error (devices ≡ world.devices) → StartsDrives {A = Kernel} config.images (drive_fault (Err error)) world.devices.drives devices.drives → length devices.drives ≡ length world.devices.drives → devices.terms ≡ world.devices.terms → MachineCall setup world (with_devices world devices) (start_end error)
+called-refused setup config world devices (Boot OutOfMemory) blocks images refused same moved count terms =
     called-nothing setup world devices moved.moves (media-kept world.devices.drives devices.drives count moved.media) terms
-called-refused setup config world devices (Boot (BadModule at error)) blocks refused same moved count terms = record {
+called-refused setup config world devices (Boot (BadModule at error)) blocks images refused same moved count terms = record {
   comes = λ told. tt;
   judged = subst (λ (blocks : ℕ). Refuses setup.file blocks (BadModule at error)) blocks (refused (λ e. cc e));
   unrun = ap (λ (devices : Outside). with_devices world devices) (same (λ e. cc e));
@@ -279,7 +279,7 @@ called-refused setup config world devices (Boot (BadModule at error)) blocks ref
   no_fault = λ no. (refl, refl, refl);
   files_kept = refl;
 }
-called-refused setup config world devices (Boot NoFirst) blocks refused same moved count terms = record {
+called-refused setup config world devices (Boot NoFirst) blocks images refused same moved count terms = record {
   comes = λ told. tt;
   judged = subst (λ (blocks : ℕ). Refuses setup.file blocks NoFirst) blocks (refused (λ e. cc e));
   unrun = ap (λ (devices : Outside). with_devices world devices) (same (λ e. cc e));
@@ -287,7 +287,7 @@ called-refused setup config world devices (Boot NoFirst) blocks refused same mov
   no_fault = λ no. (refl, refl, refl);
   files_kept = refl;
 }
-called-refused setup config world devices (Boot TooLarge) blocks refused same moved count terms = record {
+called-refused setup config world devices (Boot TooLarge) blocks images refused same moved count terms = record {
   comes = λ told. tt;
   judged = subst (λ (blocks : ℕ). Refuses setup.file blocks TooLarge) blocks (refused (λ e. cc e));
   unrun = ap (λ (devices : Outside). with_devices world devices) (same (λ e. cc e));
@@ -295,10 +295,11 @@ called-refused setup config world devices (Boot TooLarge) blocks refused same mo
   no_fault = λ no. (refl, refl, refl);
   files_kept = refl;
 }
-called-refused setup config world devices (Drive drive number) blocks accepted same moved count terms = record {
+called-refused setup config world devices (Drive drive number) blocks images accepted same moved count terms = record {
   comes = λ told. tt;
   judged = subst (λ (blocks : ℕ). (fault : BootFault) → ¬ Refuses setup.file blocks fault) blocks accepted;
   unrun = record {
+    among = subst (λ k. drive < k) (sym images) moved.among;
     failed = moved.moves;
     media_kept = media-kept world.devices.drives devices.drives count moved.media;
     terms_kept = terms;

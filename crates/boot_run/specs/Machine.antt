@@ -119,25 +119,26 @@ Judges setup (Refused fault) = Refuses setup.file setup.blocks fault
 Judges setup (DriveFailed drive number) = (fault : BootFault) → ¬ Refuses setup.file setup.blocks fault
 Judges setup end = ⊤
 
--- A drive failed when its image was mounted, and no other one; the media, the terminals and the output are as they
--- were.
-pub record FailsToMount (drive number : ℕ) (before after : World) : Type 0 where
+-- A drive that held one of so many images failed when that was mounted, and no other one; the media, the terminals and
+-- the output are as they were.
+pub record FailsToMount (images drive number : ℕ) (before after : World) : Type 0 where
+  pub among : drive < images
   pub failed : OneFailed drive number (drive_states before.devices.drives) (drive_states after.devices.drives)
   pub media_kept : media_of after.devices.drives ≡ media_of before.devices.drives
   pub terms_kept : after.devices.terms ≡ before.devices.terms
   pub out_kept : after.out ≡ before.out
 
--- what is left of the devices and the output where no machine runs, observed or not
-abbrev pub LeavesUnrun : World → World → RunEnd → Type 0
-LeavesUnrun before after (Refused fault) = after ≡ before
-LeavesUnrun before after (DriveFailed drive number) = FailsToMount drive number before after
-LeavesUnrun before after end = ⊤
+-- what is left of the devices and the output where no machine runs that was set up with so many images, observed or not
+abbrev pub LeavesUnrun : ℕ → World → World → RunEnd → Type 0
+LeavesUnrun images before after (Refused fault) = after ≡ before
+LeavesUnrun images before after (DriveFailed drive number) = FailsToMount images drive number before after
+LeavesUnrun images before after end = ⊤
 
 -- a machine was started, and its run ended so
 pub record MachineCall (setup : Setup) (before after : World) (end : RunEnd) : Type 0 where
   pub comes : All IsObserved before.devices.terms → ComesTo setup before after end
   pub judged : Judges setup end
-  pub unrun : LeavesUnrun before after end
+  pub unrun : LeavesUnrun (length setup.images) before after end
   -- the host failed, and last at a write to the output; at every other end it did not fail
   pub output_fault : end ≡ OutputFailed → FailsToWrite before after
   pub no_fault : end ≢ OutputFailed → HasNoFault before after

@@ -1,5 +1,5 @@
 -- Drives that are only read, once and again, and the faults that end it.
-use Rattle.std.proofs.Common.{◌≡◌, ◌≢◌, ℕ, ◌+◌, ◌≤◌, ◌∙◌, Option, Some, None, List, set, slice_get, slice_index_or, eqb, Result, Ok, Err, refl, ap, sym, subst, ⊎_elim, arith}
+use Rattle.std.proofs.Common.{◌≡◌, ◌≢◌, ℕ, ◌+◌, ◌<◌, ◌≤◌, ◌∙◌, Option, Some, None, List, set, slice_get, slice_index_or, eqb, Result, Ok, Err, refl, ap, sym, subst, ⊎_elim, arith}
 use Rattle.std.proofs.lemmas.Bool.{cases_eq, cond-true, eq-eqb}
 use Rattle.std.proofs.lemmas.List.{length-set, get_or-set_same, get_or-set_other, set-set}
 use Rattle.std.proofs.lemmas.Option.{slice_get_within, get_or_from_slice_get}
@@ -19,7 +19,7 @@ use Rattle.file_drives.specs.Drives.{ChangesOneDrive, DriveView, OneDriveMoves, 
 use Rattle.file_drives.specs.Mounted.{ReadsFile, ReadsToMount, mounting_calls}
 use Rattle.file_state.proofs.ReachedLemmas.{moved-then}
 use Rattle.file_state.specs.Counted.{calls_at}
-use Rattle.file_start.specs.Start.{FailsOn, ReadUpTo, StartMoves, only_drive, start_fault}
+use Rattle.file_start.specs.Start.{FailsAmong, FailsOn, ReadUpTo, StartMoves, only_drive, start_fault}
 use Rattle.file_start.specs.declared.fault.StartFault.{StartFault}
 use Rattle.file_start.specs.declared.fault.StartFault.TheVariants.{OutOfMemory, Drive}
 
@@ -142,6 +142,12 @@ start-moves (Ok a) most n before after fails moved = none-failed most n before a
 start-moves (Err OutOfMemory) most n before after fails moved = none-failed most n before after moved
 start-moves (Err (Drive drive number)) most n before after fails moved =
     subst (λ d. StartMoves {A = Unit {0}} (Err (Drive d number)) before after) (sym fails) (one-failed number most n before after moved)
+
+-- the drive is one of the first, if it is below so many
+pub fails-among : {A : Type 0} (result : Result A StartFault) (n drives : ℕ) → n < drives → FailsOn n result → FailsAmong drives result
+fails-among (Ok a) n drives inside fails = tt
+fails-among (Err OutOfMemory) n drives inside fails = tt
+fails-among (Err (Drive drive number)) n drives inside fails = omega (arith, inside, fails)
 
 -- behind what did not fail
 pub moves-then : {A : Type 0} (result : Result A StartFault) (before mid after : List DriveView) → NoneFailed (drive_states before) (drive_states mid) → StartMoves result mid after → StartMoves result before after

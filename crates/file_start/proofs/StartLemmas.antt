@@ -2,7 +2,7 @@
 use Rattle.std.proofs.Common.{◌≡◌, ℕ, ◌-◌, ◌∙◌, Option, Some, None, option_map, List, ◌++◌, length, map, replicate, slice_get, slice_set, OnOk, Result, Ok, Err, refl, ap, sym, subst}
 use Rattle.std.specs.Option.{option_map_or}
 use Rattle.std.proofs.lemmas.List.{length-map}
-use Rattle.std.proofs.lemmas.Option.{none-some, same_Some}
+use Rattle.std.proofs.lemmas.Option.{none-some, same_Some, slice_get_within}
 use Rattle.rbf_model.specs.File.{DiskFile}
 use Rattle.rbf_model.specs.Volume.{DiskVolume}
 use Rattle.rbf_access.specs.declared.volume.Volume.{Volume}
@@ -17,8 +17,8 @@ use Rattle.file_state.specs.Tie.{StandsFor}
 use Rattle.file_state.specs.declared.state.FileState.{FileState}
 use Rattle.file_start.proofs.CommandLemmas.{root-of}
 use Rattle.file_start.proofs.FirstLemmas.{first-volume, image-vol, images-zip}
-use Rattle.file_start.proofs.ReadLemmas.{moves-of, moves-then, read-one, read-then, start-moves}
-use Rattle.file_start.specs.Start.{AreFirst, FailsOn, HasMounted, HasStarted, HaveImages, HaveVolumes, HoldVolumes, IsRootAt, OnFirst, ReadUpTo, StartMoves, StartedOn, StartsDrives, given, mounted_files, mounts_calls, only_drive, root_calls, search_calls, start_calls, start_fault}
+use Rattle.file_start.proofs.ReadLemmas.{fails-among, moves-of, moves-then, read-one, read-then, start-moves}
+use Rattle.file_start.specs.Start.{AreFirst, FailsAmong, FailsOn, HasMounted, HasStarted, HaveImages, HaveVolumes, HoldVolumes, IsRootAt, OnFirst, ReadUpTo, StartMoves, StartedOn, StartsDrives, given, mounted_files, mounts_calls, only_drive, root_calls, search_calls, start_calls, start_fault}
 use Rattle.file_start.specs.declared.fault.StartFault.{StartFault}
 use Rattle.file_start.specs.declared.fault.StartFault.TheVariants.{OutOfMemory, Drive}
 
@@ -44,6 +44,14 @@ module _ (disks : List (Option Volume)) (views : List DriveView) (root : FilePla
 pub moves-as : (A B : Type 0) (fault : StartFault) (before after : List DriveView) → StartMoves {A = A} (Err fault) before after → StartMoves {A = B} (Err fault) before after
 moves-as A B OutOfMemory before after moves = moves
 moves-as A B (Drive drive number) before after moves = moves
+
+pub fails-as : (A B : Type 0) (fault : StartFault) (n : ℕ) → FailsOn {A = A} n (Err fault) → FailsOn {A = B} n (Err fault)
+fails-as A B OutOfMemory n fails = fails
+fails-as A B (Drive drive number) n fails = fails
+
+pub among-as : (A B : Type 0) (fault : StartFault) (drives : ℕ) → FailsAmong {A = A} drives (Err fault) → FailsAmong {A = B} drives (Err fault)
+among-as A B OutOfMemory drives among = among
+among-as A B (Drive drive number) drives among = among
 
 -- ---- the root
 
@@ -114,6 +122,11 @@ module _ (state new : FileState) (views after : List DriveView) (volumes : List 
   read-first =
       subst (λ (v : Option DiskVolume). ReadUpTo (only_drive 0 (root_calls v)) views after) (sym (first-is volumes views on-first.0 on-first.1)) (read files_before on-first.0 has on-first.1)
 
+  -- D0 is one of the drives then
+  pub among-first : {A : Type 0} (result : Result A StartFault) → FailsOn 0 result → FailsAmong (length volumes) result
+  among-first result fails =
+      fails-among result 0 (length volumes) (slice_get_within volumes 0 on-first.0 (first-is volumes views on-first.0 on-first.1)) fails
+
   pub stands-first : {A E : Type 0} (result : Result A E) → OnFirst state views (λ files v. OnOk result (StandsFor new after (given files v after))) → OnOk result (HasStarted volumes new after)
   stands-first result stands =
       ok-map result (StandsFor new after (given files_before on-first.0 after)) (HasStarted volumes new after)
@@ -123,9 +136,11 @@ module _ (state new : FileState) (views after : List DriveView) (volumes : List 
 -- ---- the start
 
 -- the volumes are mounted, and then the directories are looked for
-pub starts-drives : {A : Type 0} (result : Result A StartFault) (state : FileState) (drives : ℕ) (before mid after : List DriveView) → HaveVolumes drives before → ((volumes : List DiskVolume) → length volumes ≡ drives → HoldVolumes volumes before → HasMounted volumes state mid) → ReadUpTo (mounts_calls drives before) before mid → NoneFailed (drive_states before) (drive_states mid) → ((volumes : List DiskVolume) → HasMounted volumes state mid → ReadUpTo (only_drive 0 (root_calls (slice_get volumes 0))) mid after) → StartMoves result mid after → StartsDrives drives result before after
-starts-drives result state drives before mid after have has mounted none found moves = record {
+pub starts-drives : {A : Type 0} (result : Result A StartFault) (state : FileState) (drives : ℕ) (before mid after : List DriveView) → HaveVolumes drives before → ((volumes : List DiskVolume) → length volumes ≡ drives → HoldVolumes volumes before → HasMounted volumes state mid) → ReadUpTo (mounts_calls drives before) before mid → NoneFailed (drive_states before) (drive_states mid) → ((volumes : List DiskVolume) → HasMounted volumes state mid → ReadUpTo (only_drive 0 (root_calls (slice_get volumes 0))) mid after) → StartMoves result mid after → ((volumes : List DiskVolume) → HasMounted volumes state mid → FailsAmong (length volumes) result) → StartsDrives drives result before after
+starts-drives result state drives before mid after have has mounted none found moves among = record {
   moves = moves-then result before mid after none moves;
+  among =
+      subst (λ k. FailsAmong k result) have.as_many (among have.volumes (has have.volumes have.as_many have.hold));
   media = (reads have.volumes have.as_many have.hold).media;
   reads = reads;
 }

@@ -1,6 +1,6 @@
 -- The volumes of a machine at its start, and the directories of its first process (Level Two manual, "Booting"; which
 -- volumes are mounted and which directories the process has is this project's own).
-use Rattle.std.specs.Prelude.{◌≡◌, ℕ, ◌+◌, ◌≤◌, ◌==◌, nat_lt, Option, Some, None, List, [], length, replicate, slice_get, OnOk, Result, Ok, Err, if◌then◌else◌}
+use Rattle.std.specs.Prelude.{◌≡◌, ℕ, ◌+◌, ◌<◌, ◌≤◌, ◌==◌, nat_lt, Option, Some, None, List, [], length, replicate, slice_get, OnOk, Result, Ok, Err, if◌then◌else◌}
 use Rattle.std.specs.Option.{option_map_or}
 use Rattle.rbf_model.specs.File.{DiskFile, is_directory}
 use Rattle.rbf_model.specs.Volume.{DiskVolume}
@@ -117,6 +117,12 @@ FailsOn n (Ok a) = Unit {0}
 FailsOn n (Err OutOfMemory) = Unit {0}
 FailsOn n (Err (Drive drive number)) = drive ≡ n
 
+-- or one of so many first drives
+abbrev pub FailsAmong : {A : Type 0} → ℕ → Result A StartFault → Type 0
+FailsAmong drives (Ok a) = Unit {0}
+FailsAmong drives (Err OutOfMemory) = Unit {0}
+FailsAmong drives (Err (Drive drive number)) = drive < drives
+
 -- the drives then: none failed, or the one that is named, whose last fault has this number
 abbrev pub StartMoves : {A : Type 0} → Result A StartFault → List DriveView → List DriveView → Type 0
 StartMoves (Ok a) before now = NoneFailed (drive_states before) (drive_states now)
@@ -156,6 +162,7 @@ start_calls volumes views n =
 pub record StartsDrives {A : Type 0} (drives : ℕ) (result : Result A StartFault) (before after : List DriveView)
     : Type 0 where
   pub moves : StartMoves result before after
+  pub among : FailsAmong drives result
   pub media : (n : ℕ) → media_at after n ≡ media_at before n
   pub reads : (volumes : List DiskVolume) → length volumes ≡ drives → HoldVolumes volumes before
       → ReadUpTo (start_calls volumes before) before after
@@ -168,6 +175,7 @@ pub record MountsOne (n : ℕ) (result : Result (Unit {0}) StartFault) (old new 
   pub mounted : OnOk result (MountsVolume n old before new after)
   pub read : ReadUpTo (only_drive n (media_calls (media_at before n))) before after
   pub moves : StartMoves result before after
+  pub fails : FailsOn n result
 
 -- the volumes of so many first drives are mounted, unless it failed
 pub record MountsFirst (drives : ℕ) (result : Result (Unit {0}) StartFault) (old new : FileState)
@@ -176,6 +184,7 @@ pub record MountsFirst (drives : ℕ) (result : Result (Unit {0}) StartFault) (o
       → HasMounted [] old before → OnOk result (HasMounted volumes new after)
   pub read : ReadUpTo (mounts_calls drives before) before after
   pub moves : StartMoves result before after
+  pub among : FailsAmong drives result
 
 -- the first process has its directories, unless it failed: on the volume of D0, if one is mounted there
 pub record GivesDirectories (result : Result (Unit {0}) StartFault) (old new : FileState)
@@ -185,6 +194,7 @@ pub record GivesDirectories (result : Result (Unit {0}) StartFault) (old new : F
   pub read : (volumes : List DiskVolume) → HasMounted volumes old before
       → ReadUpTo (only_drive 0 (root_calls (slice_get volumes 0))) before after
   pub moves : StartMoves result before after
+  pub among : (volumes : List DiskVolume) → HasMounted volumes old before → FailsAmong (length volumes) result
 
 -- the same where a volume is mounted on D0
 pub record GivesRoot (result : Result (Unit {0}) StartFault) (old new : FileState) (before after : List DriveView)
@@ -192,3 +202,4 @@ pub record GivesRoot (result : Result (Unit {0}) StartFault) (old new : FileStat
   pub stands : OnFirst old before (λ files v. OnOk result (StandsFor new after (given files v after)))
   pub read : OnFirst old before (λ files v. ReadUpTo (only_drive 0 (root_calls (Some v))) before after)
   pub moves : StartMoves result before after
+  pub fails : FailsOn 0 result

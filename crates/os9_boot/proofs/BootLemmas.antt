@@ -1,5 +1,5 @@
 -- A boot whose files were read.
-use Rattle.std.proofs.Common.{◌≡◌, ℕ, Option, Some, None, List, Ok, Err, length, refl, inr, All}
+use Rattle.std.proofs.Common.{◌≡◌, ℕ, Option, Some, None, List, Ok, Err, length, refl, subst, inl, inr, All}
 use Rattle.std.specs.Prelude.{IfSome}
 use Rattle.os9_outer.specs.Host.{Files}
 use Rattle.script_text.specs.declared.script.ScriptKey.{ScriptKey}
@@ -19,7 +19,7 @@ use Rattle.command_files.specs.declared.status.Input.TheVariants.{Script as Scri
 use Rattle.os9_boot.specs.Boots.{BootComesTo, MachineComesTo}
 use Rattle.os9_boot.specs.Commands.{CommandCall}
 use Rattle.os9_boot.specs.Host.{FailsAsTold}
-use Rattle.os9_boot.specs.Left.{BootMayEnd}
+use Rattle.os9_boot.specs.Left.{BootMayEnd, LeavesDevices}
 use Rattle.os9_boot.specs.Images.{RefusesImages}
 use Rattle.command_files.specs.Reading.{HasBootFiles, RefusesTexts}
 use Rattle.command_files.specs.Setup.{HaveTexts, SetsUpBoot}
@@ -114,13 +114,13 @@ module _ (before : World) (boot : RunWords) (read : BootFiles) (has : IfSome bef
         file = is;
       }
 
-      pub boot-ended : (images : List (List ℕ)) (mid after : World) (end : RunEnd) (answer : End) → RunsImages setup images before mid end → EndsBoot boot.files images end answer mid after → CommandCall (BootCommand boot) before after answer
-      boot-ended images mid after end answer run ends =
+      pub boot-ended : length read.images ≡ length boot.files → (images : List (List ℕ)) (mid after : World) (end : RunEnd) (answer : End) → RunsImages setup images before mid end → EndsBoot boot.files images end answer mid after → CommandCall (BootCommand boot) before after answer
+      boot-ended many images mid after end answer run ends =
           let it = machine-ends setup boot.files images before mid after end answer run ends in
           record {
             comes = of-files (λ files. BootComesTo files boot before after answer) (λ files has. boot-comes files boot setup before after (sets-up files has) answer it.kind it.comes);
             may = boot-may answer it.kind;
-            devices = it.devices;
+            devices = subst (λ k. LeavesDevices k before after answer) many it.devices;
             host = boot-fails boot before after answer it.host;
             files = it.files;
           }

@@ -1,5 +1,5 @@
 -- Commands that end before anything ran, stresses, and the top call.
-use Rattle.std.proofs.Common.{◌≡◌, ◌⊎◌, ℕ, Option, Some, None, Ok, Err, List, refl, ap, subst, inl, inr}
+use Rattle.std.proofs.Common.{◌≡◌, ◌⊎◌, ℕ, Option, Some, None, Ok, Err, List, refl, ap, subst, inl, inr, arith}
 use Rattle.std.specs.Prelude.{IfSome, Result}
 use Rattle.os9_outer.specs.Host.{Files, file_contents}
 use Rattle.os9_outer.specs.declared.host.Host.{Ghosts}
@@ -14,7 +14,7 @@ use Rattle.file_drives.specs.Drives.{drive_states, media_of}
 use Rattle.os9_kernel.specs.Outside.{Outside}
 use Rattle.boot_run.specs.Machine.{IsUnrun}
 use Rattle.boot_run.specs.World.{World, FailsToReadFile, HasNoFault, world_of}
-use Rattle.stress_run.specs.Stress.{StressCall}
+use Rattle.stress_run.specs.Stress.{LeavesStress, StressCall}
 use Rattle.stress_run.specs.declared.stress.StressEnd.{StressEnd}
 use Rattle.stress_run.specs.declared.stress.StressEnd.TheVariants as Stress
 use Rattle.command_files.specs.declared.status.End.{End}
@@ -100,7 +100,7 @@ leaves-same (AsmCommand asm) before after end same = asm-files-same asm before a
 -- ---- devices
 
 -- what is left of the output and the devices, which are as they were
-leaves-as : (command : Command) (before after : World) (end : End) → LeavesDevices before after end → IsSilent before after → (meaning command).devices before after end
+leaves-as : (command : Command) (before after : World) (end : End) → LeavesDevices (meaning command).drives before after end → IsSilent before after → (meaning command).devices before after end
 leaves-as (RunCommand run) before after end left same = left
 leaves-as (BootCommand boot) before after end left same = left
 leaves-as (CheckCommand image) before after end left same = record { out = left; devices = same.devices }
@@ -118,7 +118,7 @@ leaves-as (AsmCommand asm) before after end left same = same
 -- ---- commands that end before anything ran
 
 -- nothing was changed
-pub unchanged : (command : Command) (before after : World) (end : End) → after ≡ before → (meaning command).may end → LeavesDevices before after end → FailsAsTold command end before after → (meaning command).comes before after end → CommandCall command before after end
+pub unchanged : (command : Command) (before after : World) (end : End) → after ≡ before → (meaning command).may end → LeavesDevices (meaning command).drives before after end → FailsAsTold command end before after → (meaning command).comes before after end → CommandCall command before after end
 unchanged command before after end same may left told comes = record {
   comes = comes;
   may = may;
@@ -211,20 +211,20 @@ asm-called asm before after end call = record {
 pub stressed : (seed : ℕ) (before after : World) (end : StressEnd) → StressCall seed before after end → CommandCall (StressCommand seed) before after (stress_end end)
 stressed seed before after end call = record {
   comes = λ observed. (end, refl, call.comes observed);
-  may = may end;
+  may = may end call.devices;
   devices = left end call;
   host = told end call;
   files = call.files_kept;
 }
   where
-    may : (end : StressEnd) → StressMayEnd (stress_end end)
-    may Stress.Ended = tt
-    may Stress.Living = tt
-    may (Stress.DriveFailed drive number) = tt
-    may Stress.OutputFailed = tt
-    may Stress.NoMemory = tt
+    may : (end : StressEnd) → LeavesStress before after end → StressMayEnd (stress_end end)
+    may Stress.Ended left = tt
+    may Stress.Living left = tt
+    may (Stress.DriveFailed drive number) left = omega (arith, left.among)
+    may Stress.OutputFailed left = tt
+    may Stress.NoMemory left = tt
 
-    left : (end : StressEnd) → StressCall seed before after end → LeavesDevices before after (stress_end end)
+    left : (end : StressEnd) → StressCall seed before after end → LeavesDevices 1 before after (stress_end end)
     left Stress.Ended call = tt
     left Stress.Living call = tt
     left (Stress.DriveFailed drive number) call = call.devices

@@ -48,7 +48,7 @@ module _ (before after : World) (image bytes : List ℕ) (read : IfSome before.f
     may NoMemory printed = tt
     may end printed = absurd printed
 
-    leaves : (end : End) → PrintsAs (tree_line tree) before after end → LeavesDevices before after end
+    leaves : (end : End) → PrintsAs (tree_line tree) before after end → LeavesDevices 0 before after end
     leaves Ended printed = tt
     leaves CannotWrite printed = tt
     leaves NoMemory printed = tt

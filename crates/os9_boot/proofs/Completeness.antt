@@ -17,7 +17,7 @@ use Rattle.os9_boot.specs.Meaning.{meaning}
 use Rattle.os9_boot.specs.TopCall.{CommandReport, Reports, TopCall, WordsReport, words_status}
 
 -- a drive failed
-drive-failed : (command : Command) (before after : World) (drive number : ℕ) → (meaning command).may (DriveFailed drive number) → (meaning command).devices before after (DriveFailed drive number) → FailsToMount drive number before after
+drive-failed : (command : Command) (before after : World) (drive number : ℕ) → (meaning command).may (DriveFailed drive number) → (meaning command).devices before after (DriveFailed drive number) → FailsToMount (meaning command).drives drive number before after
 drive-failed (Run run) before after drive number may left = left
 drive-failed (Boot boot) before after drive number may left = left
 drive-failed (Check image) before after drive number may left = left.out

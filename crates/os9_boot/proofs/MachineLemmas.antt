@@ -46,8 +46,8 @@ IsOfMachine end = Unit {0}
 -- a machine that was set up so has run, its images were written under these names, and the command ends so
 pub record MachineEnds (setup : Setup) (names : List (List ℕ)) (before after : World) (end : End) : Type 0 where
   pub kind : IsOfMachine end
-  pub comes : MachineComesTo setup names before after end
-  pub devices : LeavesDevices before after end
+  pub comes : EndsSo setup names before after end
+  pub devices : LeavesDevices (length setup.images) before after end
   pub host : RunFails names end before after
   pub files : BootLeavesFiles names before after end
 

@@ -1,5 +1,5 @@
 -- A run whose files were read.
-use Rattle.std.proofs.Common.{◌≡◌, ℕ, Option, Some, None, List, [], Ok, Err, length, refl, inr, All}
+use Rattle.std.proofs.Common.{◌≡◌, ℕ, Option, Some, None, List, [], Ok, Err, length, refl, inl, inr, All, arith}
 use Rattle.std.specs.Prelude.{IfSome}
 use Rattle.os9_outer.specs.Host.{Files}
 use Rattle.script_text.specs.declared.script.ScriptKey.{ScriptKey}
@@ -13,11 +13,11 @@ use Rattle.boot_run.specs.World.{World}
 use Rattle.boot_run.specs.declared.machine.RunEnd.{RunEnd}
 use Rattle.command_files.specs.declared.files.RunFiles.{RunFiles}
 use Rattle.command_files.specs.declared.status.End.{End}
-use Rattle.command_files.specs.declared.status.End.TheVariants.{CannotRead, CannotWrite, CannotWriteImage, NoMemory, BadImage, BadText, BadBounds, CannotWriteFile, Refused, BadSource}
+use Rattle.command_files.specs.declared.status.End.TheVariants.{CannotRead, CannotWrite, CannotWriteImage, NoMemory, BadImage, BadText, BadBounds, DriveFailed, CannotWriteFile, Refused, BadSource}
 use Rattle.command_files.specs.declared.status.Input.TheVariants.{Script as ScriptInput, Slices as SlicesInput}
 use Rattle.os9_boot.specs.Boots.{MachineComesTo, RunComesTo}
 use Rattle.os9_boot.specs.Commands.{CommandCall}
-use Rattle.os9_boot.specs.Left.{RunMayEnd}
+use Rattle.os9_boot.specs.Left.{LeavesDevices, RunMayEnd}
 use Rattle.os9_boot.specs.Host.{FailsAsTold}
 use Rattle.command_files.specs.Reading.{HasRunFiles, RefusesTexts}
 use Rattle.command_files.specs.Setup.{SetsUpRun}
@@ -34,15 +34,16 @@ module _ (files : Files) (run : RunWords) (setup : Setup) (before after : World)
   run-comes NoMemory of comes = inr (setup, sets, comes)
   run-comes end of comes = (setup, sets, comes)
 
-run-may : (before after : World) (end : End) → IsOfMachine end → RunFails [] end before after → RunMayEnd end
-run-may before after (BadImage number fault) of failed = absurd of
-run-may before after (BadText input line) of failed = absurd of
-run-may before after BadBounds of failed = absurd of
-run-may before after (CannotWriteImage number) of failed = absurd (cc failed.1)
-run-may before after CannotWriteFile of failed = absurd of
-run-may before after (Refused number) of failed = absurd of
-run-may before after (BadSource line error) of failed = absurd of
-run-may before after end of failed = tt
+run-may : (before after : World) (end : End) → IsOfMachine end → RunFails [] end before after → LeavesDevices 0 before after end → RunMayEnd end
+run-may before after (BadImage number fault) of failed left = absurd of
+run-may before after (BadText input line) of failed left = absurd of
+run-may before after BadBounds of failed left = absurd of
+run-may before after (CannotWriteImage number) of failed left = absurd (cc failed.1)
+run-may before after (DriveFailed drive number) of failed left = absurd (omega (arith, left.among))
+run-may before after CannotWriteFile of failed left = absurd of
+run-may before after (Refused number) of failed left = absurd of
+run-may before after (BadSource line error) of failed left = absurd of
+run-may before after end of failed left = tt
 
 run-fails : (run : RunWords) (before after : World) (end : End) → RunFails [] end before after → FailsAsTold (RunCommand run) end before after
 run-fails run before after (CannotRead input) failed = absurd failed
@@ -109,7 +110,7 @@ module _ (before : World) (run : RunWords) (read : RunFiles) (has : IfSome befor
         let it = machine-ends setup [] images before after after end (ends_run end) run_call (ends-alone images end after) in
         record {
           comes = of-files (λ files. RunComesTo files run before after (ends_run end)) (λ files has. run-comes files run setup before after (sets-up files has) (ends_run end) it.kind it.comes);
-          may = run-may before after (ends_run end) it.kind it.host;
+          may = run-may before after (ends_run end) it.kind it.host it.devices;
           devices = it.devices;
           host = run-fails run before after (ends_run end) it.host;
           files = run_call.files_kept;

@@ -51,18 +51,19 @@ pub record EndsWithoutMemory (files : Files) (boot : RunWords) (before after : W
   pub told : status ≡ status_number NoMemory
   pub left : BootComesTo files boot before after NoMemory
 
--- a drive failed when its image was mounted, and no other; nothing was run, and the status tells it
-pub record EndsAtMount (before after : World) (status : ℕ) : Type 0 where
+-- a drive that held one of so many images failed when that was mounted, and no other; nothing was run, and the
+-- status tells it
+pub record EndsAtMount (images : ℕ) (before after : World) (status : ℕ) : Type 0 where
   pub drive : ℕ
   pub number : ℕ
-  pub failed : FailsToMount drive number before after
+  pub failed : FailsToMount images drive number before after
   pub told : status ≡ status_number (DriveFailed drive number)
 
 -- or memory was out, or a drive failed at its mount
 abbrev pub BootIsOneRun : Files → RunWords → World → World → ℕ → Type 0
 BootIsOneRun files boot before after status =
     IsOneRun files boot before after status
-    ⊎ (EndsWithoutMemory files boot before after status ⊎ EndsAtMount before after status)
+    ⊎ (EndsWithoutMemory files boot before after status ⊎ EndsAtMount (length boot.files) before after status)
 
 -- the status is that of a machine that ran to its end
 abbrev pub IsOfWholeRun : ℕ → Type 0

@@ -17,12 +17,13 @@ IsText Script = ⊤
 IsText Slices = ⊤
 IsText input = ⊥
 
--- the ends that a run may have: it checks no image, and writes none
+-- the ends that a run may have: it has no image to check, to mount or to write
 abbrev pub RunMayEnd : End → Type 0
 RunMayEnd (BadText input line) = IsText input
 RunMayEnd (BadImage number fault) = ⊥
 RunMayEnd BadBounds = ⊥
 RunMayEnd (CannotWriteImage number) = ⊥
+RunMayEnd (DriveFailed drive number) = ⊥
 RunMayEnd CannotWriteFile = ⊥
 RunMayEnd (Refused number) = ⊥
 RunMayEnd (BadSource line error) = ⊥
@@ -45,27 +46,27 @@ CheckMayEnd NoMemory = ⊤
 CheckMayEnd (BadImage number fault) = number ≡ 0
 CheckMayEnd end = ⊥
 
--- those of a stress: it reads no file, and writes none
+-- those of a stress: it reads no file, and writes none, and has one image
 abbrev pub StressMayEnd : End → Type 0
 StressMayEnd Ended = ⊤
 StressMayEnd Living = ⊤
 StressMayEnd CannotWrite = ⊤
 StressMayEnd NoMemory = ⊤
-StressMayEnd (DriveFailed drive number) = ⊤
+StressMayEnd (DriveFailed drive number) = drive ≡ 0
 StressMayEnd end = ⊥
 
 -- ---- what it leaves
 
--- what is left of the output and the devices, observed or not, by how the command ended: where no machine was started
--- all is as it was, or a drive failed
-abbrev pub LeavesDevices : World → World → End → Type 0
-LeavesDevices before after Ended = ⊤
-LeavesDevices before after Living = ⊤
-LeavesDevices before after CannotWrite = ⊤
-LeavesDevices before after (CannotWriteImage number) = ⊤
-LeavesDevices before after NoMemory = ⊤
-LeavesDevices before after (DriveFailed drive number) = FailsToMount drive number before after
-LeavesDevices before after end = IsSilent before after
+-- what is left of the output and the devices, observed or not, by how the command with so many images ended: where no
+-- machine was started all is as it was, or the drive of an image failed
+abbrev pub LeavesDevices : ℕ → World → World → End → Type 0
+LeavesDevices images before after Ended = ⊤
+LeavesDevices images before after Living = ⊤
+LeavesDevices images before after CannotWrite = ⊤
+LeavesDevices images before after (CannotWriteImage number) = ⊤
+LeavesDevices images before after NoMemory = ⊤
+LeavesDevices images before after (DriveFailed drive number) = FailsToMount images drive number before after
+LeavesDevices images before after end = IsSilent before after
 
 -- what is left of the files by a boot: only behind its run it writes images
 abbrev pub BootLeavesFiles : List (List ℕ) → World → World → End → Type 0
@@ -77,7 +78,7 @@ BootLeavesFiles names before after end = after.files ≡ before.files
 
 -- a check leaves the devices as they were
 pub record CheckLeaves (before after : World) (end : End) : Type 0 where
-  pub out : LeavesDevices before after end
+  pub out : LeavesDevices 0 before after end
   pub devices : after.devices ≡ before.devices
 
 -- what the files hold is as it was

@@ -43,7 +43,7 @@ abbrev pub run_meaning : RunWords → Meaning
 run_meaning run = record {
   comes = λ before after end. IfSome before.files (λ files. RunComesTo files run before after end);
   may = RunMayEnd;
-  devices = LeavesDevices;
+  devices = LeavesDevices 0;
   files = KeepsFiles;
   file_name = run_file_name run;
   inputs = run_inputs run;
@@ -56,7 +56,7 @@ abbrev pub boot_meaning : RunWords → Meaning
 boot_meaning boot = record {
   comes = λ before after end. IfSome before.files (λ files. BootComesTo files boot before after end);
   may = BootMayEnd;
-  devices = LeavesDevices;
+  devices = LeavesDevices (length boot.files);
   files = BootLeavesFiles boot.files;
   file_name = run_file_name boot;
   inputs = run_inputs boot;
@@ -82,7 +82,7 @@ abbrev pub stress_meaning : ℕ → Meaning
 stress_meaning seed = record {
   comes = λ before after end. All IsObserved before.devices.terms → StressGives seed before after end;
   may = StressMayEnd;
-  devices = LeavesDevices;
+  devices = LeavesDevices 1;
   files = KeepsFiles;
   file_name = λ input. None;
   inputs = [];

@@ -51,6 +51,7 @@ kernel-starts config file images after kernel processes on clock none civil some
 pub starts-same : (images : ℕ) (views : List DriveView) → StartsDrives {A = Kernel} images (Err OutOfMemory) views views
 starts-same images views = record {
   moves = refl;
+  among = tt;
   media = λ n. refl;
   reads = λ volumes long hold. record { as_many = refl; media = λ n. refl; calls = λ n. omega arith };
 }
@@ -58,10 +59,10 @@ starts-same images views = record {
 -- what the start of files did to them
 module _ (images : ℕ) (before after : List DriveView) where
   pub starts-ok : (files : FileState) (kernel : Kernel) → StartsDrives {A = FileState} images (Ok files) before after → StartsDrives {A = Kernel} images (Ok kernel) before after
-  starts-ok files kernel it = record { moves = it.moves; media = it.media; reads = it.reads }
+  starts-ok files kernel it = record { moves = it.moves; among = it.among; media = it.media; reads = it.reads }
 
   pub starts-memory : StartsDrives {A = FileState} images (Err OutOfMemory) before after → StartsDrives {A = Kernel} images (Err OutOfMemory) before after
-  starts-memory it = record { moves = it.moves; media = it.media; reads = it.reads }
+  starts-memory it = record { moves = it.moves; among = it.among; media = it.media; reads = it.reads }
 
   pub starts-fault : (drive number : ℕ) → StartsDrives {A = FileState} images (Err (Drive drive number)) before after → StartsDrives {A = Kernel} images (Err (Drive drive number)) before after
-  starts-fault drive number it = record { moves = it.moves; media = it.media; reads = it.reads }
+  starts-fault drive number it = record { moves = it.moves; among = it.among; media = it.media; reads = it.reads }

@@ -74,9 +74,9 @@ StressComesTo seed before after (DriveFailed drive number) = ⊤
 StressComesTo seed before after OutputFailed = StressStops seed before after
 StressComesTo seed before after NoMemory = IsUnrun before after ⊎ StressStops seed before after
 
--- where a drive failed, that is all
+-- where the drive of its image failed, that is all
 abbrev pub LeavesStress : World → World → StressEnd → Type 0
-LeavesStress before after (DriveFailed drive number) = FailsToMount drive number before after
+LeavesStress before after (DriveFailed drive number) = FailsToMount 1 drive number before after
 LeavesStress before after end = ⊤
 
 -- a stress was done, and ended so

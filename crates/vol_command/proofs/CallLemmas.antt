@@ -1,5 +1,5 @@
 -- From the steps of `vol` to how it ends.
-use Rattle.std.proofs.Common.{◌≡◌, ◌≢◌, ℕ, zero, suc, Option, Some, None, Result, Ok, Err, List, [], take, append-nil, refl, sym, ap, subst, ◌∙◌, inl, inr}
+use Rattle.std.proofs.Common.{◌≡◌, ◌≢◌, ℕ, zero, suc, Option, Some, None, Result, Ok, Err, List, [], take, append-nil, refl, sym, ap, subst, ◌∙◌, inl, inr, arith}
 use Rattle.std.specs.Prelude.{IfSome}
 use Rattle.os9_base.specs.Count.{Rose}
 use Rattle.os9_outer.specs.Host.{Files, IfObserved, file_contents}
@@ -183,7 +183,7 @@ module _ (vol : VolWords) (read : VolFiles) (before : World) (devices : Outside)
   made-of (Err (DriveFailed drive number)) is drives = record {
     comes = of-read (λ tool image. IsVolume image) is.volume;
     may = is.may;
-    devices = record { failed = drives.fails; media_kept = drives.media_kept; terms_kept = terms; out_kept = refl };
+    devices = record { among = omega (arith, is.may.first); failed = drives.fails; media_kept = drives.media_kept; terms_kept = terms; out_kept = refl };
     host = (refl, refl, refl);
     files = refl;
   }

@@ -81,7 +81,7 @@ pub record LeavesUnprinted (before after : World) : Type 0 where
 
 -- of the output and the devices, observed or not
 abbrev pub VolLeaves : Verb → World → World → End → Type 0
-VolLeaves verb before after (DriveFailed drive number) = FailsToMount drive number before after
+VolLeaves verb before after (DriveFailed drive number) = FailsToMount 1 drive number before after
 VolLeaves verb before after (Refused number) = LeavesUnprinted before after
 VolLeaves verb before after (CannotRead input) = IsSilent before after
 VolLeaves verb before after (BadImage number fault) = IsSilent before after

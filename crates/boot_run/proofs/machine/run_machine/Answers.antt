@@ -37,7 +37,7 @@ returns-in-Err-clause-call g c = λ images have.
     let before = world_of g.H.Host c.args.host.now (outside (λ table. (g.dyn-1.0.entry table).1) c.args.devices.now.drives.items (λ table. (g.dyn-2.0.entry table).1) c.args.devices.now.terms.items) in
     let started = outside (λ table. (g.dyn-1.0.entry table).1) c.new.new.devices.drives.items (λ table. (g.dyn-2.0.entry table).1) c.new.new.devices.terms.items in
     let untouched = where-refused c.in-Err.error (λ same. ap (λ devices. outside (λ table. (g.dyn-1.0.entry table).1) devices.drives.items (λ table. (g.dyn-2.0.entry table).1) devices.terms.items) same) c.in-Err.ensures.untouched in
-    subst (MachineCall setup before (world_of g.H.Host c.args.host.now started)) (sym c.end_of_start.ensures) (called-refused setup c.args.config before started c.in-Err.error refl c.in-Err.ensures.starts.refused untouched c.in-Err.ensures.starts.drives (drives-started c.args.config.images _ _ _ c.requires.volumes c.in-Err.ensures.starts.drives) (ap (λ terms. terminal_states (λ table. (g.dyn-2.0.entry table).1) terms.items) c.in-Err.ensures.terms_kept))
+    subst (MachineCall setup before (world_of g.H.Host c.args.host.now started)) (sym c.end_of_start.ensures) (called-refused setup c.args.config before started c.in-Err.error refl have.as_many c.in-Err.ensures.starts.refused untouched c.in-Err.ensures.starts.drives (drives-started c.args.config.images _ _ _ c.requires.volumes c.in-Err.ensures.starts.drives) (ap (λ terms. terminal_states (λ table. (g.dyn-2.0.entry table).1) terms.items) c.in-Err.ensures.terms_kept))
 
 pub returns-in-Err-load_keys-clause-call : goal.returns-in-Err-load_keys-clause-call
 returns-in-Err-load_keys-clause-call g c = λ images have.

@@ -2,7 +2,7 @@ use Rattle.std.proofs.Common.{◌∙◌, Err, refl, arith}
 use Rattle.std.proofs.lemmas.List.{length-map}
 use Rattle.file_drives.specs.Drives.{boxed_drive_view}
 use Rattle.file_start.proofs.FirstLemmas.{mounted-all, mounted-none, mounted-one, mounted-read-all, next-held, read-to}
-use Rattle.file_start.proofs.ReadLemmas.{moves-then}
+use Rattle.file_start.proofs.ReadLemmas.{fails-among, moves-then}
 use Rattle.file_start.proofs.mounting.mount_first.Goals as goal
 
 pub loop-n-init : goal.loop-n-init
@@ -38,6 +38,7 @@ returns-in-Err-clause-mounts g c =
       mounted = λ volumes many hold has. tt;
       read = mounted-read-all c.loop-n.n c.args.drives c.args.state.now c.loop-n.state c.mount_one.new.state _ _ _ c.loop-n-test.true (omega (arith, there, was)) c.loop-n.invariant.so_far c.in-Err.ensures.mounts.read;
       moves = moves-then {A = Unit {0}} (Err c.in-Err.fault) _ _ _ c.loop-n.invariant.so_far.none c.in-Err.ensures.mounts.moves;
+      among = fails-among {A = Unit {0}} (Err c.in-Err.fault) c.loop-n.n c.args.drives c.loop-n-test.true c.in-Err.ensures.mounts.fails;
     }
 
 pub returns-clause-mounts : goal.returns-clause-mounts
@@ -46,4 +47,5 @@ returns-clause-mounts g c = record {
       mounted-all c.loop-n.n c.args.drives c.args.state.now _ _ _ volumes (omega (arith, c.loop-n-test.false)) c.loop-n.invariant.so_far many hold has;
   read = read-to c.loop-n.n c.args.drives c.args.state.now c.loop-n.state _ _ (omega (arith, c.loop-n-test.false, c.loop-n.auto.n-end)) c.loop-n.invariant.so_far;
   moves = c.loop-n.invariant.so_far.none;
+  among = tt;
 }

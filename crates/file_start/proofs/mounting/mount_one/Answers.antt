@@ -11,6 +11,7 @@ returns-in-Ok-clause-mounts g c =
       mounted = search rules;
       read = read-one _ _ c.args.n _ _ reads;
       moves = none-failed _ c.args.n _ _ (moves-of _ _ c.args.n _ _ reads);
+      fails = tt;
     }
 
 pub returns-in-Err-Device-clause-mounts : goal.returns-in-Err-Device-clause-mounts
@@ -20,6 +21,7 @@ returns-in-Err-Device-clause-mounts g c =
       mounted = tt;
       read = read-one _ _ c.args.n _ _ reads;
       moves = one-failed c.in-Err-Device.number _ c.args.n _ _ (moves-of _ _ c.args.n _ _ reads);
+      fails = refl;
     }
 
 pub returns-in-Err-OutOfMemory-clause-mounts : goal.returns-in-Err-OutOfMemory-clause-mounts
@@ -29,4 +31,5 @@ returns-in-Err-OutOfMemory-clause-mounts g c =
       mounted = tt;
       read = read-one _ _ c.args.n _ _ reads;
       moves = none-failed _ c.args.n _ _ (moves-of _ _ c.args.n _ _ reads);
+      fails = tt;
     }

@@ -2,7 +2,7 @@ use Rattle.std.proofs.Common.{refl}
 use Rattle.file_drives.specs.Mounted.{mounted_at}
 use Rattle.file_start.specs.Start.{mounted_files}
 use Rattle.file_start.proofs.ReadLemmas.{read-none}
-use Rattle.file_start.proofs.StartLemmas.{read-first, root-at, root-first, root-none, stands-first, without-drives}
+use Rattle.file_start.proofs.StartLemmas.{among-first, read-first, root-at, root-first, root-none, stands-first, without-drives}
 use Rattle.file_start.proofs.start.give_directories.Goals as goal
 
 pub give_root-requires-clause-root : goal.give_root-requires-clause-root
@@ -18,6 +18,8 @@ returns-in-Some-clause-gives g c = record {
   read = λ volumes has.
       read-first c.args.state.now c.give_root.new.state _ _ volumes c.in-Some.root has c.in-Some.ensures.root c.give_root.ensures.gives.read;
   moves = c.give_root.ensures.gives.moves;
+  among = λ volumes has.
+      among-first c.args.state.now c.give_root.new.state _ _ volumes c.in-Some.root has c.in-Some.ensures.root c.give_root.ensures.gives.read c.give_root.result c.give_root.ensures.gives.fails;
 }
 
 pub returns-in-None-clause-gives : goal.returns-in-None-clause-gives
@@ -27,4 +29,5 @@ returns-in-None-clause-gives g c = record {
       without-drives volumes c.args.state.now _ (root-none (mounted_at files.volumes 0) (c.in-None.ensures.root _ files.volumes has.mounted)) has;
   read = λ volumes has. read-none _ _;
   moves = refl;
+  among = λ volumes has. tt;
 }

@@ -33,7 +33,7 @@ returns-clause-call g c =
     let devices = outside (λ table. (g.dyn-1.0.entry table).1) c.args.devices.now.drives.items (λ table. (g.dyn-2.0.entry table).1) c.args.devices.now.terms.items in
     let left = outside (λ table. (g.dyn-1.0.entry table).1) c.run_images-end.new.devices.drives.items (λ table. (g.dyn-2.0.entry table).1) c.run_images-end.new.devices.terms.items in
     let count : c.len-terminals.result ≡ length (terminal_states (λ table. (g.dyn-2.0.entry table).1) c.args.devices.now.terms.items) = rw length-map (omega (arith, c.len-terminals.ensures, c.args.devices.now.terms.ok.0)) in
-    boot-ended _ c.args.boot.now c.in-Ok.files c.in-Ok.ensures.contents c.in-Ok-read_texts.texts.keys.items c.in-Ok-read_texts.texts.slices.items (rw (c.as_slice.ensures.value, count) at c.in-Ok-read_texts.ensures.keys) (rw c.as_slice-2.ensures.value at c.in-Ok-read_texts.ensures.slices) c.in-Ok-accept_images.file.items c.in-Ok-accept_images.ensures.well_formed c.in-Ok-accept_images.ensures.bytes _ _ _ _ _ (runs-after _ _ _ _ _ _ (c.in-Ok.ensures.kept devices) c.run_images-end.ensures.run) (c.write_back.ensures.ended left)
+    boot-ended _ c.args.boot.now c.in-Ok.files c.in-Ok.ensures.contents c.in-Ok-read_texts.texts.keys.items c.in-Ok-read_texts.texts.slices.items (rw (c.as_slice.ensures.value, count) at c.in-Ok-read_texts.ensures.keys) (rw c.as_slice-2.ensures.value at c.in-Ok-read_texts.ensures.slices) c.in-Ok-accept_images.file.items c.in-Ok-accept_images.ensures.well_formed c.in-Ok-accept_images.ensures.bytes c.in-Ok.ensures.count _ _ _ _ _ (runs-after _ _ _ _ _ _ (c.in-Ok.ensures.kept devices) c.run_images-end.ensures.run) (c.write_back.ensures.ended left)
 
 pub returns-clause-drives : goal.returns-clause-drives
 returns-clause-drives g c = c.run_images-end.ensures.run.drives
