@@ -89,7 +89,7 @@ module _ (files : Files) (boot : RunWords) (before after : World) (accepted : Is
     by-end Living call comes is = inl (one-run comes.0 true comes.1 (comes.2 observed) status is)
     by-end NoMemory call comes is = inr (inl (record { told = is; left = comes }))
     by-end (DriveFailed drive number) call comes is =
-        inr (inr (record { drive = drive; number = number; failed = call.devices; told = is }))
+        inr (inr (record { drive = drive; number = number; failed = call.devices; files = call.files; told = is }))
     by-end (CannotRead input) call comes is = absurd (kept call.host.2.0)
     by-end CannotWrite call comes is = absurd (kept call.host.0)
     by-end (CannotWriteImage number) call comes is = absurd (kept call.host.2.0)

@@ -51,12 +51,13 @@ pub record EndsWithoutMemory (files : Files) (boot : RunWords) (before after : W
   pub told : status ≡ status_number NoMemory
   pub left : BootComesTo files boot before after NoMemory
 
--- a drive that held one of so many images failed when that was mounted, and no other; nothing was run, and the
--- status tells it
+-- a drive that held one of so many images failed when that was mounted, and no other; nothing was run, no file was
+-- written, and the status tells it
 pub record EndsAtMount (images : ℕ) (before after : World) (status : ℕ) : Type 0 where
   pub drive : ℕ
   pub number : ℕ
   pub failed : FailsToMount images drive number before after
+  pub files : after.files ≡ before.files
   pub told : status ≡ status_number (DriveFailed drive number)
 
 -- or memory was out, or a drive failed at its mount
