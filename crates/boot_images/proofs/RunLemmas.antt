@@ -166,6 +166,7 @@ module _ (setup : Setup) (before ran : World) (new : List (List ℕ)) (drives : 
       end = it.end;
       t = it.t;
       slice = it.slice;
+      some = it.some;
       output = it.output;
       taken = it.taken;
       terminals = it.terminals;

@@ -1,6 +1,7 @@
 -- The bytes of the terminals, one terminal after another.
-use Rattle.std.proofs.Common.{◌≡◌, ℕ, ◌+◌, ◌<◌, false, Option, Some, None, List, [], ◌++◌, length, map, take, drop, slice_set, get_or, sym, ap, ◌∙◌, append-nil, get_or-drop, length-take, All, arith}
+use Rattle.std.proofs.Common.{◌≡◌, ◌≢◌, ℕ, ◌+◌, ◌<◌, ◌==◌, Bool, false, Option, Some, None, List, [], ◌∷◌, ◌++◌, length, map, take, drop, slice_set, get_or, sym, ap, ◌∙◌, append-nil, get_or-drop, length-take, All, refl, arith}
 use Rattle.std.specs.Prelude.{IfSome, IsSome, OnErr, Result, Ok, Err, unwrap_or}
+use Rattle.std.proofs.lemmas.Bool.{false≢true}
 use Rattle.std.proofs.lemmas.List.{take-append-drop, take_more, get_or-append_right, length-map}
 use Rattle.std.proofs.lemmas.List.Concat.{flat_map-append}
 use Rattle.std.proofs.lemmas.List.Edits.{map_over_more}
@@ -32,6 +33,22 @@ told_bytes : (bytes : List ℕ) (put : Option (List ℕ)) → IsSome put → IfS
 told_bytes bytes None told is = cc
 told_bytes bytes (Some put) told is = is
 
+-- ---- some bytes
+
+pub not-none : (bytes : List ℕ) (empty : Bool) → empty ≡ (length bytes == 0) → empty ≡ false → bytes ≢ []
+not-none bytes empty is filled none = false≢true (sym filled ∙ is ∙ ap (λ bytes. length bytes == 0) none)
+
+-- they are bytes of the whole
+some-behind : (front bytes behind : List ℕ) → bytes ≢ [] → (front ++ bytes) ++ behind ≢ []
+some-behind [] [] behind some is = some refl
+some-behind [] (byte ∷ bytes) behind some is = cc is
+some-behind (byte ∷ front) bytes behind some is = cc is
+
+-- a fact of the call holds if it answers an error
+pub on-error : {Value Fault : Type 0} (answer : Result Value Fault) (fact : Type 0) → fact → OnErr answer fact
+on-error (Ok value) fact holds = tt
+on-error (Err fault) fact holds = holds
+
 -- one terminal more
 pub record Passed (n : ℕ) (bytes : List ℕ) (screens now : List TerminalState) : Type 0 where
   pub emptied : now ≡ emptied_front (n + 1) screens
@@ -54,6 +71,17 @@ passes n bytes screens before now within so_far (old, new, is, set, took) =
 pub written-more : (n : ℕ) (bytes : List ℕ) (screens now : List TerminalState) (first before after : Option (List ℕ)) → Passed n bytes screens now → (All IsObserved screens → before ≡ stream_with first (console_bytes (take n screens))) → after ≡ stream_with before bytes → All IsObserved screens → after ≡ stream_with first (console_bytes (take (n + 1) screens))
 written-more n bytes screens now first before after passed so_far gained told =
     gained ∙ ap (λ stream. stream_with stream bytes) (so_far told) ∙ appended-twice first (console_bytes (take n screens)) bytes ∙ ap (stream_with first) (sym (passed.written told))
+
+-- all bytes are these, those of the terminal, and those behind it
+pub bytes-of : (n : ℕ) (bytes : List ℕ) (screens now : List TerminalState) → Passed n bytes screens now → All IsObserved screens → console_bytes screens ≡ (console_bytes (take n screens) ++ bytes) ++ console_bytes (drop (n + 1) screens)
+bytes-of n bytes screens now passed told =
+    let all = ap console_bytes (sym (take-append-drop (n + 1) screens)) ∙ flat_map-append put_bytes (take (n + 1) screens) (drop (n + 1) screens) in
+    all ∙ ap (λ front. front ++ console_bytes (drop (n + 1) screens)) (passed.written told)
+
+-- so there are some, if the terminal has some
+pub some-here : (n : ℕ) (bytes : List ℕ) (screens now : List TerminalState) → Passed n bytes screens now → bytes ≢ [] → All IsObserved screens → console_bytes screens ≢ []
+some-here n bytes screens now passed some told none =
+    some-behind (console_bytes (take n screens)) bytes (console_bytes (drop (n + 1) screens)) some (sym (bytes-of n bytes screens now passed told) ∙ none)
 
 -- where the bytes of a terminal are not all written, a prefix of the bytes of all terminals is
 prefix-here : (n : ℕ) (bytes : List ℕ) (screens now : List TerminalState) (first before after : Option (List ℕ)) → Passed n bytes screens now → (All IsObserved screens → before ≡ stream_with first (console_bytes (take n screens))) → GainsPrefix before bytes after → All IsObserved screens → GainsPrefix first (console_bytes screens) after

@@ -225,9 +225,9 @@ partly-before start slices count n s kernel devices before after here (m, states
 -- if a slice was run and its bytes were not all passed on, the output holds those of the slices before it, and a prefix
 pub partly-after : (start : List DriveView) (slices : List ℕ) (count : ℕ) (s : State) (kernel later : Kernel) (devices mid : Outside) (before after : World) (out : Option (List ℕ)) (end : SliceEnd)
     → count < length slices → Reaches start slices before.out (take count slices) s kernel devices out → SomeLives kernel devices
-    → RunsSlice (get_or slices count 0) kernel devices end later mid → (All IsObserved mid.terms → GainsPrefix out (console_bytes mid.terms) after.out)
+    → RunsSlice (get_or slices count 0) kernel devices end later mid → (All IsObserved mid.terms → GainsPrefix out (console_bytes mid.terms) after.out) → (All IsObserved mid.terms → console_bytes mid.terms ≢ [])
     → (taken : ℕ) × (after.devices.terms ≡ emptied_front taken mid.terms) → after.devices.drives ≡ mid.drives → RunsPartly slices s before after
-partly-after start slices count s kernel later devices mid before after out end within (m, states, written, told, tied, is, so_far, images) some steps gained (taken, left) drives =
+partly-after start slices count s kernel later devices mid before after out end within (m, states, written, told, tied, is, so_far, images) some steps gained filled (taken, left) drives =
     let (begun, t, slice, stands, kept) = steps m tied in
     let n = get_or slices count 0 in
     let here : m.terms ≡ devices.terms = ap (λ (s : State). s.terms) tied.is in
@@ -249,6 +249,7 @@ partly-after start slices count s kernel later devices mid before after out end 
         end = end;
         t = t;
         slice = slice;
+        some = λ none. filled told_mid (ap console_bytes (sym there) ∙ none);
         output = subst (λ terms. GainsPrefix (stream_with before.out written) (console_bytes terms) after.out) (sym there) part;
         taken = taken;
         terminals = left ∙ ap (λ (terms : List TerminalState). emptied_front taken terms) (sym there);

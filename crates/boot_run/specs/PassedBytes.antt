@@ -1,5 +1,5 @@
 -- What is left when the bytes of the terminals were passed to the output stream.
-use Rattle.std.specs.Prelude.{◌≡◌, ℕ, Result, OnOk, OnErr, All}
+use Rattle.std.specs.Prelude.{◌≡◌, ◌≢◌, ℕ, Result, [], OnOk, OnErr, All}
 use Rattle.os9_outer.specs.Host.{OnFailed, UnlessFailed}
 use Rattle.os9_outer.specs.Stream.{stream_with, GainsPrefix}
 use Rattle.os9_outer.specs.declared.host.HostFault.{HostFault}
@@ -16,6 +16,8 @@ pub record PassesBytes {Value : Type 0} (answer : Result Value HostFault) (befor
   -- else it has gained their beginning
   pub prefix : OnErr answer (All IsObserved before.devices.terms
       → GainsPrefix before.out (console_bytes before.devices.terms) after.out)
+  -- and there were some
+  pub some : OnErr answer (All IsObserved before.devices.terms → console_bytes before.devices.terms ≢ [])
   -- and the bytes of the first terminals were taken
   pub left : OnErr answer ((count : ℕ) × (after.devices.terms ≡ emptied_front count before.devices.terms))
   -- the host failed last at the output, or not at all

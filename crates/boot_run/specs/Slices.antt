@@ -1,5 +1,5 @@
 -- What is left when slices were run.
-use Rattle.std.specs.Prelude.{◌≡◌, ◌⊎◌, ◌++◌, ℕ, true, Option, Some, Result, List, take, slice_get, OnOk, OnErr, All}
+use Rattle.std.specs.Prelude.{◌≡◌, ◌≢◌, ◌⊎◌, ◌++◌, ℕ, true, Option, Some, Result, List, [], take, slice_get, OnOk, OnErr, All}
 use Rattle.os9_outer.specs.Stream.{stream_with, GainsPrefix}
 use Rattle.event_rules.specs.Console.{console_bytes}
 use Rattle.event_rules.specs.declared.ends.SliceEnd.{SliceEnd}
@@ -29,14 +29,15 @@ pub record ComesInto (slices : List ℕ) (s : State) (states : List State) (t : 
   pub begins : BeginsSlice n reached first t
   pub all : states ≡ passed ++ first
 
--- A slice was run from this state, and the output did not take all that it wrote: what was out before is followed by
--- the beginning of that. The bytes of so many terminals were taken, all else of the devices is as the slice left it, and
--- the drives hold the volumes of the state then.
+-- A slice was run from this state that wrote something, and the output did not take all of it: what was out before is
+-- followed by the beginning of that. The bytes of so many terminals were taken, all else of the devices is as the slice
+-- left it, and the drives hold the volumes of the state then.
 pub record BreaksOutput (n : ℕ) (s : State) (out : Option (List ℕ)) (after : World) : Type 0 where
   pub states : List State
   pub end : SliceEnd
   pub t : State
   pub slice : Slice n s states end t
+  pub some : console_bytes t.terms ≢ []
   pub output : GainsPrefix out (console_bytes t.terms) after.out
   pub taken : ℕ
   pub terminals : after.devices.terms ≡ emptied_front taken t.terms

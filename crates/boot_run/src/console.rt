@@ -1,4 +1,4 @@
-ghost use Rattle.std.specs.Prelude.{◌≡◌, ◌<◌, IfSome, vec_len};
+ghost use Rattle.std.specs.Prelude.{◌≡◌, ◌≢◌, ◌<◌, IfSome, OnErr, [], vec_len};
 ghost use Rattle.os9_outer.specs.Stream.{emptied};
 ghost use Rattle.os9_outer.specs.TerminalState.{terminal_states, ChangesOneTerminal};
 ghost use Rattle.os9_words.specs.Notes.{notes_of};
@@ -66,7 +66,8 @@ pub fn pass_on<H: Host>(devices: &mut Devices, host: &mut H) -> Result<(), HostF
 
 /// Writes the bytes to the output stream, if there are any.
 fn write_out<H: Host>(host: &mut H, bytes: &[u8]) -> Result<(), HostFault>
-    ensures { WritesOut H.Host bytes.now result host.old host.new }
+    ensures written { WritesOut H.Host bytes.now result host.old host.new }
+    ensures some { OnErr result (bytes.now ≢ []) }
 {
     if bytes.is_empty() {
         return Ok(());

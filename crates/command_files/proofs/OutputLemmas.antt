@@ -1,6 +1,5 @@
 -- The file that a command makes, and what is passed to the output stream.
-use Rattle.std.proofs.Common.{◌≡◌, ◌≢◌, ◌⊎◌, ℕ, ◌==◌, Bool, false, length, Option, None, Some, Result, Ok, Err, OnOk, List, [], ◌∷◌, ◌++◌, refl, sym, ap, ◌∙◌, append-nil, inl, inr}
-use Rattle.std.proofs.lemmas.Bool.{false≢true}
+use Rattle.std.proofs.Common.{◌≡◌, ◌≢◌, ◌⊎◌, ℕ, false, Option, None, Some, Result, Ok, Err, OnOk, List, [], ◌∷◌, ◌++◌, refl, sym, ap, ◌∙◌, append-nil, inl, inr}
 use Rattle.os9_base.specs.Count.{Rose}
 use Rattle.os9_outer.specs.Host.{Files, IfObserved, KeepsOrHoldsPrefix, NotesName, OnFailed, UnlessFailed}
 use Rattle.os9_outer.specs.declared.host.HostFault.{HostFault}
@@ -89,7 +88,3 @@ printed-none bytes world none = rw none (record {
   files = refl;
   devices = refl;
 })
-
--- there are bytes
-pub not-none : (bytes : List ℕ) (empty : Bool) → empty ≡ (length bytes == 0) → empty ≡ false → bytes ≢ []
-not-none bytes empty is filled none = false≢true (sym filled ∙ is ∙ ap (λ bytes. length bytes == 0) none)

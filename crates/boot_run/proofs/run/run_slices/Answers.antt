@@ -76,7 +76,7 @@ returns-in-Err-Failed-clause-ran g c =
     record {
       run = tt;
       partial = λ s told stood.
-          partly-after _ c.args.slices.now c.loop-n.n-index s c.loop-n.kernel c.slice.new.self _ _ _ _ _ c.slice.result within (c.loop-n.invariant.reaches s told stood) (λ m tied none. c.if-living-eq0.false (c.living.ensures _ m tied ∙ none)) (c.slice.ensures.slice.step (λ e. c.in_default.not-NoMemory e)) passed.prefix passed.left drives;
+          partly-after _ c.args.slices.now c.loop-n.n-index s c.loop-n.kernel c.slice.new.self _ _ _ _ _ c.slice.result within (c.loop-n.invariant.reaches s told stood) (λ m tied none. c.if-living-eq0.false (c.living.ensures _ m tied ∙ none)) (c.slice.ensures.slice.step (λ e. c.in_default.not-NoMemory e)) passed.prefix passed.some passed.left drives;
       output_fault = (rw (← c.loop-n.invariant.count.0) passed.output_fault.0, passed.output_fault.1, passed.output_fault.2);
       no_fault = tt;
       files_kept = passed.files_kept ∙ c.loop-n.invariant.files;
@@ -90,7 +90,7 @@ returns-in-Err-OutOfMemory-clause-ran g c =
     record {
       run = tt;
       partial = λ s told stood.
-          partly-after _ c.args.slices.now c.loop-n.n-index s c.loop-n.kernel c.slice.new.self _ _ _ _ _ c.slice.result within (c.loop-n.invariant.reaches s told stood) (λ m tied none. c.if-living-eq0.false (c.living.ensures _ m tied ∙ none)) (c.slice.ensures.slice.step (λ e. c.in_default.not-NoMemory e)) passed.prefix passed.left drives;
+          partly-after _ c.args.slices.now c.loop-n.n-index s c.loop-n.kernel c.slice.new.self _ _ _ _ _ c.slice.result within (c.loop-n.invariant.reaches s told stood) (λ m tied none. c.if-living-eq0.false (c.living.ensures _ m tied ∙ none)) (c.slice.ensures.slice.step (λ e. c.in_default.not-NoMemory e)) passed.prefix passed.some passed.left drives;
       output_fault = tt;
       no_fault = (passed.no_fault.0 ∙ c.loop-n.invariant.count.0, passed.no_fault.1 ∙ c.loop-n.invariant.count.1, passed.no_fault.2 ∙ c.loop-n.invariant.count.2);
       files_kept = passed.files_kept ∙ c.loop-n.invariant.files;

@@ -1,6 +1,6 @@
 -- The bytes are on the output stream, all or the first ones.
 use Rattle.std.proofs.Common.{refl}
-use Rattle.command_files.proofs.OutputLemmas.{not-none}
+use Rattle.boot_run.proofs.ConsoleLemmas.{not-none}
 use Rattle.command_files.proofs.output.print.Goals as goal
 
 pub returns-in-Ok-clause-printed : goal.returns-in-Ok-clause-printed
