@@ -16,7 +16,7 @@ use Rattle.command_files.specs.declared.files.BootFiles.{BootFiles}
 use Rattle.command_files.specs.declared.status.End.{End}
 use Rattle.command_files.specs.declared.status.End.TheVariants.{CannotRead, CannotWrite, CannotWriteImage, NoMemory, BadImage, BadText, BadBounds, CannotWriteFile, Refused, BadSource}
 use Rattle.command_files.specs.declared.status.Input.TheVariants.{Script as ScriptInput, Slices as SlicesInput}
-use Rattle.os9_boot.specs.Boots.{BootComesTo, MachineComesTo}
+use Rattle.os9_boot.specs.Boots.{BootComesTo}
 use Rattle.os9_boot.specs.Commands.{CommandCall}
 use Rattle.os9_boot.specs.Host.{FailsAsTold}
 use Rattle.os9_boot.specs.Left.{BootMayEnd, LeavesDevices}
@@ -25,17 +25,18 @@ use Rattle.command_files.specs.Reading.{HasBootFiles, RefusesTexts}
 use Rattle.command_files.specs.Setup.{HaveTexts, SetsUpBoot}
 use Rattle.os9_boot.specs.Written.{EndsBoot}
 use Rattle.os9_boot.proofs.CallLemmas.{kept-counts, out-of-memory, still-silent, unchanged}
-use Rattle.os9_boot.proofs.MachineLemmas.{RunFails, IsOfMachine, machine-ends}
+use Rattle.os9_boot.proofs.MachineLemmas.{EndsSo, RunFails, IsOfMachine, machine-ends}
 
 -- ---- a machine that ran with images
 
 module _ (files : Files) (boot : RunWords) (setup : Setup) (before after : World) (sets : SetsUpBoot files boot (length before.devices.terms) setup) where
-  boot-comes : (end : End) → IsOfMachine end → MachineComesTo setup boot.files before after end → BootComesTo files boot before after end
+  boot-comes : (end : End) → IsOfMachine end → EndsSo setup boot.files before after end → BootComesTo files boot before after end
   boot-comes (CannotRead input) of comes = tt
   boot-comes (BadText input line) of comes = absurd of
   boot-comes (BadImage number fault) of comes = absurd of
   boot-comes BadBounds of comes = absurd of
-  boot-comes NoMemory of comes = inr (setup, sets, comes)
+  boot-comes NoMemory of (inl undone) = inl undone
+  boot-comes NoMemory of (inr comes) = inr (setup, sets, comes)
   boot-comes end of comes = (setup, sets, comes)
 
 boot-fails : (boot : RunWords) (before after : World) (end : End) → RunFails boot.files end before after → FailsAsTold (BootCommand boot) end before after

@@ -1,6 +1,9 @@
 -- From the run of a machine, and what was written behind it, to what a command leaves.
-use Rattle.std.proofs.Common.{◌≡◌, ◌⊎◌, ℕ, Bool, true, false, Option, Some, None, List, [], refl, ap, subst, ◌∙◌, inl, inr, All}
+use Rattle.std.proofs.Common.{◌≡◌, ◌⊎◌, ℕ, Bool, true, false, Option, Some, None, List, [], ◌∷◌, refl, ap, subst, ◌∙◌, inl, inr, All, arith}
+use Rattle.std.specs.Prelude.{IsSome}
+use Rattle.std.proofs.lemmas.List.Elements.{All-cons, All-head, All-tail}
 use Rattle.os9_outer.specs.Host.{Files, IfObserved}
+use Rattle.os9_outer.specs.TerminalState.{TerminalState}
 use Rattle.file_drives.specs.Drives.{drive_states}
 use Rattle.event_rules.specs.declared.ends.BootFault.{BootFault}
 use Rattle.event_rules.specs.declared.ends.BootFault.TheVariants.{OutOfMemory, BadModule as BadModuleFault, NoFirst as NoFirstFault, TooLarge as TooLargeFault}
@@ -43,6 +46,12 @@ IsOfMachine (Refused number) = ⊥
 IsOfMachine (BadSource line error) = ⊥
 IsOfMachine end = Unit {0}
 
+-- what comes of it; if memory is out nothing may have been run
+abbrev pub EndsSo : Setup → List (List ℕ) → World → World → End → Type 0
+EndsSo setup names before after NoMemory =
+    IsUndone before after ⊎ MachineComesTo setup names before after NoMemory
+EndsSo setup names before after end = MachineComesTo setup names before after end
+
 -- a machine that was set up so has run, its images were written under these names, and the command ends so
 pub record MachineEnds (setup : Setup) (names : List (List ℕ)) (before after : World) (end : End) : Type 0 where
   pub kind : IsOfMachine end
@@ -50,6 +59,23 @@ pub record MachineEnds (setup : Setup) (names : List (List ℕ)) (before after :
   pub devices : LeavesDevices (length setup.images) before after end
   pub host : RunFails names end before after
   pub files : BootLeavesFiles names before after end
+
+-- the bytes of all terminals are observed, or not
+observed-or-not : (put : Option (List ℕ)) → IsSome put ⊎ (¬ IsSome put)
+observed-or-not None = inr (λ is. cc is)
+observed-or-not (Some bytes) = inl refl
+
+all-observed : (terms : List TerminalState) → All IsObserved terms ⊎ (¬ All IsObserved terms)
+all-observed [] = inl (λ k d low. absurd (omega (arith, low)))
+all-observed (terminal ∷ terms) =
+    elim (observed-or-not terminal.put) [
+      | inl one ↦
+          elim (all-observed terms) [
+            | inl others ↦ inl (All-cons IsObserved terminal terms one others)
+            | inr other ↦ inr (λ all. other (All-tail IsObserved terminal terms all))
+          ]
+      | inr none ↦ inr (λ all. none (All-head IsObserved terminal terms all))
+    ]
 
 no-fault-then : (before mid after : World) → HasNoFault before mid → HasNoFault mid after → HasNoFault before after
 no-fault-then before mid after first second = (second.0 ∙ first.0, second.1 ∙ first.1, second.2 ∙ first.2)
@@ -113,7 +139,7 @@ module _ (setup : Setup) (names images : List (List ℕ)) (before mid after : Wo
     })
     stops answer number (wrote, inr (is, sure)) = rw is (record {
       kind = tt;
-      comes = λ observed. inr (inr (number, up-to number wrote observed));
+      comes = inr (λ observed. inr (number, up-to number wrote observed));
       devices = tt;
       host = no-fault-then before mid after kept sure;
       files = first-change number names images before.files after.files (files-then (WritesUpTo number names images) before mid after still wrote);
@@ -161,7 +187,7 @@ living setup names images before mid after begun answer run wrote = by wrote.fil
 refused : (setup : Setup) (names images : List (List ℕ)) (before mid : World) (fault : BootFault) → RunsImages setup images before mid (Run.Refused fault) → MachineEnds setup names before mid (boot_end fault)
 refused setup names images before mid OutOfMemory run = record {
   kind = tt;
-  comes = λ observed. inl (still-undone before mid run.unrun);
+  comes = inl (still-undone before mid run.unrun);
   devices = tt;
   host = kept-counts before mid run.unrun;
   files = same-changes names before.files mid.files run.files_kept;
@@ -209,15 +235,18 @@ unwritten-output setup names images before mid run = record {
 out-of-memory-then : (setup : Setup) (names images : List (List ℕ)) (before mid : World) → RunsImages setup images before mid Run.NoMemory → MachineEnds setup names before mid NoMemory
 out-of-memory-then setup names images before mid run = record {
   kind = tt;
-  comes = λ observed. by (run.gives observed);
+  comes = elim (all-observed before.devices.terms) [
+    | inl observed ↦ by (run.gives observed)
+    | inr other ↦ inr (λ observed. absurd (other observed))
+  ];
   devices = tt;
   host = run.no_fault (λ is. cc is);
   files = same-changes names before.files mid.files run.files_kept;
 }
   where
-    by : IsUnrun before mid ⊎ RunsFirst setup before (with_images_in images mid) → IsUndone before mid ⊎ RunsUnended setup before mid ⊎ ((number : ℕ) × RunsUnwritten setup names number before mid)
+    by : IsUnrun before mid ⊎ RunsFirst setup before (with_images_in images mid) → IsUndone before mid ⊎ MachineComesTo setup names before mid NoMemory
     by (inl unrun) = inl (record { unrun = unrun; files = run.files_kept })
-    by (inr first) = inr (inl (record { first = record { images = images; first = first }; files = run.files_kept }))
+    by (inr first) = inr (λ observed. inl (record { first = record { images = images; first = first }; files = run.files_kept }))
 
 -- a machine has run, and its images were written where it came to its end
 pub machine-ends : (setup : Setup) (names images : List (List ℕ)) (before mid after : World) (end : RunEnd) (answer : End) → RunsImages setup images before mid end → EndsBoot names images end answer mid after → MachineEnds setup names before after answer

@@ -15,7 +15,7 @@ use Rattle.command_files.specs.declared.files.RunFiles.{RunFiles}
 use Rattle.command_files.specs.declared.status.End.{End}
 use Rattle.command_files.specs.declared.status.End.TheVariants.{CannotRead, CannotWrite, CannotWriteImage, NoMemory, BadImage, BadText, BadBounds, DriveFailed, CannotWriteFile, Refused, BadSource}
 use Rattle.command_files.specs.declared.status.Input.TheVariants.{Script as ScriptInput, Slices as SlicesInput}
-use Rattle.os9_boot.specs.Boots.{MachineComesTo, RunComesTo}
+use Rattle.os9_boot.specs.Boots.{RunComesTo}
 use Rattle.os9_boot.specs.Commands.{CommandCall}
 use Rattle.os9_boot.specs.Left.{LeavesDevices, RunMayEnd}
 use Rattle.os9_boot.specs.Host.{FailsAsTold}
@@ -23,15 +23,16 @@ use Rattle.command_files.specs.Reading.{HasRunFiles, RefusesTexts}
 use Rattle.command_files.specs.Setup.{SetsUpRun}
 use Rattle.os9_boot.specs.Written.{ends_run}
 use Rattle.os9_boot.proofs.CallLemmas.{kept-counts, out-of-memory, still-silent, unchanged}
-use Rattle.os9_boot.proofs.MachineLemmas.{RunFails, ends-alone, IsOfMachine, machine-ends}
+use Rattle.os9_boot.proofs.MachineLemmas.{EndsSo, RunFails, ends-alone, IsOfMachine, machine-ends}
 
 -- ---- a machine that ran without images
 
 module _ (files : Files) (run : RunWords) (setup : Setup) (before after : World) (sets : SetsUpRun files run (length before.devices.terms) setup) where
-  run-comes : (end : End) → IsOfMachine end → MachineComesTo setup [] before after end → RunComesTo files run before after end
+  run-comes : (end : End) → IsOfMachine end → EndsSo setup [] before after end → RunComesTo files run before after end
   run-comes (CannotRead input) of comes = tt
   run-comes (BadText input line) of comes = absurd of
-  run-comes NoMemory of comes = inr (setup, sets, comes)
+  run-comes NoMemory of (inl undone) = inl undone
+  run-comes NoMemory of (inr comes) = inr (setup, sets, comes)
   run-comes end of comes = (setup, sets, comes)
 
 run-may : (before after : World) (end : End) → IsOfMachine end → RunFails [] end before after → LeavesDevices 0 before after end → RunMayEnd end

@@ -62,7 +62,8 @@ abbrev pub IfAllObserved : World → Type 0 → Type 0
 IfAllObserved before fact = All IsObserved before.devices.terms → fact
 
 -- What comes of it, by how the command ends that writes its images under these names. What it ran is said if all
--- terminals are observed, what its boot file is refused for in any case.
+-- terminals are observed, what its boot file is refused for in any case. That memory may be out before anything is run
+-- is said of the command.
 abbrev pub MachineComesTo : Setup → List (List ℕ) → World → World → End → Type 0
 MachineComesTo setup names before after Ended = IfAllObserved before (RunsToEnd setup names false before after)
 MachineComesTo setup names before after Living = IfAllObserved before (RunsToEnd setup names true before after)
@@ -70,7 +71,7 @@ MachineComesTo setup names before after CannotWrite = IfAllObserved before (Runs
 MachineComesTo setup names before after (CannotWriteImage number) =
     IfAllObserved before (RunsUnwritten setup names number before after)
 MachineComesTo setup names before after NoMemory =
-    IfAllObserved before (IsUndone before after ⊎ RunsUnended setup before after
+    IfAllObserved before (RunsUnended setup before after
     ⊎ ((number : ℕ) × RunsUnwritten setup names number before after))
 MachineComesTo setup names before after (DriveFailed drive number) =
     (fault : BootFault) → ¬ Refuses setup.file setup.blocks fault
@@ -95,7 +96,7 @@ abbrev pub SetUpComesTo : (Setup → Type 0) → List (List ℕ) → World → W
 SetUpComesTo is_so names before after end =
     (setup : Setup) × is_so setup × MachineComesTo setup names before after end
 
--- what comes of a run, by how it ends
+-- what comes of a run, by how it ends; if memory is out nothing was run, or the machine was
 abbrev pub RunComesTo : Files → RunWords → World → World → End → Type 0
 RunComesTo files run before after (CannotRead input) = ⊤
 RunComesTo files run before after (BadText input line) =

@@ -17,8 +17,8 @@ ghost use Rattle.os9_boot.specs.Headline.{BootIsOneRun, IsAccepted, WritesByStat
 ghost use Rattle.os9_boot.specs.TopCall.{TopCall};
 
 /// A call in which no count of faults rose, neither the host's nor a drive's, ends as the words, the
-/// files and the run decide, or for want of memory: with 0 or 5 and a whole run, with 1, with 6, 7 or
-/// 8 and their cause, or with 4.
+/// files and the run decide, or for want of memory: with 0 or 5, and all was done; with 1, and the
+/// words are no command; with 6, 7, 8, 10 or 11 and their cause; or with 4.
 pub fn calls_without_faults_tell_none()
     ensures end { (command : Command) (before after : World) (end : End)
         → CommandCall command before after end → NoneRose before after → TellsNoFault end }
