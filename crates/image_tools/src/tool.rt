@@ -1,7 +1,8 @@
-ghost use Rattle.std.specs.Prelude.{◌≡◌};
+ghost use Rattle.std.specs.Prelude.{◌≡◌, OnOk};
 ghost use Rattle.rbf_access.specs.Mounted.{IsMounted};
 ghost use Rattle.vol_tools.specs.Answers.{OnVolumeBefore};
 ghost use Rattle.vol_tools.specs.Faults.{Faults, tool_fault};
+ghost use Rattle.vol_tools.specs.Others.{KeepsOthersBy};
 ghost use Rattle.vol_tools.specs.Tail.{KeepsTailBy, OnMedia};
 ghost use Rattle.image_tools.specs.Uses.{AnswersNoBytes, at_time, tool_of};
 
@@ -38,6 +39,8 @@ pub fn use_mounted(
     ensures answer { OnVolumeBefore (at_time now tool.now) (λ bytes. bytes.items)
         (media d.old) (media d.new) result }
     ensures tail { OnMedia (KeepsTailBy (tool_of tool.now)) (media d.old) (media d.new) }
+    ensures others { OnOk result
+        (OnMedia (KeepsOthersBy (tool_of tool.now)) (media d.old) (media d.new)) }
     ensures fault { Faults ⟦<dyn BlockDriver as BlockDriver>⟧ (tool_fault result) d.old d.new }
 {
     match tool {

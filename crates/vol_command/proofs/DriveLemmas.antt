@@ -13,6 +13,7 @@ use Rattle.tool_rules.specs.Tool.{Tool}
 use Rattle.tool_rules.specs.Uses.{Use}
 use Rattle.vol_tools.specs.Answers.{GivesOn}
 use Rattle.vol_tools.specs.Faults.{MovesFaults}
+use Rattle.vol_tools.specs.Others.{KeepsOthersBy}
 use Rattle.vol_tools.specs.Tail.{KeepsTailBy, OnMedia}
 use Rattle.vol_tools.specs.declared.fault.ToolFault.{ToolFault}
 use Rattle.vol_tools.specs.declared.fault.ToolFault.TheVariants.{Number, Device, OutOfMemory}
@@ -111,8 +112,8 @@ module _ {A : Type 0} (tool : Tool) (vol : VolWords) (bytes : A → List ℕ) (i
   use-of = record { tool = tool; now = vol.start }
 
   -- the image was taken out again
-  taken : (v : DiskVolume) (a : A) (new : DriveView) (ds mid after : List DriveView) (images : List (List ℕ)) (left : List ℕ) → Vol image v → mid ≡ new ∷ ds → GivesOn use-of v (bytes a) new.media → OnMedia (KeepsTailBy tool) (Some image) new.media → TakesImages images mid after → slice_get images 0 ≡ Some left → IsUsed tool vol image (bytes a) left
-  taken v a new ds mid after images left was is gives tail takes at =
+  taken : (v : DiskVolume) (a : A) (new : DriveView) (ds mid after : List DriveView) (images : List (List ℕ)) (left : List ℕ) → Vol image v → mid ≡ new ∷ ds → GivesOn use-of v (bytes a) new.media → OnMedia (KeepsTailBy tool) (Some image) new.media → OnMedia (KeepsOthersBy tool) (Some image) new.media → TakesImages images mid after → slice_get images 0 ≡ Some left → IsUsed tool vol image (bytes a) left
+  taken v a new ds mid after images left was is gives tail others takes at =
       let there : media_at mid 0 ≡ Some gives.on.image = ap (λ (drives : List DriveView). media_at drives 0) is ∙ gives.on.is in
       record {
         before = v;
@@ -121,13 +122,14 @@ module _ {A : Type 0} (tool : Tool) (vol : VolWords) (bytes : A → List ℕ) (i
         is = subst (λ image. Vol image gives.volume) (sym (takes.each 0 left gives.on.image at there)) gives.on.vol;
         gives = gives.gives;
         tail = subst (KeepsTailBy tool image) (sym (takes.each 0 left gives.on.image at there)) (tail image gives.on.image refl gives.on.is);
+        others = subst (KeepsOthersBy tool image) (sym (takes.each 0 left gives.on.image at there)) (others image gives.on.image refl gives.on.is);
       }
 
   pub image-used : (a : A) (drives mid after : List DriveView) (images : List (List ℕ)) (left : List ℕ) → HaveRoom 1 drives → ChangesOneDrive (UsesDrive use-of bytes (Ok a)) 0 (holding (image ∷ []) drives) mid → TakesImages images mid after → slice_get images 0 ≡ Some left → IsUsed tool vol image (bytes a) left
   image-used a [] mid after images left room changes takes at = absurd (omega (arith, room.enough))
   image-used a (d ∷ ds) mid after images left room changes takes at =
       let it = used-at use-of bytes (Ok a) image d ds mid changes in
-      taken volume.0 a it.new ds mid after images left volume.1 it.is (it.uses.answers volume.0 (record { image = image; is = refl; vol = volume.1 })) it.uses.tail takes at
+      taken volume.0 a it.new ds mid after images left volume.1 it.is (it.uses.answers volume.0 (record { image = image; is = refl; vol = volume.1 })) it.uses.tail it.uses.others takes at
 
   pub tool-ended : (fault : ToolFault) (drives mid : List DriveView) → HaveRoom 1 drives → ChangesOneDrive (UsesDrive {A = A} use-of bytes (Err fault)) 0 (holding (image ∷ []) drives) mid → UsesImage tool vol image (Err (fault_end fault))
   tool-ended fault [] mid room changes = absurd (omega (arith, room.enough))

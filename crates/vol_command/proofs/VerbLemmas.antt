@@ -122,6 +122,7 @@ freed-used old outcome answer it line =
         is = it.is;
         gives = (refl, line ∙ ap freed_line (it.freed ∙ ap (λ (g : Geometry). length (lost_clusters g it.volume)) (sym shape)));
         tail = repaired-tail old outcome.image.items it.volume it.was it.bits;
+        others = tt;
       };
       bits = record { volume = it.volume; was = it.was; bits = it.bits };
     }

@@ -1,5 +1,5 @@
 -- The steps of `vol`: the files that are read, what is made of them, and what is printed and written.
-use Rattle.std.specs.Prelude.{◌≡◌, ◌≢◌, ◌⊎◌, ℕ, ⊤, Some, List, [], Result, Ok, Err}
+use Rattle.std.specs.Prelude.{◌≡◌, ◌≢◌, ◌⊎◌, ℕ, ⊤, Some, List, [], OnOk, Result, Ok, Err}
 use Rattle.os9_outer.specs.Host.{Files, file_contents, IfObserved}
 use Rattle.os9_outer.specs.Stream.{GainsPrefix, stream_with}
 use Rattle.os9_words.specs.declared.vol_words.Verb.{Verb}
@@ -17,6 +17,7 @@ use Rattle.boot_images.specs.Ready.{AreEmptyAgain}
 use Rattle.boot_run.specs.World.{World, FailsToWriteFile, HasNoFault}
 use Rattle.vol_tools.specs.Answers.{OnVolumeBefore}
 use Rattle.vol_tools.specs.Faults.{MovesFaults, tool_fault}
+use Rattle.vol_tools.specs.Others.{KeepsOthersBy}
 use Rattle.vol_tools.specs.Tail.{KeepsTailBy, OnMedia}
 use Rattle.vol_tools.specs.declared.fault.ToolFault.{ToolFault}
 use Rattle.vol_tools.specs.declared.fault.ToolFault.TheVariants.{Number, Device, OutOfMemory}
@@ -44,6 +45,7 @@ pub record UsesDrive {A : Type 0} (use_ : Use) (bytes : A → List ℕ) (answer 
     (old new : DriveView) : Type 0 where
   pub answers : OnVolumeBefore use_ bytes old.media new.media answer
   pub tail : OnMedia (KeepsTailBy use_.tool) old.media new.media
+  pub others : OnOk answer (OnMedia (KeepsOthersBy use_.tool) old.media new.media)
   pub counts : MovesFaults (tool_fault answer) old.counts new.counts
 
 -- how a command ends whose tool ended so

@@ -13,6 +13,7 @@ use Rattle.disk_repair.specs.Clearing.{ClearsBits}
 use Rattle.tool_rules.specs.Blank.{blank_volume}
 use Rattle.tool_rules.specs.Refusals.{Refuses}
 use Rattle.tool_rules.specs.Tool.{Gives, Tool, put, get, mkdir, remove, list, repair}
+use Rattle.vol_tools.specs.Others.{KeepsOthersBy}
 use Rattle.vol_tools.specs.Tail.{KeepsTailBy}
 use Rattle.boot_images.specs.BootFile.{IsVolume}
 use Rattle.boot_images.specs.Images.{WritesAll, WritesUpTo}
@@ -86,8 +87,8 @@ written_of Get answer image = answer ∷ []
 written_of Dir answer image = []
 written_of verb answer image = image ∷ []
 
--- a tool was used on the volume of an image, and gave this answer and that of another image, which has the same LSN 0
--- and the same bits of the map that no whole cluster has
+-- a tool was used on the volume of an image, and gave this answer and that of another image, which has the same LSN 0,
+-- the same bits of the map that no whole cluster has, and the same sectors but for those that the tool owns
 pub record IsUsed (tool : Tool) (vol : VolWords) (old answer image : List ℕ) : Type 0 where
   pub before : DiskVolume
   pub was : Vol old before
@@ -95,6 +96,7 @@ pub record IsUsed (tool : Tool) (vol : VolWords) (old answer image : List ℕ) :
   pub is : Vol image after
   pub gives : Gives tool vol.start before after answer
   pub tail : KeepsTailBy tool old image
+  pub others : KeepsOthersBy tool old image
 
 -- only the marks of the lost clusters were cleared, and no other bit of the image has changed
 pub record ClearsLost (old image : List ℕ) : Type 0 where

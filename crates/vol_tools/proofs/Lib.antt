@@ -10,3 +10,4 @@ pub mod Lines
 pub mod Names
 pub mod Turns
 pub mod Tails
+pub mod Others

@@ -25,7 +25,7 @@ use Rattle.rbf_write.specs.Outcomes.{AnswersWrite, WriteIsEnded, unchanged as as
 use Rattle.tool_rules.specs.Tool.{Tool, put, get, mkdir, remove, list, repair}
 use Rattle.vol_tools.specs.Tail.{IsGivenUp, KeepsTail, KeepsTailBy, KeepsTailUnused, OnMedia}
 
-some_is : {a b : List ℕ} → ◌≡◌ {A = Option (List ℕ)} (Some a) (Some b) → a ≡ b
+pub some_is : {a b : List ℕ} → ◌≡◌ {A = Option (List ℕ)} (Some a) (Some b) → a ≡ b
 some_is h = cc
 
 -- of an image and the one that is left
@@ -105,7 +105,7 @@ has_gone v w d n name deletes =
     no_file (replaced v d (Some (with_directory_entry drops.old i (freed_entry (directory_entry drops.old.contents i))))) w n drops.volume
 
 module _ (image now : List ℕ) (v w : DiskVolume) (vol : Vol image v) (left : Vol now w) (same : w.ident ≡ v.ident) where
-  first_is : sector now 0 ≡ sector image 0
+  pub first_is : sector now 0 ≡ sector image 0
   first_is = sym left.sound.shows.ident ∙ same ∙ vol.sound.shows.ident
 
   pub none_given : KeepsMapEnd image now (λ _. false) → KeepsTail image now
@@ -147,7 +147,7 @@ module _ (image now : List ℕ) (v w : DiskVolume) (vol : Vol image v) (left : V
     }
 
 -- the image of a volume is the one that a change names
-vol_of : (old : Option (List ℕ)) (v : DiskVolume) (on : Represents old v) (image : List ℕ) → old ≡ Some image → Vol image v
+pub vol_of : (old : Option (List ℕ)) (v : DiskVolume) (on : Represents old v) (image : List ℕ) → old ≡ Some image → Vol image v
 vol_of old v on image was = let one : on.image ≡ image = some_is (sym on.is ∙ was) in subst (λ x. Vol x v) one on.vol
 
 module _ (v : DiskVolume) (old new : Option (List ℕ)) (on : Represents old v) where

@@ -5,3 +5,4 @@ pub mod Opening
 pub mod Listed
 pub mod InTurn
 pub mod Tail
+pub mod Others

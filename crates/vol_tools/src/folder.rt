@@ -1,8 +1,9 @@
-ghost use Rattle.std.specs.Prelude.{[]};
+ghost use Rattle.std.specs.Prelude.{[], OnOk};
 ghost use Rattle.rbf_access.specs.Mounted.{IsMounted};
 ghost use Rattle.tool_rules.specs.Tool.{mkdir as mkdir_tool};
 ghost use Rattle.vol_tools.specs.Answers.{OnVolumeBefore};
 ghost use Rattle.vol_tools.specs.Faults.{Faults, tool_fault};
+ghost use Rattle.vol_tools.specs.Others.{KeepsOthers};
 ghost use Rattle.vol_tools.specs.Tail.{KeepsTail, OnMedia};
 
 use crate::fault::ToolFault;
@@ -33,6 +34,7 @@ pub fn mkdir(
     ensures answer { OnVolumeBefore (record { tool = mkdir_tool path.now; now = now }) (λ _. [])
         (media d.old) (media d.new) result }
     ensures tail { OnMedia KeepsTail (media d.old) (media d.new) }
+    ensures others { OnOk result (OnMedia (KeepsOthers path.now) (media d.old) (media d.new)) }
     ensures mounted { IsMounted v.new (media d.new) }
     ensures fault { Faults ⟦<dyn BlockDriver as BlockDriver>⟧ (tool_fault result) d.old d.new }
 {

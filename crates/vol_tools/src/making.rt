@@ -1,8 +1,9 @@
-ghost use Rattle.std.specs.Prelude.{IfOk};
+ghost use Rattle.std.specs.Prelude.{ℕ, List, IfOk, OnOk};
 ghost use Rattle.rbf_access.specs.Mounted.{IsMounted};
 ghost use Rattle.rbf_write.specs.Files.{HasDataFile};
 ghost use Rattle.vol_tools.specs.Faults.{Faults, tool_fault};
-ghost use Rattle.vol_tools.specs.Making.{MakesOn, new_directory, new_file};
+ghost use Rattle.vol_tools.specs.Making.{IsNewPlaceOf, MakesOn, new_directory, new_file};
+ghost use Rattle.vol_tools.specs.Others.{KeepsOthers};
 ghost use Rattle.vol_tools.specs.Tail.{KeepsTail, OnMedia};
 
 use crate::fault::ToolFault;
@@ -31,6 +32,8 @@ pub fn make_file(
     ensures answer { MakesOn (new_file now) place.now (media d.old) (media d.new) result }
     ensures data { IfOk result (HasDataFile (media d.new)) }
     ensures tail { OnMedia KeepsTail (media d.old) (media d.new) }
+    ensures others { (path : List ℕ) → IsNewPlaceOf path place.now
+        → OnOk result (OnMedia (KeepsOthers path) (media d.old) (media d.new)) }
     ensures mounted { IsMounted v.new (media d.new) }
     ensures fault { Faults ⟦<dyn BlockDriver as BlockDriver>⟧ (tool_fault result) d.old d.new }
 {
@@ -49,6 +52,8 @@ pub fn make_folder(
     requires { IsMounted v.old (media d.old) }
     ensures answer { MakesOn (new_directory now) place.now (media d.old) (media d.new) result }
     ensures tail { OnMedia KeepsTail (media d.old) (media d.new) }
+    ensures others { (path : List ℕ) → IsNewPlaceOf path place.now
+        → OnOk result (OnMedia (KeepsOthers path) (media d.old) (media d.new)) }
     ensures mounted { IsMounted v.new (media d.new) }
     ensures fault { Faults ⟦<dyn BlockDriver as BlockDriver>⟧ (tool_fault result) d.old d.new }
 {

@@ -1,9 +1,10 @@
-ghost use Rattle.std.specs.Prelude.{[], ℕ, List};
+ghost use Rattle.std.specs.Prelude.{[], ℕ, List, OnOk};
 ghost use Rattle.rbf_access.specs.Mounted.{IsMounted};
 ghost use Rattle.tool_rules.specs.Tool.{put as put_tool};
 ghost use Rattle.vol_tools.specs.Answers.{OnVolumeBefore};
 ghost use Rattle.vol_tools.specs.Faults.{Faults, tool_fault};
 ghost use Rattle.vol_tools.specs.Making.{IsNewPlaceOf};
+ghost use Rattle.vol_tools.specs.Others.{KeepsOthers};
 ghost use Rattle.vol_tools.specs.Tail.{KeepsTail, OnMedia};
 
 use crate::fault::ToolFault;
@@ -44,6 +45,7 @@ pub fn put(
         (record { tool = put_tool file.now.path.now file.now.bytes.now; now = now }) (λ _. [])
         (media d.old) (media d.new) result }
     ensures tail { OnMedia KeepsTail (media d.old) (media d.new) }
+    ensures others { OnOk result (OnMedia (KeepsOthers file.now.path.now) (media d.old) (media d.new)) }
     ensures mounted { IsMounted v.new (media d.new) }
     ensures fault { Faults ⟦<dyn BlockDriver as BlockDriver>⟧ (tool_fault result) d.old d.new }
 {
@@ -66,6 +68,8 @@ fn put_at(
         (record { tool = put_tool path bytes.now; now = now }) (λ _. [])
         (media d.old) (media d.new) result }
     ensures tail { OnMedia KeepsTail (media d.old) (media d.new) }
+    ensures others { (path : List ℕ) → IsNewPlaceOf path place.now
+        → OnOk result (OnMedia (KeepsOthers path) (media d.old) (media d.new)) }
     ensures mounted { IsMounted v.new (media d.new) }
     ensures fault { Faults ⟦<dyn BlockDriver as BlockDriver>⟧ (tool_fault result) d.old d.new }
 {

@@ -1,4 +1,4 @@
-ghost use Rattle.std.specs.Prelude.{◌≡◌, [], ℕ, List, Some};
+ghost use Rattle.std.specs.Prelude.{◌≡◌, [], ℕ, List, OnOk, Some};
 ghost use Rattle.os9_base.specs.declared.registers.TimePacket.{TimePacket};
 ghost use Rattle.rbf_access.specs.Mounted.{IsMounted};
 ghost use Rattle.tool_paths.specs.Names.{place as place_lem};
@@ -6,6 +6,7 @@ ghost use Rattle.tool_rules.specs.Path.{place_of as place_of_lem};
 ghost use Rattle.tool_rules.specs.Tool.{remove as remove_tool};
 ghost use Rattle.vol_tools.specs.Answers.{OnVolumeBefore};
 ghost use Rattle.vol_tools.specs.Faults.{Faults, tool_fault};
+ghost use Rattle.vol_tools.specs.Others.{KeepsOthers};
 ghost use Rattle.vol_tools.specs.Tail.{KeepsTailUnused, OnMedia};
 
 use crate::fault::ToolFault;
@@ -37,6 +38,7 @@ pub fn remove(
         (record { tool = remove_tool path.now; now = now }) (λ _. [])
         (media d.old) (media d.new) result }
     ensures tail { OnMedia KeepsTailUnused (media d.old) (media d.new) }
+    ensures others { OnOk result (OnMedia (KeepsOthers path.now) (media d.old) (media d.new)) }
     ensures mounted { IsMounted v.new (media d.new) }
     ensures fault { Faults ⟦<dyn BlockDriver as BlockDriver>⟧ (tool_fault result) d.old d.new }
 {
@@ -53,6 +55,8 @@ fn remove_at(v: &mut Volume, d: &mut dyn BlockDriver, place: &Place) -> Result<(
         → OnVolumeBefore (record { tool = remove_tool path; now = now }) (λ _. [])
         (media d.old) (media d.new) result }
     ensures tail { OnMedia KeepsTailUnused (media d.old) (media d.new) }
+    ensures others { (path : List ℕ) → place_of_lem path ≡ Some (place_lem place.now)
+        → OnOk result (OnMedia (KeepsOthers path) (media d.old) (media d.new)) }
     ensures mounted { IsMounted v.new (media d.new) }
     ensures fault { Faults ⟦<dyn BlockDriver as BlockDriver>⟧ (tool_fault result) d.old d.new }
 {

@@ -1,9 +1,11 @@
 -- The volume is mounted, and then the tool is used.
 use Rattle.std.proofs.Common.{ℕ, None, Vec, Global}
 use Rattle.vol_tools.proofs.Counts.{faults_of, faults_then}
+use Rattle.vol_tools.specs.Others.{KeepsOthersBy}
 use Rattle.vol_tools.specs.Tail.{KeepsTailBy}
 use Rattle.vol_tools.proofs.Tails.{tail_from, tail_kept_by}
 use Rattle.image_tools.specs.Uses.{tool_of}
+use Rattle.image_tools.proofs.Answers.{ok-then}
 use Rattle.image_tools.proofs.Mounts.{not-mounted, used}
 use Rattle.image_tools.proofs.mounted.use_tool.Goals as goal
 
@@ -15,6 +17,10 @@ returns-in-Ok-clause-answer g c = used _ _ _ _ c.in-Ok.ensures.media_kept _ _ c.
 
 pub returns-in-Ok-clause-tail : goal.returns-in-Ok-clause-tail
 returns-in-Ok-clause-tail g c = tail_from (KeepsTailBy (tool_of c.args.tool.now)) _ _ _ c.in-Ok.ensures.media_kept c.use_mounted.ensures.tail
+
+pub returns-in-Ok-clause-others : goal.returns-in-Ok-clause-others
+returns-in-Ok-clause-others g c =
+    ok-then c.use_mounted.result _ _ (tail_from (KeepsOthersBy (tool_of c.args.tool.now)) _ _ _ c.in-Ok.ensures.media_kept) c.use_mounted.ensures.others
 
 pub returns-in-Ok-clause-fault : goal.returns-in-Ok-clause-fault
 returns-in-Ok-clause-fault g c =

@@ -1,6 +1,6 @@
 -- Each tool is the one that is named; a tool without bytes answers none.
 use Rattle.vol_tools.proofs.Tails.{tail_kept}
-use Rattle.image_tools.proofs.Answers.{faults-so, on-volume-so}
+use Rattle.image_tools.proofs.Answers.{faults-so, ok-so, on-ok, on-volume-so}
 use Rattle.image_tools.proofs.tool.use_mounted.Goals as goal
 
 pub returns-in-Put-clause-answer : goal.returns-in-Put-clause-answer
@@ -47,3 +47,21 @@ returns-in-Get-clause-tail g c = rw c.in-Get.is (tail_kept _ _ c.get.ensures.med
 
 pub returns-in-List-clause-tail : goal.returns-in-List-clause-tail
 returns-in-List-clause-tail g c = rw c.in-List.is (tail_kept _ _ c.list.ensures.media_kept)
+
+pub returns-in-Put-clause-others : goal.returns-in-Put-clause-others
+returns-in-Put-clause-others g c =
+    rw c.in-Put.is (ok-so _ _ (λ bytes. bytes.items) _ _ _ c.no_bytes.ensures c.put.ensures.others)
+
+pub returns-in-Mkdir-clause-others : goal.returns-in-Mkdir-clause-others
+returns-in-Mkdir-clause-others g c =
+    rw c.in-Mkdir.is (ok-so _ _ (λ bytes. bytes.items) _ _ _ c.no_bytes-in-Mkdir.ensures c.mkdir.ensures.others)
+
+pub returns-in-Remove-clause-others : goal.returns-in-Remove-clause-others
+returns-in-Remove-clause-others g c =
+    rw c.in-Remove.is (ok-so _ _ (λ bytes. bytes.items) _ _ _ c.no_bytes-in-Remove.ensures c.remove.ensures.others)
+
+pub returns-in-Get-clause-others : goal.returns-in-Get-clause-others
+returns-in-Get-clause-others g c = rw c.in-Get.is (on-ok c.get.result _ (λ image now was is. tt))
+
+pub returns-in-List-clause-others : goal.returns-in-List-clause-others
+returns-in-List-clause-others g c = rw c.in-List.is (on-ok c.list.result _ (λ image now was is. tt))

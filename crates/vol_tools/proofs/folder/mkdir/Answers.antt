@@ -49,3 +49,8 @@ pub returns-in_err-make_folder-clause-fault : goal.returns-in_err-make_folder-cl
 returns-in_err-make_folder-clause-fault g c =
     let p = err_from_is_err_and c.from_residual-in_err-make_folder.result c.from_residual-in_err-make_folder.ensures.1 in
     rw (p.1, p.2) (same_faults ℕ (Unit {0}) c.in_err-make_folder.field-0.0 _ _ c.in_err-make_folder.ensures.fault)
+
+pub returns-clause-others : goal.returns-clause-others
+returns-clause-others g c =
+    let path = c.args.path.now in
+    c.in_ok-make_folder.ensures.others path (new_place_is path c.in-Some.place (sym c.in_ok-place.ensures ∙ ap (option_map place) c.in-Some.is))

@@ -3,7 +3,9 @@ use Rattle.std.proofs.Common.{ℕ, Ok, Err, refl}
 use Rattle.std.proofs.lemmas.Result.{err_from_is_err_and}
 use Rattle.rbf_walk.proofs.Stepping.{file_in}
 use Rattle.vol_tools.specs.Making.{new_file}
+use Rattle.vol_tools.specs.Others.{KeepsOthers}
 use Rattle.vol_tools.specs.Tail.{KeepsTail}
+use Rattle.vol_tools.proofs.Others.{entered-others, leads-to}
 use Rattle.vol_tools.proofs.Tails.{entering-tail, tail_from, tail_kept}
 use Rattle.vol_tools.proofs.Counts.{directory_ends_then, done_then, same_faults}
 use Rattle.vol_tools.proofs.Ways.{still, way_as}
@@ -70,3 +72,11 @@ pub returns-in_err-dir-clause-fault : goal.returns-in_err-dir-clause-fault
 returns-in_err-dir-clause-fault g c =
     let p = err_from_is_err_and c.from_residual.result c.from_residual.ensures.1 in
     rw (p.1, p.2) (same_faults ℕ ℕ c.in_err-dir.field-0.0 _ _ c.in_err-dir.ensures.fault)
+
+pub returns-clause-others : goal.returns-clause-others
+returns-clause-others g c path place =
+    let v = c.requires.content in
+    let there = file_in _ c.in_ok-dir.dir c.in_ok-dir.ensures.file v c.requires.on in
+    let here = still _ _ v c.in_ok-dir.ensures.media_kept c.requires.on in
+    let way = way_as v _ _ (Ok c.in_ok-dir.dir) c.deref.ensures.value (c.in_ok-dir.ensures.answer v c.requires.on) in
+    tail_from (KeepsOthers path) _ _ _ c.in_ok-dir.ensures.media_kept (entered-others path v _ _ here _ _ c.in_ok-n.n (c.in_ok-n.ensures.answer v _ here there) c.args.place.now.name (leads-to v path c.args.place.now c.in_ok-dir.dir place.is way))

@@ -36,3 +36,8 @@ pub returns-clause-answer : goal.returns-clause-answer
 returns-clause-answer g c =
     let path = c.args.file.now.path.now in
     c.put_at.ensures.answer path (new_place_is path c.in-Some.place (sym c.in_ok-place.ensures ∙ ap (option_map place) c.in-Some.is))
+
+pub returns-clause-others : goal.returns-clause-others
+returns-clause-others g c =
+    let path = c.args.file.now.path.now in
+    c.put_at.ensures.others path (new_place_is path c.in-Some.place (sym c.in_ok-place.ensures ∙ ap (option_map place) c.in-Some.is))

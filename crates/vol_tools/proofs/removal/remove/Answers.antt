@@ -33,3 +33,7 @@ returns-in_default-clause-fault g c = no_faults _
 
 pub returns-clause-answer : goal.returns-clause-answer
 returns-clause-answer g c now = c.remove_at.ensures.answer c.args.path.now now (sym c.in_ok-place.ensures ∙ ap (option_map place) c.in-Some.is)
+
+pub returns-clause-others : goal.returns-clause-others
+returns-clause-others g c =
+    c.remove_at.ensures.others c.args.path.now (sym c.in_ok-place.ensures ∙ ap (option_map place) c.in-Some.is)
