@@ -36,6 +36,7 @@ HEXADECIMAL = re.compile(r"\$[0-9A-Fa-f]{1,4}\Z")
 BYTE, WORD = range(-128, 256), range(-32768, 65536)
 DIRECT, SIGNED = range(0, 256), range(-128, 128)
 KINDS = range(0x10, 0x100)
+HELD = range(-(2**63), 2**63)  # the values that a label can have; another one is not known
 
 CODES = {"D": 0, "X": 1, "Y": 2, "U": 3, "S": 4, "PC": 5, "A": 8, "B": 9, "CC": 10, "DP": 11}
 BYTES_OF_A_REGISTER = {name: 1 if code >= 8 else 2 for name, code in CODES.items()}
@@ -139,7 +140,7 @@ class Expression:
         return sign * term if len(self.terms) == 1 and not isinstance(term, str) else None
 
     def value(self, labels, here):
-        """Its value, or None if a label behind a broken line is in it."""
+        """Its value, or None if a label whose value is not known is in it."""
         total = 0
         for sign, term in self.terms:
             value = here if term == "*" else labels[term] if isinstance(term, str) else term
@@ -381,7 +382,8 @@ class Source:
         if statement.word != "EQU":
             return here
         known = all(name in self.labels for name in statement.names())
-        return statement.pieces[0].expression.value(self.labels, here) if known else None
+        value = statement.pieces[0].expression.value(self.labels, here) if known else None
+        return value if value is not None and value in HELD else None
 
     def fault(self):
         """The first line that breaks a rule, and the first rule that it breaks; or None."""

@@ -1,5 +1,6 @@
+use asm6809::assemble;
 use boot_disk::boot_image;
-use guest_mods::{Load, stress_image, stress_slices};
+use guest_mods::{Load, shell_source, stress_image, stress_slices};
 use std::test::Fail;
 
 // Of a file of 257 bytes the volume has two sectors.
@@ -41,5 +42,25 @@ fn small_load(rt: HostRuntime) -> Result<(), Fail> {
 fn first_slices(rt: HostRuntime) -> Result<(), Fail> {
     let slices = stress_slices(rt.alloc(), 0, 2)?;
     assert_eq!(rt; slices.as_slice(), [397, 175].as_slice());
+    Ok(())
+}
+
+/// The header and the name of the shell, and its CRC. Like the length, they are those of
+/// `examples/shell.mod`, which `crates/proc_vectors/assemble.py` makes of the same text: an assembler
+/// that shares nothing with this one.
+const SHELL_HEAD: [u8; 18] = [
+    0x87, 0xcd, 0x00, 0x6e, 0x00, 0x0d, 0x11, 0x81, 0x46, 0x00, 0x12, 0x00, 0xc8, 0x53, 0x79, 0x73,
+    0x47, 0xef,
+];
+const SHELL_CRC: [u8; 3] = [0xfb, 0xea, 0x3d];
+const SHELL_LENGTH: usize = 110;
+
+// The entry offset is the word at 9, just behind the name, and the name is `SysGo`.
+#[test]
+fn shell_is_assembled(rt: HostRuntime) -> Result<(), Fail> {
+    let module = assemble(rt.alloc(), shell_source())?;
+    assert_eq!(rt; module.len(), SHELL_LENGTH);
+    assert!(rt; module.as_slice().starts_with(&SHELL_HEAD));
+    assert!(rt; module.as_slice().ends_with(&SHELL_CRC));
     Ok(())
 }

@@ -150,11 +150,12 @@ fn labels(rt: HostRuntime) -> Result<(), Fail> {
     Ok(())
 }
 
-/// The source of a module of so many labels, each twice the one above it, from 1 on.
-fn doubled_labels(alloc: Global, count: u32) -> Result<Vec<u8>, AllocError> {
+/// The source of a module of a word, then of 100 labels from `l0` on, each twice the one above it.
+fn doubled_labels(alloc: Global, word: &str, first: u16) -> Result<Vec<u8>, AllocError> {
     let mut source = Vec::new(alloc);
-    source.extend_from_slice(b" mod a,$21,0,0\nl0 equ 1\n")?;
-    for i in 1..count {
+    let head = format!(in alloc; " mod a,$21,0,0\n fdb {word}\nl0 equ {first}\n")?;
+    source.extend_from_slice(head.as_bytes())?;
+    for i in 1..100 {
         let line = format!(in alloc; "l{i} equ l{}+l{}\n", i - 1, i - 1)?;
         source.extend_from_slice(line.as_bytes())?;
     }
@@ -162,11 +163,22 @@ fn doubled_labels(alloc: Global, count: u32) -> Result<Vec<u8>, AllocError> {
     Ok(source)
 }
 
-// The value of `l16` is 65,536; that of `l99` does not fit 64 bits.
+// From 1 on `l16` is 65,536. From 65,535 on `l47` is less than the 63rd power of two and `l48` is
+// not, so the value of `l48` is not known: the line of `l1` is then the first that breaks a rule.
 #[test]
 fn sums(rt: HostRuntime) -> Result<(), Fail> {
-    let source = doubled_labels(rt.alloc(), 100)?;
-    let too_large = AsmFault::Line(18, AsmError::Range);
-    assert_eq!(rt; assemble(rt.alloc(), &source).err(), Some(too_large));
+    let rows = [
+        ("0", 1, 19),
+        ("0", 65_535, 4),
+        ("l16", 1, 2),
+        ("l47", 65_535, 2),
+        ("l48", 65_535, 4),
+        ("l99", 65_535, 4),
+    ];
+    for (word, first, line) in rows {
+        let source = doubled_labels(rt.alloc(), word, first)?;
+        let too_large = AsmFault::Line(line, AsmError::Range);
+        assert_eq!(rt; assemble(rt.alloc(), &source).err(), Some(too_large), "{word}");
+    }
     Ok(())
 }
