@@ -12,3 +12,4 @@ pub mod Complete
 pub mod Lists
 pub mod Offsets
 pub mod Sound
+pub mod Stated

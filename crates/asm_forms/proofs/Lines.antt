@@ -18,12 +18,12 @@ pub behind-part : (word rest : List ℕ) → list_any is_space word ≡ false �
 behind-part word _ free nothing = ap behind_word (append-nil word) ∙ behind_all word free
 behind-part word _ free (space {rest = rest}) = behind_of word rest free
 
-skip-space : (c : ℕ) (text : List ℕ) → is_space c ≡ true → without_spaces (c ∷ text) ≡ without_spaces text
+pub skip-space : (c : ℕ) (text : List ℕ) → is_space c ≡ true → without_spaces (c ∷ text) ≡ without_spaces text
 skip-space c text is =
     let other : not (is_space c) ≡ false = ap not is in
     ap (λ n. drop n (c ∷ text)) (position_or_len-next (λ b. not (is_space b)) c text other)
 
-skip-none : (c : ℕ) (text : List ℕ) → is_space c ≡ false → without_spaces (c ∷ text) ≡ c ∷ text
+pub skip-none : (c : ℕ) (text : List ℕ) → is_space c ≡ false → without_spaces (c ∷ text) ≡ c ∷ text
 skip-none c text is =
     let other : not (is_space c) ≡ true = ap not is in
     ap (λ n. drop n (c ∷ text)) (position_or_len-first (λ b. not (is_space b)) c text other)
@@ -49,10 +49,10 @@ operand-back word spaces operand comment one all apart free after last =
 
 -- ---- the parts of a line
 
-first-none : (c : ℕ) (text : List ℕ) → is_space c ≡ true → first_word (c ∷ text) ≡ []
+pub first-none : (c : ℕ) (text : List ℕ) → is_space c ≡ true → first_word (c ∷ text) ≡ []
 first-none c text is = ap (λ n. take n (c ∷ text)) (position_or_len-first is_space c text is)
 
-behind-whole : (c : ℕ) (text : List ℕ) → is_space c ≡ true → behind_word (c ∷ text) ≡ c ∷ text
+pub behind-whole : (c : ℕ) (text : List ℕ) → is_space c ≡ true → behind_word (c ∷ text) ≡ c ∷ text
 behind-whole c text is = ap (λ n. drop n (c ∷ text)) (position_or_len-first is_space c text is)
 
 pub word-free : (text : List ℕ) → list_any is_space (first_word text) ≡ false

@@ -1,3 +1,4 @@
 pub mod Sums
 pub mod Operands
 pub mod Instructions
+pub mod Statements

@@ -1,9 +1,11 @@
 //! Laws of lines that are instructions.
 
-ghost use Rattle.std.specs.Prelude.{◌≡◌, ℕ, Some, List, codes};
+ghost use Rattle.std.specs.Prelude.{◌≡◌, ℕ, Option, Some, List, codes};
 ghost use Rattle.cpu_model.specs.declared.instruction.Instr.{Instr};
-ghost use Rattle.asm_model.specs.Instructions.{instr_of};
+ghost use Rattle.asm_model.specs.Instructions.{Shape, shape_instr, instr_of};
+ghost use Rattle.asm_model.specs.Statements.{instruction, stated, line_read};
 ghost use Rattle.asm_forms.specs.Instructions.{IsInstruction};
+ghost use Rattle.asm_forms.specs.Statements.{stating, behind_label, States};
 
 /// A line that is an instruction by its form is read as it.
 pub fn instruction_is_read()
@@ -20,4 +22,17 @@ pub fn only_instructions_are_read()
 /// Empty brackets are not an operand: `lda []` is not an instruction.
 pub fn empty_brackets_are_refused()
     ensures { (at : ℕ) (i : Instr) → ¬ IsInstruction (codes "lda []") at i }
+{}
+
+/// If a line of a source states an instruction, what stands behind its label is read as that
+/// instruction, if its expression has numbers alone.
+pub fn stated_instruction_is_read()
+    ensures { (line : List ℕ) (name : Option (List ℕ)) (s : Shape) (at : ℕ)
+        → line_read line ≡ stated (stating name (instruction s))
+        → instr_of (behind_label line) at ≡ shape_instr at s }
+{}
+
+/// A line that is an instruction by its form states that instruction in a source.
+pub fn instruction_is_stated()
+    ensures { (line : List ℕ) (at : ℕ) (i : Instr) → IsInstruction line at i → States line at i }
 {}
