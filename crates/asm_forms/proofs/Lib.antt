@@ -12,4 +12,7 @@ pub mod Complete
 pub mod Lists
 pub mod Offsets
 pub mod Sound
+pub mod Expressions
 pub mod Stated
+pub mod Actions
+pub mod Statements

@@ -1,7 +1,7 @@
 -- What a source's lines state of instructions is what a line of an instruction alone is read as.
 use Rattle.std.proofs.Common.{◌≡◌, ℕ, zero, suc, ◌&&◌, not, Bool, true, false, Option, Some, None, List, [], ◌∷◌, map, drop, refl, ap, sym, ◌∙◌}
 use Rattle.std.specs.Prelude.{option_map, option_and_then, if◌then◌else◌}
-use Rattle.std.specs.List.{slice_split, list_all, list_any, find, position_or_len, before_first, after_first}
+use Rattle.std.specs.List.{slice_split, list_all, find, position_or_len}
 use Rattle.std.specs.Str.{bytes_eq, str_to_ascii_lowercase}
 use Rattle.std.proofs.lemmas.Bool.{and_parts}
 use Rattle.cpu_model.specs.declared.instruction.Instr.{Instr}
@@ -14,12 +14,12 @@ use Rattle.asm_model.specs.declared.directive.Directive.{Directive}
 use Rattle.asm_model.specs.declared.directive.Directive.TheVariants.{Mod, Emod, Equ, Fcb, Fdb, Fcc, Fcs, Os9}
 use Rattle.asm_model.specs.declared.operand.Mark.{Mark}
 use Rattle.asm_model.specs.declared.operand.Mark.TheVariants as mark
-use Rattle.asm_model.specs.Characters.{is_line_byte, is_comma, same_word, is_quote}
+use Rattle.asm_model.specs.Characters.{is_line_byte, is_comma, same_word}
 use Rattle.asm_model.specs.Mnemonics.{row_word}
 use Rattle.asm_model.specs.Expressions.{is_label}
 use Rattle.asm_model.specs.Operands.{mark_of, fits, row_operand}
 use Rattle.asm_model.specs.Instructions.{Entry, is_entry, opcode_map, entry_of, Shape, shape_of, shape_with, shape_instr, operand_text, worded_instr, instr_of}
-use Rattle.asm_model.specs.Statements.{Action, instruction, module_start, module_end, equals, byte_list, word_list, characters, system_call, label_alone, Statement, is_module_name, is_constant_expression, is_expression, module_fields, expression_list, ends_there, quoted, if_expression, directive_word, directives, directive_of, directive_action, directive_or_instruction, action_of, LineRead, skipped, broken, stated, is_skipped, statement, after_label, labelled, line_read}
+use Rattle.asm_model.specs.Statements.{Action, instruction, module_start, module_end, equals, byte_list, word_list, characters, system_call, label_alone, is_module_name, is_constant_expression, is_expression, module_fields, expression_list, quoted, directive_word, directives, directive_of, directive_action, directive_or_instruction, action_of, LineRead, skipped, broken, stated, is_skipped, statement, after_label, labelled, line_read}
 use Rattle.asm_model.proofs.Entries.{on_elements}
 use Rattle.asm_forms.specs.Statements.{stating, behind_label, States}
 use Rattle.asm_forms.proofs.Names.{bytes_same}
@@ -46,7 +46,8 @@ fields-none [] = refl
 fields-none (a ∷ []) = refl
 fields-none (a ∷ b ∷ []) = refl
 fields-none (a ∷ b ∷ c ∷ []) = refl
-fields-none (a ∷ b ∷ c ∷ d ∷ []) = if-none (is_module_name a && is_constant_expression b && is_expression c && is_expression d) (module_start (record { name = a; kind = b; attributes = c; storage = d })) refl
+fields-none (a ∷ b ∷ c ∷ d ∷ []) =
+    if-none (is_module_name a && is_constant_expression b && is_expression c && is_expression d) (module_start (record { name = a; kind = b; attributes = c; storage = d })) refl
 fields-none (a ∷ b ∷ c ∷ d ∷ e ∷ parts) = refl
 
 directive-none : (d : Directive) (rest : List ℕ) → shape_in (directive_action d rest) ≡ None
@@ -144,7 +145,7 @@ no-word mark.Indexed = refl
 no-word mark.Direct = refl
 no-word mark.Address = refl
 
-no-directive : (word : List ℕ) (m : Mark) (e : Entry) → entry_of word m ≡ Some e → directive_of word ≡ None
+pub no-directive : (word : List ℕ) (m : Mark) (e : Entry) → entry_of word m ≡ Some e → directive_of word ≡ None
 unfolding entry_of
 no-directive word m e is =
     let named = (and_parts (same_word (row_word e.line.row) word) (fits e.line.row m) (found-passes (is_entry word m) e opcode_map is)).0 in

@@ -1,4 +1,5 @@
 pub mod Sums
+pub mod Expressions
 pub mod Operands
 pub mod Instructions
 pub mod Statements

@@ -3,9 +3,9 @@
 ghost use Rattle.std.specs.Prelude.{◌≡◌, ℕ, Option, Some, List, codes};
 ghost use Rattle.cpu_model.specs.declared.instruction.Instr.{Instr};
 ghost use Rattle.asm_model.specs.Instructions.{Shape, shape_instr, instr_of};
-ghost use Rattle.asm_model.specs.Statements.{instruction, stated, line_read};
+ghost use Rattle.asm_model.specs.Statements.{Statement, instruction, stated, line_read};
 ghost use Rattle.asm_forms.specs.Instructions.{IsInstruction};
-ghost use Rattle.asm_forms.specs.Statements.{stating, behind_label, States};
+ghost use Rattle.asm_forms.specs.Statements.{IsStatement, stating, behind_label, States};
 
 /// A line that is an instruction by its form is read as it.
 pub fn instruction_is_read()
@@ -35,4 +35,14 @@ pub fn stated_instruction_is_read()
 /// A line that is an instruction by its form states that instruction in a source.
 pub fn instruction_is_stated()
     ensures { (line : List ℕ) (at : ℕ) (i : Instr) → IsInstruction line at i → States line at i }
+{}
+
+/// A line that is a statement by its form is read as it.
+pub fn statement_is_read()
+    ensures { (line : List ℕ) (s : Statement) → IsStatement line s → line_read line ≡ stated s }
+{}
+
+/// A line that is read as a statement is that statement by its form.
+pub fn only_statements_are_read()
+    ensures { (line : List ℕ) (s : Statement) → line_read line ≡ stated s → IsStatement line s }
 {}
