@@ -45,14 +45,18 @@ fn first_slices(rt: HostRuntime) -> Result<(), Fail> {
     Ok(())
 }
 
-/// The header and the name of the shell, and its CRC. Like the length, they are those of
+/// The header and the name of the shell's module. With its CRC and its length they are those of
 /// `examples/shell.mod`, which `crates/proc_vectors/assemble.py` makes of the same text: an assembler
 /// that shares nothing with this one.
 const SHELL_HEAD: [u8; 18] = [
     0x87, 0xcd, 0x00, 0x6e, 0x00, 0x0d, 0x11, 0x81, 0x46, 0x00, 0x12, 0x00, 0xc8, 0x53, 0x79, 0x73,
     0x47, 0xef,
 ];
+
+/// The last bytes of that module.
 const SHELL_CRC: [u8; 3] = [0xfb, 0xea, 0x3d];
+
+/// How many bytes it has.
 const SHELL_LENGTH: usize = 110;
 
 // The entry offset is the word at 9, just behind the name, and the name is `SysGo`.

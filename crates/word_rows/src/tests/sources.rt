@@ -178,7 +178,11 @@ fn sums(rt: HostRuntime) -> Result<(), Fail> {
     for (word, first, line) in rows {
         let source = doubled_labels(rt.alloc(), word, first)?;
         let too_large = AsmFault::Line(line, AsmError::Range);
-        assert_eq!(rt; assemble(rt.alloc(), &source).err(), Some(too_large), "{word}");
+        assert_eq!(rt;
+            assemble(rt.alloc(), &source).err(),
+            Some(too_large),
+            "{word}"
+        );
     }
     Ok(())
 }

@@ -148,6 +148,9 @@ fn script_limits(rt: HostRuntime) -> Result<(), Fail> {
     assert_eq!(rt; refused(alloc, &text, 4), Some(LineFault::Line(2)));
     let text = line_of(alloc, b"0 TERM", 1_000_001)?;
     assert_eq!(rt; refused(alloc, &text, 4), Some(LineFault::Line(1)));
-    assert_eq!(rt; refused(alloc, b"1000001 TERM 41", 4), Some(LineFault::Line(1)));
+    assert_eq!(rt;
+        refused(alloc, b"1000001 TERM 41", 4),
+        Some(LineFault::Line(1))
+    );
     Ok(())
 }
