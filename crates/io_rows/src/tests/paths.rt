@@ -38,7 +38,7 @@ fn sixteen_numbers(rt: HostRuntime) -> Result<(), Fail> {
         same(&rt, paths.begin(Pid(2), PIPE), Ok(number));
     }
     same(&rt, paths.begin(Pid(2), PIPE), Err(PathsFull));
-    same(&rt, paths.slot(Pid(2), 15), Some(SysPath(16)));
+    assert_eq!(rt; paths.slot(Pid(2), 15), Some(SysPath(16)));
     same(&rt, paths.dup(Pid(2), 15), Err(PathsFull));
     same(&rt, paths.slot(Pid(2), 16), None);
     same(&rt, paths.begin(Pid(32), PIPE), Ok(0));
@@ -54,7 +54,7 @@ fn system_paths(rt: HostRuntime) -> Result<(), Fail> {
         }
     }
     same(&rt, paths.begin(Pid(6), PIPE), Err(PathsFull));
-    same(&rt, paths.slot(Pid(3), 4), Some(SysPath(21)));
+    assert_eq!(rt; paths.slot(Pid(3), 4), Some(SysPath(21)));
     same(&rt, paths.close(Pid(3), 4), Some(PIPE));
     same(&rt, paths.begin(Pid(6), PIPE), Ok(0));
     same(&rt, paths.slot(Pid(6), 0), Some(SysPath(21)));

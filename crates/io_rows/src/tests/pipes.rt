@@ -13,18 +13,14 @@ fn pipe_transfer(rt: HostRuntime) -> Result<(), Fail> {
     text[256] = 3;
     text[299] = 4;
     let mut into = [9; 512];
-    same(&rt, pipes.write(pipe, false, &text), PipeAns::Done(256));
-    same(&rt, pipes.write(pipe, false, &text[256..]), PipeAns::Wait);
-    same(&rt, pipes.read(pipe, false, &mut into), PipeAns::Done(256));
+    assert_eq!(rt; pipes.write(pipe, false, &text), PipeAns::Done(256));
+    assert_eq!(rt; pipes.write(pipe, false, &text[256..]), PipeAns::Wait);
+    assert_eq!(rt; pipes.read(pipe, false, &mut into), PipeAns::Done(256));
     same(&rt, into[0], 1);
     same(&rt, into[255], 2);
     same(&rt, into[256], 9);
-    same(
-        &rt,
-        pipes.write(pipe, false, &text[256..]),
-        PipeAns::Done(44),
-    );
-    same(&rt, pipes.read(pipe, false, &mut into), PipeAns::Done(44));
+    assert_eq!(rt; pipes.write(pipe, false, &text[256..]), PipeAns::Done(44));
+    assert_eq!(rt; pipes.read(pipe, false, &mut into), PipeAns::Done(44));
     same(&rt, into[0], 3);
     same(&rt, into[43], 4);
     Ok(())
