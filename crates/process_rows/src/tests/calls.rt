@@ -91,6 +91,7 @@ fn ended_children(rt: HostRuntime) -> Result<(), Fail> {
         same(&rt, f_wait(&mut s, p), CallEnd::Done);
         same(&rt, (s.regs(p).a, s.regs(p).b), (child, status));
     }
+    assert!(rt; lives(&s, p));
     same(&rt, f_wait(&mut s, p), CallEnd::Error(E_NOCHLD));
     Ok(())
 }
