@@ -1,0 +1,4 @@
+pub mod Files
+pub mod Verbs
+pub mod Calls
+pub mod Lists
