@@ -150,12 +150,17 @@ fn labels(rt: HostRuntime) -> Result<(), Fail> {
     Ok(())
 }
 
-/// The source of a module of a word, then of 100 labels from `l0` on, each twice the one above it.
-fn doubled_labels(alloc: Global, word: &str, first: u16) -> Result<Vec<u8>, AllocError> {
+/// The source of a module of a word, then of so many labels from `l0` on, each twice the one above it.
+fn doubled_labels(
+    alloc: Global,
+    word: &str,
+    first: u16,
+    count: u32,
+) -> Result<Vec<u8>, AllocError> {
     let mut source = Vec::new(alloc);
     let head = format!(in alloc; " mod a,$21,0,0\n fdb {word}\nl0 equ {first}\n")?;
     source.extend_from_slice(head.as_bytes())?;
-    for i in 1..100 {
+    for i in 1..count {
         let line = format!(in alloc; "l{i} equ l{}+l{}\n", i - 1, i - 1)?;
         source.extend_from_slice(line.as_bytes())?;
     }
@@ -176,7 +181,7 @@ fn sums(rt: HostRuntime) -> Result<(), Fail> {
         ("l99", 65_535, 4),
     ];
     for (word, first, line) in rows {
-        let source = doubled_labels(rt.alloc(), word, first)?;
+        let source = doubled_labels(rt.alloc(), word, first, 100)?;
         let too_large = AsmFault::Line(line, AsmError::Range);
         assert_eq!(rt;
             assemble(rt.alloc(), &source).err(),
