@@ -9,11 +9,11 @@ use std::process::Abort;
 use std::test::Fail;
 
 /// The files after these calls, each of which ends well and shows this on the output.
-fn after(
+fn after<'a>(
     rt: &impl Abort,
     alloc: Global,
     files: Vec<HostFile>,
-    calls: &[(&str, &[u8])],
+    calls: &'a [(&'a str, &'a [u8])],
 ) -> Result<Vec<HostFile>, Fail> {
     let mut files = files;
     for (words, out) in calls {
@@ -32,12 +32,12 @@ fn after(
 }
 
 /// The files after a call that is refused with this error: the image is as it was.
-fn refused(
+fn refused<'a>(
     rt: &impl Abort,
     alloc: Global,
     files: Vec<HostFile>,
-    words: &str,
-    err: &[u8],
+    words: &'a str,
+    err: &'a [u8],
 ) -> Result<Vec<HostFile>, Fail> {
     let before = Vec::from_slice(alloc, bytes_of(&files, "i"))?;
     let step = Step {

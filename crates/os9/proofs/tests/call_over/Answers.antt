@@ -3,5 +3,5 @@ use Rattle.std.specs.String.{string_bytes}
 use Rattle.os9_boot.proofs.RoomLemmas.{free-for}
 use Rattle.os9.proofs.tests.call_over.Goals as goal
 
-pub os9_main-requires : goal.os9_main-requires
-os9_main-requires g c = record { devices = free-for (map string_bytes c.args.words.now) _ c.requires.terminals c.requires.drives }
+pub os9_main-status-requires : goal.os9_main-status-requires
+os9_main-status-requires g c = record { devices = free-for (map string_bytes c.args.words.now) _ c.requires.terminals c.requires.drives }
