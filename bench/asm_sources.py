@@ -67,7 +67,8 @@ SOURCES = {
     "1,000 lines": (lambda: program(1_000), None),
     "10,000 lines": (lambda: program(10_000), None),
     "100,000 lines": (lambda: program(100_000), None),
-    "a million lines, too long a module": (lambda: program(MILLION), (MILLION, RANGE)),
+    # Its labels pass 65,535, and line 75 is the first that names such a one in 16 bits.
+    "a million lines, too long a module": (lambda: program(MILLION), (75, RANGE)),
     "a sum of a million bytes": (lambda: module(" fdb 1" + "+1-1" * (MILLION // 4)), None),
     "a list of a million bytes": (lambda: module(" fcb " + ",".join(["1".zfill(19)] * (MILLION // 20))), None),
     "a label of a million bytes": (lambda: module("l" * MILLION + " nop"), (2, SYNTAX)),
