@@ -78,7 +78,8 @@ fn push_shape(
 // Puts the bytes of expressions with commas between them behind these.
 fn push_bytes(code: &mut Vec<u8>, place: Place, text: &[u8]) -> Result<(), OutOfMemory>
     ensures { IfOk result (λ _. code.new.items ≡ code.old.items
-        ++ map (byte_in place.entry.labels.now place.entry.offset) (slice_split is_comma text.now)) }
+        ++ map (byte_in place.entry.labels.now place.entry.offset)
+        (slice_split is_comma text.now)) }
 {
     for part in text.split(|c| *c == b',') {
         push_byte(code, byte_at(place, part))?;

@@ -117,8 +117,9 @@ fn is_text_out(place: Place, next: u128, field: Field, text: &[u8]) -> bool
 
 // Is the value of an expression of a list known, and out of the range of its field?
 fn is_list_out(place: Place, next: u128, field: Field, text: &[u8]) -> bool
-    ensures { result ≡ list_any (λ t. is_out_lem field next
-        (expression_in place.entry.labels.now place.entry.offset t)) (slice_split is_comma text.now) }
+    ensures { result ≡ list_any
+        (λ t. is_out_lem field next (expression_in place.entry.labels.now place.entry.offset t))
+        (slice_split is_comma text.now) }
 {
     text.split(|c| *c == b',')
         .any(|part| is_text_out(place, next, field, part))

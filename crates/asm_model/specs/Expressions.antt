@@ -30,7 +30,8 @@ longest_label = 29
 abbrev pub is_label : List ℕ → Bool
 is_label [] = false
 is_label (c ∷ text) =
-    is_letter c && list_all is_label_character text && nat_le (length (c ∷ text)) longest_label && not (is_register_name (c ∷ text))
+    is_letter c && list_all is_label_character text && nat_le (length (c ∷ text)) longest_label
+    && not (is_register_name (c ∷ text))
 
 -- ---- terms
 

@@ -38,7 +38,9 @@ abbrev pub row_entry : Page → ℕ → Row → Entry
 row_entry page opcode r = entry page (line_of opcode r)
 
 unfoldable pub opcode_map : List Entry
-opcode_map = map (entry Base) (page_lines Base) ++ (map (entry Ten) (page_lines Ten) ++ map (entry Eleven) (page_lines Eleven))
+opcode_map =
+    map (entry Base) (page_lines Base)
+    ++ (map (entry Ten) (page_lines Ten) ++ map (entry Eleven) (page_lines Eleven))
 
 -- the entry of this word that an operand with this mark may have
 abbrev pub is_entry : List ℕ → Mark → Entry → Bool

@@ -79,7 +79,8 @@ fits r m = operation_fits r.0 r.1 m
 -- the weight of the register of this name among registers of a push mask, the first of which has this weight
 abbrev pub mask_weight : List Register → ℕ → List ℕ → Option ℕ
 mask_weight [] weight name = None
-mask_weight (r ∷ rs) weight name = if same_word (register_word r) name then Some weight else mask_weight rs (2 * weight) name
+mask_weight (r ∷ rs) weight name =
+    if same_word (register_word r) name then Some weight else mask_weight rs (2 * weight) name
 
 -- a mask with the registers of these names; a name that is there twice counts once
 abbrev pub mask_with : Stack → ℕ → List (List ℕ) → Option ℕ
@@ -106,7 +107,8 @@ if_pair pair = if is_pair pair then Some pair else None
 -- the postbyte of a source and a destination
 abbrev pub pair_among : List (List ℕ) → Option ℕ
 pair_among (source ∷ destination ∷ []) =
-    option_and_then (λ high. option_and_then (λ low. if_pair (16 * high + low)) (register_code destination)) (register_code source)
+    option_and_then (λ high. option_and_then (λ low. if_pair (16 * high + low)) (register_code destination))
+    (register_code source)
 pair_among _ = None
 
 -- source and destination, two registers of one size, with a comma between them
@@ -221,7 +223,8 @@ marked (c ∷ text) =
 abbrev pub sized_offset : Size → Bool → ℕ → List ℕ → Option Operand
 sized_offset (Five z) indirect r text = Some (operand (Some (32 * r + modulo 32 z)) Nothing [])
 sized_offset Eight indirect r text = valued (Some (offset8_post + 32 * r + indirect_bit indirect)) field.Offset8 text
-sized_offset Sixteen indirect r text = valued (Some (offset16_post + 32 * r + indirect_bit indirect)) field.Offset16 text
+sized_offset Sixteen indirect r text =
+    valued (Some (offset16_post + 32 * r + indirect_bit indirect)) field.Offset16 text
 
 -- an offset from an index register
 abbrev pub offset_operand : Width → Bool → ℕ → List ℕ → Option Operand
@@ -255,13 +258,15 @@ before_bracket (c ∷ d ∷ text) = option_map (λ inner. c ∷ inner) (before_b
 -- the operand whose text is between brackets
 abbrev pub inside : List ℕ → Option Operand
 inside text =
-    if list_any is_comma text then offset_among true (slice_split is_comma text) else valued (Some absolute_post) field.Word text
+    if list_any is_comma text then offset_among true (slice_split is_comma text)
+    else valued (Some absolute_post) field.Word text
 
 -- an indexed operand with an offset, or extended indirect
 abbrev pub numbered : List ℕ → Option Operand
 numbered [] = None
 numbered (c ∷ text) =
-    if is_opening c then option_and_then inside (before_bracket text) else offset_among false (slice_split is_comma (c ∷ text))
+    if is_opening c then option_and_then inside (before_bracket text)
+    else offset_among false (slice_split is_comma (c ∷ text))
 
 -- the operand of this postbyte, or else one with a number
 abbrev pub bare_or : Option ℕ → List ℕ → Option Operand

@@ -46,7 +46,8 @@ register_word register.Dp = codes "DP"
 -- the registers of a push mask, from bit 0 up
 abbrev pub mask_registers : Stack → List Register
 mask_registers stack =
-    register.Cc ∷ register.A ∷ register.B ∷ register.Dp ∷ register.X ∷ register.Y ∷ other_pointer stack ∷ register.Pc ∷ []
+    register.Cc ∷ register.A ∷ register.B ∷ register.Dp ∷ register.X ∷ register.Y ∷ other_pointer stack ∷ register.Pc
+    ∷ []
 
 -- those whose bits are set, with commas between them
 abbrev pub comma_before : Bool → List ℕ

@@ -8,7 +8,7 @@ abbrev pub leax : Instr
 leax = record { page = Base; opcode = 0x30; post = Some 0x8C; tail = Byte 0x0D }
 
 abbrev front : List ℕ
-front = codes " mod SysGo,$11,$81,200\nstart leax <text,pcr\n ldy #80\n lda #1\n os9 $8c\n clrb\n"
+front = codes " mod SysGo,$11,$81,$c8\nstart leax <text,pcr\n ldy #80\n lda #1\n os9 $8c\n clrb\n"
 
 abbrev back : List ℕ
 back = codes " fcb $0d\n emod\n"

@@ -42,6 +42,9 @@ pub fn used_clusters(sectors: u32, cluster: u16) -> u32
     (blank_root(sectors, cluster) + 2 + (k - 1)) / k
 }
 
+/// How many bytes of LSN 0 stand behind its date.
+const IDENT_REST: usize = 225;
+
 /// Puts LSN 0 behind the image ("Identification Sector").
 pub fn push_ident(
     image: &mut Vec<u8>,
@@ -56,7 +59,7 @@ pub fn push_ident(
     image.extend_from_slice(&sizes(sectors, cluster))?;
     image.extend_from_slice(&[0; 12])?;
     image.extend_from_slice(&[now.year, now.month, now.day, now.hour, now.minute])?;
-    image.extend_from_slice(&[0; 225])?;
+    image.extend_from_slice(&[0; IDENT_REST])?;
     Ok(())
 }
 

@@ -2,11 +2,13 @@
 -- has 4,096 sectors, and where each part stands, is this project's own): LSN 0, the allocation map in sectors 1 and 2,
 -- the root's descriptor in sector 3 and its entries in sector 4, the file's descriptor in sector 5, and the file from
 -- sector 6 on.
-use Rattle.std.specs.Prelude.{◌≡◌, ℕ, ◌+◌, ◌-◌, ◌*◌, ◌/◌, ◌%◌, ◌≤◌, ◌==◌, false, Option, Some, None, List, [], ◌∷◌, ◌++◌, length, take, drop, replicate, if◌then◌else◌}
+use Rattle.std.specs.Prelude.{◌≡◌, ℕ, ◌+◌, ◌-◌, ◌*◌, ◌/◌, ◌%◌, ◌≤◌, ◌==◌, false, Option, Some, None, List, [], ◌∷◌, ◌++◌, codes, length, take, drop, replicate, if◌then◌else◌}
 use Rattle.rbf_model.specs.Fields.{boot_field, boot_size_field}
 use Rattle.rbf_model.specs.File.{DiskFile}
 use Rattle.rbf_model.specs.Geometry.{sector}
+use Rattle.rbf_model.specs.Tree.{dot, dot_dot}
 use Rattle.rbf_model.specs.Volume.{DiskVolume}
+use Rattle.rbf_change.specs.Names.{marked_name}
 use Rattle.blank_disk.specs.Image.{marks_map}
 
 -- ---- the parts
@@ -41,7 +43,7 @@ entry_with name number = name ++ replicate (29 - length name) 0 ++ 0 ∷ 0 ∷ n
 -- the root's entries: `..` and `.`, which are the root, and `OS9Boot`
 unfoldable pub root_entries : List ℕ
 root_entries =
-    entry_with (46 ∷ 174 ∷ []) 3 ++ entry_with (174 ∷ []) 3 ++ entry_with (79 ∷ 83 ∷ 57 ∷ 66 ∷ 111 ∷ 111 ∷ 244 ∷ []) 5
+    entry_with (marked_name dot_dot) 3 ++ entry_with (marked_name dot) 3 ++ entry_with (marked_name (codes "OS9Boot")) 5
 
 -- the file's descriptor: attributes 03, one link, its size, one segment from sector 6 on
 abbrev pub file_front : ℕ → List ℕ

@@ -69,13 +69,13 @@ with_images_in images world = record world {
   devices = record { drives = holding images world.devices.drives; terms = world.devices.terms };
 }
 
--- it was run over the first of its slices, and these images were in its drives then, which hold the volumes of the state
--- in which it stopped
+-- it was run over the first of its slices, and these images were in its drives then, which hold the volumes of the
+-- state in which it stopped
 pub record StopsWithImages (setup : Setup) (before after : World) : Type 0 where
   pub images : List (List ℕ)
   pub first : RunsFirst setup before (with_images_in images after)
 
--- what comes of it, by how its run ended; where it stopped before its end, the images hold the volumes of the state then
+-- what comes of it, by how its run ended; if it stopped before its end, the images hold the volumes of the state then
 abbrev pub RunGives : Setup → List (List ℕ) → World → World → RunEnd → Type 0
 RunGives setup images before after (Ended begun) = EndsWithImages setup false begun images before after
 RunGives setup images before after (Living begun) = EndsWithImages setup true begun images before after

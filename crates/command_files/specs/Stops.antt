@@ -1,5 +1,5 @@
 -- Reads of files that end a command (this project's own).
-use Rattle.std.specs.Prelude.{◌≡◌, ℕ, Option, Some, List}
+use Rattle.std.specs.Prelude.{◌≡◌, ℕ, Option, Some, List, Result, Ok, Err}
 use Rattle.os9_words.specs.Notes.{HasRead, Notes}
 use Rattle.boot_run.specs.World.{World, FailsToReadFile}
 use Rattle.command_files.specs.FileNames.{IsFront, IsUpTo}
@@ -38,3 +38,9 @@ pub record NotesStop (name_of : Input → Option (List ℕ)) (names : List (List
   pub read : List (List ℕ)
   pub stops : StopsReads name_of names end read
   pub noted : HasRead read before after
+
+-- files of these names were read, each once and in this order; or as many as had been when the reads stopped
+abbrev pub NotesReads : {A : Type 0} → (Input → Option (List ℕ)) → List (List ℕ) → Result A End → Notes → Notes
+    → Type 0
+NotesReads name_of names (Ok read) before after = HasRead names before after
+NotesReads name_of names (Err end) before after = NotesStop name_of names end before after

@@ -115,8 +115,7 @@ fn read_images<H: Host>(alloc: Global, run: &RunWords, host: &mut H) -> Result<I
         (world_of H.Host host.old devices) (world_of H.Host host.new devices) end) }
     ensures noted { OnOk result (HasRead run.now.files
         (notes_of H.Host host.old) (notes_of H.Host host.new)) }
-    ensures stopped { IfErr result (λ end. NotesStop (run_file_name run.now)
-        run.now.files end
+    ensures stopped { IfErr result (λ end. NotesStop (run_file_name run.now) run.now.files end
         (notes_of H.Host host.old) (notes_of H.Host host.new)) }
 {
     let mut images = Images::none(alloc);

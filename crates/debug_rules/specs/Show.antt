@@ -1,5 +1,5 @@
--- What a debugger shows of a state (this project's own): the registers of the process that had the last event, and bytes
--- that it sees.
+-- What a debugger shows of a state (this project's own): the registers of the process that had the last event, and
+-- bytes that it sees.
 use Rattle.std.specs.Prelude.{ℕ, ◌%◌, codes, decimal, Option, Some, None, unwrap_or, List, ◌++◌, flat_map, if◌then◌else◌}
 use Rattle.std.specs.List.{range_with_len}
 use Rattle.os9_base.specs.Cells.{Cells}

@@ -11,6 +11,7 @@ pub fn lines_are_printed()
     ensures registers { regs_text first_regs
         ≡ codes " pc E015 a 00 b 00 dp 00 cc 00 x E022 y 0100 u 0000 s 0100" }
     ensures instruction { dis_lines hello_cells 57365 1 ≡ codes "E015 LDY #$0050\n" }
-    ensures around { mem_line last_cells (record { at = 65535; count = 3 }) ≡ codes "FFFF AF 07 --\n" }
+    ensures around { mem_line last_cells (record { at = 65535; count = 3 })
+        ≡ codes "FFFF AF 07 --\n" }
     ensures cut_off { dis_lines last_cells 65535 2 ≡ codes "FFFF STX 7,X\n0001 ?\n" }
 {}

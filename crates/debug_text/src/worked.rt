@@ -6,13 +6,15 @@ ghost use Rattle.debug_text.specs.declared.command.Command.TheVariants.{To, Back
 
 /// Commands.
 pub fn commands_are_read()
-    ensures positions { commands_of (codes "to 1" ++ 10 ∷ codes "back 256") ≡ Ok (To 1 ∷ Back 256 ∷ []) }
+    ensures positions { commands_of (codes "to 1" ++ 10 ∷ codes "back 256")
+        ≡ Ok (To 1 ∷ Back 256 ∷ []) }
     ensures registers { commands_of (10 ∷ codes "regs" ++ 10 ∷ 10 ∷ []) ≡ Ok (Regs ∷ []) }
     ensures memory { commands_of (codes "mem  fFa0   001")
         ≡ Ok (Mem (record { at = 65440; count = 1 }) ∷ []) }
     ensures instructions { commands_of (codes "dis E015 1")
         ≡ Ok (Dis (record { at = 57365; count = 1 }) ∷ []) }
-    ensures long_number { commands_of (codes "to 99999999999999999999") ≡ Ok (To 18446744073709551615 ∷ []) }
+    ensures long_number { commands_of (codes "to 99999999999999999999")
+        ≡ Ok (To 18446744073709551615 ∷ []) }
     ensures empty { commands_of [] ≡ Ok [] }
 {}
 

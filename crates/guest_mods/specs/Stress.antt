@@ -1,7 +1,8 @@
 -- What the command `stress` boots (this project's own).
 use Rattle.std.specs.Prelude.{ℕ, ◌*◌, ◌<◌, ◌≤◌, List, [], ◌∷◌, ◌++◌, codes}
 use Rattle.guest_mods.specs.declared.load.Load.{Load}
-use Rattle.guest_mods.specs.declared.programs.TheConstants.{SYSGO, WORKER}
+use Rattle.guest_mods.specs.declared.load.TheConstants.{MOST_RECORDS}
+use Rattle.guest_mods.specs.declared.programs.TheConstants.{STORAGE, SYSGO, WORKER}
 use Rattle.module_maker.specs.GuestModule.{guest_module}
 use Rattle.guest_mods.specs.Random.{draws}
 
@@ -13,7 +14,7 @@ pub record IsLoad (load : Load) : Type 0 where
   pub some_passes : 1 ≤ load.passes
   pub few_passes : load.passes ≤ 40
   pub some_records : 1 ≤ load.records
-  pub few_records : load.records ≤ 200
+  pub few_records : load.records ≤ MOST_RECORDS
 
 -- how many bytes each record has, at most 32: those of the first Worker, then those of the second, and so on
 abbrev pub record_lengths : Load → List ℕ
@@ -27,9 +28,9 @@ sysgo_code workers = SYSGO ++ workers ∷ []
 unfoldable pub worker_code : Load → List ℕ
 worker_code load = WORKER ++ load.passes ∷ load.records ∷ record_lengths load
 
--- a program in 6809 code of revision 1, with 200 bytes of data memory
+-- a program in 6809 code of revision 1
 abbrev pub program_module : List ℕ → List ℕ → List ℕ
-program_module name code = guest_module name 0x11 0x81 200 code
+program_module name code = guest_module name 0x11 0x81 STORAGE code
 
 abbrev pub sysgo_module : ℕ → List ℕ
 sysgo_module workers = program_module (codes "SysGo") (sysgo_code workers)

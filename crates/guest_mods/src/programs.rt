@@ -20,7 +20,7 @@ const PROGRAM: u8 = 0x11;
 const ATTRIBUTES: u8 = 0x81;
 
 /// How many bytes of data memory a program asks for.
-const STORAGE: u16 = 200;
+pub const STORAGE: u16 = 200;
 
 /// The most bytes of a record.
 const LONGEST_RECORD: u32 = 32;

@@ -6,10 +6,11 @@ const SHELL: &[u8] = br#"* shell.asm: a shell.
 * SysGo writes a prompt, reads a line, and starts the program that the line names, with the rest of the line
 * as its parameters. It waits for the program, and writes the number of an error of the start, or of the
 * status of the program if that is not 0. At the end of the file it exits with status 0.
-        mod     SysGo,$11,$81,200   name, type and language, attributes and revision, storage
+        mod     SysGo,$11,$81,$C8   name, type and language, attributes and revision, storage
 line    equ     0                   the line, at the front of the data area
 most    equ     80                  the most bytes of it
 end     equ     line+most           where it ends, two bytes
+eof     equ     $D3                 E$EOF
 start   leax    <prompt,pcr
         ldy     #4
         lda     #1                  A: standard output
@@ -43,7 +44,7 @@ fork    ldd     <end
         beq     start
 error   os9     $0F                 F$PErr
         bra     start
-over    cmpb    #211                the end of the file?
+over    cmpb    #eof                the end of the file?
         bne     exit                an error is the status
         clrb                        B: the status
 exit    os9     $06                 F$Exit

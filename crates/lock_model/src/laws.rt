@@ -1,14 +1,15 @@
 //! What conflicts, answers and histories mean, as laws.
 
-ghost use Rattle.std.specs.Prelude.{◌≡◌, ◌↔◌, ℕ, Bool, true, false, None, Some, List, ◌<◌, ◌≤◌, ◌≢◌, length};
+ghost use Rattle.std.specs.Prelude.{◌≡◌, ◌↔◌, ℕ, true, false, None, Some, ◌≤◌, ◌≢◌, length};
+ghost use Rattle.lock_model.specs.Changes.{ChangesByRule};
 ghost use Rattle.lock_model.specs.Conflict.{conflicts, overlaps};
 ghost use Rattle.lock_model.specs.Laws.{AreLocks, HasRanks, IsIn, MayHold, cut_at};
 ghost use Rattle.lock_model.specs.Locks.{Locks, no_locks, request_of, with_lock, with_request};
-ghost use Rattle.lock_model.specs.Records.{AreRecords, Records, ends_locks_below, holding, no_records, with_waiting, without_lock, written_by};
+ghost use Rattle.lock_model.specs.Records.{AreRecords, Records, no_records};
 ghost use Rattle.lock_model.specs.Waits.{Closes, NoCycle, Opposes, closes, first_answer, later_answer, lock_may_go};
 ghost use Rattle.lock_model.specs.History.{AtomicPairs};
 ghost use Rattle.lock_model.specs.declared.lock.Grant.TheVariants.{Granted, Deadlock, Wait};
-ghost use Rattle.lock_model.specs.declared.lock.TheConstants.{LOCK_PROCESSES, PATH_PLACES};
+ghost use Rattle.lock_model.specs.declared.lock.TheConstants.{LOCK_PROCESSES};
 ghost use Rattle.lock_model.specs.declared.lock.Held.{Held as Lock};
 ghost use Rattle.lock_model.specs.declared.lock.Range.{Range as Bytes};
 ghost use Rattle.lock_model.specs.declared.lock.Request.{Request as Asked};
@@ -86,22 +87,8 @@ pub fn a_deadlock_is_refused()
 pub fn the_history_is_atomic()
     ensures pairs { (records : Records) → AreRecords records → AtomicPairs records.history }
     ensures first { AreRecords no_records }
-    ensures granted { (records : Records) (path : ℕ) (lock : Lock) (bytes : List ℕ)
-        → path < PATH_PLACES → MayHold records.locks lock → AreRecords records
-        → AreRecords (holding records path lock bytes) }
-    ensures written { (records : Records) (path : ℕ) (lock : Lock) (bytes : List ℕ)
-        → path < PATH_PLACES → conflicts records.locks lock ≡ false → AreRecords records
-        → AreRecords (written_by records path lock bytes) }
-    ensures ended { (records : Records) (path : ℕ) → AreRecords records
-        → AreRecords (without_lock records path) }
-    ensures ended_below { (ends : ℕ → Lock → Bool) (count : ℕ) (records : Records)
-        → AreRecords records → AreRecords (ends_locks_below ends count records) }
-    ensures waiting { (records : Records) (request : Asked)
-        → request_of records.locks request.lock.owner.0 ≡ None
-        → closes records.locks request.lock ≡ false → AreRecords records
-        → AreRecords (with_waiting records request.lock.owner.0 (Some request)) }
-    ensures forgotten { (records : Records) (p : ℕ) → AreRecords records
-        → AreRecords (with_waiting records p None) }
+    ensures changed { (records now : Records) → ChangesByRule records now → AreRecords records
+        → AreRecords now }
 {}
 
 /// A part of a lock may be held if the lock may be held: a line may end before the bytes requested.

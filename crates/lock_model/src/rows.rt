@@ -1,6 +1,6 @@
 //! Worked requests.
 
-ghost use Rattle.std.specs.Prelude.{◌≡◌, None, Some, true, false};
+ghost use Rattle.std.specs.Prelude.{◌≡◌, ℕ, None, Some, true, false};
 ghost use Rattle.lock_model.specs.Locks.{no_locks, with_lock};
 ghost use Rattle.lock_model.specs.Rows.{asking, bytes_to, four_from, owned_by, three_records, two_wait};
 ghost use Rattle.lock_model.specs.Waits.{closes, first_answer, later_answer, lock_may_go};
@@ -27,7 +27,7 @@ pub fn lock_cycle()
 pub fn lock_ticks()
     ensures before { later_answer three_records 13 (asking 2 4 5) ≡ Wait }
     ensures then { later_answer three_records 14 (asking 2 4 5) ≡ Locked }
-    ensures never { later_answer three_records 4294000000 (asking 2 4 0) ≡ Wait }
+    ensures never { (tick : ℕ) → later_answer three_records tick (asking 2 4 0) ≡ Wait }
 {}
 
 /// Adjacent ranges do not overlap. A range without an end includes every byte from its start on.

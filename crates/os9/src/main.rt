@@ -4,7 +4,7 @@
 ghost use Rattle.std.specs.Prelude.{map, string_bytes};
 ghost use Rattle.boot_images.specs.Drives.{HaveRoom};
 ghost use Rattle.boot_run.specs.World.{world_of};
-ghost use Rattle.file_drives.specs.Drives.{drive_views};
+ghost use Rattle.file_drives.specs.Drives.{drive_views, drives_seen};
 ghost use Rattle.key_loading.specs.Loaded.{AreUnloaded};
 ghost use Rattle.os9_boot.specs.TopCall.{TopCall};
 ghost use Rattle.os9_kernel.specs.Outside.{outside};
@@ -83,8 +83,7 @@ fn run_with(
 ) -> u8
     requires terminals { AreUnloaded
         (terminal_states ⟦<dyn CharDriver as CharDriver>⟧ devices.old.terms.items) }
-    requires drives { HaveRoom 4
-        (drive_views ⟦<dyn BlockDriver as BlockDriver>⟧ devices.old.drives.items) }
+    requires drives { HaveRoom 4 (drives_seen BlockDriver-box devices.old) }
     ensures call { TopCall (map string_bytes words.now)
         (world_of ⟦<RealHost<HostRuntime> as Host>⟧ host.old (outside
         ⟦<dyn BlockDriver as BlockDriver>⟧ devices.old.drives.items

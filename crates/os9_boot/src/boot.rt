@@ -4,7 +4,7 @@ ghost use Rattle.std.specs.Prelude.{◌≡◌, length};
 ghost use Rattle.boot_images.specs.Ready.{AreEmptyAgain, AreFree};
 ghost use Rattle.boot_run.specs.World.{world_of};
 ghost use Rattle.os9_kernel.specs.Outside.{outside};
-ghost use Rattle.file_drives.specs.Drives.{drive_views};
+ghost use Rattle.file_drives.specs.Drives.{drives_seen};
 ghost use Rattle.os9_boot.specs.Commands.{CommandCall};
 ghost use Rattle.os9_boot.specs.FilesNoted.{NotesFiles};
 ghost use Rattle.os9_words.specs.Notes.{notes_of};
@@ -42,9 +42,8 @@ pub fn boot_images<H: Host>(
         devices.new.drives.items ⟦<dyn CharDriver as CharDriver>⟧ devices.new.terms.items)) result }
     ensures noted { NotesFiles (Command.Boot boot.now) result
         (notes_of H.Host host.old) (notes_of H.Host host.new) }
-    ensures drives { AreEmptyAgain
-        (drive_views ⟦<dyn BlockDriver as BlockDriver>⟧ devices.old.drives.items)
-        (drive_views ⟦<dyn BlockDriver as BlockDriver>⟧ devices.new.drives.items) }
+    ensures drives { AreEmptyAgain (drives_seen BlockDriver-box devices.old)
+        (drives_seen BlockDriver-box devices.new) }
 {
     let files = match read_boot_files(alloc, boot, host) {
         Ok(files) => files,
@@ -94,9 +93,8 @@ pub fn run_modules<H: Host>(
         devices.new.drives.items ⟦<dyn CharDriver as CharDriver>⟧ devices.new.terms.items)) result }
     ensures noted { NotesFiles (Command.Run run.now) result
         (notes_of H.Host host.old) (notes_of H.Host host.new) }
-    ensures drives { AreEmptyAgain
-        (drive_views ⟦<dyn BlockDriver as BlockDriver>⟧ devices.old.drives.items)
-        (drive_views ⟦<dyn BlockDriver as BlockDriver>⟧ devices.new.drives.items) }
+    ensures drives { AreEmptyAgain (drives_seen BlockDriver-box devices.old)
+        (drives_seen BlockDriver-box devices.new) }
 {
     let files = match read_files(alloc, run, host) {
         Ok(files) => files,

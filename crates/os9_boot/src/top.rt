@@ -4,7 +4,7 @@ ghost use Rattle.std.specs.Prelude.{◌≡◌, map, string_bytes};
 ghost use Rattle.boot_images.specs.Ready.{AreEmptyAgain, AreFree};
 ghost use Rattle.boot_run.specs.World.{world_of};
 ghost use Rattle.os9_kernel.specs.Outside.{outside};
-ghost use Rattle.file_drives.specs.Drives.{drive_views};
+ghost use Rattle.file_drives.specs.Drives.{drives_seen};
 ghost use Rattle.os9_boot.specs.Commands.{CommandCall};
 ghost use Rattle.os9_boot.specs.Devices.{drives_for, drives_of};
 ghost use Rattle.os9_boot.specs.FilesNoted.{NotesFiles};
@@ -70,9 +70,8 @@ pub fn os9_main<H: Host>(alloc: Global, words: &[String], host: &mut H, devices:
         (world_of H.Host host.new (outside ⟦<dyn BlockDriver as BlockDriver>⟧
         devices.new.drives.items ⟦<dyn CharDriver as CharDriver>⟧ devices.new.terms.items))
         (notes_of H.Host host.old) (notes_of H.Host host.new) result }
-    ensures drives { AreEmptyAgain
-        (drive_views ⟦<dyn BlockDriver as BlockDriver>⟧ devices.old.drives.items)
-        (drive_views ⟦<dyn BlockDriver as BlockDriver>⟧ devices.new.drives.items) }
+    ensures drives { AreEmptyAgain (drives_seen BlockDriver-box devices.old)
+        (drives_seen BlockDriver-box devices.new) }
 {
     match read_words(alloc, words) {
         Ok(command) => do_command(alloc, &command, host, devices),
@@ -98,9 +97,8 @@ fn do_command<H: Host>(alloc: Global, command: &Command, host: &mut H, devices: 
         (world_of H.Host host.new (outside ⟦<dyn BlockDriver as BlockDriver>⟧
         devices.new.drives.items ⟦<dyn CharDriver as CharDriver>⟧ devices.new.terms.items))
         (notes_of H.Host host.old) (notes_of H.Host host.new) result }
-    ensures drives { AreEmptyAgain
-        (drive_views ⟦<dyn BlockDriver as BlockDriver>⟧ devices.old.drives.items)
-        (drive_views ⟦<dyn BlockDriver as BlockDriver>⟧ devices.new.drives.items) }
+    ensures drives { AreEmptyAgain (drives_seen BlockDriver-box devices.old)
+        (drives_seen BlockDriver-box devices.new) }
 {
     let end = perform(alloc, command, host, devices);
     let _ = report_end(host, end, command);
@@ -119,9 +117,8 @@ fn perform<H: Host>(alloc: Global, command: &Command, host: &mut H, devices: &mu
         devices.new.drives.items ⟦<dyn CharDriver as CharDriver>⟧ devices.new.terms.items)) result }
     ensures noted { NotesFiles command.now result
         (notes_of H.Host host.old) (notes_of H.Host host.new) }
-    ensures drives { AreEmptyAgain
-        (drive_views ⟦<dyn BlockDriver as BlockDriver>⟧ devices.old.drives.items)
-        (drive_views ⟦<dyn BlockDriver as BlockDriver>⟧ devices.new.drives.items) }
+    ensures drives { AreEmptyAgain (drives_seen BlockDriver-box devices.old)
+        (drives_seen BlockDriver-box devices.new) }
 {
     match command {
         Command::Run(run) => run_modules(alloc, run, host, devices),

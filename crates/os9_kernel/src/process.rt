@@ -45,8 +45,7 @@ impl Kernel {
     /// what it has moved, if it answers a count.
     pub(crate) fn break_off(&mut self, p: Pid)
         requires lives { IsLiving self.old.processes.table p.0 }
-        ensures tied { (m : Inner) → Represents self.old.processes m
-            → Represents self.new.processes
+        ensures tied { (m : Inner) → Represents self.old.processes m → Represents self.new.processes
             (broken_off m p.0 (interrupted_count self.old.files.io p.0)) }
         ensures files { (views : List DriveView) (files : Files)
             → StandsFor self.old.files views files → StandsFor self.new.files views

@@ -19,14 +19,15 @@ ghost use Rattle.machine_model.specs.Run.{Slice};
 ghost use Rattle.machine_model.specs.Start.{Boot, Starts};
 ghost use Rattle.machine_model.specs.State.{State};
 
-/// From the start on, maps and groups name only objects that have appeared. An object that appears in
-/// the map of a process is its own at once, or belongs to the group of a module, as the blocks of a
-/// loaded file do; if no module is entered, it is its own. An object that appears in its data area is
-/// its own in every event except F$Load, which maps a group and gives no area: so the blocks that
-/// F$Fork, F$Chain and F$Mem give a process are its own until it gives them up.
+/// An object that appears in the map of a process is its own at once, or belongs to the group of a
+/// module, as the blocks of a loaded file do; if no module is entered, it is its own. An object that
+/// appears in its data area is its own in every event except F$Load, which maps a group and gives no
+/// area: so the blocks that F$Fork, F$Chain and F$Mem give a process are its own until it gives them
+/// up.
 pub fn what_appears_is_its_own()
     ensures own { (s t : State) (end : EventEnd) (p object : ℕ) → Event s end t
-        → NameAppeared s.inner → AppearsIn s.inner p object t.inner → IsOwnOrShared t.inner p object }
+        → NameAppeared s.inner → AppearsIn s.inner p object t.inner
+        → IsOwnOrShared t.inner p object }
     ensures unless_entered { (s t : State) (end : EventEnd) (p object : ℕ) → Event s end t
         → NameAppeared s.inner → KeepsModules s.inner.memory.modules t.inner.memory.modules
         → AppearsIn s.inner p object t.inner → IsOwn t.inner p object }
@@ -34,9 +35,13 @@ pub fn what_appears_is_its_own()
         → NameAppeared s.inner → ((q : ℕ) → s.chosen ≡ Some q → act_of s.inner q ≢ attempts F_LOAD)
         → HasRecord t.inner p → IsOfArea t.inner p object
         → Appears s.inner.memory t.inner.memory object → IsOwn t.inner p object }
-    ensures appeared { (s t : State) (end : EventEnd) → Event s end t → NameAppeared s.inner
-        → NameAppeared t.inner }
+{}
+
+/// From the start on, maps and groups name only objects that have appeared.
+pub fn names_have_appeared()
     ensures start { (boot : Boot) (s : State) → Starts boot s → NameAppeared s.inner }
+    ensures event { (s t : State) (end : EventEnd) → Event s end t → NameAppeared s.inner
+        → NameAppeared t.inner }
 {}
 
 /// What is a process's own, as a block of its data area, stays its own with the same bytes in each

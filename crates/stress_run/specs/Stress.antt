@@ -14,13 +14,14 @@ use Rattle.boot_images.specs.Outcome.{HasOutcome, StopsWithImages}
 use Rattle.boot_run.specs.Console.{IsObserved}
 use Rattle.boot_run.specs.Machine.{FailsToMount, IsUnrun, Setup}
 use Rattle.boot_run.specs.World.{World, FailsToWrite, HasNoFault}
+use Rattle.stress_run.specs.declared.stress.TheConstants.{RECORDS}
 use Rattle.stress_run.specs.declared.stress.StressEnd.{StressEnd}
 use Rattle.stress_run.specs.declared.stress.StressEnd.TheVariants.{Ended, Living, DriveFailed, OutputFailed, NoMemory}
 use Rattle.stress_run.specs.Counts.{counts_with}
 
--- four Workers, each of which writes its file 40 times in 200 records
+-- four Workers, each of which writes its file 40 times in so many records
 abbrev pub stress_load : ℕ → Load
-stress_load seed = record { seed = seed; workers = 4; passes = 40; records = 200 }
+stress_load seed = record { seed = seed; workers = 4; passes = 40; records = RECORDS }
 
 -- the disk that is made of this load is booted over 20,000 slices, with 64 blocks and no keys, at the usual time
 abbrev pub stress_setup : ℕ → Setup

@@ -33,7 +33,7 @@ const WORKERS: u8 = 4;
 const PASSES: u8 = 40;
 
 /// In how many records.
-const RECORDS: u8 = 200;
+pub const RECORDS: u8 = 200;
 
 /// How many slices there are.
 const SLICES: u32 = 20_000;

@@ -9,7 +9,7 @@ use Rattle.os9_words.specs.declared.vol_words.Verb.TheVariants.{Format, Put, Get
 use Rattle.os9_words.specs.declared.vol_words.VolWords.{VolWords}
 use Rattle.boot_run.specs.World.{World}
 use Rattle.os9_words.specs.Notes.{HasRead, Notes}
-use Rattle.command_files.specs.Stops.{NotesStop, StopsAtRead}
+use Rattle.command_files.specs.Stops.{NotesReads, NotesStop, StopsAtRead}
 use Rattle.command_files.specs.declared.status.End.{End}
 use Rattle.command_files.specs.declared.status.End.TheVariants.{CannotRead, NoMemory}
 use Rattle.command_files.specs.declared.status.Input.{Input}
@@ -112,15 +112,15 @@ has-both vol read (Some files) image file = record { image = image; file = file 
 
 -- ---- of one file
 
--- it was noted
+-- it was noted, or that it was not read
 module _ {Value : Type 0} (names : List (List ℕ)) (name : List ℕ) (only : names ≡ name ∷ []) (first next : Notes) where
-  pub noted-of : (answer : Result Value End) → OnOk answer (HasRead (name ∷ []) first next) → OnOk answer (HasRead names first next)
-  noted-of (Ok value) noted = subst (λ names. HasRead names first next) (sym only) noted
-  noted-of (Err end) noted = tt
-
-  pub stop-of : (answer : Result Value End) (input : Input) (name_of : Input → Option (List ℕ)) → name_of input ≡ Some name → IfErr answer (λ end. (name_of : Input → Option (List ℕ)) → name_of input ≡ Some name → NotesStop name_of (name ∷ []) end first next) → IfErr answer (λ end. NotesStop name_of names end first next)
-  stop-of (Ok value) input name_of named stopped = tt
-  stop-of (Err end) input name_of named stopped =
+  pub reads-of : (answer : Result Value End) (input : Input) (name_of : Input → Option (List ℕ))
+      → name_of input ≡ Some name → OnOk answer (HasRead (name ∷ []) first next)
+      → IfErr answer (λ end. (name_of : Input → Option (List ℕ)) → name_of input ≡ Some name
+      → NotesStop name_of (name ∷ []) end first next)
+      → NotesReads name_of names answer first next
+  reads-of (Ok value) input name_of named noted stopped = subst (λ names. HasRead names first next) (sym only) noted
+  reads-of (Err end) input name_of named noted stopped =
       subst (λ names. NotesStop name_of names end first next) (sym only) (stopped name_of named)
 
 -- FILE of `put` was read

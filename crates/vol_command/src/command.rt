@@ -58,7 +58,8 @@ fn make<H: Host>(
     ensures made { OnWorld (MakesCall vol.now result) H.Host host.old host.new
         ⟦<dyn BlockDriver as BlockDriver>⟧ devices.old.drives.items devices.new.drives.items
         ⟦<dyn CharDriver as CharDriver>⟧ devices.old.terms.items devices.new.terms.items }
-    ensures noted { NotesMaking vol.now result (notes_of H.Host host.old) (notes_of H.Host host.new) }
+    ensures noted { NotesMaking vol.now result
+        (notes_of H.Host host.old) (notes_of H.Host host.new) }
     ensures drives { AreEmptyAgain
         (drive_views ⟦<dyn BlockDriver as BlockDriver>⟧ devices.old.drives.items)
         (drive_views ⟦<dyn BlockDriver as BlockDriver>⟧ devices.new.drives.items) }

@@ -80,7 +80,8 @@ fn use_on_drive(
     requires sound { (drive : DriveView)
         → slice_get (drive_views ⟦<dyn BlockDriver as BlockDriver>⟧ devices.old.drives.items)
         0 ≡ Some drive → IsSound drive.media }
-    ensures drive { ChangesOneDrive (UsesDrive (at_time now tool.now) (λ bytes. bytes.items) result) 0
+    ensures drive { ChangesOneDrive
+        (UsesDrive (at_time now tool.now) (λ bytes. bytes.items) result) 0
         (drive_views ⟦<dyn BlockDriver as BlockDriver>⟧ devices.old.drives.items)
         (drive_views ⟦<dyn BlockDriver as BlockDriver>⟧ devices.new.drives.items) }
     ensures drives { vec_len devices.new.drives ≡ vec_len devices.old.drives }

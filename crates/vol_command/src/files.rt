@@ -3,10 +3,10 @@
 ghost use Rattle.std.specs.Prelude.{◌≡◌, ◌≢◌, ◌∷◌, [], IfErr, IfOk, IfSome, OnOk};
 ghost use Rattle.os9_outer.specs.Host.{file_contents};
 ghost use Rattle.os9_kernel.specs.Outside.{Outside};
-ghost use Rattle.os9_words.specs.Notes.{HasRead, notes_of};
+ghost use Rattle.os9_words.specs.Notes.{notes_of};
 ghost use Rattle.os9_words.specs.Vol.{IsVol};
 ghost use Rattle.boot_run.specs.World.{world_of};
-ghost use Rattle.command_files.specs.Stops.{NotesStop, StopsAtRead};
+ghost use Rattle.command_files.specs.Stops.{NotesReads, StopsAtRead};
 ghost use Rattle.vol_command.specs.Left.{VolMayEnd};
 ghost use Rattle.vol_command.specs.Steps.{HasVolFiles};
 ghost use Rattle.vol_command.specs.Vol.{file_of, file_names, vol_file_name, vol_inputs};
@@ -41,10 +41,8 @@ pub fn read_vol_files<H: Host>(alloc: Global, vol: &VolWords, host: &mut H) -> R
     ensures ended { IfErr result (λ end. (devices : Outside) → StopsAtRead (vol_file_name vol.now)
         (world_of H.Host host.old devices) (world_of H.Host host.new devices) end) }
     ensures may { IfErr result (VolMayEnd vol.now.verb) }
-    ensures noted { OnOk result (HasRead (vol_inputs vol.now)
-        (notes_of H.Host host.old) (notes_of H.Host host.new)) }
-    ensures stopped { IfErr result (λ end. NotesStop (vol_file_name vol.now) (vol_inputs vol.now) end
-        (notes_of H.Host host.old) (notes_of H.Host host.new)) }
+    ensures noted { NotesReads (vol_file_name vol.now) (vol_inputs vol.now) result
+        (notes_of H.Host host.old) (notes_of H.Host host.new) }
 {
     let image = read_image(vol, host)?;
     let file = read_file(alloc, vol, host)?;
@@ -61,10 +59,8 @@ fn read_image<H: Host>(vol: &VolWords, host: &mut H) -> Result<Vec<u8>, End>
     ensures ended { IfErr result (λ end. (devices : Outside) → StopsAtRead (vol_file_name vol.now)
         (world_of H.Host host.old devices) (world_of H.Host host.new devices) end) }
     ensures may { IfErr result (VolMayEnd vol.now.verb) }
-    ensures noted { OnOk result (HasRead (vol.now.image ∷ [])
-        (notes_of H.Host host.old) (notes_of H.Host host.new)) }
-    ensures stopped { IfErr result (λ end. NotesStop (vol_file_name vol.now) (vol.now.image ∷ []) end
-        (notes_of H.Host host.old) (notes_of H.Host host.new)) }
+    ensures noted { NotesReads (vol_file_name vol.now) (vol.now.image ∷ []) result
+        (notes_of H.Host host.old) (notes_of H.Host host.new) }
 {
     read_input(host, &vol.image, Input::Image(0))
 }
@@ -79,11 +75,8 @@ fn read_file<H: Host>(alloc: Global, vol: &VolWords, host: &mut H) -> Result<Vec
     ensures ended { IfErr result (λ end. (devices : Outside) → StopsAtRead (vol_file_name vol.now)
         (world_of H.Host host.old devices) (world_of H.Host host.new devices) end) }
     ensures may { IfErr result (VolMayEnd vol.now.verb) }
-    ensures noted { OnOk result (HasRead (file_names vol.now.verb vol.now)
-        (notes_of H.Host host.old) (notes_of H.Host host.new)) }
-    ensures stopped { IfErr result (λ end. NotesStop (vol_file_name vol.now)
-        (file_names vol.now.verb vol.now) end
-        (notes_of H.Host host.old) (notes_of H.Host host.new)) }
+    ensures noted { NotesReads (vol_file_name vol.now) (file_names vol.now.verb vol.now) result
+        (notes_of H.Host host.old) (notes_of H.Host host.new) }
 {
     match vol.verb {
         Verb::Put => read_input(host, vol.rest.word(1), Input::File),

@@ -59,7 +59,8 @@ fn write_made<H: Host>(vol: &VolWords, made: &Made, host: &mut H) -> End
 fn write_answer<H: Host>(vol: &VolWords, answer: &[u8], host: &mut H) -> End
     requires words { IsVol vol.now }
     requires verb { vol.now.verb ≡ Verb.Get }
-    ensures wrote { (devices : Outside) (image : List ℕ) → WritesMade vol.now answer.now image result
+    ensures wrote { (devices : Outside) (image : List ℕ)
+        → WritesMade vol.now answer.now image result
         (world_of H.Host host.old devices) (world_of H.Host host.new devices) }
     ensures noted { NotesOutputs vol.now result
         (notes_of H.Host host.old) (notes_of H.Host host.new) }
@@ -74,7 +75,8 @@ fn write_answer<H: Host>(vol: &VolWords, answer: &[u8], host: &mut H) -> End
 /// Writes the image.
 fn write_image<H: Host>(vol: &VolWords, image: &[u8], host: &mut H) -> End
     requires { WritesImage vol.now.verb }
-    ensures wrote { (devices : Outside) (answer : List ℕ) → WritesMade vol.now answer image.now result
+    ensures wrote { (devices : Outside) (answer : List ℕ)
+        → WritesMade vol.now answer image.now result
         (world_of H.Host host.old devices) (world_of H.Host host.new devices) }
     ensures noted { NotesOutputs vol.now result
         (notes_of H.Host host.old) (notes_of H.Host host.new) }

@@ -12,9 +12,10 @@ ghost use Rattle.vol_tools.specs.InTurn.{LeavesInTurn};
 
 /// A command that has used its tool leaves what the tool gives, and has its answer.
 pub fn a_command_leaves_what_its_tool_gives()
-    ensures { (tool : Tool) (vol : VolWords) (old answer image : List ℕ) → IsUsed tool vol old answer image
-        → LeavesInTurn (record { tool = tool; now = vol.start } ∷ []) (Some old) (Some image)
-        (answer ∷ []) }
+    ensures { (tool : Tool) (vol : VolWords) (old answer image : List ℕ)
+        → IsUsed tool vol old answer image
+        → LeavesInTurn (record { tool = tool; now = vol.start } ∷ [])
+        (Some old) (Some image) (answer ∷ []) }
 {}
 
 /// Calls of `vol` on one image that were done or refused, none of them a `format` or a `get` over the

@@ -41,7 +41,7 @@ returns-in-Err-clause-made g c =
     read-ended c.args.vol.now _ _ c.in-Err.end c.in-Err.ensures.may (c.in-Err.ensures.ended was)
 
 pub returns-in-Err-clause-noted : goal.returns-in-Err-clause-noted
-returns-in-Err-clause-noted g c = notes-stopped c.args.vol.now c.in-Err.end _ _ c.in-Err.ensures.stopped
+returns-in-Err-clause-noted g c = notes-stopped c.args.vol.now c.in-Err.end _ _ c.in-Err.ensures.noted
 
 pub returns-in-Err-clause-drives : goal.returns-in-Err-clause-drives
 returns-in-Err-clause-drives g c = record { as_many = refl; empty = c.requires.room.empty }

@@ -6,7 +6,7 @@ use Rattle.command_files.specs.declared.status.Input.TheVariants.{File}
 use Rattle.command_files.proofs.FileLemmas.{stopped-as}
 use Rattle.command_files.proofs.ReadLemmas.{read-none}
 use Rattle.vol_command.specs.Vol.{vol_file_name}
-use Rattle.vol_command.proofs.ReadLemmas.{file-may, has-file, no-names, noted-of, other-contents, put-contents, put-names, stop-of}
+use Rattle.vol_command.proofs.ReadLemmas.{file-may, has-file, no-names, other-contents, put-contents, put-names, reads-of}
 use Rattle.vol_command.proofs.files.read_file.Goals as goal
 
 pub word-requires : goal.word-requires
@@ -26,11 +26,9 @@ returns-in-Put-clause-may g c =
 
 pub returns-in-Put-clause-noted : goal.returns-in-Put-clause-noted
 returns-in-Put-clause-noted g c =
-    noted-of _ c.word.result.now (put-names c.args.vol.now c.word.result.now c.word.ensures c.in-Put.is) _ _ c.read_input.result c.read_input.ensures.noted
-
-pub returns-in-Put-clause-stopped : goal.returns-in-Put-clause-stopped
-returns-in-Put-clause-stopped g c =
-    stop-of _ c.word.result.now (put-names c.args.vol.now c.word.result.now c.word.ensures c.in-Put.is) _ _ c.read_input.result File (vol_file_name c.args.vol.now) c.word.ensures c.read_input.ensures.stopped
+    reads-of _ c.word.result.now (put-names c.args.vol.now c.word.result.now c.word.ensures c.in-Put.is) _ _
+    c.read_input.result File (vol_file_name c.args.vol.now) c.word.ensures c.read_input.ensures.noted
+    c.read_input.ensures.stopped
 
 pub returns-in_default-clause-contents : goal.returns-in_default-clause-contents
 returns-in_default-clause-contents g c = other-contents c.args.vol.now _ _ c.in_default.not-Put

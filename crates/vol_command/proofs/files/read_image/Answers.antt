@@ -4,7 +4,7 @@ use Rattle.boot_run.specs.World.{world_of}
 use Rattle.command_files.specs.declared.status.Input.TheVariants.{Image}
 use Rattle.command_files.proofs.FileLemmas.{stopped-as}
 use Rattle.vol_command.specs.Vol.{vol_file_name}
-use Rattle.vol_command.proofs.ReadLemmas.{image-may, stop-of}
+use Rattle.vol_command.proofs.ReadLemmas.{image-may, reads-of}
 use Rattle.vol_command.proofs.files.read_image.Goals as goal
 
 pub returns-clause-ended : goal.returns-clause-ended
@@ -15,6 +15,8 @@ pub returns-clause-may : goal.returns-clause-may
 returns-clause-may g c =
     image-may c.read_input.result c.args.vol.now.image c.args.vol.now.verb (λ devices. world_of g.H.Host c.args.host.now devices) (λ devices. world_of g.H.Host c.read_input.new.host devices) c.requires c.read_input.ensures.ended
 
-pub returns-clause-stopped : goal.returns-clause-stopped
-returns-clause-stopped g c =
-    stop-of _ c.args.vol.now.image refl (notes_of g.H.Host c.args.host.now) (notes_of g.H.Host c.read_input.new.host) c.read_input.result (Image 0) (vol_file_name c.args.vol.now) refl c.read_input.ensures.stopped
+pub returns-clause-noted : goal.returns-clause-noted
+returns-clause-noted g c =
+    reads-of _ c.args.vol.now.image refl (notes_of g.H.Host c.args.host.now) (notes_of g.H.Host c.read_input.new.host)
+    c.read_input.result (Image 0) (vol_file_name c.args.vol.now) refl c.read_input.ensures.noted
+    c.read_input.ensures.stopped

@@ -19,11 +19,11 @@ returns-in_err-image-clause-may g c =
     let gave = err_from_is_err_and c.from_residual.result c.from_residual.ensures.1 in
     rw (gave.1, gave.2) c.in_err-image.ensures.may
 
-pub returns-in_err-image-clause-stopped : goal.returns-in_err-image-clause-stopped
-returns-in_err-image-clause-stopped g c =
+pub returns-in_err-image-clause-noted : goal.returns-in_err-image-clause-noted
+returns-in_err-image-clause-noted g c =
     let vol = c.args.vol.now in
     let gave = err_from_is_err_and c.from_residual.result c.from_residual.ensures.1 in
-    rw (gave.1, gave.2, inputs-are vol.verb vol c.requires.image) (stop-before (vol_file_name vol) _ _ (vol.image ∷ []) (file_names vol.verb vol) _ c.in_err-image.ensures.stopped)
+    rw (gave.1, gave.2, inputs-are vol.verb vol c.requires.image) (stop-before (vol_file_name vol) _ _ (vol.image ∷ []) (file_names vol.verb vol) _ c.in_err-image.ensures.noted)
 
 pub returns-in_err-file-clause-ended : goal.returns-in_err-file-clause-ended
 returns-in_err-file-clause-ended g c =
@@ -35,11 +35,11 @@ returns-in_err-file-clause-may g c =
     let gave = err_from_is_err_and c.from_residual-in_err-file.result c.from_residual-in_err-file.ensures.1 in
     rw (gave.1, gave.2) c.in_err-file.ensures.may
 
-pub returns-in_err-file-clause-stopped : goal.returns-in_err-file-clause-stopped
-returns-in_err-file-clause-stopped g c =
+pub returns-in_err-file-clause-noted : goal.returns-in_err-file-clause-noted
+returns-in_err-file-clause-noted g c =
     let vol = c.args.vol.now in
     let gave = err_from_is_err_and c.from_residual-in_err-file.result c.from_residual-in_err-file.ensures.1 in
-    rw (gave.1, gave.2, inputs-are vol.verb vol c.requires.image) (stop-behind (vol_file_name vol) _ _ _ (vol.image ∷ []) (file_names vol.verb vol) _ c.in_ok-image.ensures.noted c.in_err-file.ensures.stopped)
+    rw (gave.1, gave.2, inputs-are vol.verb vol c.requires.image) (stop-behind (vol_file_name vol) _ _ _ (vol.image ∷ []) (file_names vol.verb vol) _ c.in_ok-image.ensures.noted c.in_err-file.ensures.noted)
 
 pub returns-clause-contents : goal.returns-clause-contents
 returns-clause-contents g c =
