@@ -1,15 +1,17 @@
-//! What may be seen of a kernel: the process that was chosen, how far it has come, and the registers
-//! and bytes of each process.
+//! What may be seen of a kernel: the process that was chosen, how far it has come, and of each process
+//! the registers, the bytes and how it sleeps.
 
 ghost use Rattle.std.specs.Prelude.{◌≡◌, ◌<◌, option_map};
 ghost use Rattle.call_rules.specs.Inner.{cells_at};
+ghost use Rattle.call_rules.specs.Send.{is_call as is_call_lem};
 ghost use Rattle.machine_model.specs.State.{State};
 ghost use Rattle.os9_kernel.specs.Outside.{Outside};
 ghost use Rattle.os9_kernel.specs.Tie.{Represents, executed};
-ghost use Rattle.os9_kernel.specs.View.{living_regs};
+ghost use Rattle.os9_kernel.specs.View.{living_regs, wakes_by_clock as wakes_by_clock_lem};
 ghost use Rattle.user_names.specs.UserNames.{user_cell};
 
 use crate::kernel::Kernel;
+use os9_base::calls::F_SLEEP;
 use os9_base::registers::{Pid, Regs};
 use proc_rules::record::Life;
 
@@ -48,5 +50,26 @@ impl Kernel {
             → result ≡ user_cell (cells_at s.inner p.0) at }
     {
         self.processes.memory.byte(p, at, 0)
+    }
+
+    /// Does a process sleep until a tick that is set?
+    pub fn wakes_by_clock(&self, p: Pid) -> bool
+        requires { p.0 < 33 }
+        ensures { (devices : Outside) (s : State) → Represents self.now devices s
+            → result ≡ wakes_by_clock_lem s.inner p.0 }
+    {
+        let waits = matches!(self.processes.table.life(p), Some(Life::Waiting));
+        let own = self.processes.own(p);
+        waits && is_call(own.call, F_SLEEP) && own.until.is_some()
+    }
+}
+
+/// Has the call that is not done this code?
+fn is_call(call: Option<u8>, code: u8) -> bool
+    ensures { result ≡ is_call_lem call code }
+{
+    match call {
+        None => false,
+        Some(other) => other == code,
     }
 }
