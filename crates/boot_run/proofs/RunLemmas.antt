@@ -30,17 +30,17 @@ use Rattle.boot_run.specs.World.{World, HasNoFault}
 
 -- ---- what is observed stays observed
 
-observed-later : (before now : List TerminalState) → TerminalsOnlyGain before now → All IsObserved before → All IsObserved now
+pub observed-later : (before now : List TerminalState) → TerminalsOnlyGain before now → All IsObserved before → All IsObserved now
 observed-later [] [] gain observed = observed
 observed-later [] (y ∷ now) gain observed = absurd gain
 observed-later (x ∷ before) [] gain observed = absurd gain
 observed-later (x ∷ before) (y ∷ now) gain observed =
     All-cons IsObserved y now (gain.0.observed ∙ All-head IsObserved x before observed) (observed-later before now gain.1 (All-tail IsObserved x before observed))
 
-observed-slice : (n : ℕ) (s : State) (states : List State) (end : SliceEnd) (t : State) → Slice n s states end t → All IsObserved s.terms → All IsObserved t.terms
+pub observed-slice : (n : ℕ) (s : State) (states : List State) (end : SliceEnd) (t : State) → Slice n s states end t → All IsObserved s.terms → All IsObserved t.terms
 observed-slice n s states end t slice = observed-later s.terms t.terms (slice-gains n s t states end slice).terminals
 
-observed-emptied : (terms : List TerminalState) → All IsObserved terms → All IsObserved (terminals_emptied terms)
+pub observed-emptied : (terms : List TerminalState) → All IsObserved terms → All IsObserved (terminals_emptied terms)
 observed-emptied terms = observed-later terms (terminals_emptied terms) (gain-emptied terms)
 
 -- ---- a kernel and its devices
@@ -50,7 +50,7 @@ pub terms-standing : (kernel : Kernel) (devices : Outside) (s : State) → Repre
 terms-standing kernel devices s tied = sym (ap (λ (s : State). s.terms) tied.is)
 
 -- where the bytes are taken from the terminals, the kernel stands for the state without them
-represents-taken : (kernel : Kernel) (mid now : Outside) (t : State) → now.drives ≡ mid.drives → now.terms ≡ terminals_emptied mid.terms → Represents kernel mid t → Represents kernel now (record t { terms = terminals_emptied t.terms })
+pub represents-taken : (kernel : Kernel) (mid now : Outside) (t : State) → now.drives ≡ mid.drives → now.terms ≡ terminals_emptied mid.terms → Represents kernel mid t → Represents kernel now (record t { terms = terminals_emptied t.terms })
 represents-taken kernel mid now t drives terms tied =
     let taken : Outside = record mid { terms = terminals_emptied mid.terms } in
     let is : taken ≡ now = λ i. record { drives = sym drives i; terms = sym terms i } in
@@ -73,7 +73,7 @@ some-living s some = ap not (ne_eqb (living_count s.inner) 0 some)
 -- ---- runs in pieces
 
 -- a run where nobody lives is over at once
-run-idle : (slices : List ℕ) (m : State) → has_living m ≡ false → Run slices m [] [] m
+pub run-idle : (slices : List ℕ) (m : State) → has_living m ≡ false → Run slices m [] [] m
 run-idle [] m idle = (refl, refl, refl)
 run-idle (n ∷ ns) m idle = rw idle (refl, refl, refl)
 
@@ -83,12 +83,12 @@ run-over [] s states written t idle run = run
 run-over (n ∷ ns) s states written t idle run = rw idle at run
 
 -- one slice is a run
-run-slice : (n : ℕ) (m t : State) (states : List State) (end : SliceEnd) → has_living m ≡ true → Slice n m states end t → Run (n ∷ []) m states (console_bytes t.terms) (record t { terms = terminals_emptied t.terms })
+pub run-slice : (n : ℕ) (m t : State) (states : List State) (end : SliceEnd) → has_living m ≡ true → Slice n m states end t → Run (n ∷ []) m states (console_bytes t.terms) (record t { terms = terminals_emptied t.terms })
 run-slice n m t states end lives slice =
     rw lives (end, t, states, [], [], slice, sym (append-nil states), sym (append-nil (console_bytes t.terms)), (refl, refl, refl))
 
 -- a run over the first slices, and one over the rest from where it came to, are a run
-run-append : (first rest : List ℕ) (s m t : State) (states others : List State) (written more : List ℕ) → Run first s states written m → Run rest m others more t → Run (first ++ rest) s (states ++ others) (written ++ more) t
+pub run-append : (first rest : List ℕ) (s m t : State) (states others : List State) (written more : List ℕ) → Run first s states written m → Run rest m others more t → Run (first ++ rest) s (states ++ others) (written ++ more) t
 run-append [] rest s m t states others written more (none, nothing, same) next = rw (none, nothing) (rw same at next)
 run-append (n ∷ first) rest s m t states others written more run next =
     by_living (has_living s) refl (λ mid later out after. run-append first rest mid m t later others out more after next) run
@@ -160,7 +160,7 @@ begins-later slices count n s m states begun written here lives run at it = reco
 }
 
 -- the images that none of its events asks to change are as they were, and so are those of the run
-images-later : (slices : List ℕ) (count n : ℕ) (s m : State) (states begun : List State) (written : List ℕ) (start before mid : List DriveView) → slice_get slices count ≡ Some n
+pub images-later : (slices : List ℕ) (count n : ℕ) (s m : State) (states begun : List State) (written : List ℕ) (start before mid : List DriveView) → slice_get slices count ≡ Some n
     → has_living m ≡ true → Run (take count slices) s states written m → KeepsImages (ComesInto slices s) states start before → KeepsImages (BeginsSlice n m) begun before mid
     → KeepsImages (ComesInto slices s) (states ++ begun) start mid
 images-later slices count n s m states begun written start before mid here lives run so_far kept drive none =

@@ -2,7 +2,9 @@
 //! and the slices are run, with what they write passed to the output stream.
 #![tactic(auto)]
 
-pub use machine::{RunEnd, run_machine};
+pub use console::pass_on;
+pub use machine::{RunEnd, end_of_start, run_end, run_machine};
+pub use run::RunFault;
 
 mod console;
 mod machine;

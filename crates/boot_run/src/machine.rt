@@ -74,7 +74,7 @@ pub fn run_machine<H: Host>(
 }
 
 /// How a run ends whose machine did not start.
-fn end_of_start(error: StartError) -> RunEnd
+pub fn end_of_start(error: StartError) -> RunEnd
     ensures { result ≡ start_end error }
 {
     match error {
@@ -85,7 +85,7 @@ fn end_of_start(error: StartError) -> RunEnd
 }
 
 /// How a run ended after which so many processes live, with so many slices begun.
-fn run_end(living: u8, begun: u32) -> RunEnd
+pub fn run_end(living: u8, begun: u32) -> RunEnd
     ensures idle { living ≡ 0 → result ≡ RunEnd.Ended begun }
     ensures lives { living ≢ 0 → result ≡ RunEnd.Living begun }
 {
