@@ -104,7 +104,11 @@ pub fn read_boot_files<H: Host>(
 }
 
 /// Reads the images that the words name, in order.
-fn read_images<H: Host>(alloc: Global, run: &RunWords, host: &mut H) -> Result<Images, End>
+///
+/// # Errors
+///
+/// The end of the command, which names the image that could not be read.
+pub fn read_images<H: Host>(alloc: Global, run: &RunWords, host: &mut H) -> Result<Images, End>
     requires { length run.now.files ≤ most_images }
     ensures contents { IfOk result (λ images. IfSome (H.file_map host.old) (λ files.
         images ≡ images_of files run.now.files)) }
