@@ -119,8 +119,8 @@ Judges setup (Refused fault) = Refuses setup.file setup.blocks fault
 Judges setup (DriveFailed drive number) = (fault : BootFault) → ¬ Refuses setup.file setup.blocks fault
 Judges setup end = ⊤
 
--- A drive that held one of so many images failed when that was mounted, and no other one; the media, the terminals and
--- the output are as they were.
+-- A drive that held one of so many images failed, and no other one; the media, the terminals and the output are as they
+-- were, so nothing of a run can be seen.
 pub record FailsToMount (images drive number : ℕ) (before after : World) : Type 0 where
   pub among : drive < images
   pub failed : OneFailed drive number (drive_states before.devices.drives) (drive_states after.devices.drives)

@@ -29,9 +29,9 @@ pub record ComesInto (slices : List ℕ) (s : State) (states : List State) (t : 
   pub begins : BeginsSlice n reached first t
   pub all : states ≡ passed ++ first
 
--- A slice was run from this state that wrote something, and the output did not take all of it: what was out before is
--- followed by the beginning of that. The bytes of so many terminals were taken, all else of the devices is as the slice
--- left it, and the drives hold the volumes of the state then.
+-- A slice was run from this state that wrote something, and the write of it failed or found no memory: what was out
+-- before is followed by the first bytes of that, all, some or none. The bytes of so many terminals were taken, all else
+-- of the devices is as the slice left it, and the drives hold the volumes of the state then.
 pub record BreaksOutput (n : ℕ) (s : State) (out : Option (List ℕ)) (after : World) : Type 0 where
   pub states : List State
   pub end : SliceEnd
@@ -53,7 +53,7 @@ pub record RunsPartly (slices : List ℕ) (s : State) (before after : World) : T
   pub n : ℕ  -- the instructions of the next slice
   pub next : slice_get slices count ≡ Some n
   pub lives : has_living reached ≡ true
-  -- memory was out within it, and the host did not fail; or the output did not take all that it wrote
+  -- memory was out within it, and the host did not fail; or the write of what it wrote failed
   pub stopped : (StopsSlice n reached after.devices × (after.out ≡ stream_with before.out written)
       × HasNoFault before after)
       ⊎ BreaksOutput n reached (stream_with before.out written) after

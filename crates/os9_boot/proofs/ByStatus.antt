@@ -1,5 +1,7 @@
 -- Which files a boot has written, by its status.
-use Rattle.std.proofs.Common.{◌≡◌, ◌≢◌, ℕ, Option, Some, List, [], ◌++◌, refl, subst, ap, inl, inr, ◌∙◌, append-nil, arith}
+use Rattle.std.proofs.Common.{◌≡◌, ◌≢◌, ℕ, suc, Option, Some, List, [], ◌++◌, refl, sym, subst, ap, inl, inr, ◌∙◌, append-nil, arith}
+use Rattle.std.specs.Prelude.{drop}
+use Rattle.std.proofs.lemmas.List.{take-append-drop}
 use Rattle.std.specs.Prelude.{MatchOption}
 use Rattle.os9_words.specs.Command.{command_of}
 use Rattle.os9_words.specs.Notes.{Notes}
@@ -10,6 +12,7 @@ use Rattle.boot_run.specs.World.{World}
 use Rattle.command_files.specs.declared.status.End.{End}
 use Rattle.command_files.specs.declared.status.End.TheVariants.{Ended, Living, CannotWrite, CannotWriteImage, NoMemory}
 use Rattle.command_files.specs.End.{status_number}
+use Rattle.command_files.specs.FileNames.{IsFront}
 use Rattle.os9_boot.specs.FileNames.{BootWrites}
 use Rattle.os9_boot.specs.Headline.{IsOfWholeRun, WritesByStatus}
 use Rattle.os9_boot.specs.TopCall.{CommandReport, TopCall, WordsReport}
@@ -29,6 +32,15 @@ none-of names written (CannotWriteImage number) writes unended sure enough = abs
 none-of names written NoMemory writes unended sure enough = absurd (enough refl)
 none-of names written end writes unended sure enough = writes
 
+-- and at any status it has written the first of the images
+front-of : (names written : List (List ℕ)) (end : End) → BootWrites names end written → IsFront written names
+front-of names written Ended writes = (([]), sym (ap (λ written. written ++ []) writes ∙ append-nil names))
+front-of names written Living writes = (([]), sym (ap (λ written. written ++ []) writes ∙ append-nil names))
+front-of names written (CannotWriteImage number) writes =
+    (drop (suc number) names, sym (ap (λ written. written ++ drop (suc number) names) writes ∙ take-append-drop (suc number) names))
+front-of names written NoMemory writes = writes
+front-of names written end writes = (names, sym (ap (λ written. written ++ names) writes))
+
 of-report : (boot : RunWords) (before after : World) (noted notes : Notes) (status : ℕ) → CommandReport (BootCommand boot) before after noted notes status → WritesByStatus boot.files status noted notes
 of-report boot before after noted notes status report =
     let written = report.files.written in
@@ -37,6 +49,7 @@ of-report boot before after noted notes status report =
       whole = λ whole.
           let whole : IsOfWholeRun (status_number report.end) = subst (λ status. IsOfWholeRun status) report.status_is whole in
           is ∙ ap (λ names. noted.written ++ names) (all-of boot.files written report.end report.files.writes whole);
+      first = (written, front-of boot.files written report.end report.files.writes, is);
       none = λ unended sure enough.
           let unended : ¬ IsOfWholeRun (status_number report.end) = subst (λ status. ¬ IsOfWholeRun status) report.status_is unended in
           let sure : status_number report.end ≢ status_number CannotWrite = subst (λ status. status ≢ status_number CannotWrite) report.status_is sure in

@@ -15,6 +15,7 @@ use Rattle.boot_images.specs.Images.{WritesAll}
 use Rattle.boot_images.specs.Outcome.{AreImagesOf, KeepsUnchanged}
 use Rattle.command_files.specs.declared.status.End.TheVariants.{Ended, Living, CannotWrite, NoMemory, DriveFailed}
 use Rattle.command_files.specs.End.{status_number}
+use Rattle.command_files.specs.FileNames.{IsFront}
 use Rattle.command_files.specs.Setup.{SetsUpBoot}
 use Rattle.os9_boot.specs.Boots.{BootComesTo}
 
@@ -51,8 +52,8 @@ pub record EndsWithoutMemory (files : Files) (boot : RunWords) (before after : W
   pub told : status ≡ status_number NoMemory
   pub left : BootComesTo files boot before after NoMemory
 
--- a drive that held one of so many images failed when that was mounted, and no other; nothing was run, no file was
--- written, and the status tells it
+-- a drive that held one of so many images failed, and no other; nothing of a run can be seen, no file was written, and
+-- the status says it
 pub record EndsAtMount (images : ℕ) (before after : World) (status : ℕ) : Type 0 where
   pub drive : ℕ
   pub number : ℕ
@@ -60,7 +61,7 @@ pub record EndsAtMount (images : ℕ) (before after : World) (status : ℕ) : Ty
   pub files : after.files ≡ before.files
   pub told : status ≡ status_number (DriveFailed drive number)
 
--- or memory was out, or a drive failed at its mount
+-- or memory was out, or a drive with an image failed and nothing of a run can be seen
 abbrev pub BootIsOneRun : Files → RunWords → World → World → ℕ → Type 0
 BootIsOneRun files boot before after status =
     IsOneRun files boot before after status
@@ -71,8 +72,9 @@ abbrev pub IsOfWholeRun : ℕ → Type 0
 IsOfWholeRun status = (status ≡ status_number Ended) ⊎ (status ≡ status_number Living)
 
 -- A boot of images of these names has written each once and in their order if its machine ran to the end. Else it has
--- written no file, unless a write failed or memory was out.
+-- written the first of them, all, some or none, each once, and no file unless a write failed or memory was out.
 pub record WritesByStatus (names : List (List ℕ)) (status : ℕ) (noted notes : Notes) : Type 0 where
   pub whole : IsOfWholeRun status → notes.written ≡ noted.written ++ names
   pub none : ¬ IsOfWholeRun status → status ≢ status_number CannotWrite → status ≢ status_number NoMemory
       → notes.written ≡ noted.written
+  pub first : (written : List (List ℕ)) × IsFront written names × (notes.written ≡ noted.written ++ written)

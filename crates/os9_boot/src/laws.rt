@@ -30,7 +30,7 @@ pub fn calls_without_faults_tell_none()
 
 /// The headline: a boot of a host whose files are observed, over terminals whose bytes are, of which the
 /// texts, the images and the boot file are accepted, and in which the host did not fail, is one run of
-/// the machine; or memory was out, or a drive failed when its image was mounted.
+/// the machine; or memory was out, or a drive with an image failed and nothing of a run can be seen.
 pub fn a_boot_is_one_run()
     ensures { (words : List (List ℕ)) (boot : RunWords) (files : Files) (before after : World)
         (noted notes : Notes) (status : ℕ)
@@ -42,7 +42,8 @@ pub fn a_boot_is_one_run()
 {}
 
 /// Which files a boot writes, on any host, files and terminals observed or not: with status 0 or 5 each
-/// image once, in the order of the words, and no other file; with any other but 3 and 4 none.
+/// image once, in the order of the words, and no other file; with 3 and 4 the first of the images, each
+/// once; with any other none.
 pub fn a_boot_writes_its_images_once()
     ensures { (words : List (List ℕ)) (boot : RunWords) (before after : World)
         (noted notes : Notes) (status : ℕ)
