@@ -4,9 +4,9 @@ use Rattle.os9_words.specs.declared.command.RunWords.{RunWords}
 use Rattle.event_rules.specs.declared.ends.BootFault.{BootFault}
 use Rattle.event_rules.specs.declared.ends.BootFault.TheVariants.{OutOfMemory, BadModule as BadModuleFault, NoFirst as NoFirstFault, TooLarge as TooLargeFault}
 use Rattle.command_files.specs.declared.status.Input.{Input}
-use Rattle.command_files.specs.declared.status.Input.TheVariants.{Script, Slices, Modules, Image, File, Source}
+use Rattle.command_files.specs.declared.status.Input.TheVariants.{Script, Slices, Modules, Image, File, Source, Commands}
 use Rattle.command_files.specs.declared.status.End.{End}
-use Rattle.command_files.specs.declared.status.End.TheVariants.{Ended, Living, CannotRead, CannotWrite, CannotWriteImage, NoMemory, BadImage, BadText, BadBounds, BadModule, NoFirst, TooLarge, DriveFailed, CannotWriteFile, Refused, BadSource}
+use Rattle.command_files.specs.declared.status.End.TheVariants.{Ended, Living, CannotRead, CannotWrite, CannotWriteImage, NoMemory, BadImage, BadText, BadBounds, BadModule, NoFirst, TooLarge, DriveFailed, CannotWriteFile, Refused, BadSource, TerminalFailed}
 
 -- the status that the end gives
 abbrev pub status_number : End → ℕ
@@ -26,6 +26,7 @@ status_number TooLarge = 8
 status_number (DriveFailed _ _) = 9
 status_number (Refused _) = 11
 status_number (BadSource _ _) = 10
+status_number (TerminalFailed _) = 12
 
 -- how a refused boot file ends a command
 abbrev pub boot_end : BootFault → End
@@ -53,3 +54,4 @@ run_file_name run Modules = slice_get run.files 0
 run_file_name run (Image number) = slice_get run.files number
 run_file_name run File = None
 run_file_name run Source = None
+run_file_name run Commands = None

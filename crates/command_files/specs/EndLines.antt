@@ -1,10 +1,10 @@
 -- The line that says why a command ended.
 use Rattle.std.specs.Prelude.{ℕ, Option, Some, None, List, []}
 use Rattle.os9_words.specs.declared.message.Message.{Message}
-use Rattle.os9_words.specs.Lines.{message_line, cannot_read_line, cannot_write_output_line, cannot_write_file_line, drive_failed_line, no_memory_line, image_fault_line, text_fault_line, boot_bounds_line, boot_module_line, boot_too_large_line, no_first_line, refused_line, source_fault_line}
+use Rattle.os9_words.specs.Lines.{message_line, cannot_read_line, cannot_write_output_line, cannot_write_file_line, drive_failed_line, no_memory_line, image_fault_line, text_fault_line, boot_bounds_line, boot_module_line, boot_too_large_line, no_first_line, refused_line, source_fault_line, terminal_failed_line}
 use Rattle.asm6809.specs.Faults.{error_number}
 use Rattle.command_files.specs.declared.status.End.{End}
-use Rattle.command_files.specs.declared.status.End.TheVariants.{Ended, Living, CannotRead, CannotWrite, CannotWriteImage, NoMemory, BadImage, BadText, BadBounds, BadModule, NoFirst, TooLarge, DriveFailed, CannotWriteFile, Refused, BadSource}
+use Rattle.command_files.specs.declared.status.End.TheVariants.{Ended, Living, CannotRead, CannotWrite, CannotWriteImage, NoMemory, BadImage, BadText, BadBounds, BadModule, NoFirst, TooLarge, DriveFailed, CannotWriteFile, Refused, BadSource, TerminalFailed}
 
 -- the line that says why a command ended, with this name of the file of which it speaks; no bytes if none does
 abbrev pub end_line : List ℕ → End → List ℕ
@@ -22,6 +22,7 @@ end_line name (DriveFailed drive number) = drive_failed_line drive number
 end_line name CannotWriteFile = cannot_write_file_line name
 end_line name (Refused number) = refused_line name number
 end_line name (BadSource line error) = source_fault_line name line (error_number error)
+end_line name (TerminalFailed terminal) = terminal_failed_line terminal
 end_line name Ended = []
 end_line name Living = []
 

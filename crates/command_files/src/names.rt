@@ -15,7 +15,7 @@ pub fn name_in(run: &RunWords, input: Input) -> &str
         Input::Slices => run.slices.text(),
         Input::Modules => name_at(run, 0),
         Input::Image(number) => name_at(run, number),
-        Input::File | Input::Source => "",
+        Input::File | Input::Source | Input::Commands => "",
     }
 }
 

@@ -42,6 +42,7 @@ fn message_of<'a>(end: End, name: &'a str) -> Option<Message<'a>>
         End::DriveFailed(drive, number) => Some(Message::DriveFailed(drive, number)),
         End::Refused(number) => Some(Message::Refused(name, number)),
         End::BadSource(line, error) => Some(Message::BadSource(name, line, error_number(error))),
+        End::TerminalFailed(terminal) => Some(Message::TerminalFailed(terminal)),
         End::Ended | End::Living => None,
     }
 }

@@ -20,6 +20,8 @@ pub enum Input {
     File,
     /// SOURCE of `asm`.
     Source,
+    /// COMMANDS of `debug`.
+    Commands,
 }
 
 /// How a command ended.
@@ -56,6 +58,8 @@ pub enum End {
     DriveFailed(u8, u8),
     /// The tool of `vol` is refused: the number of the error.
     Refused(u8),
+    /// A terminal failed when its keys were taken, for `debug` to go back: its number, 0 for TERM.
+    TerminalFailed(u8),
     /// The source of `asm` is refused: the first line, from 1, that breaks a rule, and the least rule that
     /// it breaks. Line 0: all lines are right, and make no module.
     BadSource(u64, AsmError),
@@ -78,6 +82,7 @@ impl End {
             End::DriveFailed(..) => 9,
             End::BadSource(..) => 10,
             End::Refused(_) => 11,
+            End::TerminalFailed(_) => 12,
         }
     }
 

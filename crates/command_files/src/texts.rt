@@ -1,7 +1,7 @@
 //! The texts that drive a run are read.
 
 ghost use Rattle.std.specs.Prelude.{◌≡◌, ◌<◌, Ok, IfErr, IfOk, length};
-ghost use Rattle.script_text.specs.Script.{keys_of};
+ghost use Rattle.script_text.specs.Script.{keys_of, AreKeys};
 ghost use Rattle.script_text.specs.Slices.{slices_of};
 ghost use Rattle.command_files.specs.Reading.{RefusesTexts};
 
@@ -30,6 +30,7 @@ pub struct Texts {
 pub fn read_texts(alloc: Global, script: &[u8], slices: &[u8], terminals: u8) -> Result<Texts, End>
     ensures keys { IfOk result (λ texts.
         keys_of terminals script.now ≡ Ok texts.keys.items) }
+    ensures limits { IfOk result (λ texts. AreKeys terminals texts.keys.items) }
     ensures slices { IfOk result (λ texts.
         slices_of slices.now ≡ Ok texts.slices.items) }
     ensures few { IfOk result (λ texts. length texts.slices.items < LAST_TICK) }

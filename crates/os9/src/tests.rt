@@ -2,6 +2,7 @@
 
 mod boots;
 mod runs;
+mod sessions;
 mod sources;
 mod tools;
 

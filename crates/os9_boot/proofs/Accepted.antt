@@ -21,7 +21,7 @@ use Rattle.boot_run.specs.Console.{IsObserved}
 use Rattle.boot_run.specs.Machine.{Setup}
 use Rattle.boot_run.specs.World.{World}
 use Rattle.command_files.specs.declared.status.End.{End}
-use Rattle.command_files.specs.declared.status.End.TheVariants.{Ended, Living, CannotRead, CannotWrite, CannotWriteImage, NoMemory, BadImage, BadText, BadBounds, BadModule, NoFirst, TooLarge, DriveFailed, CannotWriteFile, Refused, BadSource}
+use Rattle.command_files.specs.declared.status.End.TheVariants.{Ended, Living, CannotRead, CannotWrite, CannotWriteImage, NoMemory, BadImage, BadText, BadBounds, BadModule, NoFirst, TooLarge, DriveFailed, CannotWriteFile, Refused, BadSource, TerminalFailed}
 use Rattle.command_files.specs.declared.status.Input.TheVariants.{Script}
 use Rattle.os9_boot.specs.Boots.{BootComesTo, RunsToEnd}
 use Rattle.command_files.specs.End.{status_number}
@@ -101,6 +101,7 @@ module _ (files : Files) (boot : RunWords) (before after : World) (accepted : Is
     by-end CannotWriteFile call comes is = absurd call.may
     by-end (Refused number) call comes is = absurd call.may
     by-end (BadSource line error) call comes is = absurd call.may
+    by-end (TerminalFailed n) call comes is = absurd call.may
     by-end BadBounds call comes is =
         absurd (comes.1.1.2 (subst HasBootFile (sym (first-image comes.1.1.0 comes.1.1.1)) accepted.sets.file.has))
     by-end (BadModule at error) call comes is = absurd (not-refused comes.0 comes.1 comes.2.0 comes.2.1)

@@ -14,7 +14,7 @@ use Rattle.boot_run.specs.World.{World}
 use Rattle.boot_run.specs.declared.machine.RunEnd.{RunEnd}
 use Rattle.command_files.specs.declared.files.BootFiles.{BootFiles}
 use Rattle.command_files.specs.declared.status.End.{End}
-use Rattle.command_files.specs.declared.status.End.TheVariants.{CannotRead, CannotWrite, CannotWriteImage, NoMemory, BadImage, BadText, BadBounds, CannotWriteFile, Refused, BadSource}
+use Rattle.command_files.specs.declared.status.End.TheVariants.{CannotRead, CannotWrite, CannotWriteImage, NoMemory, BadImage, BadText, BadBounds, CannotWriteFile, Refused, BadSource, TerminalFailed}
 use Rattle.command_files.specs.declared.status.Input.TheVariants.{Script as ScriptInput, Slices as SlicesInput}
 use Rattle.os9_boot.specs.Boots.{BootComesTo}
 use Rattle.os9_boot.specs.Commands.{CommandCall}
@@ -51,6 +51,7 @@ boot-may (BadText input line) of = absurd of
 boot-may CannotWriteFile of = absurd of
 boot-may (Refused number) of = absurd of
 boot-may (BadSource line error) of = absurd of
+boot-may (TerminalFailed n) of = absurd of
 boot-may end of = tt
 
 -- ---- the files of the words were read

@@ -5,7 +5,7 @@ use Rattle.os9_outer.specs.Host.{Files, file_contents}
 use Rattle.os9_outer.specs.declared.host.Host.{Ghosts}
 use Rattle.os9_outer.specs.declared.host.HostFault.{HostFault}
 use Rattle.os9_words.specs.declared.command.Command.{Command}
-use Rattle.os9_words.specs.declared.command.Command.TheVariants.{Run as RunCommand, Boot as BootCommand, Check as CheckCommand, Stress as StressCommand, Vol as VolCommand, Asm as AsmCommand}
+use Rattle.os9_words.specs.declared.command.Command.TheVariants.{Run as RunCommand, Boot as BootCommand, Check as CheckCommand, Stress as StressCommand, Vol as VolCommand, Asm as AsmCommand, Debug as DebugCommand}
 use Rattle.os9_words.specs.Command.{command_of}
 use Rattle.os9_words.specs.Lines.{no_memory_line, words_line}
 use Rattle.os9_words.specs.Notes.{Notes, notes_of}
@@ -18,14 +18,17 @@ use Rattle.stress_run.specs.Stress.{LeavesStress, StressCall}
 use Rattle.stress_run.specs.declared.stress.StressEnd.{StressEnd}
 use Rattle.stress_run.specs.declared.stress.StressEnd.TheVariants as Stress
 use Rattle.command_files.specs.declared.status.End.{End}
-use Rattle.command_files.specs.declared.status.End.TheVariants.{Ended, Living, CannotRead, CannotWriteImage, NoMemory, BadImage, DriveFailed, Refused}
+use Rattle.command_files.specs.declared.status.End.TheVariants.{Ended, Living, CannotRead, CannotWriteImage, NoMemory}
 use Rattle.command_files.specs.declared.status.Input.{Input}
 use Rattle.command_files.specs.Stops.{StopsAtRead}
 use Rattle.os9_words.specs.declared.asm_words.AsmWords.{AsmWords}
+use Rattle.os9_words.specs.declared.debug_words.DebugWords.{DebugWords}
 use Rattle.os9_words.specs.declared.vol_words.VolWords.{VolWords}
 use Rattle.asm_command.specs.Asm.{AsmComesTo}
 use Rattle.asm_command.specs.Call.{AsmCall}
 use Rattle.asm_command.proofs.CallLemmas.{files-same as asm-files-same}
+use Rattle.os9_debug.specs.Call.{DebugCall}
+use Rattle.os9_debug.specs.Debug.{DebugComesTo}
 use Rattle.vol_command.specs.Call.{VolCall}
 use Rattle.vol_command.specs.Vol.{VolComesTo}
 use Rattle.vol_command.proofs.CallLemmas.{devices-quiet, files-same}
@@ -96,33 +99,41 @@ leaves-same (CheckCommand image) before after end same = same
 leaves-same (StressCommand seed) before after end same = same
 leaves-same (VolCommand vol) before after end same = files-same vol before after end same
 leaves-same (AsmCommand asm) before after end same = asm-files-same asm before after end same
+leaves-same (DebugCommand debug) before after end same = same
 
 -- ---- devices
 
--- what is left of the output and the devices, which are as they were
-leaves-as : (command : Command) (before after : World) (end : End) → LeavesDevices (meaning command).drives before after end → IsSilent before after → (meaning command).devices before after end
-leaves-as (RunCommand run) before after end left same = left
-leaves-as (BootCommand boot) before after end left same = left
-leaves-as (CheckCommand image) before after end left same = record { out = left; devices = same.devices }
-leaves-as (StressCommand seed) before after end left same = left
-leaves-as (VolCommand vol) before after (DriveFailed drive number) left same = left
-leaves-as (VolCommand vol) before after (Refused number) left same = record { out = left.out; quiet = devices-quiet before after same.devices }
-leaves-as (VolCommand vol) before after (CannotRead input) left same = left
-leaves-as (VolCommand vol) before after (BadImage number fault) left same = left
-leaves-as (VolCommand vol) before after end left same = record {
+-- what is left of the output and the devices, which are as they were: if a file could not be read
+unread-leaves : (command : Command) (input : Input) (before after : World) → IsSilent before after → (meaning command).devices before after (CannotRead input)
+unread-leaves (RunCommand run) input before after same = same
+unread-leaves (BootCommand boot) input before after same = same
+unread-leaves (CheckCommand image) input before after same = record { out = same; devices = same.devices }
+unread-leaves (StressCommand seed) input before after same = same
+unread-leaves (VolCommand vol) input before after same = same
+unread-leaves (AsmCommand asm) input before after same = same
+unread-leaves (DebugCommand debug) input before after same = same
+
+-- and if memory was out
+wanting-leaves : (command : Command) (before after : World) → IsSilent before after → (meaning command).devices before after NoMemory
+wanting-leaves (RunCommand run) before after same = tt
+wanting-leaves (BootCommand boot) before after same = tt
+wanting-leaves (CheckCommand image) before after same = record { out = tt; devices = same.devices }
+wanting-leaves (StressCommand seed) before after same = tt
+wanting-leaves (VolCommand vol) before after same = record {
   quiet = devices-quiet before after same.devices;
   out = λ none. same.out;
 }
-leaves-as (AsmCommand asm) before after end left same = same
+wanting-leaves (AsmCommand asm) before after same = same
+wanting-leaves (DebugCommand debug) before after same = tt
 
 -- ---- commands that end before anything ran
 
 -- nothing was changed
-pub unchanged : (command : Command) (before after : World) (end : End) → after ≡ before → (meaning command).may end → LeavesDevices (meaning command).drives before after end → FailsAsTold command end before after → (meaning command).comes before after end → CommandCall command before after end
+pub unchanged : (command : Command) (before after : World) (end : End) → after ≡ before → (meaning command).may end → (meaning command).devices before after end → FailsAsTold command end before after → (meaning command).comes before after end → CommandCall command before after end
 unchanged command before after end same may left told comes = record {
   comes = comes;
   may = may;
-  devices = leaves-as command before after end left (still-silent before after same);
+  devices = left;
   host = told;
   files = leaves-same command before after end (ap (λ (w : World). w.files) same);
 }
@@ -140,6 +151,8 @@ nothing-comes (VolCommand vol) before after same =
     of-any before.files (λ files. VolComesTo files vol before after NoMemory) (λ files. inl (record { output = ap (λ (w : World). w.out) same; files = ap (λ (w : World). w.files) same }))
 nothing-comes (AsmCommand asm) before after same =
     of-any before.files (λ files. AsmComesTo files asm before after NoMemory) (λ files. inl (ap (λ (w : World). w.files) same))
+nothing-comes (DebugCommand debug) before after same =
+    of-any before.files (λ files. DebugComesTo files debug before after NoMemory) (λ files. inl (ap (λ (w : World). w.out) same))
 
 nothing-may : (command : Command) → (meaning command).may NoMemory
 nothing-may (RunCommand run) = tt
@@ -148,11 +161,12 @@ nothing-may (CheckCommand image) = tt
 nothing-may (StressCommand seed) = tt
 nothing-may (VolCommand vol) = tt
 nothing-may (AsmCommand asm) = tt
+nothing-may (DebugCommand debug) = tt
 
 -- memory was out
 pub out-of-memory : (command : Command) (before after : World) → after ≡ before → CommandCall command before after NoMemory
 out-of-memory command before after same =
-    unchanged command before after NoMemory same (nothing-may command) tt (kept-counts before after same) (nothing-comes command before after same)
+    unchanged command before after NoMemory same (nothing-may command) (wanting-leaves command before after (still-silent before after same)) (kept-counts before after same) (nothing-comes command before after same)
 
 unread-comes : (command : Command) (input : Input) (name : List ℕ) (before after : World) → (meaning command).file_name input ≡ Some name → (meaning command).comes before after (CannotRead input)
 unread-comes (RunCommand run) input name before after named =
@@ -166,13 +180,15 @@ unread-comes (VolCommand vol) input name before after named =
     of-any before.files (λ files. VolComesTo files vol before after (CannotRead input)) (λ files. tt)
 unread-comes (AsmCommand asm) input name before after named =
     of-any before.files (λ files. AsmComesTo files asm before after (CannotRead input)) (λ files. tt)
+unread-comes (DebugCommand debug) input name before after named =
+    of-any before.files (λ files. DebugComesTo files debug before after (CannotRead input)) (λ files. tt)
 
 -- a file could not be read
 pub could-not-read : (command : Command) (input : Input) (name : List ℕ) (before after : World) → (meaning command).file_name input ≡ Some name → (meaning command).may (CannotRead input) → FailsToReadFile name before after → after.files ≡ before.files → after.out ≡ before.out → after.devices ≡ before.devices → CommandCall command before after (CannotRead input)
 could-not-read command input name before after named may failed files out devices = record {
   comes = unread-comes command input name before after named;
   may = may;
-  devices = leaves-as command before after (CannotRead input) (record { out = out; devices = devices }) (record { out = out; devices = devices });
+  devices = unread-leaves command input before after (record { out = out; devices = devices });
   host = (name, named, failed);
   files = leaves-same command before after (CannotRead input) files;
 }
@@ -199,6 +215,17 @@ vol-called vol before after end call = record {
 
 pub asm-called : (asm : AsmWords) (before after : World) (end : End) → AsmCall asm before after end → CommandCall (AsmCommand asm) before after end
 asm-called asm before after end call = record {
+  comes = call.comes;
+  may = call.may;
+  devices = call.devices;
+  host = call.host;
+  files = call.files;
+}
+
+-- ---- sessions
+
+pub debug-called : (debug : DebugWords) (before after : World) (end : End) → DebugCall debug before after end → CommandCall (DebugCommand debug) before after end
+debug-called debug before after end call = record {
   comes = call.comes;
   may = call.may;
   devices = call.devices;

@@ -2,11 +2,13 @@
 use Rattle.std.proofs.Common.{◌≡◌, ◌≢◌, ℕ, Option, Some, None, List, ◌⊎◌, inl, inr, arith}
 use Rattle.std.specs.Prelude.{MatchOption}
 use Rattle.os9_words.specs.declared.command.Command.{Command}
-use Rattle.os9_words.specs.declared.command.Command.TheVariants.{Run, Boot, Check, Stress, Vol, Asm}
+use Rattle.os9_words.specs.declared.command.Command.TheVariants.{Run, Boot, Check, Stress, Vol, Asm, Debug}
 use Rattle.os9_words.specs.Command.{command_of}
 use Rattle.os9_words.specs.Notes.{Notes}
 use Rattle.os9_words.specs.Lines.{no_memory_line, words_line}
-use Rattle.boot_run.specs.Machine.{FailsToMount}
+use Rattle.os9_base.specs.Count.{Rose}
+use Rattle.file_drives.specs.Drives.{drive_states}
+use Rattle.file_rules.specs.Files.{drive_at}
 use Rattle.boot_run.specs.World.{World}
 use Rattle.command_files.specs.declared.status.End.{End}
 use Rattle.command_files.specs.declared.status.End.TheVariants.{CannotRead, CannotWrite, CannotWriteImage, CannotWriteFile, DriveFailed, NoMemory}
@@ -17,13 +19,14 @@ use Rattle.os9_boot.specs.Meaning.{meaning}
 use Rattle.os9_boot.specs.TopCall.{CommandReport, Reports, TopCall, WordsReport, words_status}
 
 -- a drive failed
-drive-failed : (command : Command) (before after : World) (drive number : ℕ) → (meaning command).may (DriveFailed drive number) → (meaning command).devices before after (DriveFailed drive number) → FailsToMount (meaning command).drives drive number before after
-drive-failed (Run run) before after drive number may left = left
-drive-failed (Boot boot) before after drive number may left = left
-drive-failed (Check image) before after drive number may left = left.out
-drive-failed (Stress seed) before after drive number may left = left
-drive-failed (Vol vol) before after drive number may left = left
-drive-failed (Asm asm) before after drive number may left = absurd may
+drive-rose : (command : Command) (before after : World) (drive number : ℕ) → (meaning command).may (DriveFailed drive number) → (meaning command).devices before after (DriveFailed drive number) → Rose (drive_at (drive_states before.devices.drives) drive).faults (drive_at (drive_states after.devices.drives) drive).faults
+drive-rose (Run run) before after drive number may left = absurd may
+drive-rose (Boot boot) before after drive number may left = left.failed.rose
+drive-rose (Check image) before after drive number may left = left.out.failed.rose
+drive-rose (Stress seed) before after drive number may left = left.failed.rose
+drive-rose (Vol vol) before after drive number may left = left.failed.rose
+drive-rose (Asm asm) before after drive number may left = absurd may
+drive-rose (Debug debug) before after drive number may left = absurd may
 
 -- the end of a command
 pub tells-no-fault : (command : Command) (before after : World) (end : End) → CommandCall command before after end → NoneRose before after → TellsNoFault end
@@ -31,7 +34,7 @@ tells-no-fault command before after (CannotRead input) call none = none.host cal
 tells-no-fault command before after CannotWrite call none = none.host call.host.0
 tells-no-fault command before after (CannotWriteImage number) call none = none.host call.host.2.0
 tells-no-fault command before after CannotWriteFile call none = none.host call.host.2.0
-tells-no-fault command before after (DriveFailed drive number) call none = none.drives drive (drive-failed command before after drive number call.may call.devices).failed.rose
+tells-no-fault command before after (DriveFailed drive number) call none = none.drives drive (drive-rose command before after drive number call.may call.devices)
 tells-no-fault command before after end call none = tt
 
 -- a status that is not of these is of no end that tells a fault

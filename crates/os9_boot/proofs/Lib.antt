@@ -9,3 +9,4 @@ pub mod Completeness
 pub mod Accepted
 pub mod NameLemmas
 pub mod ByStatus
+pub mod DebugLaws

@@ -18,7 +18,7 @@ use Rattle.boot_run.specs.World.{World, FailsToWrite, HasNoFault}
 use Rattle.boot_run.specs.declared.machine.RunEnd.{RunEnd}
 use Rattle.boot_run.specs.declared.machine.RunEnd.TheVariants as Run
 use Rattle.command_files.specs.declared.status.End.{End}
-use Rattle.command_files.specs.declared.status.End.TheVariants.{Ended, Living, CannotRead, CannotWrite, CannotWriteImage, NoMemory, BadImage, BadText, BadBounds, DriveFailed, CannotWriteFile, Refused, BadSource}
+use Rattle.command_files.specs.declared.status.End.TheVariants.{Ended, Living, CannotRead, CannotWrite, CannotWriteImage, NoMemory, BadImage, BadText, BadBounds, DriveFailed, CannotWriteFile, Refused, BadSource, TerminalFailed}
 use Rattle.os9_boot.specs.Boots.{IsUndone, MachineComesTo, RunsToEnd, RunsUnended, RunsUnwritten}
 use Rattle.command_files.specs.Left.{ChangesOnly}
 use Rattle.os9_boot.specs.Left.{BootLeavesFiles, LeavesDevices}
@@ -44,6 +44,7 @@ IsOfMachine BadBounds = ⊥
 IsOfMachine CannotWriteFile = ⊥
 IsOfMachine (Refused number) = ⊥
 IsOfMachine (BadSource line error) = ⊥
+IsOfMachine (TerminalFailed n) = ⊥
 IsOfMachine end = Unit {0}
 
 -- what comes of it; if memory is out nothing may have been run

@@ -2,7 +2,7 @@
 use Rattle.std.proofs.Common.{◌≡◌, ◌⊎◌, ℕ, suc, List, [], take, drop, refl, sym, ap, subst, ◌∙◌, inl, inr, append-nil, take-append-drop}
 use Rattle.os9_words.specs.Notes.{HasRead, HasWritten, Notes, having_read, having_written}
 use Rattle.os9_words.specs.declared.command.Command.{Command}
-use Rattle.os9_words.specs.declared.command.Command.TheVariants.{Run as RunCommand, Boot as BootCommand, Check as CheckCommand, Stress as StressCommand, Vol as VolCommand, Asm as AsmCommand}
+use Rattle.os9_words.specs.declared.command.Command.TheVariants.{Run as RunCommand, Boot as BootCommand, Check as CheckCommand, Stress as StressCommand, Vol as VolCommand, Asm as AsmCommand, Debug as DebugCommand}
 use Rattle.os9_outer.specs.Host.{IfObserved}
 use Rattle.boot_images.specs.Images.{WritesAll}
 use Rattle.boot_run.specs.World.{World, HasNoFault}
@@ -38,6 +38,7 @@ no-file-written (CheckCommand image) input = refl
 no-file-written (StressCommand seed) input = refl
 no-file-written (VolCommand vol) input = refl
 no-file-written (AsmCommand asm) input = refl
+no-file-written (DebugCommand debug) input = refl
 
 no-file-written-then : (command : Command) → (meaning command).writes NoMemory []
 no-file-written-then (RunCommand run) = refl
@@ -46,6 +47,7 @@ no-file-written-then (CheckCommand image) = refl
 no-file-written-then (StressCommand seed) = refl
 no-file-written-then (VolCommand vol) = (vol_outputs vol, refl)
 no-file-written-then (AsmCommand asm) = (asm_outputs asm, refl)
+no-file-written-then (DebugCommand debug) = refl
 
 -- no file was written behind what was read
 noted-so : (read : List (List ℕ)) (first next : Notes) → HasRead read first next → next ≡ having_written [] (having_read read first)

@@ -8,7 +8,7 @@ use Rattle.os9_outer.specs.declared.drive.BlockDriver.{Ghosts}
 use Rattle.file_drives.specs.Drives.{DriveView, boxed_drive_view, drive_views}
 use Rattle.key_loading.specs.Loaded.{AreUnloaded}
 use Rattle.os9_words.specs.declared.command.Command.{Command}
-use Rattle.os9_words.specs.declared.command.Command.TheVariants.{Run, Boot, Check, Stress, Vol, Asm}
+use Rattle.os9_words.specs.declared.command.Command.TheVariants.{Run, Boot, Check, Stress, Vol, Asm, Debug}
 use Rattle.os9_words.specs.Command.{command_of, most_images}
 use Rattle.os9_words.proofs.CommandLemmas.{is-complete}
 use Rattle.boot_images.specs.Drives.{HaveRoom, IsEmpty}
@@ -28,6 +28,7 @@ few-drives words = by (command_of words) refl
     by (Some (Stress seed)) is = rw is (omega arith)
     by (Some (Vol vol)) is = rw is (omega arith)
     by (Some (Asm asm)) is = rw is (omega arith)
+    by (Some (Debug debug)) is = rw is (omega arith)
 
 -- as many drives as a command can name images are enough
 pub has-drives : (words : List (List ℕ)) (drives : List DriveView) → HaveRoom most_images drives → HaveRoom (drives_for words) drives

@@ -13,7 +13,7 @@ use Rattle.boot_run.specs.World.{World}
 use Rattle.boot_run.specs.declared.machine.RunEnd.{RunEnd}
 use Rattle.command_files.specs.declared.files.RunFiles.{RunFiles}
 use Rattle.command_files.specs.declared.status.End.{End}
-use Rattle.command_files.specs.declared.status.End.TheVariants.{CannotRead, CannotWrite, CannotWriteImage, NoMemory, BadImage, BadText, BadBounds, DriveFailed, CannotWriteFile, Refused, BadSource}
+use Rattle.command_files.specs.declared.status.End.TheVariants.{CannotRead, CannotWrite, CannotWriteImage, NoMemory, BadImage, BadText, BadBounds, DriveFailed, CannotWriteFile, Refused, BadSource, TerminalFailed}
 use Rattle.command_files.specs.declared.status.Input.TheVariants.{Script as ScriptInput, Slices as SlicesInput}
 use Rattle.os9_boot.specs.Boots.{RunComesTo}
 use Rattle.os9_boot.specs.Commands.{CommandCall}
@@ -44,6 +44,7 @@ run-may before after (DriveFailed drive number) of failed left = absurd (omega (
 run-may before after CannotWriteFile of failed left = absurd of
 run-may before after (Refused number) of failed left = absurd of
 run-may before after (BadSource line error) of failed left = absurd of
+run-may before after (TerminalFailed n) of failed left = absurd of
 run-may before after end of failed left = tt
 
 run-fails : (run : RunWords) (before after : World) (end : End) → RunFails [] end before after → FailsAsTold (RunCommand run) end before after

@@ -5,7 +5,7 @@ use Rattle.boot_run.specs.Machine.{FailsToMount}
 use Rattle.boot_run.specs.World.{World}
 use Rattle.command_files.specs.Left.{ChangesOnly, IsSilent}
 use Rattle.command_files.specs.declared.status.End.{End}
-use Rattle.command_files.specs.declared.status.End.TheVariants.{Ended, Living, CannotRead, CannotWrite, CannotWriteImage, NoMemory, BadImage, BadText, BadBounds, DriveFailed, CannotWriteFile, Refused, BadSource}
+use Rattle.command_files.specs.declared.status.End.TheVariants.{Ended, Living, CannotRead, CannotWrite, CannotWriteImage, NoMemory, BadImage, BadText, BadBounds, DriveFailed, CannotWriteFile, Refused, BadSource, TerminalFailed}
 use Rattle.command_files.specs.declared.status.Input.{Input}
 use Rattle.command_files.specs.declared.status.Input.TheVariants.{Script, Slices}
 
@@ -17,7 +17,7 @@ IsText Script = ⊤
 IsText Slices = ⊤
 IsText input = ⊥
 
--- the ends that a run may have: it has no image to check, to mount or to write
+-- the ends that a run may have: it has no image to check, to mount or to write, and does not go back
 abbrev pub RunMayEnd : End → Type 0
 RunMayEnd (BadText input line) = IsText input
 RunMayEnd (BadImage number fault) = ⊥
@@ -27,6 +27,7 @@ RunMayEnd (DriveFailed drive number) = ⊥
 RunMayEnd CannotWriteFile = ⊥
 RunMayEnd (Refused number) = ⊥
 RunMayEnd (BadSource line error) = ⊥
+RunMayEnd (TerminalFailed n) = ⊥
 RunMayEnd end = ⊤
 
 -- those of a boot: it makes no file, uses no tool, and reads no source
@@ -35,6 +36,7 @@ BootMayEnd (BadText input line) = IsText input
 BootMayEnd CannotWriteFile = ⊥
 BootMayEnd (Refused number) = ⊥
 BootMayEnd (BadSource line error) = ⊥
+BootMayEnd (TerminalFailed n) = ⊥
 BootMayEnd end = ⊤
 
 -- those of a check: it has one image, and runs nothing

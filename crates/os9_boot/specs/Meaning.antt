@@ -2,9 +2,10 @@
 use Rattle.std.specs.Prelude.{◌≡◌, ℕ, IfSome, Option, Some, None, List, [], ◌∷◌, All, length}
 use Rattle.os9_outer.specs.Host.{file_contents}
 use Rattle.os9_words.specs.declared.command.Command.{Command}
-use Rattle.os9_words.specs.declared.command.Command.TheVariants.{Run as RunCommand, Boot as BootCommand, Check as CheckCommand, Stress as StressCommand, Vol as VolCommand, Asm as AsmCommand}
+use Rattle.os9_words.specs.declared.command.Command.TheVariants.{Run as RunCommand, Boot as BootCommand, Check as CheckCommand, Stress as StressCommand, Vol as VolCommand, Asm as AsmCommand, Debug as DebugCommand}
 use Rattle.os9_words.specs.declared.asm_words.AsmWords.{AsmWords}
 use Rattle.os9_words.specs.declared.command.RunWords.{RunWords}
+use Rattle.os9_words.specs.declared.debug_words.DebugWords.{DebugWords}
 use Rattle.os9_words.specs.declared.vol_words.VolWords.{VolWords}
 use Rattle.boot_run.specs.Console.{IsObserved}
 use Rattle.boot_run.specs.World.{World}
@@ -17,6 +18,8 @@ use Rattle.asm_command.specs.Left.{AsmLeaves, AsmLeavesFiles, AsmMayEnd, AsmWrit
 use Rattle.vol_command.specs.Left.{VolLeaves, VolLeavesFiles, VolMayEnd, VolWrites}
 use Rattle.vol_command.specs.Vol.{VolComesTo, vol_file_name, vol_inputs}
 use Rattle.os9_boot.specs.Boots.{BootComesTo, RunComesTo}
+use Rattle.os9_debug.specs.Debug.{DebugComesTo, debug_file_name, debug_inputs}
+use Rattle.os9_debug.specs.Left.{DebugLeaves, DebugLeavesFiles, DebugMayEnd, DebugWrites}
 use Rattle.os9_boot.specs.Check.{CheckComesTo}
 use Rattle.command_files.specs.End.{run_file_name}
 use Rattle.os9_boot.specs.End.{stress_end}
@@ -116,6 +119,19 @@ asm_meaning asm = record {
   drives = 0;
 }
 
+-- `debug`
+abbrev pub debug_meaning : DebugWords → Meaning
+debug_meaning debug = record {
+  comes = λ before after end. IfSome before.files (λ files. DebugComesTo files debug before after end);
+  may = DebugMayEnd;
+  devices = DebugLeaves;
+  files = DebugLeavesFiles;
+  file_name = debug_file_name debug;
+  inputs = debug_inputs debug;
+  writes = DebugWrites;
+  drives = 0;
+}
+
 -- an arm for each command
 abbrev pub meaning : Command → Meaning
 meaning (RunCommand run) = run_meaning run
@@ -124,3 +140,4 @@ meaning (CheckCommand image) = check_meaning image
 meaning (StressCommand seed) = stress_meaning seed
 meaning (VolCommand vol) = vol_meaning vol
 meaning (AsmCommand asm) = asm_meaning asm
+meaning (DebugCommand debug) = debug_meaning debug

@@ -6,11 +6,16 @@ ghost use Rattle.os9_outer.specs.Host.{Files};
 ghost use Rattle.os9_words.specs.Command.{command_of};
 ghost use Rattle.os9_words.specs.Notes.{Notes};
 ghost use Rattle.os9_words.specs.declared.command.Command.{Command};
-ghost use Rattle.os9_words.specs.declared.command.Command.TheVariants.{Boot};
+ghost use Rattle.os9_words.specs.declared.command.Command.TheVariants.{Boot, Debug};
 ghost use Rattle.os9_words.specs.declared.command.RunWords.{RunWords};
+ghost use Rattle.os9_words.specs.declared.debug_words.DebugWords.{DebugWords};
 ghost use Rattle.boot_run.specs.Console.{IsObserved};
 ghost use Rattle.boot_run.specs.World.{World};
+ghost use Rattle.command_files.specs.End.{status_number};
 ghost use Rattle.command_files.specs.declared.status.End.{End};
+ghost use Rattle.command_files.specs.declared.status.End.TheVariants.{Ended, TerminalFailed};
+ghost use Rattle.debug_session.specs.Counts.{TerminalRose};
+ghost use Rattle.os9_debug.specs.OneCourse.{IsFaultless, ShowsOneCourse};
 ghost use Rattle.os9_boot.specs.Commands.{CommandCall};
 ghost use Rattle.os9_boot.specs.Completeness.{IsNoFault, NoneRose, TellsNoFault};
 ghost use Rattle.os9_boot.specs.Headline.{BootIsOneRun, IsAccepted, WritesByStatus};
@@ -18,7 +23,7 @@ ghost use Rattle.os9_boot.specs.TopCall.{TopCall};
 
 /// A call in which no count of faults rose, neither the host's nor a drive's, ends as the words, the
 /// files and the run decide, or for want of memory: with 0 or 5, and all was done; with 1, and the
-/// words are no command; with 6, 7, 8, 10 or 11 and their cause; or with 4.
+/// words are no command; with 6, 7, 8, 10 or 11 and their cause; with 12, if a terminal failed; or with 4.
 pub fn calls_without_faults_tell_none()
     ensures end { (command : Command) (before after : World) (end : End)
         → CommandCall command before after end → NoneRose before after → TellsNoFault end }
@@ -50,4 +55,27 @@ pub fn a_boot_writes_its_images_once()
         → command_of words ≡ Some (Boot boot)
         → TopCall words before after noted notes status
         → WritesByStatus boot.files status noted notes }
+{}
+
+/// A `debug` with status 0, over observed files, in which no count of faults rose and before which no
+/// bytes were on a terminal, has shown the one run of its machine: command by command the state at the
+/// position to which the commands before have led, forwards or back.
+pub fn a_debug_shows_one_run()
+    ensures { (words : List (List ℕ)) (debug : DebugWords) (files : Files) (before after : World)
+        (noted notes : Notes) (status : ℕ)
+        → command_of words ≡ Some (Debug debug)
+        → TopCall words before after noted notes status → status ≡ status_number Ended
+        → IsFaultless files debug before after → ShowsOneCourse files debug before after }
+{}
+
+/// A call tells a terminal that failed only if that terminal's count of faults rose, and its status is
+/// that of such an end only if one did.
+pub fn a_terminal_is_told_only_if_it_failed()
+    ensures end { (command : Command) (before after : World) (n : ℕ)
+        → CommandCall command before after (TerminalFailed n)
+        → TerminalRose n before.devices after.devices }
+    ensures status { (words : List (List ℕ)) (before after : World)
+        (noted notes : Notes) (status n : ℕ)
+        → TopCall words before after noted notes status → status ≡ status_number (TerminalFailed n)
+        → (number : ℕ) × TerminalRose number before.devices after.devices }
 {}

@@ -9,6 +9,7 @@ use asm_command::asm_name;
 use command_files::names::name_in;
 use command_files::report;
 use command_files::status::{End, Input};
+use os9_debug::debug_name;
 use os9_outer::host::{Host, HostFault};
 use os9_words::command::Command;
 use stress_run::StressEnd;
@@ -59,5 +60,6 @@ fn name_of(command: &Command, input: Input) -> &str
         Command::Stress(_) => "",
         Command::Vol(vol) => vol_name(vol, input),
         Command::Asm(asm) => asm_name(asm, input),
+        Command::Debug(debug) => debug_name(debug, input),
     }
 }

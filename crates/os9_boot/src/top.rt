@@ -18,6 +18,7 @@ use crate::status::{end_of_stress, report_end};
 use asm_command::do_asm;
 use command_files::status::End;
 use device_table::devices::Devices;
+use os9_debug::do_debug;
 use os9_outer::drive::BlockDriver;
 use os9_outer::host::Host;
 use os9_outer::terminal::CharDriver;
@@ -41,16 +42,18 @@ const NO_COMMAND: u8 = 1;
 /// disk and passes the counts of its volume to the output stream. `stress N` boots a disk that it makes
 /// of the seed N, and passes the counts of its end to the output stream. `vol VERB IMAGE ..` makes the
 /// image of a disk, looks into it, changes it or repairs it, by the tools of `vol_tools`. `asm SOURCE OUT`
-/// assembles a source to the module in a file.
+/// assembles a source to the module in a file. `debug`, with the words of a run and a file of commands,
+/// stands at any event of that run, and passes what the commands show to the output stream.
 ///
 /// There are one to four terminals, and none has keys; at most four drives, none with an image, and at
 /// least as many as images are booted, and one for `vol`.
 ///
 /// Statuses: 0 the command is done, and no process lives; 5 the slices are used up and a process
 /// lives; 1 the words are no command line; 2 a file could not be read; 3 the output stream or a file
-/// could not be written; 4 out of memory; 6 an image is not well formed; 7 the script or the slice
-/// text is refused; 8 the file of modules, or the boot file, is refused; 9 a drive failed when its
-/// image was mounted or used by a tool; 10 a source is refused; 11 a tool is refused.
+/// could not be written; 4 out of memory; 6 an image is not well formed; 7 the script, the slice text
+/// or the commands of `debug` are refused; 8 the file of modules, or the boot file, is refused; 9 a
+/// drive failed when its image was mounted or used by a tool; 10 a source is refused; 11 a tool is
+/// refused; 12 a terminal failed when its keys were taken, for `debug` to go back.
 ///
 /// A run begins with the devices as they are when the call is made, each terminal loaded with its
 /// keys, and ends with them as they are when it returns: a terminal or a drive fails in it only if
@@ -127,5 +130,6 @@ fn perform<H: Host>(alloc: Global, command: &Command, host: &mut H, devices: &mu
         Command::Stress(seed) => end_of_stress(run_stress(alloc, *seed, host, devices)),
         Command::Vol(vol) => do_vol(alloc, vol, host, devices),
         Command::Asm(asm) => do_asm(alloc, asm, host),
+        Command::Debug(debug) => do_debug(alloc, debug, host, devices),
     }
 }

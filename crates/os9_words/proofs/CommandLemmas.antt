@@ -11,8 +11,12 @@ use Rattle.time_text.proofs.Places.{is-read}
 use Rattle.word_options.specs.Given.{Given, only_argument, value_of, words_give}
 use Rattle.os9_words.specs.declared.asm_words.AsmWords.{AsmWords}
 use Rattle.os9_words.specs.declared.command.Command.{Command}
-use Rattle.os9_words.specs.declared.command.Command.TheVariants.{Asm, Boot, Check, Stress, Vol}
-use Rattle.os9_words.specs.Command.{blocks_of, boot_of, boot_with, check_of, check_options, command_of, most_images, most_seed, run_of, run_options, run_with, seed_of, stress_of, stress_options, IsCommand}
+use Rattle.os9_words.specs.declared.command.Command.TheVariants.{Asm, Boot, Check, Debug, Run, Stress, Vol}
+use Rattle.os9_words.specs.declared.command.RunWords.{RunWords}
+use Rattle.os9_words.specs.declared.debug_words.DebugWords.{DebugWords}
+use Rattle.os9_words.specs.Command.{boot_of, boot_with, check_of, check_options, command_of, most_images, most_seed, run_of, seed_of, stress_of, stress_options, IsCommand, IsRun}
+use Rattle.os9_words.specs.Debug.{debug_of, debug_options, debug_with}
+use Rattle.os9_words.specs.Run.{blocks_of, run_options, run_words_of, run_words_with}
 use Rattle.os9_words.specs.Asm.{asm_of, asm_options}
 use Rattle.os9_words.specs.Times.{default_start, time_of}
 use Rattle.os9_words.specs.Vol.{vol_of, vol_options}
@@ -57,13 +61,13 @@ IsBounded blocks = (n : ℕ) → blocks ≡ Some n → (8 ≤ n) × (n ≤ 256)
 abbrev pub IsTime : Option TimePacket → Type 0
 IsTime start = (t : TimePacket) → start ≡ Some t → is_time_packet t ≡ true
 
-run-complete : (modules script slices : Option (List ℕ)) (blocks : Option ℕ) (start : Option TimePacket) (command : Command) → IsBounded blocks → IsTime start → run_with modules script slices blocks start ≡ Some command → IsCommand command
-run-complete None script slices blocks start command bounded civil is = absurd (cc is)
-run-complete (Some modules) script None blocks start command bounded civil is = absurd (cc is)
-run-complete (Some modules) script (Some slices) None start command bounded civil is = absurd (cc is)
-run-complete (Some modules) script (Some slices) (Some n) None command bounded civil is = absurd (cc is)
-run-complete (Some modules) script (Some slices) (Some n) (Some t) command bounded civil is =
-    subst IsCommand (some-is _ command is) (record {
+run-complete : (modules script slices : Option (List ℕ)) (blocks : Option ℕ) (start : Option TimePacket) (run : RunWords) → IsBounded blocks → IsTime start → run_words_with modules script slices blocks start ≡ Some run → IsRun run
+run-complete None script slices blocks start run bounded civil is = absurd (cc is)
+run-complete (Some modules) script None blocks start run bounded civil is = absurd (cc is)
+run-complete (Some modules) script (Some slices) None start run bounded civil is = absurd (cc is)
+run-complete (Some modules) script (Some slices) (Some n) None run bounded civil is = absurd (cc is)
+run-complete (Some modules) script (Some slices) (Some n) (Some t) run bounded civil is =
+    subst IsRun (some-is _ run is) (record {
       files = refl;
       machine = record { blocks = bounded n refl; time = civil t refl };
     })
@@ -111,9 +115,16 @@ given-complete (Some words) reads command complete is = complete words is
 
 -- ---- commands by their words
 
+run-words-complete : (given : Given) (run : RunWords) → run_words_of given ≡ Some run → IsRun run
+run-words-complete given run is =
+    run-complete (only_argument given) (value_of given (codes "script")) (value_of given (codes "slices")) (blocks_of given) (time_of given) run (blocks-are given) (time-is given) is
+
 runs-complete : (given : Given) (command : Command) → run_of given ≡ Some command → IsCommand command
-runs-complete given command is =
-    run-complete (only_argument given) (value_of given (codes "script")) (value_of given (codes "slices")) (blocks_of given) (time_of given) command (blocks-are given) (time-is given) is
+runs-complete given command is = by (run_words_of given) refl is
+  where
+    by : (words : Option RunWords) → run_words_of given ≡ words → option_map Run words ≡ Some command → IsCommand command
+    by None same is = absurd (cc is)
+    by (Some run) same is = subst IsCommand (some-is (Run run) command is) (run-words-complete given run same)
 
 boots-complete : (given : Given) (command : Command) → boot_of given ≡ Some command → IsCommand command
 boots-complete given command is =
@@ -134,23 +145,39 @@ asm-complete : (asm : Option AsmWords) (command : Command) → option_map Asm as
 asm-complete None command is = absurd (cc is)
 asm-complete (Some words) command is = subst IsCommand (some-is (Asm words) command is) tt
 
+debug-complete : (given : Option Given) (debug : DebugWords) → option_and_then debug_of given ≡ Some debug → IsRun debug.run
+debug-complete None debug is = absurd (cc is)
+debug-complete (Some words) debug is = by (run_words_of words) (value_of words (codes "commands")) refl is
+  where
+    by : (run : Option RunWords) (commands : Option (List ℕ)) → run_words_of words ≡ run → debug_with run commands ≡ Some debug → IsRun debug.run
+    by None commands same is = absurd (cc is)
+    by (Some run) None same is = absurd (cc is)
+    by (Some run) (Some commands) same is =
+        subst (λ (debug : DebugWords). IsRun debug.run) (some-is _ debug is) (run-words-complete words run same)
+
+debugs-complete : (debug : Option DebugWords) (command : Command) → ((words : DebugWords) → debug ≡ Some words → IsCommand (Debug words)) → option_map Debug debug ≡ Some command → IsCommand command
+debugs-complete None command complete is = absurd (cc is)
+debugs-complete (Some words) command complete is = subst IsCommand (some-is (Debug words) command is) (complete words refl)
+
 -- what words spell has what a command has
 pub is-complete : (words : List (List ℕ)) (command : Command) → command_of words ≡ Some command → IsCommand command
 is-complete [] command is = absurd (cc is)
 is-complete (first ∷ words) command is =
-    by (bytes_eq first (codes "run")) (bytes_eq first (codes "boot")) (bytes_eq first (codes "check")) (bytes_eq first (codes "stress")) (bytes_eq first (codes "vol")) (bytes_eq first (codes "asm")) is
+    by (bytes_eq first (codes "run")) (bytes_eq first (codes "boot")) (bytes_eq first (codes "check")) (bytes_eq first (codes "stress")) (bytes_eq first (codes "vol")) (bytes_eq first (codes "asm")) (bytes_eq first (codes "debug")) is
   where
-    by : (run boot check stress vol asm : Bool) → (if run then option_and_then run_of (words_give run_options words) else (if boot then option_and_then boot_of (words_give run_options words) else (if check then option_and_then check_of (words_give check_options words) else (if stress then option_and_then stress_of (words_give stress_options words) else (if vol then option_map Vol (option_and_then vol_of (words_give vol_options words)) else (if asm then option_map Asm (option_and_then asm_of (words_give asm_options words)) else None)))))) ≡ Some command → IsCommand command
-    by true boot check stress vol asm is =
+    by : (run boot check stress vol asm debug : Bool) → (if run then option_and_then run_of (words_give run_options words) else (if boot then option_and_then boot_of (words_give run_options words) else (if check then option_and_then check_of (words_give check_options words) else (if stress then option_and_then stress_of (words_give stress_options words) else (if vol then option_map Vol (option_and_then vol_of (words_give vol_options words)) else (if asm then option_map Asm (option_and_then asm_of (words_give asm_options words)) else (if debug then option_map Debug (option_and_then debug_of (words_give debug_options words)) else None))))))) ≡ Some command → IsCommand command
+    by true boot check stress vol asm debug is =
         given-complete (words_give run_options words) run_of command (λ given e. runs-complete given command e) is
-    by false true check stress vol asm is =
+    by false true check stress vol asm debug is =
         given-complete (words_give run_options words) boot_of command (λ given e. boots-complete given command e) is
-    by false false true stress vol asm is =
+    by false false true stress vol asm debug is =
         given-complete (words_give check_options words) check_of command (λ given e. checks-complete given command e) is
-    by false false false true vol asm is =
+    by false false false true vol asm debug is =
         given-complete (words_give stress_options words) stress_of command (λ given e. stresses-complete given command e) is
-    by false false false false true asm is =
+    by false false false false true asm debug is =
         vols-complete (option_and_then vol_of (words_give vol_options words)) command (λ vol e. vol-complete time-is (words_give vol_options words) vol e) is
-    by false false false false false true is =
+    by false false false false false true debug is =
         asm-complete (option_and_then asm_of (words_give asm_options words)) command is
-    by false false false false false false is = absurd (cc is)
+    by false false false false false false true is =
+        debugs-complete (option_and_then debug_of (words_give debug_options words)) command (λ debug e. debug-complete (words_give debug_options words) debug e) is
+    by false false false false false false false is = absurd (cc is)

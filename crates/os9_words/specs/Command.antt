@@ -6,42 +6,31 @@ use Rattle.civil_time.specs.CivilTime.{is_time_packet}
 use Rattle.number_text.specs.Number.{number_of, within}
 use Rattle.word_options.specs.Given.{Given, only_argument, value_of, words_give}
 use Rattle.os9_words.specs.Asm.{asm_of, asm_options}
+use Rattle.os9_words.specs.Debug.{debug_of, debug_options}
+use Rattle.os9_words.specs.Run.{blocks_of, run_options, run_words_of, run_words_with}
 use Rattle.os9_words.specs.Times.{time_of}
 use Rattle.os9_words.specs.Vol.{vol_of, vol_options, IsVol}
 use Rattle.os9_words.specs.declared.command.Command.{Command}
-use Rattle.os9_words.specs.declared.command.Command.TheVariants.{Run, Boot, Check, Stress, Vol, Asm}
+use Rattle.os9_words.specs.declared.command.Command.TheVariants.{Run, Boot, Check, Stress, Vol, Asm, Debug}
 use Rattle.os9_words.specs.declared.command.RunWords.{RunWords}
 use Rattle.os9_words.specs.declared.command.WordsFault.{WordsFault}
 use Rattle.os9_words.specs.declared.command.WordsFault.TheVariants.{Refused, OutOfMemory}
 
--- the options of `run` and of `boot`, those of `check`, and those of `stress`
-abbrev pub run_options : List (List ℕ)
-run_options = codes "slices" ∷ codes "script" ∷ codes "blocks" ∷ codes "time" ∷ []
-
+-- the options of `check`, and those of `stress`
 abbrev pub check_options : List (List ℕ)
 check_options = []
 
 abbrev pub stress_options : List (List ℕ)
 stress_options = []
 
--- the number of blocks: 64 without `--blocks`, and N, from 8 to 256, by `--blocks N`
-abbrev pub blocks_of : Given → Option ℕ
-blocks_of words =
-    option_map_or (λ number. within 8 256 (number_of number)) (value_of words (codes "blocks")) (Some 64)
-
--- `run` of this file of modules, with this script or without one, over these slices and blocks, from this time on,
--- where files of modules and slices, a number of blocks and a time are given
+-- `run` with these words
 abbrev pub run_with : (modules script slices : Option (List ℕ)) (blocks : Option ℕ) (start : Option TimePacket)
     → Option Command
-run_with (Some modules) script (Some slices) (Some blocks) (Some start) =
-    Some (Run (record { files = modules ∷ []; script = script; slices = slices; blocks = blocks; start = start }))
-run_with _ _ _ _ _ = None
+run_with modules script slices blocks start = option_map Run (run_words_with modules script slices blocks start)
 
 -- `run MODULES --slices SLICES`, with `--script SCRIPT`, `--blocks N` and `--time T` or not
 abbrev pub run_of : Given → Option Command
-run_of words =
-    run_with (only_argument words) (value_of words (codes "script")) (value_of words (codes "slices")) (blocks_of words)
-    (time_of words)
+run_of words = option_map Run (run_words_of words)
 
 -- a boot takes one to four images
 abbrev pub most_images : ℕ
@@ -101,7 +90,9 @@ command_of (command ∷ words) =
     then option_map Vol (option_and_then vol_of (words_give vol_options words))
     else (if bytes_eq command (codes "asm")
     then option_map Asm (option_and_then asm_of (words_give asm_options words))
-    else None)))))
+    else (if bytes_eq command (codes "debug")
+    then option_map Debug (option_and_then debug_of (words_give debug_options words))
+    else None))))))
 
 -- a boot names one to four images and a script
 pub record HasImages (run : RunWords) : Type 0 where
@@ -132,6 +123,7 @@ IsCommand (Check image) = ⊤
 IsCommand (Stress seed) = seed < 2147483648
 IsCommand (Vol vol) = IsVol vol
 IsCommand (Asm asm) = ⊤
+IsCommand (Debug debug) = IsRun debug.run
 
 -- the fact holds where the words are refused
 abbrev pub OnRefused : {T : Type 0} → Result T WordsFault → Type 0 → Type 0

@@ -1,7 +1,9 @@
 pub mod Asm
 pub mod Command
+pub mod Debug
 pub mod Lines
 pub mod Notes
+pub mod Run
 pub mod Streams
 pub mod Times
 pub mod Vol

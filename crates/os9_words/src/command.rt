@@ -1,16 +1,19 @@
 ghost use Rattle.std.specs.Prelude.{◌≡◌, ◌≢◌, ◌<◌, ◌≤◌, ◌&&◌, nat_le, true, None, Some, IfOk, IfSome, [], ◌∷◌, length, map, option_and_then, option_map, string_bytes, take};
 ghost use Rattle.std.specs.List.{All};
 ghost use Rattle.civil_time.specs.CivilTime.{is_time_packet};
-ghost use Rattle.os9_words.specs.Command.{command_of, check_options, most_images, run_options, stress_options, IsCommand, OnRefused};
-ghost use Rattle.os9_words.specs.Command.{blocks_of as blocks_of_lem, boot_of as boot_of_lem, check_of as check_of_lem, run_of as run_of_lem};
+ghost use Rattle.os9_words.specs.Command.{command_of, check_options, most_images, stress_options, IsCommand, IsRun, OnRefused};
+ghost use Rattle.os9_words.specs.Command.{boot_of as boot_of_lem, check_of as check_of_lem, run_of as run_of_lem};
 ghost use Rattle.os9_words.specs.Command.{seed_of as seed_of_lem, stress_of as stress_of_lem};
 ghost use Rattle.os9_words.specs.Times.{time_of as time_of_lem};
 ghost use Rattle.os9_words.specs.Asm.{asm_of as asm_of_lem, asm_options};
+ghost use Rattle.os9_words.specs.Debug.{debug_of as debug_of_lem, debug_options};
+ghost use Rattle.os9_words.specs.Run.{blocks_of as blocks_of_lem, run_options, run_words_of};
 ghost use Rattle.os9_words.specs.Vol.{vol_of as vol_of_lem, vol_options};
-ghost use Rattle.os9_words.specs.declared.command.Command.TheVariants.{Asm, Vol};
+ghost use Rattle.os9_words.specs.declared.command.Command.TheVariants.{Asm, Debug, Vol};
 ghost use Rattle.word_options.specs.Given.{words_give};
 
 use crate::asm_words::{AsmWords, read_asm};
+use crate::debug_words::{DebugWords, read_debug};
 use crate::vol_words::{VolWords, read_vol};
 use crate::word::{Word, Words};
 use number_text::read_number;
@@ -52,6 +55,9 @@ pub enum Command {
     Vol(VolWords),
     /// `asm SOURCE OUT`: assembles the source in a file to the module in a file.
     Asm(AsmWords),
+    /// `debug MODULES --slices SLICES --commands COMMANDS`, with `--script SCRIPT`, `--blocks N` and
+    /// `--time T` or not: stands at any event of such a run, and shows its machine there.
+    Debug(DebugWords),
 }
 
 /// Why words were not read.
@@ -111,6 +117,7 @@ pub fn read_words(alloc: Global, words: &[String]) -> Result<Command, WordsFault
         "stress" => read_stress(alloc, words),
         "vol" => read_tool(alloc, words),
         "asm" => read_source(alloc, words),
+        "debug" => read_session(alloc, words),
         _ => Err(WordsFault::Refused),
     }
 }
@@ -192,6 +199,20 @@ fn read_source(alloc: Global, words: &[String]) -> Result<Command, WordsFault>
     }
 }
 
+// Reads the words behind `debug`.
+fn read_session(alloc: Global, words: &[String]) -> Result<Command, WordsFault>
+    ensures command { IfOk result (λ read. option_map Debug (option_and_then debug_of_lem
+        (words_give debug_options (map string_bytes words.now))) ≡ Some read) }
+    ensures complete { IfOk result IsCommand }
+    ensures refused { OnRefused result (option_map Debug (option_and_then debug_of_lem
+        (words_give debug_options (map string_bytes words.now))) ≡ None) }
+{
+    match read_debug(alloc, words) {
+        Ok(debug) => Ok(Command::Debug(debug)),
+        Err(fault) => Err(fault),
+    }
+}
+
 // Reads the words behind a command, whose options have these names.
 pub(crate) fn read_options<'a>(
     alloc: Global,
@@ -217,6 +238,18 @@ fn run_of(alloc: Global, given: &GivenWords<'_>) -> Result<Command, WordsFault>
     ensures complete { IfOk result IsCommand }
     ensures refused { OnRefused result (run_of_lem given.now ≡ None) }
 {
+    match run_given(alloc, given) {
+        Ok(run) => Ok(Command::Run(run)),
+        Err(fault) => Err(fault),
+    }
+}
+
+// The words of a run.
+pub(crate) fn run_given(alloc: Global, given: &GivenWords<'_>) -> Result<RunWords, WordsFault>
+    ensures words { IfOk result (λ run. run_words_of given.now ≡ Some run) }
+    ensures complete { IfOk result IsRun }
+    ensures refused { OnRefused result (run_words_of given.now ≡ None) }
+{
     let modules = given.only_argument();
     let slices = given.value("slices");
     let blocks = blocks_of(given);
@@ -226,7 +259,7 @@ fn run_of(alloc: Global, given: &GivenWords<'_>) -> Result<Command, WordsFault>
         return Err(WordsFault::Refused);
     };
     match run_words(alloc, modules, given.value("script"), slices, blocks, start) {
-        Ok(run) => Ok(Command::Run(run)),
+        Ok(run) => Ok(run),
         Err(_) => Err(WordsFault::OutOfMemory),
     }
 }

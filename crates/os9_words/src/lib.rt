@@ -5,6 +5,7 @@
 pub mod asm_words;
 pub mod command;
 pub mod counts;
+pub mod debug_words;
 pub mod message;
 mod pieces;
 pub mod stress_counts;

@@ -1,9 +1,11 @@
 //! Words with what they spell, as laws that the check computes from the definitions.
 
-ghost use Rattle.std.specs.Prelude.{◌≡◌, [], ◌∷◌, Some, None, codes};
+ghost use Rattle.std.specs.Prelude.{◌≡◌, [], ◌∷◌, Some, None, codes, option_map};
 ghost use Rattle.civil_time.specs.Rows.{at};
 ghost use Rattle.os9_words.specs.Command.{boot_with, command_of, run_with};
-ghost use Rattle.os9_words.specs.declared.command.Command.TheVariants.{Asm, Stress};
+ghost use Rattle.os9_words.specs.Debug.{debug_with};
+ghost use Rattle.os9_words.specs.Run.{run_words_with};
+ghost use Rattle.os9_words.specs.declared.command.Command.TheVariants.{Asm, Debug, Stress};
 
 /// Command lines in both forms of an option, and in any order.
 pub fn runs_are_read()
@@ -89,6 +91,28 @@ pub fn assemblies_are_read()
         ≡ None }
     ensures with_an_option { command_of (codes "asm" ∷ codes "s" ∷ codes "m"
         ∷ codes "--time=1990-01-01T00:00:00" ∷ []) ≡ None }
+{}
+
+/// Command lines of a debugger: those of a run, and a file of commands.
+pub fn sessions_are_read()
+    ensures no_script { command_of (codes "debug" ∷ codes "h" ∷ codes "--slices=s"
+        ∷ codes "--commands" ∷ codes "c" ∷ []) ≡ option_map Debug (debug_with
+        (run_words_with (Some (codes "h")) None (Some (codes "s")) (Some 64)
+        (Some (at 90 1 1 0 0 0))) (Some (codes "c"))) }
+    ensures all { command_of (codes "debug" ∷ codes "--commands=-c" ∷ codes "--blocks=8"
+        ∷ codes "--script=t" ∷ codes "h" ∷ codes "--slices=s" ∷ []) ≡ option_map Debug (debug_with
+        (run_words_with (Some (codes "h")) (Some (codes "t")) (Some (codes "s")) (Some 8)
+        (Some (at 90 1 1 0 0 0))) (Some (codes "-c"))) }
+{}
+
+/// Words that are no command line of a debugger, and those of a run with a file of commands.
+pub fn sessions_are_refused()
+    ensures no_commands { command_of (codes "debug" ∷ codes "h" ∷ codes "--slices=s" ∷ [])
+        ≡ None }
+    ensures few_blocks { command_of (codes "debug" ∷ codes "h" ∷ codes "--slices=s"
+        ∷ codes "--commands=c" ∷ codes "--blocks=7" ∷ []) ≡ None }
+    ensures of_a_run { command_of (codes "run" ∷ codes "h" ∷ codes "--slices=s"
+        ∷ codes "--commands=c" ∷ []) ≡ None }
 {}
 
 /// Words that are no command line.

@@ -81,6 +81,10 @@ fn told(alloc: Global, words: &[String]) -> Result<String, AllocError> {
         Ok(Command::Asm(asm)) => {
             format!(in alloc; "asm {} {}", asm.source.text(), asm.out.text())
         }
+        Ok(Command::Debug(debug)) => {
+            let run = told_run(alloc, "debug", &debug.run)?;
+            format!(in alloc; "{run}, commands {}", debug.commands.text())
+        }
         Err(WordsFault::Refused) => String::from_str(alloc, "refused"),
         Err(WordsFault::OutOfMemory) => String::from_str(alloc, "no memory"),
     }
@@ -248,7 +252,23 @@ fn asm_words_are_read(rt: HostRuntime) -> Result<(), Fail> {
     are_read(&rt, rt.alloc(), &SOURCES)
 }
 
-const BAD_WORDS: [&str; 63] = [
+const SESSIONS: [(&str, &str); 2] = [
+    (
+        "debug h --slices s --commands c",
+        "debug h, script none, slices s, 64 blocks, at 90 1 1 0 0 0, commands c",
+    ),
+    (
+        "debug --commands=-c --blocks 8 --script t --slices s --time 2000-02-29T01:02:03 -- -h",
+        "debug -h, script t, slices s, 8 blocks, at 100 2 29 1 2 3, commands -c",
+    ),
+];
+
+#[test]
+fn debug_words_are_read(rt: HostRuntime) -> Result<(), Fail> {
+    are_read(&rt, rt.alloc(), &SESSIONS)
+}
+
+const BAD_WORDS: [&str; 69] = [
     "",
     "run h --slices",
     "run h --slices ",
@@ -299,6 +319,12 @@ const BAD_WORDS: [&str; 63] = [
     "asm s m n",
     "asm s m --time 1990-01-01T00:00:00",
     "asm --out=m s",
+    "debug h --slices s",
+    "debug h --commands c",
+    "debug h i --slices s --commands c",
+    "debug h --slices s --commands c --commands c",
+    "debug h --slices s --commands c --blocks 7",
+    "run h --slices s --commands c",
     "Asm s m",
     "run h --slices s --time 1899-12-31T23:59:59",
     "run h --slices s --time 2156-01-01T00:00:00",

@@ -1,4 +1,4 @@
-use Rattle.os9_boot.proofs.CallLemmas.{asm-called, stressed, vol-called}
+use Rattle.os9_boot.proofs.CallLemmas.{asm-called, debug-called, stressed, vol-called}
 use Rattle.os9_boot.proofs.NameLemmas.{stress-names}
 use Rattle.os9_boot.proofs.top.perform.Goals as goal
 
@@ -35,3 +35,16 @@ returns-in-Asm-clause-call g c =
 
 pub returns-in-Asm-clause-noted : goal.returns-in-Asm-clause-noted
 returns-in-Asm-clause-noted g c = rw c.in-Asm.is c.do_asm.ensures.noted
+
+pub do_debug-requires : goal.do_debug-requires
+do_debug-requires g c = record {
+  devices = rw c.in-Debug.is at c.requires.devices;
+  words = rw c.in-Debug.is at c.requires.words;
+}
+
+pub returns-in-Debug-clause-call : goal.returns-in-Debug-clause-call
+returns-in-Debug-clause-call g c =
+    rw c.in-Debug.is (debug-called c.in-Debug.debug _ _ c.do_debug.result c.do_debug.ensures.call)
+
+pub returns-in-Debug-clause-noted : goal.returns-in-Debug-clause-noted
+returns-in-Debug-clause-noted g c = rw c.in-Debug.is c.do_debug.ensures.noted

@@ -1,0 +1,4 @@
+pub mod Counts
+pub mod Machine
+pub mod Moves
+pub mod Session

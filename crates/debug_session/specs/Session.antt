@@ -1,0 +1,66 @@
+-- A session (this project's own).
+use Rattle.std.specs.Prelude.{◌≡◌, ◌≢◌, ◌⊎◌, ℕ, All, Result, Err, IfErr, OnOk, List}
+use Rattle.os9_outer.specs.Stream.{GainsPrefix, stream_with}
+use Rattle.event_rules.specs.Start.{Refuses}
+use Rattle.machine_model.specs.Start.{Starts}
+use Rattle.machine_model.specs.State.{State}
+use Rattle.run_laws.specs.Faults.{CanRise}
+use Rattle.debug_text.specs.declared.command.Command.{Command}
+use Rattle.os9_kernel.specs.Outside.{Outside}
+use Rattle.debug_rules.specs.Course.{Course}
+use Rattle.debug_rules.specs.Prints.{printed_from}
+use Rattle.boot_run.specs.World.{FailsToWrite, HasNoFault, World}
+use Rattle.debug_session.specs.Counts.{FailedOnce, TerminalRose}
+use Rattle.debug_session.specs.Machine.{CourseOf, HasNoBytes, HasStart, InCourse, boot_of}
+use Rattle.debug_session.specs.declared.machine.Machine.{Machine}
+use Rattle.debug_session.specs.declared.machine.SessionFault.{SessionFault}
+use Rattle.debug_session.specs.declared.machine.SessionFault.TheVariants.{Refused, TerminalFailed, OutputFailed, NoMemory}
+
+-- the output gained what the commands show, in the course of the machine
+abbrev pub PrintsAll : Machine → List Command → World → World → Type 0
+PrintsAll machine commands before after = InCourse machine before.devices after.devices (λ course.
+    after.out ≡ stream_with before.out (printed_from course 0 commands))
+
+-- the output gained the first of it
+abbrev pub PrintsFirst : Machine → List Command → World → World → Course → Type 0
+PrintsFirst machine commands before after course =
+    GainsPrefix before.out (printed_from course 0 commands) after.out
+
+-- the machine starts, and a terminal failed; the output gained the first of what the commands show, if nothing else did
+pub record StopsAtTerminal (n : ℕ) (machine : Machine) (commands : List Command) (before after : World) : Type 0 where
+  pub starts : HasStart machine before.devices
+  pub rose : TerminalRose n before.devices after.devices
+  pub prints : All HasNoBytes before.devices.terms → FailedOnce n before.devices after.devices
+      → (course : Course) → CourseOf machine before.devices course → PrintsFirst machine commands before after course
+
+-- why a session stopped before its last command was done, and what is left
+abbrev pub StopsSession : Machine → List Command → World → World → SessionFault → Type 0
+StopsSession machine commands before after (Refused fault) =
+    Refuses machine.file.now machine.blocks fault × (after ≡ before)
+StopsSession machine commands before after (TerminalFailed n) = StopsAtTerminal n machine commands before after
+StopsSession machine commands before after OutputFailed =
+    HasStart machine before.devices
+    × InCourse machine before.devices after.devices (PrintsFirst machine commands before after)
+StopsSession machine commands before after NoMemory = (after.out ≡ before.out) ⊎ HasStart machine before.devices
+
+-- a session was had
+pub record SessionCall {Value : Type 0} (machine : Machine) (commands : List Command)
+    (answer : Result Value SessionFault) (before after : World) : Type 0 where
+  pub prints : OnOk answer (PrintsAll machine commands before after)
+  pub starts : OnOk answer (HasStart machine before.devices)
+  pub stops : IfErr answer (StopsSession machine commands before after)
+  -- the host failed, and last at a write to the output; at every other end it did not fail
+  pub output_fault : answer ≡ Err OutputFailed → FailsToWrite before after
+  pub no_fault : answer ≢ Err OutputFailed → HasNoFault before after
+  pub files_kept : after.files ≡ before.files
+
+-- every count of faults can rise at the start
+abbrev pub CanFail : Machine → Outside → Type 0
+CanFail machine devices = (s : State) → Starts (boot_of machine devices) s → CanRise s
+
+-- the output gained what the commands show in the course of the machine, which is its only one
+pub record ShowsTheCourse (machine : Machine) (commands : List Command) (before after : World) : Type 0 where
+  pub course : Course
+  pub is : CourseOf machine before.devices course
+  pub only : (other : Course) → CourseOf machine before.devices other → course ≡ other
+  pub shown : after.out ≡ stream_with before.out (printed_from course 0 commands)

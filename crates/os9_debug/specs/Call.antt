@@ -1,0 +1,24 @@
+-- A call of `debug`.
+use Rattle.std.specs.Prelude.{IfSome}
+use Rattle.os9_words.specs.Notes.{Notes}
+use Rattle.os9_words.specs.declared.debug_words.DebugWords.{DebugWords}
+use Rattle.boot_run.specs.World.{World}
+use Rattle.command_files.specs.Fails.{FailsAsTold}
+use Rattle.command_files.specs.Noted.{NotesFiles}
+use Rattle.command_files.specs.declared.status.End.{End}
+use Rattle.os9_debug.specs.Debug.{DebugComesTo, debug_file_name, debug_inputs}
+use Rattle.os9_debug.specs.Left.{DebugLeaves, DebugLeavesFiles, DebugMayEnd, DebugWrites}
+
+-- it was done, and ended so
+pub record DebugCall (debug : DebugWords) (before after : World) (end : End) : Type 0 where
+  -- what came of it, where that can be observed
+  pub comes : IfSome before.files (λ files. DebugComesTo files debug before after end)
+  -- and what is so, observed or not
+  pub may : DebugMayEnd end
+  pub devices : DebugLeaves before after end
+  pub host : FailsAsTold (debug_file_name debug) end before after
+  pub files : DebugLeavesFiles before after end
+
+-- the files that it has read and written
+abbrev pub NotesDebug : DebugWords → End → Notes → Notes → Type 0
+NotesDebug debug end before after = NotesFiles (debug_file_name debug) (debug_inputs debug) DebugWrites end before after

@@ -1,0 +1,109 @@
+-- What `debug` does (this project's own; what a session shows is that of debug_session).
+use Rattle.std.specs.Prelude.{◌≡◌, ◌⊎◌, ℕ, ⊤, Option, Some, Ok, Err, List, ◌∷◌, ◌++◌, length, slice_get}
+use Rattle.os9_outer.specs.Host.{Files, file_contents}
+use Rattle.script_text.specs.declared.script.ScriptKey.{ScriptKey}
+use Rattle.script_text.specs.Script.{keys_of}
+use Rattle.event_rules.specs.Start.{Refuses}
+use Rattle.event_rules.specs.declared.ends.BootFault.{BootFault}
+use Rattle.os9_words.specs.declared.debug_words.DebugWords.{DebugWords}
+use Rattle.boot_run.specs.World.{World}
+use Rattle.debug_text.specs.Commands.{commands_of}
+use Rattle.debug_text.specs.declared.command.Command.{Command}
+use Rattle.debug_session.specs.Machine.{HasStart, InCourse}
+use Rattle.debug_session.specs.Session.{PrintsAll, PrintsFirst, StopsAtTerminal}
+use Rattle.debug_session.specs.declared.machine.Machine.{Machine}
+use Rattle.command_files.specs.End.{boot_end, run_file_name}
+use Rattle.command_files.specs.FileNames.{script_names}
+use Rattle.command_files.specs.Reading.{BreaksSlices}
+use Rattle.command_files.specs.Setup.{HaveTexts, script_of}
+use Rattle.command_files.specs.declared.status.End.{End}
+use Rattle.command_files.specs.declared.status.End.TheVariants.{Ended, CannotRead, CannotWrite, NoMemory, BadText, TerminalFailed}
+use Rattle.command_files.specs.declared.status.Input.{Input}
+use Rattle.command_files.specs.declared.status.Input.TheVariants.{Script, Commands}
+
+-- ---- the words
+
+-- the names of its files: those of the run, and COMMANDS
+abbrev pub debug_file_name : DebugWords → Input → Option (List ℕ)
+debug_file_name debug Commands = Some debug.commands
+debug_file_name debug input = run_file_name debug.run input
+
+-- the files that it reads, in order: the script, the slice text, the commands and the modules
+abbrev pub debug_inputs : DebugWords → List (List ℕ)
+debug_inputs debug = script_names debug.run ++ debug.run.slices ∷ debug.commands ∷ debug.run.files
+
+-- ---- the session
+
+-- a session of these commands over this machine: that of the files and the words, with so many terminals
+pub record HasSession (files : Files) (debug : DebugWords) (terminals : ℕ) (machine : Machine) (commands : List Command)
+    : Type 0 where
+  pub texts : HaveTexts files debug.run terminals machine.keys.now machine.slices.now
+  pub commands_are : commands_of (file_contents files debug.commands) ≡ Ok commands
+  pub name : List ℕ
+  pub modules : slice_get debug.run.files 0 ≡ Some name
+  pub file : machine.file.now ≡ file_contents files name
+  pub blocks : machine.blocks ≡ debug.run.blocks
+  pub time : machine.time ≡ debug.run.start
+
+-- there is such a session, and this came of it
+pub record SessionThen (files : Files) (debug : DebugWords) (terminals : ℕ) (then_ : Machine → List Command → Type 0)
+    : Type 0 where
+  pub machine : Machine
+  pub commands : List Command
+  pub has : HasSession files debug terminals machine commands
+  pub rest : then_ machine commands
+
+-- ---- a text is refused
+
+-- the script and the slice text are accepted, and the commands are refused: their first bad line
+pub record BreaksCommands (files : Files) (debug : DebugWords) (terminals line : ℕ) : Type 0 where
+  pub keys : List ScriptKey
+  pub slices : List ℕ
+  pub texts : HaveTexts files debug.run terminals keys slices
+  pub refused : commands_of (file_contents files debug.commands) ≡ Err line
+
+-- the script; or after an accepted script the slice text; or after both the commands
+abbrev pub RefusesText : Files → DebugWords → (terminals : ℕ) → Input → (line : ℕ) → Type 0
+RefusesText files debug terminals Script line = keys_of terminals (script_of files debug.run) ≡ Err line
+RefusesText files debug terminals Commands line = BreaksCommands files debug terminals line
+RefusesText files debug terminals input line =
+    BreaksSlices terminals line (script_of files debug.run) (file_contents files debug.run.slices)
+
+-- ---- how it ends
+
+-- the machine starts, and the output gained what the commands show
+abbrev pub PrintsWhole : World → World → Machine → List Command → Type 0
+PrintsWhole before after machine commands =
+    HasStart machine before.devices × PrintsAll machine commands before after
+
+-- the machine starts, and the output gained the first of what the commands show
+abbrev pub PrintsSome : World → World → Machine → List Command → Type 0
+PrintsSome before after machine commands =
+    HasStart machine before.devices
+    × InCourse machine before.devices after.devices (PrintsFirst machine commands before after)
+
+-- the machine starts
+abbrev pub IsBegun : World → Machine → List Command → Type 0
+IsBegun before machine commands = HasStart machine before.devices
+
+-- the boot file is refused, and the end says why
+abbrev pub EndsRefused : End → Machine → List Command → Type 0
+EndsRefused end machine commands =
+    (fault : BootFault) × Refuses machine.file.now machine.blocks fault × (end ≡ boot_end fault)
+
+-- what comes of it, by how it ends
+abbrev pub DebugComesTo : Files → DebugWords → World → World → End → Type 0
+DebugComesTo files debug before after Ended =
+    SessionThen files debug (length before.devices.terms) (PrintsWhole before after)
+DebugComesTo files debug before after (CannotRead input) = ⊤
+DebugComesTo files debug before after (BadText input line) =
+    RefusesText files debug (length before.devices.terms) input line
+DebugComesTo files debug before after CannotWrite =
+    SessionThen files debug (length before.devices.terms) (PrintsSome before after)
+DebugComesTo files debug before after (TerminalFailed n) =
+    SessionThen files debug (length before.devices.terms)
+    (λ machine commands. StopsAtTerminal n machine commands before after)
+DebugComesTo files debug before after NoMemory =
+    (after.out ≡ before.out) ⊎ SessionThen files debug (length before.devices.terms) (IsBegun before)
+DebugComesTo files debug before after end =
+    SessionThen files debug (length before.devices.terms) (EndsRefused end)

@@ -1,0 +1,45 @@
+-- The steps of `debug`: its files, its commands and the session.
+use Rattle.std.specs.Prelude.{◌≡◌, ⊤, ℕ, Some, Result, Ok, Err, List, slice_get}
+use Rattle.os9_outer.specs.Host.{Files, file_contents}
+use Rattle.os9_words.specs.declared.debug_words.DebugWords.{DebugWords}
+use Rattle.boot_run.specs.World.{World}
+use Rattle.debug_text.specs.Commands.{commands_of}
+use Rattle.debug_text.specs.declared.command.Command.{Command}
+use Rattle.debug_session.specs.Session.{SessionCall}
+use Rattle.debug_session.specs.declared.machine.Machine.{Machine}
+use Rattle.debug_session.specs.declared.machine.SessionFault.{SessionFault}
+use Rattle.debug_session.specs.declared.machine.SessionFault.TheVariants as Fault
+use Rattle.command_files.specs.End.{boot_end}
+use Rattle.command_files.specs.Setup.{script_of}
+use Rattle.command_files.specs.declared.status.End.{End}
+use Rattle.command_files.specs.declared.status.End.TheVariants.{Ended, CannotWrite, NoMemory, BadText, TerminalFailed}
+use Rattle.command_files.specs.declared.status.Input.TheVariants.{Commands}
+use Rattle.os9_debug.specs.declared.files.DebugFiles.{DebugFiles}
+
+-- the bytes that were read are those of the files that the words name
+pub record HasDebugFiles (files : Files) (debug : DebugWords) (read : DebugFiles) : Type 0 where
+  pub script : read.script.items ≡ script_of files debug.run
+  pub slices : read.slices.items ≡ file_contents files debug.run.slices
+  pub commands : read.commands.items ≡ file_contents files debug.commands
+  pub modules : (name : List ℕ) × (slice_get debug.run.files 0 ≡ Some name)
+      × (read.modules.items ≡ file_contents files name)
+
+-- why the commands end the call: their first line that breaks a rule; or memory was out
+abbrev pub RefusesCommands : List ℕ → End → Type 0
+RefusesCommands text (BadText Commands line) = commands_of text ≡ Err line
+RefusesCommands text NoMemory = ⊤
+RefusesCommands text end = ⊥
+
+-- how the call ends whose session ended so
+abbrev pub session_end : {Value : Type 0} → Result Value SessionFault → End
+session_end (Ok value) = Ended
+session_end (Err (Fault.Refused fault)) = boot_end fault
+session_end (Err (Fault.TerminalFailed n)) = TerminalFailed n
+session_end (Err Fault.OutputFailed) = CannotWrite
+session_end (Err Fault.NoMemory) = NoMemory
+
+-- a session was had, and the call ends so
+pub record HadSession (machine : Machine) (commands : List Command) (end : End) (before after : World) : Type 0 where
+  pub answer : Result (Unit {0}) SessionFault
+  pub ends : end ≡ session_end answer
+  pub call : SessionCall machine commands answer before after

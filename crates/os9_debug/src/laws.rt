@@ -1,0 +1,16 @@
+//! Calls of `debug`, as laws over all of them.
+
+ghost use Rattle.os9_outer.specs.Host.{Files};
+ghost use Rattle.os9_words.specs.declared.debug_words.DebugWords.{DebugWords};
+ghost use Rattle.boot_run.specs.World.{World};
+ghost use Rattle.command_files.specs.declared.status.End.TheVariants.{Ended};
+ghost use Rattle.os9_debug.specs.Call.{DebugCall};
+ghost use Rattle.os9_debug.specs.OneCourse.{IsFaultless, ShowsOneCourse};
+
+/// A call of `debug` that is done shows the one course of its machine: command by command what is there
+/// at the position to which the commands before have led, forwards or back.
+pub fn a_debug_shows_the_one_course()
+    ensures { (files : Files) (debug : DebugWords) (before after : World)
+        → IsFaultless files debug before after → DebugCall debug before after Ended
+        → ShowsOneCourse files debug before after }
+{}

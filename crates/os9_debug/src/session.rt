@@ -1,0 +1,62 @@
+//! The session of a call.
+
+ghost use Rattle.std.specs.Prelude.{◌≡◌};
+ghost use Rattle.file_drives.specs.Drives.{drive_views};
+ghost use Rattle.boot_images.specs.Drives.{HaveRoom};
+ghost use Rattle.boot_images.specs.Ready.{AreEmptyAgain};
+ghost use Rattle.boot_run.specs.World.{OnWorld};
+ghost use Rattle.debug_session.specs.Machine.{CanStart};
+ghost use Rattle.os9_debug.specs.Steps.{HadSession, session_end};
+ghost use Rattle.os9_kernel.specs.Outside.{outside};
+ghost use Rattle.os9_words.specs.Notes.{notes_of};
+
+use boot_images::drives::eject_images;
+use boot_images::images::Images;
+use command_files::status::End;
+use debug_session::{Machine, SessionFault, debug};
+use debug_text::Command;
+use device_table::devices::Devices;
+use os9_outer::drive::BlockDriver;
+use os9_outer::host::Host;
+use os9_outer::terminal::CharDriver;
+use std::alloc::Global;
+
+/// How the call ends whose session ended so.
+fn end_of_session(answer: Result<(), SessionFault>) -> End
+    ensures { result ≡ session_end answer }
+{
+    match answer {
+        Ok(()) => End::Ended,
+        Err(SessionFault::Refused(fault)) => End::of_boot_fault(fault),
+        Err(SessionFault::TerminalFailed(number)) => End::TerminalFailed(number),
+        Err(SessionFault::OutputFailed) => End::CannotWrite,
+        Err(SessionFault::NoMemory) => End::NoMemory,
+    }
+}
+
+/// Has the session of these commands over a machine. No image is in a drive before it or behind it.
+pub(crate) fn show<H: Host>(
+    alloc: Global,
+    machine: &Machine,
+    commands: &[Command],
+    host: &mut H,
+    devices: &mut Devices,
+) -> End
+    requires start { CanStart machine.now (outside
+        ⟦<dyn BlockDriver as BlockDriver>⟧ devices.old.drives.items
+        ⟦<dyn CharDriver as CharDriver>⟧ devices.old.terms.items) }
+    requires room { HaveRoom 0
+        (drive_views ⟦<dyn BlockDriver as BlockDriver>⟧ devices.old.drives.items) }
+    ensures session { OnWorld (HadSession machine.now commands.now result) H.Host host.old host.new
+        ⟦<dyn BlockDriver as BlockDriver>⟧ devices.old.drives.items devices.new.drives.items
+        ⟦<dyn CharDriver as CharDriver>⟧ devices.old.terms.items devices.new.terms.items }
+    ensures notes_kept { notes_of H.Host host.new ≡ notes_of H.Host host.old }
+    ensures drives { AreEmptyAgain
+        (drive_views ⟦<dyn BlockDriver as BlockDriver>⟧ devices.old.drives.items)
+        (drive_views ⟦<dyn BlockDriver as BlockDriver>⟧ devices.new.drives.items) }
+{
+    let answer = debug(alloc, machine, commands, host, devices);
+    let mut images = Images::none(alloc);
+    eject_images(alloc, &mut images, devices);
+    end_of_session(answer)
+}
