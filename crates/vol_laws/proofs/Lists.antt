@@ -68,8 +68,8 @@ behind-left : (turn : Turn) (turns : List Turn) (old mid new : List ℕ) → is_
 behind-left turn turns old mid new told kept rest =
     subst (λ uses. Comes uses old new) (sym (with-left turn turns told)) (subst (λ held. Comes (uses_of turns) held new) kept rest)
 
-by-outcome : (name old new : List ℕ) (turn : Turn) (turns : List Turn) → IsTurnOn name old turn → KeepsDisk turn
-    → Outcome turn
+by-outcome : (name old new : List ℕ) (turn : Turn) (turns : List Turn) (is : IsTurnOn name old turn) → KeepsDisk turn
+    → Outcome turn is.called
     → ((v : DiskVolume) → Vol (file_contents turn.now name) v → Comes (uses_of turns) (file_contents turn.now name) new)
     → Comes (uses_of (turn ∷ turns)) old new
 by-outcome name old new turn turns is keeps (done it) rest =
@@ -134,7 +134,7 @@ new-disk name later format old new is keep calls = by (outcome name old format c
     no-get : format.vol.verb ≡ Get → file_of format.vol ≢ format.vol.image
     no-get gets = absurd (cc (is, gets))
 
-    by : Outcome format → ComesNew format later new
+    by : Outcome format calls.0.called → ComesNew format later new
     by (left it) = absurd (it.tool is)
     by (done it) =
         let none : vol_tool format.files format.vol ≡ None = ap (λ verb. tool_of verb (path_of format.vol) (file-bytes format)) is in

@@ -11,7 +11,8 @@ use Rattle.tool_rules.specs.Tool.{IsRead, Tool, put, get, mkdir, remove, list, r
 use Rattle.tool_rules.specs.Uses.{Use, none, next}
 use Rattle.vol_tools.specs.InTurn.{LeavesInTurn}
 use Rattle.boot_images.specs.Images.{WritesAll}
-use Rattle.vol_command.specs.Vol.{IsUsed, MakesBy, file_of, outputs_of, tool_of, written_of}
+use Rattle.vol_command.specs.Vol.{IsUsed, MakesBy, file_of, outputs_of, printed_of, tool_of, written_of}
+use Rattle.vol_laws.specs.Turns.{AreLinesOf, IsFileOf}
 use Rattle.vol_laws.proofs.Files.{holds-written, keeps-other}
 
 pub on-image : (image : List ℕ) (v : DiskVolume) → Vol image v → Represents (Some image) v
@@ -84,12 +85,21 @@ module _ (vol : VolWords) (files now : Files) (answer image : List ℕ) where
       unwritten (list path) made.used made.used.gives.1 (ap (λ held. unwrap_or held []) (writes vol.image))
   verb-leaves Repair path bytes apart made writes = written repair made.used writes
 
-  -- `get` over the image
-  pub got-over : (verb : Verb) (path bytes : List ℕ) → verb ≡ Get → file_of vol ≡ vol.image
-      → MakesBy (tool_of verb path bytes) vol old answer image
+  -- `get` has written what it read
+  pub got : (verb : Verb) (path bytes : List ℕ) → verb ≡ Get → MakesBy (tool_of verb path bytes) vol old answer image
       → WritesAll (outputs_of verb vol) (written_of verb answer image) files now
-      → (v : DiskVolume) × Vol old v × IsRead v path new
-  got-over Get path bytes is over made writes =
-      let held : new ≡ answer = subst (λ name. file_contents now name ≡ answer) over (holds-written files now (file_of vol) answer writes) in
-      (made.used.before, made.used.was, subst (λ bytes. IsRead made.used.before path bytes) (sym held) made.used.gives.0)
-  got-over verb path bytes is over made writes = absurd (cc is)
+      → IsFileOf old path (file_contents now (file_of vol))
+  got Get path bytes is made writes =
+      let held : file_contents now (file_of vol) ≡ answer = holds-written files now (file_of vol) answer writes in
+      record {
+        volume = made.used.before;
+        was = made.used.was;
+        read = subst (λ bytes. IsRead made.used.before path bytes) (sym held) made.used.gives.0;
+      }
+  got verb path bytes is made writes = absurd (cc is)
+
+  -- and `dir` has answered the lines, which are printed
+  pub listed : (verb : Verb) (path bytes : List ℕ) → verb ≡ Dir → MakesBy (tool_of verb path bytes) vol old answer image
+      → AreLinesOf old path (printed_of verb answer)
+  listed Dir path bytes is made = record { volume = made.used.before; was = made.used.was; listed = made.used.gives.0 }
+  listed verb path bytes is made = absurd (cc is)

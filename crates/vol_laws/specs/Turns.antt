@@ -1,19 +1,20 @@
 -- Calls of the program for `vol` on one image, one after the other (this project's own).
 use Rattle.std.specs.Prelude.{◌≡◌, ◌≢◌, ◌⊎◌, ◌==◌, ℕ, Bool, true, Option, Some, None, List, [], ◌∷◌, filter_map, option_map, if◌then◌else◌}
 use Rattle.os9_outer.specs.Host.{Files, file_contents}
+use Rattle.os9_outer.specs.Stream.{stream_with}
 use Rattle.os9_words.specs.Command.{command_of}
 use Rattle.os9_words.specs.Notes.{Notes}
 use Rattle.os9_words.specs.declared.command.Command.TheVariants.{Vol}
 use Rattle.os9_words.specs.declared.vol_words.Verb.TheVariants.{Format, Get}
 use Rattle.os9_words.specs.declared.vol_words.VolWords.{VolWords}
 use Rattle.rbf_model.specs.Volume.{DiskVolume, Vol as HoldsVolume}
-use Rattle.tool_rules.specs.Tool.{IsRead}
+use Rattle.tool_rules.specs.Tool.{IsListed, IsRead}
 use Rattle.tool_rules.specs.Uses.{Use}
 use Rattle.tool_laws.specs.NewDisk.{NewDisk}
 use Rattle.boot_run.specs.World.{World}
 use Rattle.command_files.specs.End.{status_number}
 use Rattle.command_files.specs.declared.status.End.TheVariants.{Ended, Refused}
-use Rattle.vol_command.specs.Vol.{file_of, vol_tool}
+use Rattle.vol_command.specs.Vol.{file_of, path_of, vol_tool}
 use Rattle.os9_boot.specs.TopCall.{TopCall}
 
 -- a call that is over: its words, what the files held before it and hold now, and its status
@@ -89,3 +90,15 @@ pub record IsFileOf (old path bytes : List ℕ) : Type 0 where
   pub volume : DiskVolume
   pub was : HoldsVolume old volume
   pub read : IsRead volume path bytes
+
+-- these bytes are the lines of the directory of a path on the old disk
+pub record AreLinesOf (old path bytes : List ℕ) : Type 0 where
+  pub volume : DiskVolume
+  pub was : HoldsVolume old volume
+  pub listed : IsListed volume path bytes
+
+-- a call that was done has printed the lines of the directory of its PATH on the old disk
+pub record PrintsLines (old : List ℕ) (turn : Turn) (before after : World) : Type 0 where
+  pub lines : List ℕ
+  pub are : AreLinesOf old (path_of turn.vol) lines
+  pub printed : after.out ≡ stream_with before.out lines

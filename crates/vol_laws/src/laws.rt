@@ -1,13 +1,13 @@
 //! What the tools of several commands make of the volume of one image.
 
-ghost use Rattle.std.specs.Prelude.{◌≡◌, ◌≢◌, ◌∷◌, ◌++◌, [], ℕ, List, Some, All};
+ghost use Rattle.std.specs.Prelude.{◌≡◌, ◌≢◌, ◌∷◌, ◌++◌, [], ℕ, List, Some, All, true};
 ghost use Rattle.os9_outer.specs.Host.{file_contents};
-ghost use Rattle.os9_words.specs.declared.vol_words.Verb.TheVariants.{Format};
+ghost use Rattle.os9_words.specs.declared.vol_words.Verb.TheVariants.{Dir, Format, Get};
 ghost use Rattle.os9_words.specs.declared.vol_words.VolWords.{VolWords};
 ghost use Rattle.tool_laws.specs.NewDisk.{LeavesNew};
 ghost use Rattle.tool_rules.specs.Tool.{Tool};
-ghost use Rattle.vol_command.specs.Vol.{IsUsed, path_of};
-ghost use Rattle.vol_laws.specs.Turns.{CallsInTurn, GetsOver, IsFileOf, IsTurnOn, KeepsDisk, Turn, disk_of, uses_of};
+ghost use Rattle.vol_command.specs.Vol.{IsUsed, file_of, path_of};
+ghost use Rattle.vol_laws.specs.Turns.{CallsInTurn, GetsOver, IsFileOf, IsTurnOn, KeepsDisk, PrintsLines, Turn, disk_of, is_done, uses_of};
 ghost use Rattle.vol_tools.specs.InTurn.{LeavesInTurn};
 
 /// A command that has used its tool leaves what the tool gives, and has its answer.
@@ -35,6 +35,21 @@ pub fn commands_begin_with_a_format()
         → CallsInTurn name (earlier ++ format ∷ later) old new
         → (answers : List (List ℕ))
         × LeavesNew (disk_of format.vol) (uses_of later) (Some new) answers }
+{}
+
+/// A `get` that was done leaves in its FILE the bytes of the file on the disk that it found, which is what
+/// the calls before it left.
+pub fn a_get_leaves_the_file()
+    ensures { (name old : List ℕ) (turn : Turn) → IsTurnOn name old turn
+        → turn.vol.verb ≡ Get → is_done turn ≡ true
+        → IsFileOf old (path_of turn.vol) (file_contents turn.now (file_of turn.vol)) }
+{}
+
+/// A `dir` that was done has printed the lines of the directory on the disk that it found.
+pub fn a_dir_prints_its_directory()
+    ensures { (name old : List ℕ) (turn : Turn) (is : IsTurnOn name old turn)
+        → turn.vol.verb ≡ Dir → is_done turn ≡ true
+        → PrintsLines old turn is.called.before is.called.after }
 {}
 
 /// A `get` whose FILE is its image leaves there the bytes of the file on the disk.

@@ -10,4 +10,5 @@ pub mod Lines
 pub mod Names
 pub mod Turns
 pub mod Tails
+pub mod Entries
 pub mod Others

@@ -45,7 +45,8 @@ pub fn put(
         (record { tool = put_tool file.now.path.now file.now.bytes.now; now = now }) (λ _. [])
         (media d.old) (media d.new) result }
     ensures tail { OnMedia KeepsTail (media d.old) (media d.new) }
-    ensures others { OnOk result (OnMedia (KeepsOthers file.now.path.now) (media d.old) (media d.new)) }
+    ensures others { OnOk result
+        (OnMedia (KeepsOthers file.now.path.now) (media d.old) (media d.new)) }
     ensures mounted { IsMounted v.new (media d.new) }
     ensures fault { Faults ⟦<dyn BlockDriver as BlockDriver>⟧ (tool_fault result) d.old d.new }
 {

@@ -51,7 +51,8 @@ pub fn remove(
 // Deletes the file at a place.
 fn remove_at(v: &mut Volume, d: &mut dyn BlockDriver, place: &Place) -> Result<(), ToolFault>
     requires { IsMounted v.old (media d.old) }
-    ensures answer { (path : List ℕ) (now : TimePacket) → place_of_lem path ≡ Some (place_lem place.now)
+    ensures answer { (path : List ℕ) (now : TimePacket)
+        → place_of_lem path ≡ Some (place_lem place.now)
         → OnVolumeBefore (record { tool = remove_tool path; now = now }) (λ _. [])
         (media d.old) (media d.new) result }
     ensures tail { OnMedia KeepsTailUnused (media d.old) (media d.new) }

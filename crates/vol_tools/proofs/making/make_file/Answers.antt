@@ -79,4 +79,4 @@ returns-clause-others g c path place =
     let there = file_in _ c.in_ok-dir.dir c.in_ok-dir.ensures.file v c.requires.on in
     let here = still _ _ v c.in_ok-dir.ensures.media_kept c.requires.on in
     let way = way_as v _ _ (Ok c.in_ok-dir.dir) c.deref.ensures.value (c.in_ok-dir.ensures.answer v c.requires.on) in
-    tail_from (KeepsOthers path) _ _ _ c.in_ok-dir.ensures.media_kept (entered-others path v _ _ here _ _ c.in_ok-n.n (c.in_ok-n.ensures.answer v _ here there) c.args.place.now.name (leads-to v path c.args.place.now c.in_ok-dir.dir place.is way))
+    tail_from (KeepsOthers path) _ _ _ c.in_ok-dir.ensures.media_kept (entered-others path v _ _ here _ _ there c.in_ok-n.n (c.in_ok-n.ensures.answer v _ here there) (leads-to v path c.args.place.now c.in_ok-dir.dir place.is way))

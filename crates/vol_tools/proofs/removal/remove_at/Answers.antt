@@ -4,6 +4,7 @@ use Rattle.std.proofs.lemmas.Result.{err_from_is_err_and}
 use Rattle.rbf_walk.proofs.Stepping.{file_in}
 use Rattle.vol_tools.specs.Others.{KeepsOthers}
 use Rattle.vol_tools.specs.Tail.{KeepsTailUnused}
+use Rattle.vol_tools.proofs.Entries.{not-itself}
 use Rattle.vol_tools.proofs.Others.{deleted-others, leads-to}
 use Rattle.vol_tools.proofs.Tails.{deleted-tail, stopped-tail, tail_from, unused_kept}
 use Rattle.vol_tools.proofs.Counts.{directory_ends_then, done_then, same_faults}
@@ -70,6 +71,12 @@ returns-in_err-dir-clause-fault g c =
 pub returns-clause-others : goal.returns-clause-others
 returns-clause-others g c path place =
     let v = c.requires.content in
+    let there = file_in _ c.in_ok-dir.dir c.in_ok-dir.ensures.file v c.requires.on in
     let here = still _ _ v c.in_ok-dir.ensures.media_kept c.requires.on in
     let way = way_as v _ _ (Ok c.in_ok-dir.dir) c.deref.ensures.value (c.in_ok-dir.ensures.answer v c.requires.on) in
-    tail_from (KeepsOthers path) _ _ _ c.in_ok-dir.ensures.media_kept (deleted-others path v _ _ here c.in_ok-dir.dir c.args.place.now.name (leads-to v path c.args.place.now c.in_ok-dir.dir place way) (c.in_ok-delete.ensures.ok v here))
+    let name = c.args.place.now.name in
+    let by = c.in_ok-delete.ensures.ok v here in
+    let (m, end) = c.in_ok-delete.ensures.answer v _ here there in
+    tail_from (KeepsOthers path) _ _ _ c.in_ok-dir.ensures.media_kept
+    (deleted-others path v _ _ here c.in_ok-dir.dir name (leads-to v path c.args.place.now c.in_ok-dir.dir place way) by
+    (not-itself v by.is.after c.in_ok-dir.dir m _ name there end by.number by.is.deletes))
