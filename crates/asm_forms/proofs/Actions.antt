@@ -24,8 +24,9 @@ use Rattle.asm_forms.proofs.Names.{bytes_same}
 use Rattle.asm_forms.proofs.Joined.{one-part, some-parts}
 use Rattle.asm_forms.proofs.Lists.{found-passes, joined-back}
 use Rattle.asm_forms.proofs.Lines.{word-free, ends-there, word-and-rest, no-more, operand-part, skip-none}
-use Rattle.asm_forms.proofs.Valued.{value-without}
-use Rattle.asm_forms.proofs.Expressions.{expression-comma, expression-is, expression-back, constant-is, constant-back}
+use Rattle.asm_forms.proofs.Complete.{shape-read}
+use Rattle.asm_forms.proofs.Sound.{shape-formed}
+use Rattle.asm_forms.proofs.Expressions.{expression-without, expression-is, expression-back, value-expression, constant-is, constant-back}
 use Rattle.asm_forms.proofs.Stated.{no-directive}
 
 -- ---- operands and comments
@@ -146,10 +147,10 @@ quoted-back (c ∷ rest) quote is = by-test (is_quote c && list_any is_quote res
 -- ---- lists of expressions
 
 list-parts : (text : List ℕ) (es : List (List ℕ)) → IsExpressionList text es → (slice_split is_comma text ≡ es) × (list_all is_expression es ≡ true)
-list-parts text _ (last is) = (one-part text (expression-comma text is), ap (λ b. b && true) (expression-is text is))
+list-parts text _ (last is) = (one-part text (expression-without 44 refl text is), ap (λ b. b && true) (expression-is text is))
 list-parts _ _ (more {list = list} {es = es} e is rest) =
     let others = list-parts list es rest in
-    (split_comma e list (expression-comma e is) ∙ ap (λ ps. e ∷ ps) others.0, ap (λ b. b && list_all is_expression es) (expression-is e is) ∙ others.1)
+    (split_comma e list (expression-without 44 refl e is) ∙ ap (λ ps. e ∷ ps) others.0, ap (λ b. b && list_all is_expression es) (expression-is e is) ∙ others.1)
 
 list-found : (text : List ℕ) (es : List (List ℕ)) → IsExpressionList text es → expression_list text ≡ Some es
 list-found text es is =
@@ -192,9 +193,9 @@ module-found m operand p =
     none-of is_name_character is_comma name-comma m.name (and_parts (is_some (if_name m.name)) (list_all is_name_character m.name) p.name).1 in
     let parts : slice_split is_comma operand ≡ m.name ∷ m.kind ∷ m.attributes ∷ m.storage ∷ [] =
     ap (slice_split is_comma) p.operand_is ∙ split_comma m.name (m.kind ++ (44 ∷ (m.attributes ++ (44 ∷ m.storage)))) name_free
-    ∙ ap (λ ps. m.name ∷ ps) (split_comma m.kind (m.attributes ++ (44 ∷ m.storage)) (value-without 44 refl m.kind p.kind_value p.kind))
-    ∙ ap (λ ps. m.name ∷ m.kind ∷ ps) (split_comma m.attributes m.storage (expression-comma m.attributes p.attributes))
-    ∙ ap (λ ps. m.name ∷ m.kind ∷ m.attributes ∷ ps) (one-part m.storage (expression-comma m.storage p.storage)) in
+    ∙ ap (λ ps. m.name ∷ ps) (split_comma m.kind (m.attributes ++ (44 ∷ m.storage)) (expression-without 44 refl m.kind (value-expression m.kind p.kind_value p.kind)))
+    ∙ ap (λ ps. m.name ∷ m.kind ∷ ps) (split_comma m.attributes m.storage (expression-without 44 refl m.attributes p.attributes))
+    ∙ ap (λ ps. m.name ∷ m.kind ∷ m.attributes ∷ ps) (one-part m.storage (expression-without 44 refl m.storage p.storage)) in
     ap module_fields parts
     ∙ ap (λ (b : Bool). if b then Some (module_start m) else None)
     (all-four (is_module_name m.name) (is_constant_expression m.kind) (is_expression m.attributes) (is_expression m.storage)
@@ -279,8 +280,9 @@ one-expression read e text leads is =
 
 pub action-found : (word text : List ℕ) (action : Action) → IsAction word text action → action_of word (without_spaces text) ≡ Some action
 action-found word text _ (instructs {operand = operand} {s = s} leads is) =
-    ap (λ o. directive_or_instruction o word (without_spaces text)) (shape-apart word operand s is)
-    ∙ ap (λ t. option_map instruction (shape_of word t)) (leads-found operand text leads) ∙ ap (option_map instruction) is
+    let read = shape-read word operand s is in
+    ap (λ o. directive_or_instruction o word (without_spaces text)) (shape-apart word operand s read)
+    ∙ ap (λ t. option_map instruction (shape_of word t)) (leads-found operand text leads) ∙ ap (option_map instruction) read
 action-found word text _ (starts {operand = operand} {m = m} named leads is) =
     directs word (without_spaces text) directive.Mod named ∙ ap (λ t. module_fields (slice_split is_comma t)) (leads-found operand text leads) ∙ module-found m operand is
 action-found word text _ (ends named) = directs word (without_spaces text) directive.Emod named
@@ -339,7 +341,8 @@ module _ (word text : List ℕ) (action : Action) where
 
   by-directive : (o : Option Directive) → directive_of word ≡ o → directive_or_instruction o word rest ≡ Some action → IsAction word rest action
   by-directive None named is =
-      let found = map-back instruction (shape_of word (first_word rest)) action is in to (instruction found.0) found.2 (instructs (leads-back text) found.1)
+      let found = map-back instruction (shape_of word (first_word rest)) action is in
+      to (instruction found.0) found.2 (instructs (leads-back text) (shape-formed word (first_word rest) found.0 found.1))
   by-directive (Some d) named is = directed d (found-passes (λ d. same_word (directive_word d) word) d directives named) is
 
   pub action-back : action_of word rest ≡ Some action → IsAction word rest action

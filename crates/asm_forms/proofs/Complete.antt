@@ -1,7 +1,6 @@
--- A line that is an instruction by its form is read as it.
+-- A word and an operand that have a shape, and a line that is an instruction, by their form are read as it.
 use Rattle.std.proofs.Common.{◌≡◌, ℕ, ◌+◌, ◌*◌, ◌&&◌, Bool, true, false, Option, Some, None, List, [], ◌∷◌, ◌++◌, length, refl, ap, sym, ◌∙◌, arith, length-append, ℤ}
 use Rattle.std.specs.Prelude.{option_map, option_and_then, option_to_list, if◌then◌else◌}
-use Rattle.cpu_model.specs.declared.rows.Row.{Row}
 use Rattle.cpu_model.specs.declared.rows.Operation.{Operation}
 use Rattle.cpu_model.specs.declared.rows.Operation.TheVariants.{Psh, Pul}
 use Rattle.cpu_model.specs.declared.rows.Mode.{Mode}
@@ -25,15 +24,14 @@ use Rattle.asm_model.specs.Operands.{Operand, operand, valued, mark_of, mode_fit
 use Rattle.asm_model.specs.Instructions.{Shape, shape_of, shape_with, shape_length, shape_instr, wanted_tail, with_tail, wanted_length, post_length, field_length, entry, line_of, operand_text, worded_instr, instr_of}
 use Rattle.asm_model.proofs.Commas.{split_comma}
 use Rattle.asm_model.proofs.EntryOf.{entry_matched}
-use Rattle.asm_forms.specs.Sums.{HasValue}
-use Rattle.asm_forms.specs.Operands.{IsRegisterList, IsPushOrPull, push, pull, IsOperand, inherent, immediate8, registers, immediate16, direct, extended, extended_marked, indexed, relative8, relative16, pair}
-use Rattle.asm_forms.specs.Instructions.{IsInstruction}
+use Rattle.asm_forms.specs.Operands.{IsRegisterList, IsPushOrPull, push, pull, IsOperand, inherent, immediate8, registers, immediate16, direct, extended, extended_marked, indexed, relative8, relative16, pair, IsTail, no_tail, fixed_tail, value_tail}
+use Rattle.asm_forms.specs.Instructions.{IsShape, IsInstruction}
 use Rattle.asm_forms.proofs.Joined.{one-part}
 use Rattle.asm_forms.proofs.Lines.{first-part, operand-back}
 use Rattle.asm_forms.proofs.Masks.{list-mask, list-begins, no-list}
 use Rattle.asm_forms.proofs.Names.{code-name, name-comma}
-use Rattle.asm_forms.proofs.Valued.{address-is, value-mark, wide-mark, direct-mark}
-use Rattle.asm_forms.proofs.Found.{Reads, along, value-reads}
+use Rattle.asm_forms.proofs.Values.{value-found}
+use Rattle.asm_forms.proofs.Valued.{valued-is, address-is, expression-mark, wide-mark, direct-mark}
 use Rattle.asm_forms.proofs.Indexed.{indexed-reads, indexed-mark}
 
 -- ---- the operand of a mode
@@ -43,30 +41,23 @@ by-mode (Psh stack) mode m is = refl
 by-mode (Pul stack) mode m is = refl
 by-mode _ mode m is = is
 
-valued-reads : (next : ℕ) (op : Operation) (f : Field) (e : List ℕ) (z : ℤ) (tail : Tail) (read : Option Operand) → read ≡ valued None f e → HasValue e z →
-    filled f next z ≡ Some tail → Reads next read None tail
-valued-reads next op f e z tail read same is fills = along next _ _ _ tail same (value-reads next None f e z tail is fills)
-
 byte-valued : (op : Operation) (e : List ℕ) → read_immediate8 op (35 ∷ e) ≡ valued None field.Byte e
 byte-valued (Psh stack) e = refl
 byte-valued (Pul stack) e = refl
 byte-valued _ e = refl
 
-mask-fixed : (next mask : ℕ) (read : Option ℕ) → read ≡ Some mask → Reads next (option_map (λ m. operand None (Fixed m) []) read) None (Byte mask)
-mask-fixed next mask read is =
-    record { its = operand None (Fixed mask) []; is = ap (option_map (λ m. operand None (Fixed m) [])) is; post_is = refl; tail_is = refl }
+abbrev fixed : ℕ → Operand
+fixed b = operand None (Fixed b) []
 
-mask-reads : (next : ℕ) (stack : Stack) (list : List ℕ) (mask : ℕ) → IsRegisterList stack list mask → Reads next (mask_operand stack list) None (Byte mask)
-mask-reads next stack [] mask is = absurd (no-list stack mask is)
-mask-reads next stack (c ∷ text) mask is =
-    along next _ _ _ _
-    (ap (λ (b : Bool). if b then valued None field.Byte text else option_map (λ mask. operand None (Fixed mask) []) (register_mask stack (c ∷ text)))
-    (list-begins stack (c ∷ text) mask is c text refl))
-    (mask-fixed next mask (register_mask stack (c ∷ text)) (list-mask stack (c ∷ text) mask is))
+mask-reads : (stack : Stack) (list : List ℕ) (mask : ℕ) → IsRegisterList stack list mask → mask_operand stack list ≡ Some (fixed mask)
+mask-reads stack [] mask is = absurd (no-list stack mask is)
+mask-reads stack (c ∷ text) mask is =
+    ap (λ (b : Bool). if b then valued None field.Byte text else option_map fixed (register_mask stack (c ∷ text))) (list-begins stack (c ∷ text) mask is c text refl)
+    ∙ ap (option_map fixed) (list-mask stack (c ∷ text) mask is)
 
-list-reads : (next : ℕ) (op : Operation) (stack : Stack) (list : List ℕ) (mask : ℕ) → IsPushOrPull stack op → IsRegisterList stack list mask → Reads next (read_immediate8 op list) None (Byte mask)
-list-reads next _ stack list mask push is = mask-reads next stack list mask is
-list-reads next _ stack list mask pull is = mask-reads next stack list mask is
+list-reads : (op : Operation) (stack : Stack) (list : List ℕ) (mask : ℕ) → IsPushOrPull stack op → IsRegisterList stack list mask → read_immediate8 op list ≡ Some (fixed mask)
+list-reads _ stack list mask push is = mask-reads stack list mask is
+list-reads _ stack list mask pull is = mask-reads stack list mask is
 
 list-fits : (op : Operation) (stack : Stack) (m : Mark) → IsPushOrPull stack op → operation_fits op Immediate8 m ≡ true
 list-fits _ stack m push = refl
@@ -81,33 +72,48 @@ pair-is source destination high low first second sized =
     ∙ ap (option_and_then (λ low. if_pair (16 * high + low))) second
     ∙ ap (λ (b : Bool). if b then Some (16 * high + low) else None) sized
 
-module _ (next : ℕ) (op : Operation) where
-  operand-reads : (mode : Mode) (text : List ℕ) (post : Option ℕ) (tail : Tail) → IsOperand next op mode text post tail → Reads next (mode_operand op mode text) post tail
-  operand-reads _ text _ _ inherent = record { its = operand None Nothing []; is = refl; post_is = refl; tail_is = refl }
-  operand-reads _ _ _ tail (immediate8 {e = e} {z = z} is fills) = valued-reads next op field.Byte e z tail _ (byte-valued op e) is fills
-  operand-reads _ text _ _ (registers {mask = mask} stack which is) = list-reads next op stack text mask which is
-  operand-reads _ _ _ tail (immediate16 {e = e} {z = z} is fills) = valued-reads next op field.Word e z tail _ refl is fills
-  operand-reads _ _ _ tail (direct {e = e} {z = z} is fills) = valued-reads next op field.Direct e z tail _ refl is fills
-  operand-reads _ text _ tail (extended {z = z} is fills) = valued-reads next op field.Word text z tail _ (address-is text z is) is fills
-  operand-reads _ _ _ tail (extended_marked {e = e} {z = z} is fills) = valued-reads next op field.Word e z tail _ refl is fills
-  operand-reads _ text _ tail (indexed {post = post} is) = indexed-reads next text post tail is
-  operand-reads _ text _ tail (relative8 {z = z} is fills) = valued-reads next op field.Target8 text z tail _ refl is fills
-  operand-reads _ text _ tail (relative16 {z = z} is fills) = valued-reads next op field.Target16 text z tail _ refl is fills
-  operand-reads _ _ _ _ (pair {high = high} {low = low} source destination first second sized) =
-      mask-fixed next (16 * high + low) (register_pair (source ++ (44 ∷ destination))) (pair-is source destination high low first second sized)
+module _ (op : Operation) where
+  operand-reads : (mode : Mode) (text : List ℕ) (o : Operand) → IsOperand op mode text o → mode_operand op mode text ≡ Some o
+  operand-reads _ text _ inherent = refl
+  operand-reads _ _ _ (immediate8 {e = e} is) = byte-valued op e ∙ valued-is None field.Byte e is
+  operand-reads _ text _ (registers {mask = mask} stack which is) = list-reads op stack text mask which is
+  operand-reads _ _ _ (immediate16 {e = e} is) = valued-is None field.Word e is
+  operand-reads _ _ _ (direct {e = e} is) = valued-is None field.Direct e is
+  operand-reads _ text _ (extended is) = address-is text is ∙ valued-is None field.Word text is
+  operand-reads _ _ _ (extended_marked {e = e} is) = valued-is None field.Word e is
+  operand-reads _ text o (indexed is) = indexed-reads text o is
+  operand-reads _ text _ (relative8 is) = valued-is None field.Target8 text is
+  operand-reads _ text _ (relative16 is) = valued-is None field.Target16 text is
+  operand-reads _ _ _ (pair {high = high} {low = low} source destination first second its) = ap (option_map fixed) (pair-is source destination high low first second its)
 
-  operand-fits : (mode : Mode) (text : List ℕ) (post : Option ℕ) (tail : Tail) → IsOperand next op mode text post tail → operation_fits op mode (mark_of text) ≡ true
-  operand-fits _ text _ _ inherent = by-mode op Inherent (mark_of text) refl
-  operand-fits _ _ _ tail (immediate8 is fills) = by-mode op Immediate8 mark.Immediate refl
-  operand-fits _ text _ _ (registers stack which is) = list-fits op stack (mark_of text) which
-  operand-fits _ _ _ tail (immediate16 is fills) = by-mode op Immediate16 mark.Immediate refl
-  operand-fits _ _ _ tail (direct {e = e} {z = z} is fills) = by-mode op Direct (mark_of (60 ∷ e)) (ap (mode_fits Direct) (direct-mark e z is))
-  operand-fits _ text _ tail (extended {z = z} is fills) = by-mode op Extended (mark_of text) (ap (mode_fits Extended) (value-mark text z is))
-  operand-fits _ _ _ tail (extended_marked {e = e} {z = z} is fills) = by-mode op Extended (mark_of (62 ∷ e)) (ap (mode_fits Extended) (wide-mark e z is))
-  operand-fits _ text _ tail (indexed {post = post} is) = by-mode op Indexed (mark_of text) (ap (mode_fits Indexed) (indexed-mark next text post tail is))
-  operand-fits _ text _ tail (relative8 is fills) = by-mode op Relative8 (mark_of text) refl
-  operand-fits _ text _ tail (relative16 is fills) = by-mode op Relative16 (mark_of text) refl
-  operand-fits _ _ _ _ (pair source destination first second sized) = by-mode op Pair (mark_of (source ++ (44 ∷ destination))) refl
+  operand-fits : (mode : Mode) (text : List ℕ) (o : Operand) → IsOperand op mode text o → operation_fits op mode (mark_of text) ≡ true
+  operand-fits _ text _ inherent = by-mode op Inherent (mark_of text) refl
+  operand-fits _ _ _ (immediate8 is) = by-mode op Immediate8 mark.Immediate refl
+  operand-fits _ text _ (registers stack which is) = list-fits op stack (mark_of text) which
+  operand-fits _ _ _ (immediate16 is) = by-mode op Immediate16 mark.Immediate refl
+  operand-fits _ _ _ (direct {e = e} is) = by-mode op Direct (mark_of (60 ∷ e)) (ap (mode_fits Direct) (direct-mark e is))
+  operand-fits _ text _ (extended is) = by-mode op Extended (mark_of text) (ap (mode_fits Extended) (expression-mark text is))
+  operand-fits _ _ _ (extended_marked {e = e} is) = by-mode op Extended (mark_of (62 ∷ e)) (ap (mode_fits Extended) (wide-mark e is))
+  operand-fits _ text o (indexed is) = by-mode op Indexed (mark_of text) (ap (mode_fits Indexed) (indexed-mark text o is))
+  operand-fits _ text _ (relative8 is) = by-mode op Relative8 (mark_of text) refl
+  operand-fits _ text _ (relative16 is) = by-mode op Relative16 (mark_of text) refl
+  operand-fits _ _ _ (pair source destination first second its) = by-mode op Pair (mark_of (source ++ (44 ∷ destination))) refl
+
+-- a word and an operand of this shape are read as it
+pub shape-read : (word text : List ℕ) (s : Shape) → IsShape word text s → shape_of word text ≡ Some s
+unfolding row_operand
+shape-read word text s p =
+    let matches : (same_word (row_word p.row) word && fits p.row (mark_of text)) ≡ true =
+    ap (λ b. b && fits p.row (mark_of text)) p.named ∙ operand-fits p.row.0 p.row.1 text s.operand p.operand_is in
+    ap (option_and_then (λ e. option_map (shape_with e) (row_operand e.line.row text))) (entry_matched s.page s.opcode p.row word (mark_of text) p.in_map matches)
+    ∙ ap (option_map (shape_with (entry s.page (line_of s.opcode p.row)))) (operand-reads p.row.0 p.row.1 text s.operand p.operand_is)
+
+-- ---- operand bytes
+
+tail-read : (next : ℕ) (w : Wanted) (e : List ℕ) (tail : Tail) → IsTail next w e tail → wanted_tail w next e ≡ Some tail
+tail-read next _ e _ no_tail = refl
+tail-read next _ e _ fixed_tail = refl
+tail-read next _ e tail (value_tail {f = f} {z = z} is fills) = ap (option_and_then (filled f next)) (value-found e z is) ∙ fills
 
 -- ---- lengths
 
@@ -141,52 +147,36 @@ post-fits None = refl
 post-fits (Some post) = refl
 
 -- the bytes of an instruction are as many as are known without its value
-pub shape-fits : (i : Instr) (r : Row) (o : Operand) (next : ℕ) → o.post ≡ i.post → wanted_tail o.wanted next o.expression ≡ Some i.tail →
-    shape_length (shape_with (entry i.page (line_of i.opcode r)) o) ≡ length (spelling i)
-shape-fits i r o next post tail =
-    let parts : post_length o.post + wanted_length o.wanted ≡ length (option_to_list i.post ++ tail_bytes i.tail) =
-    ap (λ p. post_length p + wanted_length o.wanted) post ∙ ap (λ n. post_length i.post + n) (wanted-fits o.wanted next o.expression i.tail tail)
-    ∙ ap (λ n. n + length (tail_bytes i.tail)) (post-fits i.post) ∙ sym (length-append (option_to_list i.post) (tail_bytes i.tail)) in
-    ap (λ n. length (prefix i.page) + 1 + n) parts ∙ long-list (prefix i.page) i.opcode (option_to_list i.post ++ tail_bytes i.tail)
+pub shape-fits : (s : Shape) (next : ℕ) (tail : Tail) → wanted_tail s.operand.wanted next s.operand.expression ≡ Some tail → shape_length s ≡ length (spelling (with_tail s tail))
+shape-fits s next tail is =
+    let parts : post_length s.operand.post + wanted_length s.operand.wanted ≡ length (option_to_list s.operand.post ++ tail_bytes tail) =
+    ap (λ n. post_length s.operand.post + n) (wanted-fits s.operand.wanted next s.operand.expression tail is)
+    ∙ ap (λ n. n + length (tail_bytes tail)) (post-fits s.operand.post) ∙ sym (length-append (option_to_list s.operand.post) (tail_bytes tail)) in
+    ap (λ n. length (prefix s.page) + 1 + n) parts ∙ long-list (prefix s.page) s.opcode (option_to_list s.operand.post ++ tail_bytes tail)
 
 -- ---- the line
 
 module _ (line : List ℕ) (at : ℕ) (i : Instr) (p : IsInstruction line at i) where
-  abbrev next_at : ℕ
-  next_at = at + length (spelling i)
-
   first-is : first_word line ≡ p.word
   first-is = ap first_word p.line_is ∙ first-part p.word (p.spaces ++ (p.operand ++ p.comment)) p.one_word p.apart
 
   second-is : operand_text line ≡ p.operand
   second-is = ap operand_text p.line_is ∙ operand-back p.word p.spaces p.operand p.comment p.one_word p.all_spaces p.apart p.one_operand p.comment_apart p.comment_last
 
-  fits-row : fits p.row (mark_of p.operand) ≡ true
-  fits-row = operand-fits next_at p.row.0 p.row.1 p.operand i.post i.tail p.operand_is
+  tail-is : wanted_tail p.shape.operand.wanted (at + length (spelling i)) p.shape.operand.expression ≡ Some i.tail
+  tail-is = tail-read (at + length (spelling i)) p.shape.operand.wanted p.shape.operand.expression i.tail p.tail_is
 
-  matches : (same_word (row_word p.row) p.word && fits p.row (mark_of p.operand)) ≡ true
-  matches = ap (λ b. b && fits p.row (mark_of p.operand)) p.named ∙ fits-row
+  length-is : shape_length p.shape ≡ length (spelling i)
+  length-is = shape-fits p.shape (at + length (spelling i)) i.tail tail-is ∙ ap (λ i. length (spelling i)) p.with_it
 
-  read : Reads next_at (mode_operand p.row.0 p.row.1 p.operand) i.post i.tail
-  read = operand-reads next_at p.row.0 p.row.1 p.operand i.post i.tail p.operand_is
-
-  abbrev the_shape : Shape
-  the_shape = shape_with (entry i.page (line_of i.opcode p.row)) read.its
-
-  shape-is : shape_of p.word p.operand ≡ Some the_shape
-  unfolding row_operand
-  shape-is =
-      ap (option_and_then (λ e. option_map (shape_with e) (row_operand e.line.row p.operand))) (entry_matched i.page i.opcode p.row p.word (mark_of p.operand) p.in_map matches)
-      ∙ ap (option_map (shape_with (entry i.page (line_of i.opcode p.row)))) read.is
-
-  filled-is : shape_instr at the_shape ≡ Some i
+  filled-is : shape_instr at p.shape ≡ Some i
   filled-is =
-      ap (λ n. option_map (with_tail the_shape) (wanted_tail read.its.wanted (at + n) read.its.expression)) (shape-fits i p.row read.its next_at read.post_is read.tail_is)
-      ∙ ap (option_map (with_tail the_shape)) read.tail_is ∙ ap (λ post. Some (record i { post = post })) read.post_is
+      ap (λ n. option_map (with_tail p.shape) (wanted_tail p.shape.operand.wanted (at + n) p.shape.operand.expression)) length-is
+      ∙ ap (option_map (with_tail p.shape)) tail-is ∙ ap (λ i. Some i) p.with_it
 
   pub line-read : instr_of line at ≡ Some i
   line-read =
       ap (λ (b : Bool). if b then worded_instr line at else None) p.shown
       ∙ ap (λ w. option_and_then (shape_instr at) (shape_of w (operand_text line))) first-is
       ∙ ap (λ t. option_and_then (shape_instr at) (shape_of p.word t)) second-is
-      ∙ ap (option_and_then (shape_instr at)) shape-is ∙ filled-is
+      ∙ ap (option_and_then (shape_instr at)) (shape-read p.word p.operand p.shape p.shape_is) ∙ filled-is

@@ -6,14 +6,14 @@ use Rattle.std.specs.List.{slice_split, onto_first, list_all, list_any}
 use Rattle.std.proofs.lemmas.Bool.{and_parts, eqb-true}
 use Rattle.std.proofs.lemmas.Bool.Decides.{nat_tests}
 use Rattle.std.proofs.lemmas.List.Folds.{list_all-append}
-use Rattle.asm_model.specs.Characters.{is_star, is_comma, is_sign, is_minus}
+use Rattle.asm_model.specs.Characters.{is_star, is_sign, is_minus}
 use Rattle.asm_model.specs.Numbers.{number}
 use Rattle.asm_model.specs.Expressions.{Term, constant, label, here, Signed, signed, star, term, terms, terms_with, terms_after, value_after, value_of, constant_meaning, is_letter, is_label_character, longest_label, is_register_name, is_label}
 use Rattle.asm_model.specs.Statements.{is_expression, is_constant, is_constant_expression}
 use Rattle.asm_model.proofs.Spaces.{or_left, or_right}
 use Rattle.asm_forms.specs.Sums.{HasValue}
 use Rattle.asm_forms.specs.Expressions.{IsExpression, one, minus, plus, less}
-use Rattle.asm_forms.proofs.Bytes.{is_value_byte, number-bytes, none-of}
+use Rattle.asm_forms.proofs.Bytes.{is_expression_byte, label-byte, none-of, apart, number-without}
 use Rattle.asm_forms.proofs.Joined.{split-one, split-some, split-more}
 use Rattle.asm_forms.proofs.Values.{sum_of, value-found, value-of-found, unsigned}
 
@@ -60,31 +60,30 @@ module _ (q : ℕ → Bool) (no_star : q 42 ≡ false) (no_label : (c : ℕ) →
 label-sign : (c : ℕ) → is_label_character c ≡ true → is_sign c ≡ false
 label-sign c is = grind (arith, nat_tests)
 
-label-comma : (c : ℕ) → is_label_character c ≡ true → is_comma c ≡ false
-label-comma c is = grind (arith, nat_tests)
-
-value-comma : (c : ℕ) → is_value_byte c ≡ true → is_comma c ≡ false
-value-comma c is = grind (arith, nat_tests)
-
 term-sign : (text : List ℕ) (t : Term) → term text ≡ Some t → list_any is_sign text ≡ false
 term-sign text t is = term-free is_sign refl label-sign unsigned text t is
 
-term-comma : (text : List ℕ) (t : Term) → term text ≡ Some t → list_any is_comma text ≡ false
-term-comma text t is = term-free is_comma refl label-comma (λ text n its. none-of is_value_byte is_comma value-comma text (number-bytes text n its)) text t is
-
-any-more : (q : ℕ → Bool) (e rest : List ℕ) → list_any q e ≡ false → list_any q rest ≡ false → list_any q (e ++ rest) ≡ false
+pub any-more : (q : ℕ → Bool) (e rest : List ℕ) → list_any q e ≡ false → list_any q rest ≡ false → list_any q (e ++ rest) ≡ false
 any-more q [] rest first second = second
 any-more q (c ∷ e) rest first second =
     any-next q c (e ++ rest) (or_left (q c) (list_any q e) first) (any-more q e rest (or_right (q c) (list_any q e) first) second)
 
--- an expression has no comma
-pub expression-comma : (e : List ℕ) → IsExpression e → list_any is_comma e ≡ false
-expression-comma e (one {t = t} is) = term-comma e t is
-expression-comma _ (minus {text = text} {t = t} is) = any-next is_comma 45 text refl (term-comma text t is)
-expression-comma _ (plus {e = e} {t = t} text so_far is) =
-    any-more is_comma e (43 ∷ text) (expression-comma e so_far) (any-next is_comma 43 text refl (term-comma text t is))
-expression-comma _ (less {e = e} {t = t} text so_far is) =
-    any-more is_comma e (45 ∷ text) (expression-comma e so_far) (any-next is_comma 45 text refl (term-comma text t is))
+-- an expression has no byte of another kind
+module _ (k : ℕ) (none : is_expression_byte k ≡ false) where
+  term-without : (text : List ℕ) (t : Term) → term text ≡ Some t → list_any (λ c. c == k) text ≡ false
+  term-without text t is =
+      term-free (λ c. c == k) (apart k 42 none refl) (λ c its. apart k c none (label-byte c its)) (λ text n its. number-without k none text n its) text t is
+
+  sign-without : (sign : ℕ) (text : List ℕ) (t : Term) → is_expression_byte sign ≡ true → term text ≡ Some t → list_any (λ c. c == k) (sign ∷ text) ≡ false
+  sign-without sign text t signs is = any-next (λ c. c == k) sign text (apart k sign none signs) (term-without text t is)
+
+  pub expression-without : (e : List ℕ) → IsExpression e → list_any (λ c. c == k) e ≡ false
+  expression-without e (one {t = t} is) = term-without e t is
+  expression-without _ (minus {text = text} {t = t} is) = sign-without 45 text t refl is
+  expression-without _ (plus {e = e} {t = t} text so_far is) =
+      any-more (λ c. c == k) e (43 ∷ text) (expression-without e so_far) (sign-without 43 text t refl is)
+  expression-without _ (less {e = e} {t = t} text so_far is) =
+      any-more (λ c. c == k) e (45 ∷ text) (expression-without e so_far) (sign-without 45 text t refl is)
 
 -- ---- the terms of parts
 
@@ -278,6 +277,14 @@ value-some (t ∷ ts) z = by-term t.term (λ z. value-some ts z)
 constant-some : (o : Option (List Signed)) → option_map_or (list_all (λ t. is_constant t.term)) o false ≡ is_some (option_and_then (value_of constant_meaning) o)
 constant-some None = refl
 constant-some (Some ts) = value-some ts (pos 0)
+
+some-terms : (o : Option (List Signed)) (z : ℤ) → option_and_then (value_of constant_meaning) o ≡ Some z → is_some o ≡ true
+some-terms None z is = absurd (cc)
+some-terms (Some ts) z is = refl
+
+-- one of numbers is an expression
+pub value-expression : (e : List ℕ) (z : ℤ) → HasValue e z → IsExpression e
+value-expression e z is = expression-back e (some-terms (terms e) z (value-found e z is))
 
 pub constant-is : (e : List ℕ) (z : ℤ) → HasValue e z → is_constant_expression e ≡ true
 constant-is e z is = constant-some (terms e) ∙ ap is_some (value-found e z is)

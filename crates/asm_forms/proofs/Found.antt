@@ -1,57 +1,43 @@
--- Operands by their forms are read as what they mean: offsets and extended indirect.
-use Rattle.std.proofs.Common.{◌≡◌, ℕ, ◌+◌, ◌*◌, ◌<◌, ◌==◌, ◌||◌, Bool, true, false, Option, Some, None, List, [], ◌∷◌, ◌++◌, map, refl, ap, sym, subst, ◌∙◌, arith, ℤ, pos, negsuc}
+-- Offsets by their forms are read as what they mean.
+use Rattle.std.proofs.Common.{◌≡◌, ℕ, ◌+◌, ◌*◌, ◌<◌, ◌==◌, ◌&&◌, Bool, true, false, Option, Some, None, inr, List, [], ◌∷◌, ◌++◌, map, refl, ap, sym, subst, ◌∙◌, append_assoc, arith, ℤ, pos, negsuc}
 use Rattle.std.specs.Prelude.{codes, option_map, option_and_then, if◌then◌else◌}
 use Rattle.std.specs.List.{slice_split, list_any, range_with_len}
+use Rattle.std.specs.Char.{to_ascii_lowercase}
 use Rattle.std.specs.Str.{bytes_eq, str_to_ascii_lowercase}
 use Rattle.std.proofs.lemmas.Bool.{eqb-true}
 use Rattle.std.proofs.lemmas.Bool.Decides.{nat_tests}
 use Rattle.std.proofs.lemmas.Int.{ints}
-use Rattle.cpu_model.specs.declared.instruction.Tail.{Tail}
-use Rattle.cpu_model.specs.Table.{postbyte, form_lines}
-use Rattle.number_text.specs.Number.{is_digit, within}
-use Rattle.asm_model.specs.declared.operand.Field.{Field}
 use Rattle.asm_model.specs.declared.operand.Field.TheVariants as field
-use Rattle.asm_model.specs.declared.operand.Wanted.TheVariants.{Nothing, Value}
+use Rattle.asm_model.specs.declared.operand.Wanted.TheVariants.{Value}
 use Rattle.asm_model.specs.declared.operand.Size.{Size}
 use Rattle.asm_model.specs.declared.operand.Size.TheVariants.{Five, Eight, Sixteen}
 use Rattle.asm_model.specs.declared.operand.Width.{Width}
 use Rattle.asm_model.specs.declared.operand.Width.TheVariants.{Narrow, Wide, Unmarked}
-use Rattle.asm_model.specs.Characters.{same_word, is_comma, is_minus, is_dollar, is_less, is_greater}
+use Rattle.asm_model.specs.Characters.{same_word, is_comma, is_minus, is_greater}
 use Rattle.asm_model.specs.Numbers.{number}
 use Rattle.asm_model.specs.Expressions.{terms, terms_after, lone_value}
 use Rattle.asm_model.specs.Print.{in_brackets}
-use Rattle.asm_model.specs.Operands.{Operand, operand, offset_of, marked, valued, filled, between, modulo, index_number, indirect_bit, size_of_value, sized_offset, offset_operand, target_operand, offset_from, offset_among, bare_post}
-use Rattle.asm_model.specs.Instructions.{wanted_tail}
-use Rattle.asm_model.proofs.Commas.{split_comma, any_comma}
+use Rattle.asm_model.specs.Operands.{Operand, operand, offset_of, marked, between, index_number, indirect_bit, size_of_value, sized_offset, offset_operand, target_operand, offset_from, offset_among, bare_post}
+use Rattle.asm_model.specs.Statements.{is_expression}
+use Rattle.asm_model.proofs.Commas.{split_comma}
 use Rattle.asm_model.proofs.Finite.{on_below}
+use Rattle.asm_model.proofs.Spaces.{or_left, or_right}
 use Rattle.asm_terms.specs.Terms.{joined}
 use Rattle.asm_terms.proofs.Lone.{lone-number}
-use Rattle.asm_forms.specs.Sums.{IsOneNumber, plain, minus, HasValue, one, plus, less}
-use Rattle.asm_forms.specs.Operands.{width_mark, IsSized, narrow, wide, five, eight, sixteen, sized_post, sized_tail, target_post, target_field, IsOffset, from_register, from_pc}
-use Rattle.asm_forms.proofs.Values.{value-found, unsigned}
+use Rattle.asm_forms.specs.Sums.{IsOneNumber, plain, minus}
+use Rattle.asm_forms.specs.Expressions.{IsExpression}
+use Rattle.asm_forms.specs.Operands.{width_mark, IsSized, narrow, wide, five, eight, sixteen, sized, target_post, target_field, IsOffset, from_register, from_pc}
+use Rattle.asm_forms.proofs.Values.{unsigned}
 use Rattle.asm_forms.proofs.Names.{bytes_same, same-any}
 use Rattle.asm_forms.proofs.Joined.{one-part}
-use Rattle.asm_forms.proofs.Valued.{value-without, first-apart, valued-is, tail-is}
-
--- an operand that is read as this postbyte and these operand bytes
-pub record Reads (next : ℕ) (read : Option Operand) (post : Option ℕ) (tail : Tail) : Type 0 where
-  pub its : Operand
-  pub is : read ≡ Some its
-  pub post_is : its.post ≡ post
-  pub tail_is : wanted_tail its.wanted next its.expression ≡ Some tail
+use Rattle.asm_forms.proofs.Expressions.{expression-without, expression-is}
+use Rattle.asm_forms.proofs.Valued.{no-empty, first-apart, valued-is}
+use Rattle.asm_forms.proofs.Bare.{is_bare_front, without_opening, lower-mark, front-none}
 
 -- ---- one number
 
 first-of : (o : Bool) (c : ℕ) (text : List ℕ) → is_minus c ≡ o → terms (c ∷ text) ≡ (if o then terms_after 45 text else terms_after 43 (c ∷ text))
 first-of o c text is = ap (λ (b : Bool). if b then terms_after 45 text else terms_after 43 (c ∷ text)) is
-
-or_left : (a b : Bool) → (a || b) ≡ false → a ≡ false
-or_left true b is = is
-or_left false b is = refl
-
-or_right : (a b : Bool) → (a || b) ≡ false → b ≡ false
-or_right true b is = absurd (cc)
-or_right false b is = is
 
 zero-plus : (n : ℕ) → joined (pos 0) false (pos n) ≡ pos n
 zero-plus n = omega (arith, ints)
@@ -106,31 +92,29 @@ sixteen-by : (indirect : Bool) (e : List ℕ) (o : Option ℤ) → option_and_th
 sixteen-by indirect e None is out = refl
 sixteen-by indirect e (Some z) is out = sixteen-size indirect z (out z (lone-one e z is))
 
-sized-is : (indirect : Bool) (e : List ℕ) (w : Width) (size : Size) (r : ℕ) → IsSized indirect e w size → offset_operand w indirect r e ≡ sized_offset size indirect r e
-sized-is indirect e _ _ r narrow = refl
-sized-is indirect e _ _ r wide = refl
-sized-is indirect e _ _ r (five {z = z} is direct within) =
+size-is : (indirect : Bool) (e : List ℕ) (w : Width) (size : Size) (r : ℕ) → IsSized indirect e w size → offset_operand w indirect r e ≡ sized_offset size indirect r e
+size-is indirect e _ _ r narrow = refl
+size-is indirect e _ _ r wide = refl
+size-is indirect e _ _ r (five {z = z} is direct within) =
     ap (λ s. sized_offset s indirect r e) (ap (size_of_value indirect) (one-lone e z is) ∙ five-size indirect z direct within)
-sized-is indirect e _ _ r (eight {z = z} is other within) =
+size-is indirect e _ _ r (eight {z = z} is other within) =
     ap (λ s. sized_offset s indirect r e) (ap (size_of_value indirect) (one-lone e z is) ∙ eight-size indirect z other within)
-sized-is indirect e _ _ r (sixteen out) =
+size-is indirect e _ _ r (sixteen out) =
     ap (λ s. sized_offset s indirect r e) (sixteen-by indirect e (option_and_then lone_value (terms e)) refl out)
 
-pub value-reads : (next : ℕ) (post : Option ℕ) (f : Field) (e : List ℕ) (z : ℤ) (tail : Tail) → HasValue e z → filled f next z ≡ Some tail → Reads next (valued post f e) post tail
-value-reads next post f e z tail is fills =
-    record { its = operand post (Value f) e; is = valued-is post f e z is; post_is = refl; tail_is = tail-is f next e z tail is fills }
+sized-reads : (indirect : Bool) (r : ℕ) (e : List ℕ) (size : Size) → IsExpression e → sized_offset size indirect r e ≡ Some (sized size indirect r e)
+sized-reads indirect r e (Five y) is = refl
+sized-reads indirect r e Eight is = valued-is (Some (136 + 32 * r + indirect_bit indirect)) field.Offset8 e is
+sized-reads indirect r e Sixteen is = valued-is (Some (137 + 32 * r + indirect_bit indirect)) field.Offset16 e is
 
-sized-reads : (next : ℕ) (indirect : Bool) (r : ℕ) (e : List ℕ) (z : ℤ) (tail : Tail) (size : Size) → HasValue e z → sized_tail size z ≡ Some tail →
-    Reads next (sized_offset size indirect r e) (Some (sized_post size indirect r)) tail
-sized-reads next indirect r e z tail (Five y) is fills = record { its = operand (Some (32 * r + modulo 32 y)) Nothing []; is = refl; post_is = refl; tail_is = fills }
-sized-reads next indirect r e z tail Eight is fills = value-reads next (Some (136 + 32 * r + indirect_bit indirect)) field.Offset8 e z tail is fills
-sized-reads next indirect r e z tail Sixteen is fills = value-reads next (Some (137 + 32 * r + indirect_bit indirect)) field.Offset16 e z tail is fills
+-- a target from the next instruction
+abbrev targeted : Width → Bool → List ℕ → Operand
+targeted w indirect e = operand (Some (target_post w + indirect_bit indirect)) (Value (target_field w)) e
 
-target-reads : (next : ℕ) (indirect : Bool) (w : Width) (e : List ℕ) (z : ℤ) (tail : Tail) → HasValue e z → filled (target_field w) next z ≡ Some tail →
-    Reads next (target_operand w indirect e) (Some (target_post w + indirect_bit indirect)) tail
-target-reads next indirect Narrow e z tail is fills = value-reads next (Some (140 + indirect_bit indirect)) field.Target8 e z tail is fills
-target-reads next indirect Wide e z tail is fills = value-reads next (Some (141 + indirect_bit indirect)) field.Target16 e z tail is fills
-target-reads next indirect Unmarked e z tail is fills = value-reads next (Some (141 + indirect_bit indirect)) field.Target16 e z tail is fills
+target-reads : (indirect : Bool) (w : Width) (e : List ℕ) → IsExpression e → target_operand w indirect e ≡ Some (targeted w indirect e)
+target-reads indirect Narrow e is = valued-is (Some (140 + indirect_bit indirect)) field.Target8 e is
+target-reads indirect Wide e is = valued-is (Some (141 + indirect_bit indirect)) field.Target16 e is
+target-reads indirect Unmarked e is = valued-is (Some (141 + indirect_bit indirect)) field.Target16 e is
 
 -- ---- bases
 
@@ -171,18 +155,18 @@ index-base name r is = by-x (same_word (codes "X") name) refl
 
 -- ---- an offset and a base
 
-offset-marked : (w : Width) (e : List ℕ) (z : ℤ) → HasValue e z → marked (width_mark w ++ e) ≡ offset_of w e
-offset-marked Narrow e z is = refl
-offset-marked Wide e z is = refl
-offset-marked Unmarked [] z is = refl
-offset-marked Unmarked (c ∷ e) z is =
-    ap (λ (b : Bool). if b then offset_of Narrow e else (if is_greater c then offset_of Wide e else offset_of Unmarked (c ∷ e))) (first-apart 60 c e z refl is)
-    ∙ ap (λ (b : Bool). if b then offset_of Wide e else offset_of Unmarked (c ∷ e)) (first-apart 62 c e z refl is)
+offset-marked : (w : Width) (e : List ℕ) → IsExpression e → marked (width_mark w ++ e) ≡ offset_of w e
+offset-marked Narrow e is = refl
+offset-marked Wide e is = refl
+offset-marked Unmarked [] is = refl
+offset-marked Unmarked (c ∷ e) is =
+    ap (λ (b : Bool). if b then offset_of Narrow e else (if is_greater c then offset_of Wide e else offset_of Unmarked (c ∷ e))) (first-apart 60 c e refl is)
+    ∙ ap (λ (b : Bool). if b then offset_of Wide e else offset_of Unmarked (c ∷ e)) (first-apart 62 c e refl is)
 
-offset-comma : (w : Width) (e : List ℕ) (z : ℤ) → HasValue e z → list_any is_comma (width_mark w ++ e) ≡ false
-offset-comma Narrow e z is = value-without 44 refl e z is
-offset-comma Wide e z is = value-without 44 refl e z is
-offset-comma Unmarked e z is = value-without 44 refl e z is
+offset-comma : (w : Width) (e : List ℕ) → IsExpression e → list_any is_comma (width_mark w ++ e) ≡ false
+offset-comma Narrow e is = expression-without 44 refl e is
+offset-comma Wide e is = expression-without 44 refl e is
+offset-comma Unmarked e is = expression-without 44 refl e is
 
 abbrev offset_text : Width → List ℕ → List ℕ → List ℕ
 offset_text w e name = width_mark w ++ (e ++ (44 ∷ name))
@@ -192,87 +176,80 @@ text-parts Narrow e name = refl
 text-parts Wide e name = refl
 text-parts Unmarked e name = refl
 
-pub offset-split : (w : Width) (e name : List ℕ) (z : ℤ) → HasValue e z → IsBase name → slice_split is_comma (offset_text w e name) ≡ (width_mark w ++ e) ∷ name ∷ []
-offset-split w e name z is base =
-    ap (slice_split is_comma) (text-parts w e name) ∙ split_comma (width_mark w ++ e) name (offset-comma w e z is)
+offset-split : (w : Width) (e name : List ℕ) → IsExpression e → IsBase name → slice_split is_comma (offset_text w e name) ≡ (width_mark w ++ e) ∷ name ∷ []
+offset-split w e name is base =
+    ap (slice_split is_comma) (text-parts w e name) ∙ split_comma (width_mark w ++ e) name (offset-comma w e is)
     ∙ ap (λ parts. (width_mark w ++ e) ∷ parts) (one-part name (base-comma name base))
 
-offset-some-comma : (w : Width) (e name : List ℕ) → list_any is_comma (offset_text w e name) ≡ true
-offset-some-comma w e name = ap (list_any is_comma) (text-parts w e name) ∙ any_comma (width_mark w ++ e) name
+module _ (indirect : Bool) (w : Width) (e name : List ℕ) (is : IsExpression e) where
+  from-base : IsBase name → (b : Bool) → same_word (codes "PCR") name ≡ b →
+      offset_among indirect (slice_split is_comma (offset_text w e name)) ≡ (if b then target_operand w indirect e else option_and_then (λ r. offset_operand w indirect r e) (index_number name))
+  from-base base b named =
+      ap (offset_among indirect) (offset-split w e name is base) ∙ ap (λ o. offset_from indirect o name) (offset-marked w e is)
+      ∙ ap (λ (b : Bool). if b then target_operand w indirect e else option_and_then (λ r. offset_operand w indirect r e) (index_number name)) named
 
-register-among : (indirect : Bool) (w : Width) (e name : List ℕ) (z : ℤ) (size : Size) (r : ℕ) → HasValue e z → index_number name ≡ Some r → IsSized indirect e w size →
-    offset_among indirect (slice_split is_comma (offset_text w e name)) ≡ sized_offset size indirect r e
-register-among indirect w e name z size r is index sized =
-    let base = index-base name r index in
-    ap (offset_among indirect) (offset-split w e name z is base.0)
-    ∙ ap (λ o. offset_from indirect o name) (offset-marked w e z is)
-    ∙ ap (λ (b : Bool). if b then target_operand w indirect e else option_and_then (λ r. offset_operand w indirect r e) (index_number name)) base.1
-    ∙ ap (option_and_then (λ r. offset_operand w indirect r e)) index ∙ sized-is indirect e w size r sized
+  register-among : (size : Size) (r : ℕ) → index_number name ≡ Some r → IsSized indirect e w size →
+      offset_among indirect (slice_split is_comma (offset_text w e name)) ≡ Some (sized size indirect r e)
+  register-among size r index its =
+      let base = index-base name r index in
+      from-base base.0 false base.1 ∙ ap (option_and_then (λ r. offset_operand w indirect r e)) index ∙ size-is indirect e w size r its ∙ sized-reads indirect r e size is
 
-pc-among : (indirect : Bool) (w : Width) (e name : List ℕ) (z : ℤ) → HasValue e z → same_word (codes "PCR") name ≡ true →
-    offset_among indirect (slice_split is_comma (offset_text w e name)) ≡ target_operand w indirect e
-pc-among indirect w e name z is named =
-    ap (offset_among indirect) (offset-split w e name z is (record { word = codes "PCR"; is = named; free = refl }))
-    ∙ ap (λ o. offset_from indirect o name) (offset-marked w e z is)
-    ∙ ap (λ (b : Bool). if b then target_operand w indirect e else option_and_then (λ r. offset_operand w indirect r e) (index_number name)) named
+  pc-among : same_word (codes "PCR") name ≡ true → offset_among indirect (slice_split is_comma (offset_text w e name)) ≡ Some (targeted w indirect e)
+  pc-among named = from-base (record { word = codes "PCR"; is = named; free = refl }) true named ∙ target-reads indirect w e is
 
-pub along : (next : ℕ) (read found : Option Operand) (post : Option ℕ) (tail : Tail) → read ≡ found → Reads next found post tail → Reads next read post tail
-along next read found post tail same r = record { its = r.its; is = same ∙ r.is; post_is = r.post_is; tail_is = r.tail_is }
+-- an offset by its form is read as it
+pub offset-reads : (indirect : Bool) (text : List ℕ) (o : Operand) → IsOffset indirect text o → offset_among indirect (slice_split is_comma text) ≡ Some o
+offset-reads indirect _ _ (from_register {e = e} {width = w} {size = size} {r = r} name is index its) = register-among indirect w e name is size r index its
+offset-reads indirect _ _ (from_pc {e = e} w name is named) = pc-among indirect w e name is named
 
--- an offset by its form is read as its postbyte and operand bytes
-pub offset-reads : (next : ℕ) (indirect : Bool) (text : List ℕ) (post : ℕ) (tail : Tail) → IsOffset next indirect text post tail →
-    Reads next (offset_among indirect (slice_split is_comma text)) (Some post) tail
-offset-reads next indirect _ _ _ (from_register {e = e} {width = w} {size = size} {z = z} {r = r} {tail = tail} name is index sized fills) =
-    along next _ _ _ tail (register-among indirect w e name z size r is index sized) (sized-reads next indirect r e z tail size is fills)
-offset-reads next indirect _ _ _ (from_pc {e = e} {z = z} {tail = tail} w name is named fills) =
-    along next _ _ _ tail (pc-among indirect w e name z is named) (target-reads next indirect w e z tail is fills)
+-- ---- an offset is not an operand without a number
 
--- ---- the first byte
+front-checked : map (λ c. is_bare_front (to_ascii_lowercase c ∷ []) && is_expression (c ∷ [])) (range_with_len 0 128) ≡ map (λ c. false) (range_with_len 0 128)
+front-checked = refl
 
-pub no-empty : (z : ℤ) → HasValue [] z → ⊥
-no-empty z is = let none = value-found [] z is in absurd (cc)
+front-below : (c : ℕ) → is_bare_front (to_ascii_lowercase c ∷ []) ≡ true → c < 128
+front-below c is = grind (arith, nat_tests)
 
--- a digit, `$`, `-`, `<` or `>`
-abbrev pub is_start : ℕ → Bool
-is_start c = is_digit c || (is_dollar c || (is_minus c || (is_less c || is_greater c)))
-
-dollar-start : (c : ℕ) → is_dollar c ≡ true → is_start c ≡ true
-dollar-start c is = grind (arith, nat_tests)
-
-number-start : (c : ℕ) (text : List ℕ) (n : ℕ) → number (c ∷ text) ≡ Some n → is_start c ≡ true
-number-start c text n is = by-dollar (is_dollar c) refl
+one-front : (c : ℕ) → IsExpression (c ∷ []) → is_bare_front (to_ascii_lowercase c ∷ []) ≡ false
+one-front c is = by-front (is_bare_front (to_ascii_lowercase c ∷ [])) refl
   where
-    by-digit : is_dollar c ≡ false → (b : Bool) → is_digit c ≡ b → is_start c ≡ true
-    by-digit other true first = simp first
-    by-digit other false first = let none : None ≡ Some n = simp (other, first) at is in absurd (cc)
+    by-front : (b : Bool) → is_bare_front (to_ascii_lowercase c ∷ []) ≡ b → is_bare_front (to_ascii_lowercase c ∷ []) ≡ false
+    by-front true front =
+        let never : (is_bare_front (to_ascii_lowercase c ∷ []) && is_expression (c ∷ [])) ≡ false =
+        on_below 128 (λ c. is_bare_front (to_ascii_lowercase c ∷ []) && is_expression (c ∷ [])) (λ c. false) front-checked c (front-below c front) in
+        let both : true ≡ false = sym (expression-is (c ∷ []) is) ∙ ap (λ b. b && is_expression (c ∷ [])) (sym front) ∙ never in
+        absurd (cc)
+    by-front false other = other
 
-    by-dollar : (b : Bool) → is_dollar c ≡ b → is_start c ≡ true
-    by-dollar true first = dollar-start c first
-    by-dollar false first = by-digit first (is_digit c) refl
+expression-front : (e : List ℕ) → IsExpression e → is_bare_front (str_to_ascii_lowercase e) ≡ false
+expression-front [] is = absurd (no-empty is)
+expression-front (c ∷ []) is = one-front c is
+expression-front (c ∷ d ∷ e) is = refl
 
-one-start : (e : List ℕ) (z : ℤ) → IsOneNumber e z → (c : ℕ) (text : List ℕ) → e ≡ c ∷ text → is_start c ≡ true
-one-start _ _ (plain {text = text} {n = n} is) c rest same = number-start c rest n (sym (ap number same) ∙ is)
-one-start _ _ (minus {text = text} {n = n} is) c rest same = let first : 45 ≡ c = cc in ap is_start (sym first)
+marked-front : (w : Width) (e : List ℕ) → IsExpression e → is_bare_front (str_to_ascii_lowercase (width_mark w ++ e)) ≡ false
+marked-front Narrow [] is = refl
+marked-front Narrow (c ∷ e) is = refl
+marked-front Wide [] is = refl
+marked-front Wide (c ∷ e) is = refl
+marked-front Unmarked e is = expression-front e is
 
-pub value-start : (e : List ℕ) (z : ℤ) → HasValue e z → (c : ℕ) (text : List ℕ) → e ≡ c ∷ text → is_start c ≡ true
-value-start e z (one is) c text same = one-start e z is c text same
-value-start _ _ (plus {e = []} {z = z} {n = n} text so_far is) c rest same = absurd (no-empty z so_far)
-value-start _ _ (plus {e = d ∷ e} {z = z} {n = n} text so_far is) c rest same =
-    let first : d ≡ c = cc in ap is_start (sym first) ∙ value-start (d ∷ e) z so_far d e refl
-value-start _ _ (less {e = []} {z = z} {n = n} text so_far is) c rest same = absurd (no-empty z so_far)
-value-start _ _ (less {e = d ∷ e} {z = z} {n = n} text so_far is) c rest same =
-    let first : d ≡ c = cc in ap is_start (sym first) ∙ value-start (d ∷ e) z so_far d e refl
+-- no bracket is before it
+marked-opening : (w : Width) (e : List ℕ) → IsExpression e → without_opening (str_to_ascii_lowercase (width_mark w ++ e)) ≡ str_to_ascii_lowercase (width_mark w ++ e)
+marked-opening Narrow e is = refl
+marked-opening Wide e is = refl
+marked-opening Unmarked [] is = refl
+marked-opening Unmarked (c ∷ e) is =
+    ap (λ (b : Bool). if b then str_to_ascii_lowercase e else str_to_ascii_lowercase (c ∷ e)) (lower-mark 91 c (inr refl) ∙ first-apart 91 c e refl is)
 
--- no operand without a number begins with one of these
-bare-started : (indirect : Bool) (text : List ℕ) → map (λ c. if is_start c then bare_post (in_brackets indirect (c ∷ text)) else None) (range_with_len 0 128) ≡ map (λ c. None) (range_with_len 0 128)
-unfolding postbyte form_lines
-bare-started true text = refl
-bare-started false text = refl
+offset-none : (indirect : Bool) (w : Width) (e name : List ℕ) → IsExpression e → bare_post (in_brackets indirect (offset_text w e name)) ≡ None
+offset-none false w e name is =
+    ap bare_post (text-parts w e name)
+    ∙ front-none (width_mark w ++ e) name (offset-comma w e is) (ap is_bare_front (marked-opening w e is) ∙ marked-front w e is)
+offset-none true w e name is =
+    ap (λ text. bare_post (91 ∷ text ++ (93 ∷ []))) (text-parts w e name)
+    ∙ ap (λ text. bare_post (91 ∷ text)) (append_assoc (width_mark w ++ e) (44 ∷ name) (93 ∷ []))
+    ∙ front-none (91 ∷ (width_mark w ++ e)) (name ++ (93 ∷ [])) (offset-comma w e is) (marked-front w e is)
 
-start-below : (c : ℕ) → is_start c ≡ true → c < 128
-start-below c is = grind (arith, nat_tests)
-
-pub bare-none : (indirect : Bool) (c : ℕ) (text : List ℕ) → is_start c ≡ true → bare_post (in_brackets indirect (c ∷ text)) ≡ None
-bare-none indirect c text is =
-    sym (ap (λ (b : Bool). if b then bare_post (in_brackets indirect (c ∷ text)) else None) is)
-    ∙ on_below 128 (λ c. if is_start c then bare_post (in_brackets indirect (c ∷ text)) else None) (λ c. None) (bare-started indirect text) c (start-below c is)
+pub offset-apart : (indirect : Bool) (text : List ℕ) (o : Operand) → IsOffset indirect text o → bare_post (in_brackets indirect text) ≡ None
+offset-apart indirect _ _ (from_register {e = e} {width = w} name is index its) = offset-none indirect w e name is
+offset-apart indirect _ _ (from_pc {e = e} w name is named) = offset-none indirect w e name is

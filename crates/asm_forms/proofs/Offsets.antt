@@ -1,13 +1,8 @@
 -- What is read as an indexed operand is one by its form.
-use Rattle.std.proofs.Common.{◌≡◌, ℕ, ◌+◌, ◌*◌, ◌<◌, ◌≤◌, ◌&&◌, not, Bool, true, false, Option, Some, None, List, [], ◌∷◌, ◌++◌, refl, ap, sym, subst, ◌∙◌, append_assoc, arith, ℤ, pos, negsuc}
-use Rattle.std.specs.Prelude.{is_some, codes, option_and_then, if◌then◌else◌}
-use Rattle.std.specs.List.{range_with_len, slice_split, list_any}
-use Rattle.std.proofs.lemmas.Bool.{and_parts, eqb-true}
-use Rattle.cpu_model.specs.declared.indexing.Indexing.{Indexing}
-use Rattle.cpu_model.specs.declared.instruction.Tail.{Tail}
-use Rattle.cpu_model.specs.declared.instruction.Tail.TheVariants.{Empty}
-use Rattle.cpu_model.specs.Reading.{extent_of_form}
-use Rattle.cpu_model.specs.Table.{postbyte}
+use Rattle.std.proofs.Common.{◌≡◌, ℕ, ◌&&◌, not, Bool, true, false, Option, Some, None, List, [], ◌∷◌, ◌++◌, refl, ap, sym, subst, ◌∙◌, append_assoc, ℤ, pos, negsuc}
+use Rattle.std.specs.Prelude.{codes, option_and_then, if◌then◌else◌}
+use Rattle.std.specs.List.{slice_split, list_any}
+use Rattle.std.proofs.lemmas.Bool.{eqb-true}
 use Rattle.asm_model.specs.declared.operand.Field.{Field}
 use Rattle.asm_model.specs.declared.operand.Field.TheVariants as field
 use Rattle.asm_model.specs.declared.operand.Wanted.TheVariants.{Nothing, Value}
@@ -17,45 +12,27 @@ use Rattle.asm_model.specs.declared.operand.Width.{Width}
 use Rattle.asm_model.specs.declared.operand.Width.TheVariants.{Narrow, Wide, Unmarked}
 use Rattle.asm_model.specs.Characters.{same_word, is_comma, is_opening, is_less, is_greater}
 use Rattle.asm_model.specs.Expressions.{terms, lone_value}
-use Rattle.asm_model.specs.Print.{plain_index, in_brackets}
-use Rattle.asm_model.specs.Operands.{Operand, operand, offset_of, marked, valued, filled, between, modulo, is_bare, is_bare_extent, index_number, indirect_bit, size_of_value, sized_offset, offset_operand, target_operand, offset_from, offset_among, before_bracket, inside, numbered, bare_post, bare_or, absolute_post}
-use Rattle.asm_model.specs.Instructions.{wanted_tail}
-use Rattle.asm_forms.specs.Sums.{IsOneNumber, HasValue, one}
-use Rattle.asm_forms.specs.Operands.{width_mark, IsSized, narrow, wide, five, eight, sixteen, IsOffset, from_register, from_pc, IsIndexed, bare, offset, offset_in, absolute}
-use Rattle.asm_forms.proofs.Values.{sum_of, value-of-found}
+use Rattle.asm_model.specs.Print.{in_brackets}
+use Rattle.asm_model.specs.Operands.{Operand, operand, offset_of, marked, valued, between, index_number, size_of_value, sized_offset, offset_operand, target_operand, offset_from, offset_among, before_bracket, inside, numbered, bare_post, bare_or, indexed_operand, absolute_post}
+use Rattle.asm_model.specs.Statements.{is_expression}
+use Rattle.asm_forms.specs.Sums.{IsOneNumber, one}
+use Rattle.asm_forms.specs.Expressions.{IsExpression}
+use Rattle.asm_forms.specs.Operands.{width_mark, IsSized, narrow, wide, five, eight, sixteen, sized, IsOffset, from_register, from_pc, IsIndexed, bare, offset, offset_in, absolute}
+use Rattle.asm_forms.proofs.Expressions.{expression-back, value-expression}
+use Rattle.asm_forms.proofs.Bare.{bare-back}
 use Rattle.asm_forms.proofs.Found.{one-lone, lone-one}
-use Rattle.asm_forms.proofs.Lists.{found-passes, found-in, in-range, joined-back, before-back}
+use Rattle.asm_forms.proofs.Lists.{joined-back, before-back}
 
--- ---- the value of an expression
+-- ---- an expression
 
-valued-step : (post : Option ℕ) (f : Field) (e : List ℕ) (o : Operand) (b : Bool) → (if b then Some (operand post (Value f) e) else None) ≡ Some o → operand post (Value f) e ≡ o
-valued-step post f e o true is = cc
-valued-step post f e o false is = absurd (cc)
+valued-step : (post : Option ℕ) (f : Field) (e : List ℕ) (o : Operand) (b : Bool) → is_expression e ≡ b → (if b then Some (operand post (Value f) e) else None) ≡ Some o →
+    IsExpression e × (operand post (Value f) e ≡ o)
+valued-step post f e o true some is = (expression-back e some, cc)
+valued-step post f e o false some is = absurd (cc)
 
-pub valued-back : (post : Option ℕ) (f : Field) (e : List ℕ) (o : Operand) → valued post f e ≡ Some o → operand post (Value f) e ≡ o
-valued-back post f e o is = valued-step post f e o (is_some (terms e)) is
-
--- a value that fills its field
-pub record Fills (f : Field) (next : ℕ) (e : List ℕ) (tail : Tail) : Type 0 where
-  pub value : ℤ
-  pub has : HasValue e value
-  pub fills : filled f next value ≡ Some tail
-
-fills-step : (f : Field) (next : ℕ) (e : List ℕ) (tail : Tail) (o : Option ℤ) → sum_of e ≡ o → option_and_then (filled f next) o ≡ Some tail → Fills f next e tail
-fills-step f next e tail None is whole = absurd (cc)
-fills-step f next e tail (Some z) is whole = record { value = z; has = value-of-found e z is; fills = whole }
-
-pub fills-back : (f : Field) (next : ℕ) (e : List ℕ) (tail : Tail) → wanted_tail (Value f) next e ≡ Some tail → Fills f next e tail
-fills-back f next e tail is = fills-step f next e tail (sum_of e) refl is
-
--- an operand of a value is read with its tail
-pub valued-fills : (post : Option ℕ) (f : Field) (next : ℕ) (e : List ℕ) (o : Operand) (tail : Tail) → valued post f e ≡ Some o → wanted_tail o.wanted next o.expression ≡ Some tail →
-    Fills f next e tail
-valued-fills post f next e o tail read fills =
-    fills-back f next e tail (subst (λ (o : Operand). wanted_tail o.wanted next o.expression ≡ Some tail) (sym (valued-back post f e o read)) fills)
-
-pub valued-post : (post : Option ℕ) (f : Field) (e : List ℕ) (o : Operand) → valued post f e ≡ Some o → post ≡ o.post
-valued-post post f e o read = ap (λ o. o.post) (valued-back post f e o read)
+-- what is read with the value of a text is an operand of an expression
+pub valued-back : (post : Option ℕ) (f : Field) (e : List ℕ) (o : Operand) → valued post f e ≡ Some o → IsExpression e × (operand post (Value f) e ≡ o)
+valued-back post f e o is = valued-step post f e o (is_expression e) refl is
 
 -- ---- the size of an offset
 
@@ -101,60 +78,45 @@ module _ (indirect : Bool) (e : List ℕ) where
   size-read Wide r = refl
   size-read Unmarked r = refl
 
-five-value : (indirect : Bool) (e : List ℕ) (w : Width) (size : Size) → IsSized indirect e w size → (y : ℤ) → size ≡ Five y → HasValue e y
-five-value indirect e _ _ narrow y same = absurd (cc)
-five-value indirect e _ _ wide y same = absurd (cc)
-five-value indirect e _ _ (five {z = z} is direct within) y same = let value : z ≡ y = cc in subst (HasValue e) value (one is)
-five-value indirect e _ _ (eight is other within) y same = absurd (cc)
-five-value indirect e _ _ (sixteen out) y same = absurd (cc)
+five-expression : (indirect : Bool) (e : List ℕ) (w : Width) (size : Size) → IsSized indirect e w size → (y : ℤ) → size ≡ Five y → IsExpression e
+five-expression indirect e _ _ narrow y same = absurd (cc)
+five-expression indirect e _ _ wide y same = absurd (cc)
+five-expression indirect e _ _ (five {z = z} is direct within) y same = value-expression e z (one is)
+five-expression indirect e _ _ (eight is other within) y same = absurd (cc)
+five-expression indirect e _ _ (sixteen out) y same = absurd (cc)
 
 -- ---- an offset and a base
 
--- an operand with this postbyte and these operand bytes
-abbrev IsRead : ℕ → Option Operand → Operand → Tail → Type 0
-IsRead next read o tail = (read ≡ Some o) × (wanted_tail o.wanted next o.expression ≡ Some tail)
-
-module _ (next : ℕ) (indirect : Bool) (w : Width) (e name : List ℕ) (o : Operand) (tail : Tail) where
-  abbrev its_text : List ℕ
-  its_text = width_mark w ++ (e ++ (44 ∷ name))
-
-  -- the operand is an offset by its form, with its postbyte
+module _ (indirect : Bool) (w : Width) (e name : List ℕ) (o : Operand) where
+  -- the operand is an offset by its form
   abbrev Formed : Type 0
-  Formed = (post : ℕ) × (o.post ≡ Some post) × IsOffset next indirect its_text post tail
+  Formed = IsOffset indirect (width_mark w ++ (e ++ (44 ∷ name))) o
 
-  sized-formed : (size : Size) (r : ℕ) → IsSized indirect e w size → index_number name ≡ Some r → IsRead next (sized_offset size indirect r e) o tail → Formed
-  sized-formed (Five y) r sized index read =
-      let same : operand (Some (32 * r + modulo 32 y)) Nothing [] ≡ o = let is = read.0 in cc in
-      let empty : wanted_tail Nothing next [] ≡ Some tail = subst (λ (o : Operand). wanted_tail o.wanted next o.expression ≡ Some tail) (sym same) read.1 in
-      (32 * r + modulo 32 y, sym (ap (λ o. o.post) same), from_register name (five-value indirect e w (Five y) sized y refl) index sized empty)
-  sized-formed Eight r sized index read =
-      let f = valued-fills _ field.Offset8 next e o tail read.0 read.1 in
-      (136 + 32 * r + indirect_bit indirect, sym (valued-post _ field.Offset8 e o read.0), from_register name f.has index sized f.fills)
-  sized-formed Sixteen r sized index read =
-      let f = valued-fills _ field.Offset16 next e o tail read.0 read.1 in
-      (137 + 32 * r + indirect_bit indirect, sym (valued-post _ field.Offset16 e o read.0), from_register name f.has index sized f.fills)
+  sized-formed : (size : Size) (r : ℕ) → IsSized indirect e w size → index_number name ≡ Some r → sized_offset size indirect r e ≡ Some o → Formed
+  sized-formed (Five y) r its index read =
+      let same : sized (Five y) indirect r e ≡ o = cc in
+      subst (IsOffset indirect (width_mark w ++ (e ++ (44 ∷ name)))) same (from_register name (five-expression indirect e w (Five y) its y refl) index its)
+  sized-formed Eight r its index read =
+      let back = valued-back _ field.Offset8 e o read in subst (IsOffset indirect (width_mark w ++ (e ++ (44 ∷ name)))) back.1 (from_register name back.0 index its)
+  sized-formed Sixteen r its index read =
+      let back = valued-back _ field.Offset16 e o read in subst (IsOffset indirect (width_mark w ++ (e ++ (44 ∷ name)))) back.1 (from_register name back.0 index its)
 
-  target-formed : (v : Width) → w ≡ v → same_word (codes "PCR") name ≡ true → IsRead next (target_operand v indirect e) o tail →
-      (post : ℕ) × (o.post ≡ Some post) × IsOffset next indirect (width_mark v ++ (e ++ (44 ∷ name))) post tail
-  target-formed Narrow is named read =
-      let f = valued-fills _ field.Target8 next e o tail read.0 read.1 in
-      (140 + indirect_bit indirect, sym (valued-post _ field.Target8 e o read.0), from_pc Narrow name f.has named f.fills)
-  target-formed Wide is named read =
-      let f = valued-fills _ field.Target16 next e o tail read.0 read.1 in
-      (141 + indirect_bit indirect, sym (valued-post _ field.Target16 e o read.0), from_pc Wide name f.has named f.fills)
-  target-formed Unmarked is named read =
-      let f = valued-fills _ field.Target16 next e o tail read.0 read.1 in
-      (141 + indirect_bit indirect, sym (valued-post _ field.Target16 e o read.0), from_pc Unmarked name f.has named f.fills)
+  target-formed : (v : Width) → same_word (codes "PCR") name ≡ true → target_operand v indirect e ≡ Some o → IsOffset indirect (width_mark v ++ (e ++ (44 ∷ name))) o
+  target-formed Narrow named read =
+      let back = valued-back _ field.Target8 e o read in subst (IsOffset indirect (60 ∷ (e ++ (44 ∷ name)))) back.1 (from_pc Narrow name back.0 named)
+  target-formed Wide named read =
+      let back = valued-back _ field.Target16 e o read in subst (IsOffset indirect (62 ∷ (e ++ (44 ∷ name)))) back.1 (from_pc Wide name back.0 named)
+  target-formed Unmarked named read =
+      let back = valued-back _ field.Target16 e o read in subst (IsOffset indirect (e ++ (44 ∷ name))) back.1 (from_pc Unmarked name back.0 named)
 
-  index-formed : (r : Option ℕ) → index_number name ≡ r → option_and_then (λ r. offset_operand w indirect r e) r ≡ Some o → wanted_tail o.wanted next o.expression ≡ Some tail → Formed
-  index-formed None is read fills = absurd (cc)
-  index-formed (Some r) is read fills =
-      sized-formed (size_of indirect e w) r (sized-back indirect e w) is (sym (size-read indirect e w r) ∙ read, fills)
+  index-formed : (r : Option ℕ) → index_number name ≡ r → option_and_then (λ r. offset_operand w indirect r e) r ≡ Some o → Formed
+  index-formed None is read = absurd (cc)
+  index-formed (Some r) is read = sized-formed (size_of indirect e w) r (sized-back indirect e w) is (sym (size-read indirect e w r) ∙ read)
 
   base-formed : (b : Bool) → same_word (codes "PCR") name ≡ b →
-      (if b then target_operand w indirect e else option_and_then (λ r. offset_operand w indirect r e) (index_number name)) ≡ Some o → wanted_tail o.wanted next o.expression ≡ Some tail → Formed
-  base-formed true is read fills = target-formed w refl is (read, fills)
-  base-formed false is read fills = index-formed (index_number name) refl read fills
+      (if b then target_operand w indirect e else option_and_then (λ r. offset_operand w indirect r e) (index_number name)) ≡ Some o → Formed
+  base-formed true is read = target-formed w is read
+  base-formed false is read = index-formed (index_number name) refl read
 
 -- an offset is its mark and its expression
 marked-text : (front : List ℕ) → front ≡ width_mark (marked front).width ++ (marked front).expression
@@ -173,18 +135,16 @@ marked-text (c ∷ text) = by-less (is_less c) refl
         ap (λ d. d ∷ text) (eqb-true c 60 is) ∙ sym (ap (λ o. width_mark o.width ++ o.expression) m)
     by-less false is = by-greater is (is_greater c) refl
 
-module _ (next : ℕ) (indirect : Bool) (text : List ℕ) (o : Operand) (tail : Tail) (fills : wanted_tail o.wanted next o.expression ≡ Some tail) where
-  two-formed : (first name : List ℕ) → slice_split is_comma text ≡ first ∷ name ∷ [] → offset_from indirect (marked first) name ≡ Some o →
-      (post : ℕ) × (o.post ≡ Some post) × IsOffset next indirect text post tail
+module _ (indirect : Bool) (text : List ℕ) (o : Operand) where
+  two-formed : (first name : List ℕ) → slice_split is_comma text ≡ first ∷ name ∷ [] → offset_from indirect (marked first) name ≡ Some o → IsOffset indirect text o
   two-formed first name is read =
       let w : Width = (marked first).width in
       let e : List ℕ = (marked first).expression in
-      let formed = base-formed next indirect w e name o tail (same_word (codes "PCR") name) refl read fills in
       let same : width_mark w ++ (e ++ (44 ∷ name)) ≡ text =
       sym (append_assoc (width_mark w) e (44 ∷ name)) ∙ ap (λ front. front ++ (44 ∷ name)) (sym (marked-text first)) ∙ sym (joined-back text (first ∷ name ∷ []) is) in
-      (formed.0, formed.1, subst (λ (t : List ℕ). IsOffset next indirect t formed.0 tail) same formed.2)
+      subst (λ (t : List ℕ). IsOffset indirect t o) same (base-formed indirect w e name o (same_word (codes "PCR") name) refl read)
 
-  pub among-formed : (parts : List (List ℕ)) → slice_split is_comma text ≡ parts → offset_among indirect parts ≡ Some o → (post : ℕ) × (o.post ≡ Some post) × IsOffset next indirect text post tail
+  among-formed : (parts : List (List ℕ)) → slice_split is_comma text ≡ parts → offset_among indirect parts ≡ Some o → IsOffset indirect text o
   among-formed [] is read = absurd (cc)
   among-formed (first ∷ []) is read = absurd (cc)
   among-formed (first ∷ name ∷ []) is read = two-formed first name is read
@@ -192,50 +152,33 @@ module _ (next : ℕ) (indirect : Bool) (text : List ℕ) (o : Operand) (tail : 
 
 -- ---- indexed operands
 
--- the operand is an indexed one by its form, with its postbyte
-abbrev pub FormedIndex : ℕ → List ℕ → Operand → Tail → Type 0
-FormedIndex next text o tail = (post : ℕ) × (o.post ≡ Some post) × IsIndexed next text post tail
+inside-formed : (inner : List ℕ) (o : Operand) (b : Bool) → list_any is_comma inner ≡ b →
+    (if b then offset_among true (slice_split is_comma inner) else valued (Some absolute_post) field.Word inner) ≡ Some o → IsIndexed (in_brackets true inner) o
+inside-formed inner o true some read = offset_in (among-formed true inner o (slice_split is_comma inner) refl read)
+inside-formed inner o false none read =
+    let back = valued-back (Some absolute_post) field.Word inner o read in subst (IsIndexed (in_brackets true inner)) back.1 (absolute back.0)
 
-module _ (next : ℕ) (text : List ℕ) (o : Operand) (tail : Tail) (fills : wanted_tail o.wanted next o.expression ≡ Some tail) where
-  bare-parts : (post : ℕ) (m : Option Indexing) → postbyte post ≡ m → is_bare text m ≡ true → 128 ≤ post → post < 256 → operand (Some post) Nothing [] ≡ o → FormedIndex next text o tail
-  bare-parts post None is passes from below same = absurd (cc)
-  bare-parts post (Some i) is passes from below same =
-      let parts = and_parts (is_bare_extent (extent_of_form i.0)) (same_word (in_brackets i.2 (plain_index i.0 i.1)) text) passes in
-      let whole : wanted_tail Nothing next [] ≡ Some tail = subst (λ (o : Operand). wanted_tail o.wanted next o.expression ≡ Some tail) (sym same) fills in
-      let empty : Empty ≡ tail = cc in
-      (post, sym (ap (λ o. o.post) same), subst (λ (t : Tail). IsIndexed next text post t) empty (bare from below is parts.0 parts.1))
+bracket-formed : (text : List ℕ) (o : Operand) (inner : Option (List ℕ)) → before_bracket text ≡ inner → option_and_then inside inner ≡ Some o → IsIndexed (91 ∷ text) o
+bracket-formed text o None is read = absurd (cc)
+bracket-formed text o (Some inner) is read =
+    subst (λ (t : List ℕ). IsIndexed t o) (ap (λ rest. 91 ∷ rest) (sym (before-back text inner is))) (inside-formed inner o (list_any is_comma inner) refl read)
 
-  bare-formed : (post : ℕ) → bare_post text ≡ Some post → operand (Some post) Nothing [] ≡ o → FormedIndex next text o tail
-  bare-formed post is same =
-      let range = in-range post 128 128 (found-in (λ post. is_bare text (postbyte post)) post (range_with_len 128 128) is) in
-      bare-parts post (postbyte post) refl (found-passes (λ post. is_bare text (postbyte post)) post (range_with_len 128 128) is) range.0 (omega (arith, range.1)) same
-
-inside-formed : (next : ℕ) (inner : List ℕ) (o : Operand) (tail : Tail) → wanted_tail o.wanted next o.expression ≡ Some tail → (b : Bool) → list_any is_comma inner ≡ b →
-    (if b then offset_among true (slice_split is_comma inner) else valued (Some absolute_post) field.Word inner) ≡ Some o → FormedIndex next (in_brackets true inner) o tail
-inside-formed next inner o tail fills true some read =
-    let formed = among-formed next true inner o tail fills (slice_split is_comma inner) refl read in (formed.0, formed.1, offset_in formed.2)
-inside-formed next inner o tail fills false none read =
-    let f = valued-fills (Some absolute_post) field.Word next inner o tail read fills in (absolute_post, sym (valued-post (Some absolute_post) field.Word inner o read), absolute f.has f.fills)
-
-bracket-formed : (next : ℕ) (text : List ℕ) (o : Operand) (tail : Tail) → wanted_tail o.wanted next o.expression ≡ Some tail → (inner : Option (List ℕ)) → before_bracket text ≡ inner →
-    option_and_then inside inner ≡ Some o → FormedIndex next (91 ∷ text) o tail
-bracket-formed next text o tail fills None is read = absurd (cc)
-bracket-formed next text o tail fills (Some inner) is read =
-    let formed = inside-formed next inner o tail fills (list_any is_comma inner) refl read in
-    subst (λ (t : List ℕ). FormedIndex next t o tail) (ap (λ rest. 91 ∷ rest) (sym (before-back text inner is))) formed
-
-numbered-formed : (next : ℕ) (text : List ℕ) (o : Operand) (tail : Tail) → wanted_tail o.wanted next o.expression ≡ Some tail → numbered text ≡ Some o → FormedIndex next text o tail
-numbered-formed next [] o tail fills read = absurd (cc)
-numbered-formed next (c ∷ text) o tail fills read = by-opening (is_opening c) refl read
+numbered-formed : (text : List ℕ) (o : Operand) → numbered text ≡ Some o → IsIndexed text o
+numbered-formed [] o read = absurd (cc)
+numbered-formed (c ∷ text) o read = by-opening (is_opening c) refl read
   where
     by-opening : (b : Bool) → is_opening c ≡ b → (if b then option_and_then inside (before_bracket text) else offset_among false (slice_split is_comma (c ∷ text))) ≡ Some o →
-        FormedIndex next (c ∷ text) o tail
+        IsIndexed (c ∷ text) o
     by-opening true is whole =
-        subst (λ (d : ℕ). FormedIndex next (d ∷ text) o tail) (sym (eqb-true c 91 is)) (bracket-formed next text o tail fills (before_bracket text) refl whole)
-    by-opening false is whole =
-        let formed = among-formed next false (c ∷ text) o tail fills (slice_split is_comma (c ∷ text)) refl whole in (formed.0, formed.1, offset formed.2)
+        subst (λ (d : ℕ). IsIndexed (d ∷ text) o) (sym (eqb-true c 91 is)) (bracket-formed text o (before_bracket text) refl whole)
+    by-opening false is whole = offset (among-formed false (c ∷ text) o (slice_split is_comma (c ∷ text)) refl whole)
 
-pub indexed-formed : (next : ℕ) (text : List ℕ) (o : Operand) (tail : Tail) → wanted_tail o.wanted next o.expression ≡ Some tail → (post : Option ℕ) → bare_post text ≡ post →
-    bare_or post text ≡ Some o → FormedIndex next text o tail
-indexed-formed next text o tail fills (Some post) is read = bare-formed next text o tail fills post is (let same : operand (Some post) Nothing [] ≡ o = cc in same)
-indexed-formed next text o tail fills None is read = numbered-formed next text o tail fills read
+by-post : (text : List ℕ) (o : Operand) (post : Option ℕ) → bare_post text ≡ post → bare_or post text ≡ Some o → IsIndexed text o
+by-post text o (Some post) is read =
+    let b = bare-back text post is in
+    let same : operand (Some post) Nothing [] ≡ o = cc in
+    subst (IsIndexed text) same (bare b.from b.below b.is b.form b.same)
+by-post text o None is read = numbered-formed text o read
+
+pub indexed-formed : (text : List ℕ) (o : Operand) → indexed_operand text ≡ Some o → IsIndexed text o
+indexed-formed text o read = by-post text o (bare_post text) refl read

@@ -1,9 +1,8 @@
--- A line that is read as an instruction is it by its form.
-use Rattle.std.proofs.Common.{◌≡◌, ℕ, ◌+◌, ◌*◌, ◌==◌, Bool, true, false, Option, Some, None, List, [], ◌∷◌, ◌++◌, length, refl, ap, sym, subst, ◌∙◌}
+-- A word and an operand that are read as a shape, and a line that is read as an instruction, are it by their form.
+use Rattle.std.proofs.Common.{◌≡◌, ℕ, ◌+◌, ◌*◌, ◌==◌, Bool, true, false, Option, Some, None, List, [], ◌∷◌, ◌++◌, refl, ap, sym, subst, ◌∙◌, ℤ}
 use Rattle.std.specs.Prelude.{option_map, option_and_then, if◌then◌else◌}
 use Rattle.std.specs.List.{slice_split, list_all}
 use Rattle.std.proofs.lemmas.Bool.{and_parts, eqb-true}
-use Rattle.cpu_model.specs.declared.rows.Row.{Row}
 use Rattle.cpu_model.specs.declared.rows.Operation.{Operation}
 use Rattle.cpu_model.specs.declared.rows.Operation.TheVariants.{Psh, Pul}
 use Rattle.cpu_model.specs.declared.rows.Mode.{Mode}
@@ -13,153 +12,124 @@ use Rattle.cpu_model.specs.declared.instruction.Instr.{Instr}
 use Rattle.cpu_model.specs.declared.instruction.Tail.{Tail}
 use Rattle.cpu_model.specs.declared.instruction.Tail.TheVariants.{Empty, Byte}
 use Rattle.cpu_model.specs.Table.{row, is_pair}
-use Rattle.cpu_table.specs.Spelling.{spelling}
 use Rattle.text_cuts.specs.Cuts.{first_word, behind_word, without_spaces}
 use Rattle.asm_model.specs.declared.operand.Field.{Field}
 use Rattle.asm_model.specs.declared.operand.Field.TheVariants as field
 use Rattle.asm_model.specs.declared.operand.Mark.{Mark}
-use Rattle.asm_model.specs.declared.operand.Wanted.TheVariants.{Nothing, Fixed}
+use Rattle.asm_model.specs.declared.operand.Wanted.{Wanted}
+use Rattle.asm_model.specs.declared.operand.Wanted.TheVariants.{Nothing, Fixed, Value}
 use Rattle.asm_model.specs.Characters.{same_word, is_comma, is_hash, is_less, is_greater, is_line_byte}
 use Rattle.asm_model.specs.Mnemonics.{row_word}
-use Rattle.asm_model.specs.Operands.{Operand, operand, valued, mark_of, fits, mode_operand, row_operand, immediate_operand, direct_operand, address_operand, mask_operand, register_mask, register_pair, pair_among, register_code, if_pair, bare_post, immediate8 as read_immediate8}
-use Rattle.asm_model.specs.Instructions.{Entry, is_entry, opcode_map, entry_of, shape_with, shape_length, shape_instr, with_tail, wanted_tail, operand_text, worded_instr, instr_of}
+use Rattle.asm_model.specs.Operands.{Operand, operand, valued, mark_of, fits, mode_operand, row_operand, immediate_operand, direct_operand, address_operand, mask_operand, register_mask, register_pair, pair_among, register_code, if_pair, immediate8 as read_immediate8, filled}
+use Rattle.asm_model.specs.Instructions.{Entry, is_entry, opcode_map, entry_of, Shape, shape_of, shape_with, shape_length, shape_instr, with_tail, wanted_tail, operand_text, worded_instr, instr_of}
 use Rattle.asm_model.proofs.Entries.{on_elements}
 use Rattle.asm_model.proofs.EntryOf.{rows_are}
-use Rattle.asm_forms.specs.Operands.{IsPushOrPull, push, pull, IsOperand, inherent, immediate8, registers, immediate16, direct, extended, extended_marked, indexed, relative8, relative16, pair}
-use Rattle.asm_forms.specs.Instructions.{IsInstruction, EndsThere}
+use Rattle.asm_forms.specs.Expressions.{IsExpression}
+use Rattle.asm_forms.specs.Operands.{IsPushOrPull, push, pull, IsOperand, inherent, immediate8, registers, immediate16, direct, extended, extended_marked, indexed, relative8, relative16, pair, IsTail, no_tail, fixed_tail, value_tail}
+use Rattle.asm_forms.specs.Instructions.{IsShape, IsInstruction, EndsThere}
 use Rattle.asm_forms.proofs.Complete.{shape-fits}
 use Rattle.asm_forms.proofs.Lines.{word-free, ends-there, word-and-rest, spaces_of, spaces-all, spaces-and-rest, no-more}
 use Rattle.asm_forms.proofs.Lists.{found-passes, found-in, joined-back, mask-list}
-use Rattle.asm_forms.proofs.Offsets.{Fills, valued-fills, valued-post, indexed-formed}
+use Rattle.asm_forms.proofs.Offsets.{valued-back, indexed-formed}
+use Rattle.asm_forms.proofs.Values.{sum_of, value-of-found}
 
 -- ---- the operand of a mode
 
--- an operand that is read with this postbyte and these operand bytes is one by its form
-abbrev FormedAs : ℕ → Operation → Mode → List ℕ → Operand → Tail → Type 0
-FormedAs next op mode text o tail = IsOperand next op mode text o.post tail
+fixed-step : (read : Option ℕ) (o : Operand) → option_map (λ m. operand None (Fixed m) []) read ≡ Some o → (m : ℕ) × (read ≡ Some m) × (operand None (Fixed m) [] ≡ o)
+fixed-step None o is = absurd (cc)
+fixed-step (Some m) o is = (m, refl, cc)
 
-fixed-step : (next : ℕ) (read : Option ℕ) (o : Operand) (tail : Tail) → option_map (λ m. operand None (Fixed m) []) read ≡ Some o → wanted_tail o.wanted next o.expression ≡ Some tail →
-    (m : ℕ) × (read ≡ Some m) × (None ≡ o.post) × (Byte m ≡ tail)
-fixed-step next None o tail is fills = absurd (cc)
-fixed-step next (Some m) o tail is fills =
-    let same : operand None (Fixed m) [] ≡ o = cc in
-    let whole : wanted_tail (Fixed m) next [] ≡ Some tail = subst (λ (o : Operand). wanted_tail o.wanted next o.expression ≡ Some tail) (sym same) fills in
-    (m, refl, ap (λ o. o.post) same, (let byte : Byte m ≡ tail = cc in byte))
+module _ (op : Operation) (o : Operand) where
+  fixed-formed : (mode : Mode) (text : List ℕ) (read : Option ℕ) → ((m : ℕ) → read ≡ Some m → IsOperand op mode text (operand None (Fixed m) [])) →
+      option_map (λ m. operand None (Fixed m) []) read ≡ Some o → IsOperand op mode text o
+  fixed-formed mode text read formed is = let found = fixed-step read o is in subst (IsOperand op mode text) found.2 (formed found.0 found.1)
 
-module _ (next : ℕ) (op : Operation) (o : Operand) (tail : Tail) (fills : wanted_tail o.wanted next o.expression ≡ Some tail) where
-  with-post : (mode : Mode) (text : List ℕ) (post : Option ℕ) → post ≡ o.post → IsOperand next op mode text post tail → FormedAs next op mode text o tail
-  with-post mode text post same is = subst (λ (p : Option ℕ). IsOperand next op mode text p tail) same is
+  -- an expression of this field is an operand in the mode
+  value-formed : (mode : Mode) (f : Field) (e text : List ℕ) → (IsExpression e → IsOperand op mode text (operand None (Value f) e)) → valued None f e ≡ Some o → IsOperand op mode text o
+  value-formed mode f e text formed read = let back = valued-back None f e o read in subst (IsOperand op mode text) back.1 (formed back.0)
 
-  fixed-formed : (mode : Mode) (text : List ℕ) (read : Option ℕ) → ((m : ℕ) → read ≡ Some m → IsOperand next op mode text None (Byte m)) →
-      option_map (λ m. operand None (Fixed m) []) read ≡ Some o → FormedAs next op mode text o tail
-  fixed-formed mode text read formed is =
-      let found = fixed-step next read o tail is fills in
-      with-post mode text None found.2 (subst (λ (t : Tail). IsOperand next op mode text None t) found.3 (formed found.0 found.1))
-
-  marked-step : (mode : Mode) (f : Field) (k c : ℕ) (e : List ℕ) (b : Bool) → (c == k) ≡ b → ((e : List ℕ) → Fills f next e tail → IsOperand next op mode (k ∷ e) None tail) →
-      (if b then valued None f e else None) ≡ Some o → FormedAs next op mode (c ∷ e) o tail
+  marked-step : (mode : Mode) (f : Field) (k c : ℕ) (e : List ℕ) (b : Bool) → (c == k) ≡ b → (IsExpression e → IsOperand op mode (k ∷ e) (operand None (Value f) e)) →
+      (if b then valued None f e else None) ≡ Some o → IsOperand op mode (c ∷ e) o
   marked-step mode f k c e true is formed read =
-      subst (λ (d : ℕ). FormedAs next op mode (d ∷ e) o tail) (sym (eqb-true c k is))
-      (with-post mode (k ∷ e) None (valued-post None f e o read) (formed e (valued-fills None f next e o tail read fills)))
+      subst (λ (d : ℕ). IsOperand op mode (d ∷ e) o) (sym (eqb-true c k is)) (value-formed mode f e (k ∷ e) formed read)
   marked-step mode f k c e false is formed read = absurd (cc)
 
-  immediate-formed : (mode : Mode) (f : Field) (text : List ℕ) → ((e : List ℕ) → Fills f next e tail → IsOperand next op mode (35 ∷ e) None tail) → immediate_operand f text ≡ Some o →
-      FormedAs next op mode text o tail
+  immediate-formed : (mode : Mode) (f : Field) (text : List ℕ) → ((e : List ℕ) → IsExpression e → IsOperand op mode (35 ∷ e) (operand None (Value f) e)) → immediate_operand f text ≡ Some o →
+      IsOperand op mode text o
   immediate-formed mode f [] formed read = absurd (cc)
-  immediate-formed mode f (c ∷ e) formed read = marked-step mode f 35 c e (is_hash c) refl formed read
+  immediate-formed mode f (c ∷ e) formed read = marked-step mode f 35 c e (is_hash c) refl (formed e) read
 
-  direct-formed : (text : List ℕ) → direct_operand text ≡ Some o → FormedAs next op Direct text o tail
+  direct-formed : (text : List ℕ) → direct_operand text ≡ Some o → IsOperand op Direct text o
   direct-formed [] read = absurd (cc)
-  direct-formed (c ∷ e) read = marked-step Direct field.Direct 60 c e (is_less c) refl (λ e f. direct f.has f.fills) read
-
-  byte-formed : (e : List ℕ) → Fills field.Byte next e tail → IsOperand next op Immediate8 (35 ∷ e) None tail
-  byte-formed e f = immediate8 f.has f.fills
+  direct-formed (c ∷ e) read = marked-step Direct field.Direct 60 c e (is_less c) refl (λ is. direct is) read
 
   mask-step : (stack : Stack) (c : ℕ) (text : List ℕ) → IsPushOrPull stack op → (b : Bool) → is_hash c ≡ b →
-      (if b then valued None field.Byte text else option_map (λ mask. operand None (Fixed mask) []) (register_mask stack (c ∷ text))) ≡ Some o → FormedAs next op Immediate8 (c ∷ text) o tail
+      (if b then valued None field.Byte text else option_map (λ mask. operand None (Fixed mask) []) (register_mask stack (c ∷ text))) ≡ Some o → IsOperand op Immediate8 (c ∷ text) o
   mask-step stack c text which true is read =
-      subst (λ (d : ℕ). FormedAs next op Immediate8 (d ∷ text) o tail) (sym (eqb-true c 35 is))
-      (with-post Immediate8 (35 ∷ text) None (valued-post None field.Byte text o read) (byte-formed text (valued-fills None field.Byte next text o tail read fills)))
+      subst (λ (d : ℕ). IsOperand op Immediate8 (d ∷ text) o) (sym (eqb-true c 35 is)) (value-formed Immediate8 field.Byte text (35 ∷ text) (λ its. immediate8 its) read)
   mask-step stack c text which false is read =
       fixed-formed Immediate8 (c ∷ text) (register_mask stack (c ∷ text)) (λ m found. registers stack which (mask-list stack (c ∷ text) m found)) read
 
-  mask-formed : (stack : Stack) (text : List ℕ) → IsPushOrPull stack op → mask_operand stack text ≡ Some o → FormedAs next op Immediate8 text o tail
+  mask-formed : (stack : Stack) (text : List ℕ) → IsPushOrPull stack op → mask_operand stack text ≡ Some o → IsOperand op Immediate8 text o
   mask-formed stack [] which read = absurd (cc)
   mask-formed stack (c ∷ text) which read = mask-step stack c text which (is_hash c) refl read
 
-  address-step : (c : ℕ) (e : List ℕ) (b : Bool) → is_greater c ≡ b → (if b then valued None field.Word e else valued None field.Word (c ∷ e)) ≡ Some o → FormedAs next op Extended (c ∷ e) o tail
+  address-step : (c : ℕ) (e : List ℕ) (b : Bool) → is_greater c ≡ b → (if b then valued None field.Word e else valued None field.Word (c ∷ e)) ≡ Some o → IsOperand op Extended (c ∷ e) o
   address-step c e true is read =
-      let f = valued-fills None field.Word next e o tail read fills in
-      subst (λ (d : ℕ). FormedAs next op Extended (d ∷ e) o tail) (sym (eqb-true c 62 is))
-      (with-post Extended (62 ∷ e) None (valued-post None field.Word e o read) (extended_marked f.has f.fills))
-  address-step c e false is read =
-      let f = valued-fills None field.Word next (c ∷ e) o tail read fills in with-post Extended (c ∷ e) None (valued-post None field.Word (c ∷ e) o read) (extended f.has f.fills)
+      subst (λ (d : ℕ). IsOperand op Extended (d ∷ e) o) (sym (eqb-true c 62 is)) (value-formed Extended field.Word e (62 ∷ e) (λ its. extended_marked its) read)
+  address-step c e false is read = value-formed Extended field.Word (c ∷ e) (c ∷ e) (λ its. extended its) read
 
-  address-formed : (text : List ℕ) → address_operand text ≡ Some o → FormedAs next op Extended text o tail
+  address-formed : (text : List ℕ) → address_operand text ≡ Some o → IsOperand op Extended text o
   address-formed [] read = absurd (cc)
   address-formed (c ∷ e) read = address-step c e (is_greater c) refl read
 
-  -- ---- pairs
+-- ---- pairs
+
+module _ (op : Operation) where
+  abbrev IsPair : List ℕ → ℕ → Type 0
+  IsPair text m = IsOperand op Pair text (operand None (Fixed m) [])
 
   pair-low : (source destination text : List ℕ) (high : ℕ) (low : Option ℕ) (m : ℕ) → text ≡ source ++ (44 ∷ destination) → register_code source ≡ Some high → register_code destination ≡ low →
-      option_and_then (λ low. if_pair (16 * high + low)) low ≡ Some m → IsOperand next op Pair text None (Byte m)
+      option_and_then (λ low. if_pair (16 * high + low)) low ≡ Some m → IsPair text m
   pair-low source destination text high None m same first second is = absurd (cc)
   pair-low source destination text high (Some low) m same first second is = by-size (is_pair (16 * high + low)) refl is
     where
-      by-size : (b : Bool) → is_pair (16 * high + low) ≡ b → (if b then Some (16 * high + low) else None) ≡ Some m → IsOperand next op Pair text None (Byte m)
-      by-size true sized whole =
+      by-size : (b : Bool) → is_pair (16 * high + low) ≡ b → (if b then Some (16 * high + low) else None) ≡ Some m → IsPair text m
+      by-size true its whole =
           let byte : 16 * high + low ≡ m = cc in
-          subst (λ (n : ℕ). IsOperand next op Pair text None (Byte n)) byte
-          (subst (λ (t : List ℕ). IsOperand next op Pair t None (Byte (16 * high + low))) (sym same) (pair source destination first second sized))
-      by-size false sized whole = absurd (cc)
+          subst (IsPair text) byte (subst (λ (t : List ℕ). IsPair t (16 * high + low)) (sym same) (pair source destination first second its))
+      by-size false its whole = absurd (cc)
 
   pair-high : (source destination text : List ℕ) (high : Option ℕ) (m : ℕ) → text ≡ source ++ (44 ∷ destination) → register_code source ≡ high →
-      option_and_then (λ high. option_and_then (λ low. if_pair (16 * high + low)) (register_code destination)) high ≡ Some m → IsOperand next op Pair text None (Byte m)
+      option_and_then (λ high. option_and_then (λ low. if_pair (16 * high + low)) (register_code destination)) high ≡ Some m → IsPair text m
   pair-high source destination text None m same first is = absurd (cc)
   pair-high source destination text (Some high) m same first is = pair-low source destination text high (register_code destination) m same first refl is
 
-  pair-parts : (text : List ℕ) (parts : List (List ℕ)) (m : ℕ) → slice_split is_comma text ≡ parts → pair_among parts ≡ Some m → IsOperand next op Pair text None (Byte m)
+  pair-parts : (text : List ℕ) (parts : List (List ℕ)) (m : ℕ) → slice_split is_comma text ≡ parts → pair_among parts ≡ Some m → IsPair text m
   pair-parts text [] m same is = absurd (cc)
   pair-parts text (source ∷ []) m same is = absurd (cc)
   pair-parts text (source ∷ destination ∷ []) m same is = pair-high source destination text (register_code source) m (joined-back text (source ∷ destination ∷ []) same) refl is
   pair-parts text (source ∷ destination ∷ third ∷ more) m same is = absurd (cc)
 
-  -- ---- expressions without a mark, and operands of indexed addressing
-
-  value-formed : (mode : Mode) (f : Field) (text : List ℕ) → (Fills f next text tail → IsOperand next op mode text None tail) → valued None f text ≡ Some o → FormedAs next op mode text o tail
-  value-formed mode f text formed read = with-post mode text None (valued-post None f text o read) (formed (valued-fills None f next text o tail read fills))
-
-  index-formed : (text : List ℕ) → mode_operand op Indexed text ≡ Some o → FormedAs next op Indexed text o tail
-  index-formed text read =
-      let formed = indexed-formed next text o tail fills (bare_post text) refl read in with-post Indexed text (Some formed.0) (sym formed.1) (indexed formed.2)
-
-  inherent-formed : (text : List ℕ) → operand None Nothing [] ≡ o → FormedAs next op Inherent text o tail
-  inherent-formed text same =
-      let whole : wanted_tail Nothing next [] ≡ Some tail = subst (λ (o : Operand). wanted_tail o.wanted next o.expression ≡ Some tail) (sym same) fills in
-      let empty : Empty ≡ tail = cc in
-      with-post Inherent text None (ap (λ o. o.post) same) (subst (λ (t : Tail). IsOperand next op Inherent text None t) empty inherent)
-
 -- what is read in immediate mode
-eight-formed : (next : ℕ) (op : Operation) (o : Operand) (tail : Tail) → wanted_tail o.wanted next o.expression ≡ Some tail → (text : List ℕ) → read_immediate8 op text ≡ Some o →
-    FormedAs next op Immediate8 text o tail
-eight-formed next (Psh stack) o tail fills text read = mask-formed next (Psh stack) o tail fills stack text push read
-eight-formed next (Pul stack) o tail fills text read = mask-formed next (Pul stack) o tail fills stack text pull read
-eight-formed next op o tail fills text read = immediate-formed next op o tail fills Immediate8 field.Byte text (λ e f. immediate8 f.has f.fills) read
+eight-formed : (op : Operation) (o : Operand) (text : List ℕ) → read_immediate8 op text ≡ Some o → IsOperand op Immediate8 text o
+eight-formed (Psh stack) o text read = mask-formed (Psh stack) o stack text push read
+eight-formed (Pul stack) o text read = mask-formed (Pul stack) o stack text pull read
+eight-formed op o text read = immediate-formed op o Immediate8 field.Byte text (λ e is. immediate8 is) read
 
-operand-formed : (next : ℕ) (op : Operation) (o : Operand) (tail : Tail) → wanted_tail o.wanted next o.expression ≡ Some tail → (mode : Mode) (text : List ℕ) →
-    mode_operand op mode text ≡ Some o → FormedAs next op mode text o tail
-operand-formed next op o tail fills Inherent text read = inherent-formed next op o tail fills text (let same : operand None Nothing [] ≡ o = cc in same)
-operand-formed next op o tail fills Immediate8 text read = eight-formed next op o tail fills text read
-operand-formed next op o tail fills Immediate16 text read = immediate-formed next op o tail fills Immediate16 field.Word text (λ e f. immediate16 f.has f.fills) read
-operand-formed next op o tail fills Direct text read = direct-formed next op o tail fills text read
-operand-formed next op o tail fills Indexed text read = index-formed next op o tail fills text read
-operand-formed next op o tail fills Extended text read = address-formed next op o tail fills text read
-operand-formed next op o tail fills Relative8 text read = value-formed next op o tail fills Relative8 field.Target8 text (λ f. relative8 f.has f.fills) read
-operand-formed next op o tail fills Relative16 text read = value-formed next op o tail fills Relative16 field.Target16 text (λ f. relative16 f.has f.fills) read
-operand-formed next op o tail fills Pair text read =
-    fixed-formed next op o tail fills Pair text (register_pair text) (λ m found. pair-parts next op o tail fills text (slice_split is_comma text) m refl found) read
+operand-formed : (op : Operation) (o : Operand) (mode : Mode) (text : List ℕ) → mode_operand op mode text ≡ Some o → IsOperand op mode text o
+operand-formed op o Inherent text read = let same : operand None Nothing [] ≡ o = cc in subst (IsOperand op Inherent text) same inherent
+operand-formed op o Immediate8 text read = eight-formed op o text read
+operand-formed op o Immediate16 text read = immediate-formed op o Immediate16 field.Word text (λ e is. immediate16 is) read
+operand-formed op o Direct text read = direct-formed op o text read
+operand-formed op o Indexed text read = indexed (indexed-formed text o read)
+operand-formed op o Extended text read = address-formed op o text read
+operand-formed op o Relative8 text read = value-formed op o Relative8 field.Target8 text text (λ is. relative8 is) read
+operand-formed op o Relative16 text read = value-formed op o Relative16 field.Target16 text text (λ is. relative16 is) read
+operand-formed op o Pair text read =
+    fixed-formed op o Pair text (register_pair text) (λ m found. pair-parts op text (slice_split is_comma text) m refl found) read
 
--- ---- the line
+-- ---- a word and an operand
 
 entry-named : (word : List ℕ) (m : Mark) (e : Entry) → entry_of word m ≡ Some e → same_word (row_word e.line.row) word ≡ true
 unfolding entry_of
@@ -168,6 +138,40 @@ entry-named word m e is = (and_parts (same_word (row_word e.line.row) word) (fit
 entry-row : (word : List ℕ) (m : Mark) (e : Entry) → entry_of word m ≡ Some e → row e.page e.line.opcode ≡ Some e.line.row
 unfolding entry_of
 entry-row word m e is = on_elements (λ e. row e.page e.line.opcode) (λ e. Some e.line.row) e opcode_map rows_are (found-in (is_entry word m) e opcode_map is)
+
+module _ (word text : List ℕ) (s : Shape) where
+  by-operand : (e : Entry) (o : Option Operand) → entry_of word (mark_of text) ≡ Some e → row_operand e.line.row text ≡ o → option_map (shape_with e) o ≡ Some s → IsShape word text s
+  unfolding row_operand
+  by-operand e None entered read whole = absurd (cc)
+  by-operand e (Some o) entered read whole =
+      let same : shape_with e o ≡ s = cc in
+      subst (IsShape word text) same (record {
+        row = e.line.row;
+        in_map = entry-row word (mark_of text) e entered;
+        named = entry-named word (mark_of text) e entered;
+        operand_is = operand-formed e.line.row.0 o e.line.row.1 text read;
+      })
+
+  by-entry : (e : Option Entry) → entry_of word (mark_of text) ≡ e → option_and_then (λ e. option_map (shape_with e) (row_operand e.line.row text)) e ≡ Some s → IsShape word text s
+  by-entry None entered whole = absurd (cc)
+  by-entry (Some e) entered whole = by-operand e (row_operand e.line.row text) entered refl whole
+
+  -- what is read as a shape is one by its form
+  pub shape-formed : shape_of word text ≡ Some s → IsShape word text s
+  shape-formed is = by-entry (entry_of word (mark_of text)) refl is
+
+-- ---- operand bytes
+
+value-back : (next : ℕ) (f : Field) (e : List ℕ) (tail : Tail) (o : Option ℤ) → sum_of e ≡ o → option_and_then (filled f next) o ≡ Some tail → IsTail next (Value f) e tail
+value-back next f e tail None is whole = absurd (cc)
+value-back next f e tail (Some z) is whole = value_tail (value-of-found e z is) whole
+
+tail-back : (next : ℕ) (w : Wanted) (e : List ℕ) (tail : Tail) → wanted_tail w next e ≡ Some tail → IsTail next w e tail
+tail-back next Nothing e tail is = let same : Empty ≡ tail = cc in subst (IsTail next Nothing e) same no_tail
+tail-back next (Fixed b) e tail is = let same : Byte b ≡ tail = cc in subst (IsTail next (Fixed b) e) same fixed_tail
+tail-back next (Value f) e tail is = value-back next f e tail (sum_of e) refl is
+
+-- ---- the line
 
 module _ (line : List ℕ) (at : ℕ) (i : Instr) (shown : list_all is_line_byte line ≡ true) where
   abbrev rest : List ℕ
@@ -185,54 +189,41 @@ module _ (line : List ℕ) (at : ℕ) (i : Instr) (shown : list_all is_line_byte
   apart-is =
       subst EndsThere (sym (spaces-and-rest rest) ∙ ap (λ r. spaces_of rest ++ r) (sym (word-and-rest back))) (ends-there line)
 
-  whole-line : (r : Row) → row i.page i.opcode ≡ Some r → same_word (row_word r) (first_word line) ≡ true → IsOperand (at + length (spelling i)) r.0 r.1 (operand_text line) i.post i.tail →
-      IsInstruction line at i
-  whole-line r is named formed = record {
-    word = first_word line;
-    spaces = spaces_of rest;
-    operand = first_word back;
-    comment = behind_word back;
-    line_is = parts-are;
-    shown = shown;
-    one_word = word-free line;
-    all_spaces = spaces-all rest;
-    apart = apart-is;
-    one_operand = word-free back;
-    comment_apart = ends-there back;
-    comment_last = no-more rest;
-    row = r;
-    in_map = is;
-    named = named;
-    operand_is = formed;
-  }
+  abbrev next_of : Shape → ℕ
+  next_of s = at + shape_length s
 
-  tailed : (e : Entry) (o : Operand) (found : Option Tail) → entry_of (first_word line) (mark_of (operand_text line)) ≡ Some e → row_operand e.line.row (operand_text line) ≡ Some o →
-      wanted_tail o.wanted (at + shape_length (shape_with e o)) o.expression ≡ found → option_map (with_tail (shape_with e o)) found ≡ Some i → IsInstruction line at i
-  unfolding row_operand
-  tailed e o None entered read fills whole = absurd (cc)
-  tailed e o (Some tail) entered read fills whole =
-      let same : with_tail (shape_with e o) tail ≡ i = cc in
-      let P : Instr → Type 0 = λ j. (row j.page j.opcode ≡ Some e.line.row) × IsOperand (at + length (spelling j)) e.line.row.0 e.line.row.1 (operand_text line) j.post j.tail in
-      let long : shape_length (shape_with e o) ≡ length (spelling (with_tail (shape_with e o) tail)) =
-      shape-fits (with_tail (shape_with e o) tail) e.line.row o (at + shape_length (shape_with e o)) refl fills in
-      let formed : IsOperand (at + length (spelling (with_tail (shape_with e o) tail))) e.line.row.0 e.line.row.1 (operand_text line) o.post tail =
-      subst (λ (n : ℕ). IsOperand (at + n) e.line.row.0 e.line.row.1 (operand_text line) o.post tail) long
-      (operand-formed (at + shape_length (shape_with e o)) e.line.row.0 o tail fills e.line.row.1 (operand_text line) read) in
-      let both = subst P same (entry-row (first_word line) (mark_of (operand_text line)) e entered, formed) in
-      whole-line e.line.row both.0 (entry-named (first_word line) (mark_of (operand_text line)) e entered) both.1
+  tailed : (s : Shape) (tail : Option Tail) → shape_of (first_word line) (operand_text line) ≡ Some s → wanted_tail s.operand.wanted (next_of s) s.operand.expression ≡ tail →
+      option_map (with_tail s) tail ≡ Some i → IsInstruction line at i
+  tailed s None shaped fills whole = absurd (cc)
+  tailed s (Some tail) shaped fills whole =
+      let same : with_tail s tail ≡ i = cc in
+      subst (IsInstruction line at) same (record {
+        word = first_word line;
+        spaces = spaces_of rest;
+        operand = first_word back;
+        comment = behind_word back;
+        line_is = parts-are;
+        shown = shown;
+        one_word = word-free line;
+        all_spaces = spaces-all rest;
+        apart = apart-is;
+        one_operand = word-free back;
+        comment_apart = ends-there back;
+        comment_last = no-more rest;
+        shape = s;
+        shape_is = shape-formed (first_word line) (operand_text line) s shaped;
+        with_it = refl;
+        tail_is =
+            subst (λ (n : ℕ). IsTail (at + n) s.operand.wanted s.operand.expression tail) (shape-fits s (next_of s) tail fills)
+            (tail-back (next_of s) s.operand.wanted s.operand.expression tail fills);
+      })
 
-  shaped : (e : Entry) (o : Option Operand) → entry_of (first_word line) (mark_of (operand_text line)) ≡ Some e → row_operand e.line.row (operand_text line) ≡ o →
-      option_and_then (shape_instr at) (option_map (shape_with e) o) ≡ Some i → IsInstruction line at i
-  shaped e None entered read whole = absurd (cc)
-  shaped e (Some o) entered read whole = tailed e o (wanted_tail o.wanted (at + shape_length (shape_with e o)) o.expression) entered read refl whole
-
-  entered-line : (e : Option Entry) → entry_of (first_word line) (mark_of (operand_text line)) ≡ e →
-      option_and_then (shape_instr at) (option_and_then (λ e. option_map (shape_with e) (row_operand e.line.row (operand_text line))) e) ≡ Some i → IsInstruction line at i
-  entered-line None is whole = absurd (cc)
-  entered-line (Some e) is whole = shaped e (row_operand e.line.row (operand_text line)) is refl whole
+  by-shape : (s : Option Shape) → shape_of (first_word line) (operand_text line) ≡ s → option_and_then (shape_instr at) s ≡ Some i → IsInstruction line at i
+  by-shape None shaped whole = absurd (cc)
+  by-shape (Some s) shaped whole = tailed s (wanted_tail s.operand.wanted (next_of s) s.operand.expression) shaped refl whole
 
 by-bytes : (line : List ℕ) (at : ℕ) (i : Instr) (b : Bool) → list_all is_line_byte line ≡ b → (if b then worded_instr line at else None) ≡ Some i → IsInstruction line at i
-by-bytes line at i true shown is = entered-line line at i shown (entry_of (first_word line) (mark_of (operand_text line))) refl is
+by-bytes line at i true shown is = by-shape line at i shown (shape_of (first_word line) (operand_text line)) refl is
 by-bytes line at i false shown is = absurd (cc)
 
 pub line-formed : (line : List ℕ) (at : ℕ) (i : Instr) → instr_of line at ≡ Some i → IsInstruction line at i

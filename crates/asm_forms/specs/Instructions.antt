@@ -9,12 +9,22 @@ use Rattle.cpu_table.specs.Spelling.{spelling}
 use Rattle.text_cuts.specs.Cuts.{is_space}
 use Rattle.asm_model.specs.Characters.{is_line_byte, same_word}
 use Rattle.asm_model.specs.Mnemonics.{row_word}
-use Rattle.asm_forms.specs.Operands.{IsOperand}
+use Rattle.asm_model.specs.Instructions.{Shape, with_tail}
+use Rattle.asm_forms.specs.Operands.{IsOperand, IsTail}
 
 -- a text that a space follows, or nothing
 pub data EndsThere : List ℕ → Type 0 where
   nothing : EndsThere []
   space : {rest : List ℕ} → EndsThere (32 ∷ rest)
+
+-- a word and an operand have this shape
+pub record IsShape (word text : List ℕ) (s : Shape) : Type 0 where
+  -- a row of the opcode map has the word, in any case of letters
+  pub row : Row
+  pub in_map : table.row s.page s.opcode ≡ Some row
+  pub named : same_word (row_word row) word ≡ true
+  -- the operand is one of the row's mode
+  pub operand_is : IsOperand row.0 row.1 text s.operand
 
 -- the line is an instruction at this offset: its word, spaces, an operand and a comment
 pub record IsInstruction (line : List ℕ) (at : ℕ) (i : Instr) : Type 0 where
@@ -30,9 +40,8 @@ pub record IsInstruction (line : List ℕ) (at : ℕ) (i : Instr) : Type 0 where
   pub one_operand : list_any is_space operand ≡ false
   pub comment_apart : EndsThere comment
   pub comment_last : operand ≡ [] → comment ≡ []
-  -- a row of the opcode map has the word, in any case of letters
-  pub row : Row
-  pub in_map : table.row i.page i.opcode ≡ Some row
-  pub named : same_word (row_word row) word ≡ true
-  -- the operand is one of the row's mode
-  pub operand_is : IsOperand (at + length (spelling i)) row.0 row.1 operand i.post i.tail
+  pub shape : Shape
+  pub shape_is : IsShape word operand shape
+  -- the instruction has this shape, with the operand bytes that it wants
+  pub with_it : with_tail shape i.tail ≡ i
+  pub tail_is : IsTail (at + length (spelling i)) shape.operand.wanted shape.operand.expression i.tail

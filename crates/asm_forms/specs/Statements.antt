@@ -9,11 +9,11 @@ use Rattle.asm_model.specs.declared.directive.Directive.{Directive}
 use Rattle.asm_model.specs.declared.directive.Directive.TheVariants as directive
 use Rattle.asm_model.specs.Characters.{is_line_byte, is_quote, same_word}
 use Rattle.asm_model.specs.Expressions.{is_label}
-use Rattle.asm_model.specs.Instructions.{Shape, shape_of, shape_instr}
+use Rattle.asm_model.specs.Instructions.{Shape, shape_instr}
 use Rattle.asm_model.specs.Statements.{Action, label_alone, instruction, module_start, module_end, equals, byte_list, word_list, characters, system_call, ModuleFields, Statement, is_module_name, directive_word, stated, line_read}
 use Rattle.asm_forms.specs.Sums.{HasValue}
 use Rattle.asm_forms.specs.Expressions.{IsExpression, IsExpressionList}
-use Rattle.asm_forms.specs.Instructions.{EndsThere}
+use Rattle.asm_forms.specs.Instructions.{EndsThere, IsShape}
 
 -- ---- operands
 
@@ -49,7 +49,7 @@ Is d word = same_word (directive_word d) word ≡ true
 
 -- what a word and the text that follows it ask for
 pub data IsAction (word text : List ℕ) : Action → Type 0 where
-  instructs : {operand : List ℕ} {s : Shape} → Leads operand text → shape_of word operand ≡ Some s
+  instructs : {operand : List ℕ} {s : Shape} → Leads operand text → IsShape word operand s
       → IsAction word text (instruction s)
   starts : {operand : List ℕ} {m : ModuleFields} → Is directive.Mod word → Leads operand text
       → IsModuleOperand m operand → IsAction word text (module_start m)

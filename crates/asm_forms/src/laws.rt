@@ -1,11 +1,22 @@
-//! Laws of lines that are instructions.
+//! Laws of lines that are instructions or statements.
 
 ghost use Rattle.std.specs.Prelude.{◌≡◌, ℕ, Option, Some, List, codes};
 ghost use Rattle.cpu_model.specs.declared.instruction.Instr.{Instr};
-ghost use Rattle.asm_model.specs.Instructions.{Shape, shape_instr, instr_of};
+ghost use Rattle.asm_model.specs.Instructions.{Shape, shape_of, shape_instr, instr_of};
 ghost use Rattle.asm_model.specs.Statements.{Statement, instruction, stated, line_read};
-ghost use Rattle.asm_forms.specs.Instructions.{IsInstruction};
+ghost use Rattle.asm_forms.specs.Instructions.{IsShape, IsInstruction};
 ghost use Rattle.asm_forms.specs.Statements.{IsStatement, stating, behind_label, States};
+
+/// A word and an operand that have a shape by their form are read as it, also if the operand names
+/// labels.
+pub fn operand_is_read()
+    ensures { (word text : List ℕ) (s : Shape) → IsShape word text s → shape_of word text ≡ Some s }
+{}
+
+/// A word and an operand that are read as a shape have that shape by their form.
+pub fn only_operands_are_read()
+    ensures { (word text : List ℕ) (s : Shape) → shape_of word text ≡ Some s → IsShape word text s }
+{}
 
 /// A line that is an instruction by its form is read as it.
 pub fn instruction_is_read()
