@@ -12,4 +12,6 @@ mod write;
 
 pub use devices::add_drive;
 pub use os9_words::command::read_words;
+pub use start::accept_images;
 pub use top::os9_main;
+pub use write::write_back;
